@@ -1,0 +1,3 @@
+pub mod Errno
+pub mod Fields
+pub mod Limits

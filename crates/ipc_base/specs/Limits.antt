@@ -1,0 +1,70 @@
+-- The limits: each at least 1 and at most the standard one, a message no longer than a queue, a set
+-- no larger than all sets.
+use Rattle.std.specs.Prelude.{ℕ, Bool, List, [], ◌∷◌, nat_le, ◌&&◌}
+use Rattle.ipc_base.specs.declared.limits.Limits.{Limits}
+
+abbrev pub standard_limits : Limits
+standard_limits =
+    record {
+      processes = 64;
+      msgmni = 32;
+      msgmax = 8192;
+      msgmnb = 16384;
+      semmni = 32;
+      semmsl = 64;
+      semmns = 512;
+      semopm = 32;
+      queues = 32;
+      maxmsg = 10;
+      msgsize = 8192;
+      named_semaphores = 64;
+      segments = 32;
+      segment_bytes = 1048576;
+      call_bytes = 8192;
+      descriptors = 32;
+    }
+
+abbrev pub small_limits : Limits
+small_limits =
+    record {
+      processes = 4;
+      msgmni = 2;
+      msgmax = 64;
+      msgmnb = 128;
+      semmni = 2;
+      semmsl = 4;
+      semmns = 8;
+      semopm = 4;
+      queues = 2;
+      maxmsg = 2;
+      msgsize = 64;
+      named_semaphores = 2;
+      segments = 2;
+      segment_bytes = 2048;
+      call_bytes = 64;
+      descriptors = 4;
+    }
+
+abbrev pub is_within : ℕ → ℕ → Bool
+is_within value most = nat_le 1 value && nat_le value most
+
+-- whether each field passes, in the order of the fields
+abbrev pub tests : Limits → List Bool
+tests l =
+    is_within l.processes standard_limits.processes
+    ∷ is_within l.msgmni standard_limits.msgmni
+    ∷ (is_within l.msgmax standard_limits.msgmax && nat_le l.msgmax l.msgmnb)
+    ∷ is_within l.msgmnb standard_limits.msgmnb
+    ∷ is_within l.semmni standard_limits.semmni
+    ∷ (is_within l.semmsl standard_limits.semmsl && nat_le l.semmsl l.semmns)
+    ∷ is_within l.semmns standard_limits.semmns
+    ∷ is_within l.semopm standard_limits.semopm
+    ∷ is_within l.queues standard_limits.queues
+    ∷ is_within l.maxmsg standard_limits.maxmsg
+    ∷ is_within l.msgsize standard_limits.msgsize
+    ∷ is_within l.named_semaphores standard_limits.named_semaphores
+    ∷ is_within l.segments standard_limits.segments
+    ∷ is_within l.segment_bytes standard_limits.segment_bytes
+    ∷ is_within l.call_bytes standard_limits.call_bytes
+    ∷ is_within l.descriptors standard_limits.descriptors
+    ∷ []

@@ -1,0 +1,19 @@
+//! What every crate of the server speaks of: error numbers, identities, flags, limits and fields of bytes.
+#![tactic(auto)]
+
+mod cursor;
+mod errno;
+mod flags;
+mod identity;
+mod limits;
+mod put;
+
+pub use cursor::Cursor;
+pub use errno::Errno;
+pub use flags::{GetFlags, MsgFlags, OpenFlags, SemFlags};
+pub use identity::{Cred, Id, Moment, Pid};
+pub use limits::{BadLimits, Limits};
+pub use put::Put;
+
+#[cfg(test)]
+mod tests;

@@ -1,0 +1,145 @@
+//! The sixteen limits of a server.
+
+ghost use Rattle.std.specs.Prelude.{◌≡◌, IfErr, OnOk, position, not};
+ghost use Rattle.ipc_base.specs.Limits.{tests, standard_limits, small_limits, is_within as passes_within};
+
+use thiserror::Error;
+
+/// The limits of a server, named as in the manual pages. Each is at least 1 and at most its value in
+/// `standard`.
+#[derive(Clone, Copy, Debug, PartialEq, Eq)]
+pub struct Limits {
+    /// Processes at a time.
+    pub processes: u32,
+    /// Message queues.
+    pub msgmni: u32,
+    /// Bytes of one message.
+    pub msgmax: u32,
+    /// Bytes of one queue, and so its `qbytes` at first.
+    pub msgmnb: u32,
+    /// Semaphore sets.
+    pub semmni: u32,
+    /// Semaphores of one set.
+    pub semmsl: u32,
+    /// Semaphores of all sets.
+    pub semmns: u32,
+    /// Operations of one semop(2).
+    pub semopm: u32,
+    /// POSIX queues.
+    pub queues: u32,
+    /// Messages of one POSIX queue.
+    pub maxmsg: u32,
+    /// Bytes of one message of a POSIX queue.
+    pub msgsize: u32,
+    /// Named semaphores.
+    pub named_semaphores: u32,
+    /// Shared memory segments.
+    pub segments: u32,
+    /// Bytes of all segments.
+    pub segment_bytes: u32,
+    /// Bytes that one call reads or writes of a segment.
+    pub call_bytes: u32,
+    /// Descriptors of one process.
+    pub descriptors: u32,
+}
+
+/// The limits fail at a field, counted from 0 in the order of `Limits`.
+#[derive(Clone, Copy, Debug, PartialEq, Eq, Error)]
+#[error("limit {field} is out of range")]
+pub struct BadLimits {
+    pub field: u32,
+}
+
+impl Limits {
+    /// The limits of a server that serves.
+    pub fn standard() -> Limits
+        ensures { result ≡ standard_limits }
+    {
+        Limits {
+            processes: 64,
+            msgmni: 32,
+            msgmax: 8192,
+            msgmnb: 16384,
+            semmni: 32,
+            semmsl: 64,
+            semmns: 512,
+            semopm: 32,
+            queues: 32,
+            maxmsg: 10,
+            msgsize: 8192,
+            named_semaphores: 64,
+            segments: 32,
+            segment_bytes: 1048576,
+            call_bytes: 8192,
+            descriptors: 32,
+        }
+    }
+
+    /// The limits of a small server, as for trials.
+    pub fn small() -> Limits
+        ensures { result ≡ small_limits }
+    {
+        Limits {
+            processes: 4,
+            msgmni: 2,
+            msgmax: 64,
+            msgmnb: 128,
+            semmni: 2,
+            semmsl: 4,
+            semmns: 8,
+            semopm: 4,
+            queues: 2,
+            maxmsg: 2,
+            msgsize: 64,
+            named_semaphores: 2,
+            segments: 2,
+            segment_bytes: 2048,
+            call_bytes: 64,
+            descriptors: 4,
+        }
+    }
+
+    /// Tests each field in order: it is at least 1 and at most the standard value, `msgmax` is at
+    /// most `msgmnb`, and `semmsl` at most `semmns`. The fault names the first field that fails.
+    pub fn check(&self) -> Result<(), BadLimits>
+        ensures ok { OnOk result (position not (tests self.now) ≡ None) }
+        ensures first { IfErr result (λ fault. position not (tests self.now) ≡ Some fault.field) }
+    {
+        let passes = [
+            is_within(self.processes, 64),
+            is_within(self.msgmni, 32),
+            is_within(self.msgmax, 8192) && self.msgmax <= self.msgmnb,
+            is_within(self.msgmnb, 16384),
+            is_within(self.semmni, 32),
+            is_within(self.semmsl, 64) && self.semmsl <= self.semmns,
+            is_within(self.semmns, 512),
+            is_within(self.semopm, 32),
+            is_within(self.queues, 32),
+            is_within(self.maxmsg, 10),
+            is_within(self.msgsize, 8192),
+            is_within(self.named_semaphores, 64),
+            is_within(self.segments, 32),
+            is_within(self.segment_bytes, 1048576),
+            is_within(self.call_bytes, 8192),
+            is_within(self.descriptors, 32),
+        ];
+        match first_failing(&passes) {
+            None => Ok(()),
+            Some(field) => Err(BadLimits {
+                field: field as u32,
+            }),
+        }
+    }
+}
+
+fn first_failing(passes: &[bool]) -> Option<usize>
+    ensures { result ≡ position not passes.now }
+{
+    passes.iter().position(|passes| !*passes)
+}
+
+fn is_within(value: u32, most: u32) -> bool
+    ensures { result ≡ passes_within value most }
+{
+    1 <= value && value <= most
+}
