@@ -1,0 +1,5 @@
+pub mod Frames
+pub mod Puts
+pub mod Read
+pub mod Spellings
+pub mod Streams

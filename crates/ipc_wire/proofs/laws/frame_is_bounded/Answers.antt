@@ -1,0 +1,8 @@
+use Rattle.ipc_wire.proofs.Frames.{first_takes, waiting_short}
+use Rattle.ipc_wire.proofs.laws.frame_is_bounded.Goals as goal
+
+pub returns-clause-whole : goal.returns-clause-whole
+returns-clause-whole c = first_takes
+
+pub returns-clause-waiting : goal.returns-clause-waiting
+returns-clause-waiting c = waiting_short

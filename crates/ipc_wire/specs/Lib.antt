@@ -1,0 +1,4 @@
+pub mod Reply
+pub mod Request
+pub mod Spelling
+pub mod Stream

@@ -1,0 +1,44 @@
+-- Replies as plain values, and the bytes of one: the length of what follows (four bytes), the serial (four),
+-- the error number (two, 0 for success) and the body.
+use Rattle.std.specs.Prelude.{ℕ, ℤ, ◌+◌, List, [], ◌++◌, length, Option, Some, None}
+use Rattle.std.specs.Int.{w16, w32, w64, to_be_bytes}
+use Rattle.ipc_base.specs.declared.errno.Errno.{Errno}
+use Rattle.ipc_base.specs.Errno.{number_of}
+use Rattle.ipc_base.specs.Fields.{signed_bytes}
+use Rattle.ipc_wire.specs.declared.reply.Body.{Body}
+use Rattle.ipc_wire.specs.declared.reply.Body.TheVariants as bodies
+use Rattle.ipc_wire.specs.declared.reply.Reply.{Reply}
+
+pub data PlainBody : Type 0 where
+  Empty : PlainBody
+  Number : (number : ℕ) → PlainBody
+  Message : (mtype : ℤ) → (text : List ℕ) → PlainBody
+
+pub record PlainReply : Type 0 where
+  pub serial : ℕ
+  pub errno : Option Errno
+  pub body : PlainBody
+
+abbrev pub plain_body : Body → PlainBody
+plain_body bodies.Empty = Empty
+plain_body (bodies.Number number) = Number number
+plain_body (bodies.Message mtype text) = Message mtype text.now
+
+abbrev pub plain_reply : Reply → PlainReply
+plain_reply r = record { serial = r.serial; errno = r.errno; body = plain_body r.body }
+
+abbrev pub error_number : Option Errno → ℕ
+error_number None = 0
+error_number (Some e) = number_of e
+
+abbrev pub body_bytes : PlainBody → List ℕ
+body_bytes Empty = []
+body_bytes (Number number) = to_be_bytes w32 number
+body_bytes (Message mtype text) = signed_bytes w64 mtype ++ text
+
+unfoldable pub reply_bytes : PlainReply → List ℕ
+reply_bytes r =
+    to_be_bytes w32 (6 + length (body_bytes r.body))
+    ++ to_be_bytes w32 r.serial
+    ++ to_be_bytes w16 (error_number r.errno)
+    ++ body_bytes r.body

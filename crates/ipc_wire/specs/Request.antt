@@ -1,0 +1,25 @@
+-- Requests as plain values: what their frames say, without where they lie in memory.
+use Rattle.std.specs.Prelude.{ℕ, ℤ, List}
+use Rattle.ipc_base.specs.declared.identity.Cred.{Cred}
+use Rattle.ipc_wire.specs.declared.request.Call.{Call}
+use Rattle.ipc_wire.specs.declared.request.Call.TheVariants as calls
+use Rattle.ipc_wire.specs.declared.request.Request.{Request}
+
+pub data PlainCall : Type 0 where
+  Hello : (cred : Cred) → PlainCall
+  Msgget : (key : ℤ) → (flags : ℕ) → PlainCall
+  Msgsnd : (id flags : ℕ) → (mtype : ℤ) → (text : List ℕ) → PlainCall
+  Msgrcv : (id flags size : ℕ) → (mtype : ℤ) → PlainCall
+
+pub record PlainRequest : Type 0 where
+  pub serial : ℕ
+  pub call : PlainCall
+
+abbrev pub plain_call : Call → PlainCall
+plain_call (calls.Hello cred) = Hello cred
+plain_call (calls.Msgget key flags) = Msgget key flags.0
+plain_call (calls.Msgsnd id flags mtype text) = Msgsnd id.0 flags.0 mtype text.now
+plain_call (calls.Msgrcv id flags size mtype) = Msgrcv id.0 flags.0 size mtype
+
+abbrev pub plain_request : Request → PlainRequest
+plain_request r = record { serial = r.serial; call = plain_call r.call }

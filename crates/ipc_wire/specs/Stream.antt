@@ -1,0 +1,122 @@
+-- The requests of a stream of bytes. A frame is the length of what follows (four bytes, from 5 to 8448), a
+-- serial of four bytes that is not 0, an opcode of one byte, and the fields of the call with that opcode.
+-- Numbers have their most significant byte first; signed ones are in two's complement.
+use Rattle.std.specs.Prelude.{◌≤◌, ◌+◌, ℕ, zero, suc, ℤ, List, [], ◌∷◌, ◌++◌, length, take, drop, slice_index, nat_lt, nat_le, ◌==◌, ◌||◌, if◌then◌else◌, Option, Some, None}
+use Rattle.std.specs.Int.{w32, w64, from_be_bytes}
+use Rattle.ipc_base.specs.Fields.{signed}
+use Rattle.ipc_wire.specs.declared.request.Frame.{Frame}
+use Rattle.ipc_wire.specs.declared.request.Frame.TheVariants as frames
+use Rattle.ipc_wire.specs.Request.{PlainCall, PlainRequest, plain_request}
+use Rattle.ipc_wire.specs.Request.PlainCall.{Hello, Msgget, Msgsnd, Msgrcv}
+
+-- What stands at the front of a stream: no whole frame yet, a request and how many bytes its frame takes, or
+-- a fault, with the serial of the frame or 0.
+pub data PlainFrame : Type 0 where
+  More : PlainFrame
+  Whole : (used : ℕ) → (request : PlainRequest) → PlainFrame
+  Fault : (serial : ℕ) → PlainFrame
+
+abbrev pub plain_frame : Frame → PlainFrame
+plain_frame frames.More = More
+plain_frame (frames.Whole used request) = Whole used (plain_request request)
+plain_frame (frames.Fault serial) = Fault serial
+
+-- ---- fields
+
+-- the n bytes from a place on
+abbrev pub part : ℕ → ℕ → List ℕ → List ℕ
+part at n bytes = take n (drop at bytes)
+
+-- the number of four bytes at a place; signed ones of four and of eight
+unfoldable pub u32_at : ℕ → List ℕ → ℕ
+u32_at at bytes = from_be_bytes w32 (part at 4 bytes)
+
+unfoldable pub i32_at : ℕ → List ℕ → ℤ
+i32_at at bytes = signed w32 (part at 4 bytes)
+
+unfoldable pub i64_at : ℕ → List ℕ → ℤ
+i64_at at bytes = signed w64 (part at 8 bytes)
+
+-- uid, gid
+unfoldable pub hello_of : List ℕ → Option PlainCall
+hello_of fields = if length fields == 8 then Some (Hello (record { uid = u32_at 0 fields; gid = u32_at 4 fields })) else None
+
+-- key, flags
+unfoldable pub msgget_of : List ℕ → Option PlainCall
+msgget_of fields = if length fields == 8 then Some (Msgget (i32_at 0 fields) (u32_at 4 fields)) else None
+
+-- id, flags, type, and the rest is the text
+unfoldable pub msgsnd_of : List ℕ → Option PlainCall
+msgsnd_of fields = if nat_le 16 (length fields) then Some (Msgsnd (u32_at 0 fields) (u32_at 4 fields) (i64_at 8 fields) (drop 16 fields)) else None
+
+-- id, flags, size, type
+unfoldable pub msgrcv_of : List ℕ → Option PlainCall
+msgrcv_of fields = if length fields == 20 then Some (Msgrcv (u32_at 0 fields) (u32_at 4 fields) (u32_at 8 fields) (i64_at 12 fields)) else None
+
+-- The call of an opcode, or None where no call has it or the fields have another size.
+unfoldable pub call_of : ℕ → List ℕ → Option PlainCall
+call_of opcode fields =
+    if opcode == 0x01 then hello_of fields
+    else if opcode == 0x0a then msgget_of fields
+    else if opcode == 0x0b then msgsnd_of fields
+    else if opcode == 0x0c then msgrcv_of fields
+    else None
+
+-- ---- frames
+
+abbrev pub request_or_fault : ℕ → ℕ → Option PlainCall → PlainFrame
+request_or_fault used serial None = Fault serial
+request_or_fault used serial (Some call) = Whole used (record { serial = serial; call = call })
+
+-- the frame of which these bytes stand behind the length
+unfoldable pub frame_of : List ℕ → PlainFrame
+frame_of text =
+    if u32_at 0 text == 0 then Fault 0
+    else request_or_fault (4 + length text) (u32_at 0 text) (call_of (slice_index text 4) (drop 5 text))
+
+-- the first frame of a stream
+unfoldable pub first : List ℕ → PlainFrame
+first bytes =
+    let size = u32_at 0 bytes in
+    if nat_lt (length bytes) 4 then More
+    else if nat_lt size 5 || nat_lt 8448 size then Fault 0
+    else if nat_lt (length bytes) (4 + size) then More
+    else frame_of (part 4 size bytes)
+
+-- a request takes at least nine bytes, and no more than there are
+abbrev pub TakesBytes : PlainFrame → ℕ → Type 0
+TakesBytes More available = Unit {0}
+TakesBytes (Whole used request) available = (9 ≤ used) × (used ≤ available)
+TakesBytes (Fault serial) available = Unit {0}
+
+-- ---- the whole stream
+
+-- What stands behind the last whole request: bytes that are no whole frame yet, or a fault.
+pub data Ending : Type 0 where
+  Rest : (bytes : List ℕ) → Ending
+  Broken : (serial : ℕ) → Ending
+
+pub record Stream : Type 0 where
+  pub requests : List PlainRequest
+  pub ending : Ending
+
+-- The stream that begins with a frame, where behind gives the stream behind so many bytes.
+abbrev pub begins_with : PlainFrame → List ℕ → (ℕ → Stream) → Stream
+begins_with More bytes behind = record { requests = []; ending = Rest bytes }
+begins_with (Fault serial) bytes behind = record { requests = []; ending = Broken serial }
+begins_with (Whole used request) bytes behind = record { requests = request ∷ (behind used).requests; ending = (behind used).ending }
+
+-- at most so many requests
+unfoldable pub stream_within : ℕ → List ℕ → Stream
+stream_within zero bytes = record { requests = []; ending = Rest bytes }
+stream_within (suc n) bytes = begins_with (first bytes) bytes (λ used. stream_within n (drop used bytes))
+
+-- The requests of a stream and what stands behind them; each request takes bytes, so its length bounds their number.
+unfoldable pub stream_of : List ℕ → Stream
+stream_of bytes = stream_within (length bytes) bytes
+
+-- The stream when more bytes come: they follow the rest; behind a fault nothing is read.
+abbrev pub continued : List PlainRequest → Ending → List ℕ → Stream
+continued requests (Rest bytes) more =
+    record { requests = requests ++ (stream_of (bytes ++ more)).requests; ending = (stream_of (bytes ++ more)).ending }
+continued requests (Broken serial) more = record { requests = requests; ending = Broken serial }

@@ -1,0 +1,22 @@
+//! The frames of the protocol: requests read from the front of a stream of bytes, and replies written as bytes.
+#![tactic(auto)]
+
+mod laws;
+mod reading;
+mod reply;
+mod request;
+mod writing;
+
+pub use laws::{
+    found_frame_stays, frame_is_bounded, read_request_is_spelled, spelled_request_is_read,
+    stream_begins, stream_in_pieces,
+};
+pub use reading::{
+    GREATEST_FRAME, GREATEST_LENGTH, HELLO, LEAST_LENGTH, MSGGET, MSGRCV, MSGSND, read_frame,
+};
+pub use reply::{Body, Reply};
+pub use request::{Call, Frame, Request};
+pub use writing::{reply_len, write_reply};
+
+#[cfg(test)]
+mod tests;

@@ -1,0 +1,152 @@
+//! Requests read from the front of a stream.
+
+ghost use Rattle.std.specs.Prelude.{◌≡◌, ◌<◌, ◌≤◌, length, option_map};
+ghost use Rattle.ipc_wire.specs.Request.{plain_call};
+ghost use Rattle.ipc_wire.specs.Stream.{plain_frame, TakesBytes, first, frame_of, call_of, hello_of, msgget_of, msgsnd_of, msgrcv_of};
+ghost use Rattle.ipc_wire.specs.Stream.PlainFrame.{More};
+
+use crate::request::{Call, Frame, Request};
+use ipc_base::{Cred, Cursor, GetFlags, Id, MsgFlags};
+
+/// The least length of a request, in bytes behind the length itself: a serial and an opcode.
+pub const LEAST_LENGTH: u32 = 5;
+
+/// The greatest length of a request, in bytes behind the length itself.
+pub const GREATEST_LENGTH: u32 = 8448;
+
+/// The bytes of the longest whole frame, its length with it.
+pub const GREATEST_FRAME: usize = 4 + GREATEST_LENGTH as usize;
+
+/// The opcode of `Call::Hello`.
+pub const HELLO: u8 = 0x01;
+
+/// The opcode of msgget(2).
+pub const MSGGET: u8 = 0x0a;
+
+/// The opcode of msgsnd(2).
+pub const MSGSND: u8 = 0x0b;
+
+/// The opcode of msgrcv(2).
+pub const MSGRCV: u8 = 0x0c;
+
+/// What stands at the front of the bytes. It takes no memory: the text of a message stays where it is.
+#[tactic(auto, unfolding(crate::specs::Stream::first, crate::specs::Stream::u32_at))]
+pub fn read_frame(bytes: &[u8]) -> Frame<'_>
+    ensures exact { plain_frame result ≡ first bytes.now }
+    ensures used { TakesBytes (plain_frame result) (length bytes.now) }
+    ensures waiting { plain_frame result ≡ More → length bytes.now < 8452 }
+{
+    let mut cursor = Cursor::new(bytes);
+    let Some(length) = cursor.u32() else {
+        return Frame::More;
+    };
+    if length < LEAST_LENGTH || length > GREATEST_LENGTH {
+        return Frame::Fault { serial: 0 };
+    }
+    match cursor.bytes(length as usize) {
+        Some(text) => whole_frame(text),
+        None => Frame::More,
+    }
+}
+
+/// The frame of which these bytes stand behind the length.
+#[tactic(auto, unfolding(crate::specs::Stream::frame_of, crate::specs::Stream::u32_at))]
+fn whole_frame(text: &[u8]) -> Frame<'_>
+    requires { 5 ≤ length text.now }
+    ensures { plain_frame result ≡ frame_of text.now }
+{
+    let mut cursor = Cursor::new(text);
+    let Some(serial) = cursor.u32() else {
+        unreachable!()
+    };
+    let Some(opcode) = cursor.u8() else {
+        unreachable!()
+    };
+    if serial == 0 {
+        return Frame::Fault { serial: 0 };
+    }
+    match read_call(opcode, cursor.rest()) {
+        Some(call) => Frame::Whole {
+            used: 4 + text.len(),
+            request: Request { serial, call },
+        },
+        None => Frame::Fault { serial },
+    }
+}
+
+/// The call that has this opcode, or `None` where none has it or its fields have another size.
+#[tactic(auto, unfolding(crate::specs::Stream::call_of))]
+fn read_call(opcode: u8, fields: &[u8]) -> Option<Call<'_>>
+    ensures { option_map plain_call result ≡ call_of opcode fields.now }
+{
+    match opcode {
+        HELLO => read_hello(fields),
+        MSGGET => read_msgget(fields),
+        MSGSND => read_msgsnd(fields),
+        MSGRCV => read_msgrcv(fields),
+        _ => None,
+    }
+}
+
+#[tactic(auto, unfolding(crate::specs::Stream::hello_of, crate::specs::Stream::u32_at, crate::specs::Stream::i32_at, crate::specs::Stream::i64_at))]
+fn read_hello(fields: &[u8]) -> Option<Call<'_>>
+    ensures { option_map plain_call result ≡ hello_of fields.now }
+{
+    let mut cursor = Cursor::new(fields);
+    let uid = cursor.u32()?;
+    let gid = cursor.u32()?;
+    if !cursor.is_empty() {
+        return None;
+    }
+    Some(Call::Hello(Cred { uid, gid }))
+}
+
+#[tactic(auto, unfolding(crate::specs::Stream::msgget_of, crate::specs::Stream::u32_at, crate::specs::Stream::i32_at, crate::specs::Stream::i64_at))]
+fn read_msgget(fields: &[u8]) -> Option<Call<'_>>
+    ensures { option_map plain_call result ≡ msgget_of fields.now }
+{
+    let mut cursor = Cursor::new(fields);
+    let key = cursor.i32()?;
+    let flags = GetFlags(cursor.u32()?);
+    if !cursor.is_empty() {
+        return None;
+    }
+    Some(Call::Msgget { key, flags })
+}
+
+#[tactic(auto, unfolding(crate::specs::Stream::msgsnd_of, crate::specs::Stream::u32_at, crate::specs::Stream::i32_at, crate::specs::Stream::i64_at))]
+fn read_msgsnd(fields: &[u8]) -> Option<Call<'_>>
+    ensures { option_map plain_call result ≡ msgsnd_of fields.now }
+{
+    let mut cursor = Cursor::new(fields);
+    let id = Id(cursor.u32()?);
+    let flags = MsgFlags(cursor.u32()?);
+    let mtype = cursor.i64()?;
+    let text = cursor.rest();
+    Some(Call::Msgsnd {
+        id,
+        flags,
+        mtype,
+        text,
+    })
+}
+
+#[tactic(auto, unfolding(crate::specs::Stream::msgrcv_of, crate::specs::Stream::u32_at, crate::specs::Stream::i32_at, crate::specs::Stream::i64_at))]
+fn read_msgrcv(fields: &[u8]) -> Option<Call<'_>>
+    ensures { option_map plain_call result ≡ msgrcv_of fields.now }
+{
+    let mut cursor = Cursor::new(fields);
+    let id = Id(cursor.u32()?);
+    let flags = MsgFlags(cursor.u32()?);
+    let size = cursor.u32()?;
+    let mtype = cursor.i64()?;
+    if !cursor.is_empty() {
+        return None;
+    }
+    Some(Call::Msgrcv {
+        id,
+        flags,
+        size,
+        mtype,
+    })
+}

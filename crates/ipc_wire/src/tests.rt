@@ -1,0 +1,115 @@
+//! Frames to the byte.
+
+use crate::{Body, Call, Frame, Reply, Request, read_frame, reply_len, write_reply};
+use ipc_base::{Cred, Errno, Id, MsgFlags};
+
+#[test]
+fn hello_is_read(rt: HostRuntime) {
+    let bytes = [
+        0, 0, 0, 0x0d, 0, 0, 0, 1, 1, 0, 0, 0x03, 0xe8, 0, 0, 0, 0x64,
+    ];
+    let found = match read_frame(&bytes) {
+        Frame::Whole { used: 17, request } => Some(request),
+        _ => None,
+    };
+    let cred = match found {
+        Some(
+            Request {
+                serial: 1,
+                call: Call::Hello(cred),
+            },
+        ) => Some(cred),
+        _ => None,
+    };
+    assert_eq!(rt;
+        cred,
+        Some(Cred {
+            uid: 1000,
+            gid: 100
+        })
+    );
+}
+
+#[test]
+fn msgsnd_is_read(rt: HostRuntime) {
+    let bytes = [
+        0, 0, 0, 0x17, 0, 0, 0, 3, 0x0b, 0, 0, 0, 1, 0, 0, 8, 0, 0, 0, 0, 0, 0, 0, 0, 5, 0x68, 0x69,
+    ];
+    let found = match read_frame(&bytes) {
+        Frame::Whole { used: 27, request } => Some(request),
+        _ => None,
+    };
+    let sent = match found {
+        Some(
+            Request {
+                serial: 3,
+                call: Call::Msgsnd {
+                    id: Id(1),
+                    flags,
+                    mtype: 5,
+                    text: b"hi",
+                },
+            },
+        ) => Some(flags),
+        _ => None,
+    };
+    assert_eq!(rt; sent, Some(MsgFlags(0x800)));
+}
+
+fn fault_of(frame: Frame<'_>) -> Option<u32> {
+    match frame {
+        Frame::Fault { serial } => Some(serial),
+        _ => None,
+    }
+}
+
+#[test]
+fn faults_are_early(rt: HostRuntime) {
+    assert_eq!(rt; fault_of(read_frame(&[0, 0, 0, 0])), Some(0));
+    assert_eq!(rt; fault_of(read_frame(&[0, 0, 0x21, 0x01])), Some(0));
+    assert_eq!(rt;
+        fault_of(read_frame(&[0, 0, 0, 5, 0, 0, 0, 9, 0xff])),
+        Some(9)
+    );
+}
+
+#[test]
+fn three_bytes_wait(rt: HostRuntime) {
+    let waits = match read_frame(&[0, 0, 0]) {
+        Frame::More => true,
+        _ => false,
+    };
+    assert!(rt; waits);
+}
+
+#[test]
+fn a_message_is_written(rt: HostRuntime) {
+    let reply = Reply {
+        serial: 4,
+        errno: None,
+        body: Body::Message {
+            mtype: 5,
+            text: b"hi",
+        },
+    };
+    let mut out = [0xff; 21];
+    assert!(rt; write_reply(&reply, &mut out));
+    assert_eq!(rt; reply_len(&reply), 20);
+    let bytes = [
+        0, 0, 0, 0x10, 0, 0, 0, 4, 0, 0, 0, 0, 0, 0, 0, 0, 0, 5, 0x68, 0x69, 0xff,
+    ];
+    assert_eq!(rt; out, bytes);
+    assert!(rt; !write_reply(&reply, &mut [0; 19]));
+}
+
+#[test]
+fn a_refusal_is_written(rt: HostRuntime) {
+    let reply = Reply {
+        serial: 9,
+        errno: Some(Errno::EPROTO),
+        body: Body::Empty,
+    };
+    let mut out = [0xff; 10];
+    assert!(rt; write_reply(&reply, &mut out));
+    assert_eq!(rt; out, [0, 0, 0, 6, 0, 0, 0, 9, 0, 0x47]);
+}
