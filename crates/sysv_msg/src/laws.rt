@@ -1,0 +1,37 @@
+//! Laws of the definitions alone. A call of one does nothing; its contract is the law.
+
+ghost use Rattle.std.specs.Prelude.{◌≡◌, ◌<◌, ◌≤◌, ℕ, ℤ, Bool, true, false, List, length, slice_index_or};
+ghost use Rattle.sysv_msg.specs.Queue.{PlainMessage, Queue, pick, is_allowed, full, byte_count, sent, taken};
+
+/// The picked message is one of the list, it is allowed, and none before it is; where none is picked, none is
+/// allowed.
+pub fn picked_is_first_allowed()
+    ensures within { (messages : List PlainMessage) (type : ℤ) (except : Bool) (at : ℕ)
+        → pick messages type except ≡ Some at → at < length messages }
+    ensures allowed { (messages : List PlainMessage) (type : ℤ) (except : Bool) (at : ℕ) (d : PlainMessage)
+        → pick messages type except ≡ Some at
+        → is_allowed messages type except (slice_index_or messages at d) ≡ true }
+    ensures first { (messages : List PlainMessage) (type : ℤ) (except : Bool) (at k : ℕ) (d : PlainMessage)
+        → pick messages type except ≡ Some at → k < at
+        → is_allowed messages type except (slice_index_or messages k d) ≡ false }
+    ensures none { (messages : List PlainMessage) (type : ℤ) (except : Bool) (k : ℕ) (d : PlainMessage)
+        → pick messages type except ≡ None → k < length messages
+        → is_allowed messages type except (slice_index_or messages k d) ≡ false }
+{}
+
+/// After a send for which the queue was not full, neither its bytes nor its messages are more than qbytes.
+pub fn sent_is_within_qbytes()
+    ensures bytes { (q : Queue) (m : PlainMessage) (pid moment : ℕ)
+        → full q (length m.text) ≡ false
+        → byte_count (sent q m pid moment).messages ≤ q.qbytes }
+    ensures messages { (q : Queue) (m : PlainMessage) (pid moment : ℕ)
+        → full q (length m.text) ≡ false
+        → length (sent q m pid moment).messages ≤ q.qbytes }
+{}
+
+/// A text that fits still fits after a receive.
+pub fn taken_still_fits()
+    ensures { (q : Queue) (at pid moment bytes : ℕ) → at < length q.messages
+        → full q bytes ≡ false
+        → full (taken q at pid moment) bytes ≡ false }
+{}

@@ -1,0 +1,14 @@
+//! System V message queues: what a send appends and what a receive takes. See msgop(2).
+#![tactic(auto)]
+
+mod laws;
+mod message;
+mod queue;
+mod select;
+
+pub use laws::{picked_is_first_allowed, sent_is_within_qbytes, taken_still_fits};
+pub use message::Message;
+pub use queue::MsgQueue;
+
+#[cfg(test)]
+mod tests;
