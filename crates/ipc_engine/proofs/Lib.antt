@@ -1,0 +1,5 @@
+pub mod Tables
+pub mod Places
+pub mod Ends
+pub mod Rows
+pub mod Soundness

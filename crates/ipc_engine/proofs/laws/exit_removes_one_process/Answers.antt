@@ -1,0 +1,10 @@
+use Rattle.std.proofs.Common.{ap}
+use Rattle.std.specs.Prelude.{is_some}
+use Rattle.ipc_engine.proofs.Rows.{rising-gone, value_at-without}
+use Rattle.ipc_engine.proofs.laws.exit_removes_one_process.Goals as goal
+
+pub returns-clause-gone : goal.returns-clause-gone
+returns-clause-gone c limits s pid moment sound = rising-gone 1 s.processes s.next_pid pid sound.pids
+
+pub returns-clause-others : goal.returns-clause-others
+returns-clause-others c limits s pid other moment apart = ap is_some (value_at-without s.processes pid other apart)

@@ -1,0 +1,8 @@
+use Rattle.ipc_engine.proofs.Rows.{rising-found}
+use Rattle.ipc_engine.proofs.laws.pid_is_below_next.Goals as goal
+
+pub returns-clause-least : goal.returns-clause-least
+returns-clause-least c limits s pid sound there = (rising-found 1 s.processes s.next_pid pid sound.pids there).0
+
+pub returns-clause-below : goal.returns-clause-below
+returns-clause-below c limits s pid sound there = (rising-found 1 s.processes s.next_pid pid sound.pids there).1

@@ -1,0 +1,90 @@
+//! Laws of the definitions alone. A call of one does nothing; its contract is the law.
+
+ghost use Rattle.std.specs.Prelude.{◌≡◌, ◌≢◌, ◌<◌, ◌≤◌, ℕ, true, false, List, [], ◌++◌, max, Option, None, All, IsSome};
+ghost use Rattle.ipc_base.specs.declared.limits.Limits.{Limits};
+ghost use Rattle.ipc_base.specs.declared.identity.Cred.{Cred};
+ghost use Rattle.ipc_wire.specs.Request.{PlainRequest};
+ghost use Rattle.ipc_engine.specs.State.{State, start, is_process};
+ghost use Rattle.ipc_engine.specs.Calls.{attempt};
+ghost use Rattle.ipc_engine.specs.Event.{PlainEvent, Connect, Call, Tick, Exit, moment_of};
+ghost use Rattle.ipc_engine.specs.Step.{step, run, at_moment};
+ghost use Rattle.ipc_engine.specs.Sound.{IsSound, FitsBody};
+
+/// The state is sound before the first event, and after each event if it was before.
+pub fn step_keeps_soundness()
+    ensures start { (limits : Limits) → IsSound limits start }
+    ensures step { (limits : Limits) (s : State) (e : PlainEvent)
+        → IsSound limits s → IsSound limits (step limits s e).state }
+{}
+
+/// A message in a reply is no longer than what a queue holds.
+pub fn replies_fit()
+    ensures { (limits : Limits) (s : State) (e : PlainEvent)
+        → IsSound limits s → All (λ o. FitsBody limits o.body) (step limits s e).outcomes }
+{}
+
+/// A tick at a moment that has been changes nothing and says nothing.
+pub fn late_tick_does_nothing()
+    ensures { (limits : Limits) (s : State) (moment : ℕ) → moment ≤ s.clock
+        → step limits s (Tick moment) ≡ record { state = s; outcomes = [] } }
+{}
+
+/// A run is a run of its parts: the second part begins where the first ends, and the replies of the first come
+/// first.
+pub fn run_of_parts()
+    ensures state { (limits : Limits) (s : State) (before after : List PlainEvent)
+        → (run limits s (before ++ after)).state ≡ (run limits (run limits s before).state after).state }
+    ensures outcomes { (limits : Limits) (s : State) (before after : List PlainEvent)
+        → (run limits s (before ++ after)).outcomes
+        ≡ (run limits s before).outcomes ++ (run limits (run limits s before).state after).outcomes }
+{}
+
+/// An event sets the clock to its moment, or leaves it where it is later.
+pub fn event_sets_clock()
+    ensures { (limits : Limits) (s : State) (e : PlainEvent)
+        → (step limits s e).state.clock ≡ max s.clock (moment_of e) }
+{}
+
+/// A call that is refused changes the clock alone.
+pub fn refused_call_changes_nothing()
+    ensures { (limits : Limits) (s : State) (pid moment : ℕ) (request : PlainRequest)
+        → IsSome (attempt limits (at_moment s moment) pid request.call).errno
+        → (step limits s (Call pid request moment)).state ≡ at_moment s moment }
+{}
+
+/// A connected process has a number from 1 to below the next.
+pub fn pid_is_below_next()
+    ensures least { (limits : Limits) (s : State) (pid : ℕ)
+        → IsSound limits s → is_process s pid ≡ true → 1 ≤ pid }
+    ensures below { (limits : Limits) (s : State) (pid : ℕ)
+        → IsSound limits s → is_process s pid ≡ true → pid < s.next_pid }
+{}
+
+/// A HELLO that gets a process gets one that was not there, and every other stays.
+pub fn connect_adds_one_process()
+    ensures fresh { (limits : Limits) (s : State) (cred : Cred) (serial moment pid : ℕ)
+        → IsSound limits s → is_process s pid ≡ true
+        → All (λ o. o.pid ≢ pid) (step limits s (Connect cred serial moment)).outcomes }
+    ensures there { (limits : Limits) (s : State) (cred : Cred) (serial moment : ℕ)
+        → All (λ o. o.errno ≡ None → is_process (step limits s (Connect cred serial moment)).state o.pid ≡ true)
+        (step limits s (Connect cred serial moment)).outcomes }
+    ensures others { (limits : Limits) (s : State) (cred : Cred) (serial moment pid : ℕ)
+        → is_process s pid ≡ true
+        → is_process (step limits s (Connect cred serial moment)).state pid ≡ true }
+{}
+
+/// An exit takes its process out, and every other stays.
+pub fn exit_removes_one_process()
+    ensures gone { (limits : Limits) (s : State) (pid moment : ℕ)
+        → IsSound limits s → is_process (step limits s (Exit pid moment)).state pid ≡ false }
+    ensures others { (limits : Limits) (s : State) (pid other moment : ℕ) → other ≢ pid
+        → is_process (step limits s (Exit pid moment)).state other ≡ is_process s other }
+{}
+
+/// A call and a tick leave the processes as they are.
+pub fn only_connect_and_exit_change_processes()
+    ensures call { (limits : Limits) (s : State) (pid moment : ℕ) (request : PlainRequest)
+        → (step limits s (Call pid request moment)).state.processes ≡ s.processes }
+    ensures tick { (limits : Limits) (s : State) (moment : ℕ)
+        → (step limits s (Tick moment)).state.processes ≡ s.processes }
+{}
