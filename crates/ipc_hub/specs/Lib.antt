@@ -1,0 +1,3 @@
+pub mod Outbox
+pub mod Hub
+pub mod Clients

@@ -1,0 +1,189 @@
+//! The hub: connections by number, over one engine.
+
+ghost use Rattle.std.specs.Prelude.{◌≡◌, ◌==◌, ◌≤◌, ◌↔◌, [], ◌∷◌, ◌++◌, length, map, All, drop, position, true, false, IfOk, IsErr, OnErr, OnOk, Err};
+ghost use Rattle.ipc_engine.specs.Engine.{state_of as machine_state};
+ghost use Rattle.ipc_engine.specs.Step.{at_moment};
+ghost use Rattle.ipc_hub.specs.Outbox.{visible, waiting};
+
+use crate::connection::Connection;
+use ipc_base::Moment;
+use ipc_engine::{Engine, Event};
+use std::alloc::{AllocError, Global};
+use thiserror::Error;
+
+/// Why a connection was not made.
+#[derive(Clone, Copy, Debug, PartialEq, Eq, Error)]
+pub enum ConnectError {
+    #[error("connection in use")]
+    InUse,
+    #[error("no memory")]
+    NoMemory,
+}
+
+/// No connection has the number.
+#[derive(Clone, Copy, Debug, PartialEq, Eq, Error)]
+#[error("no such connection")]
+pub struct UnknownConnection;
+
+/// The server as its clients see it: bytes in, bytes out.
+#[derive(Drop)]
+pub struct Hub {
+    alloc: Global,
+    engine: Engine,
+    connections: Vec<Connection>,
+}
+
+impl Hub {
+    ghost use Rattle.ipc_hub.specs.Hub.{numbers, connections_of, state_of, parts, is_connected, HasNoFrame, output_of, ended_of};
+
+    /// A hub without connections. It takes no memory.
+    pub fn new(alloc: Global, engine: Engine) -> Hub
+        ensures { numbers result ≡ [] }
+    {
+        Hub {
+            alloc,
+            engine,
+            connections: Vec::new(alloc),
+        }
+    }
+
+    /// Adds a connection under a number that is not in use. All that it will ever need is taken now.
+    /// After a refusal nothing has changed.
+    pub fn connect(&mut self, conn: u32) -> Result<(), ConnectError>
+        ensures ok { OnOk result (numbers self.new ≡ numbers self.old ++ conn ∷ []) }
+        ensures in_use { (result ≡ Err ConnectError.InUse) ↔ (is_connected self.old conn ≡ true) }
+        ensures err { OnErr result (parts self.new ≡ parts self.old) }
+    {
+        if self.place_of(conn).is_some() {
+            return Err(ConnectError::InUse);
+        }
+        match self.add(conn) {
+            Ok(()) => Ok(()),
+            Err(AllocError) => Err(ConnectError::NoMemory),
+        }
+    }
+
+    fn add(&mut self, conn: u32) -> Result<(), AllocError>
+        ensures ok { OnOk result (numbers self.new ≡ numbers self.old ++ conn ∷ []) }
+        ensures err { OnErr result (parts self.new ≡ parts self.old) }
+    {
+        let room = REPLY_HEAD + self.engine.limits().msgmnb as usize;
+        let connection = Connection::new(self.alloc, conn, room)?;
+        self.connections.push(connection)?;
+        Ok(())
+    }
+
+    /// Gives a connection the next bytes of its stream, at a moment. Answers how many it took: all of them
+    /// where no frame of the connection waits when it returns.
+    pub fn feed(
+        &mut self,
+        conn: u32,
+        piece: &[u8],
+        moment: Moment,
+    ) -> Result<usize, UnknownConnection>
+        ensures within { IfOk result (λ taken. taken ≤ length piece.now) }
+        ensures whole { IfOk result (λ taken. HasNoFrame self.new conn → taken ≡ length piece.now) }
+        ensures unknown { IsErr result ↔ (is_connected self.old conn ≡ false) }
+        ensures err { OnErr result (parts self.new ≡ parts self.old) }
+    {
+        let Some(place) = self.place_of(conn) else {
+            return Err(UnknownConnection);
+        };
+        pass(&mut self.engine, moment);
+        let connection = &mut self.connections[place];
+        Ok(connection.feed(&mut self.engine, piece, moment))
+    }
+
+    /// The client is gone, at a moment: its process leaves, its frames are dropped, its number is free.
+    pub fn hangup(&mut self, conn: u32, moment: Moment) -> Result<(), UnknownConnection>
+        ensures unknown { IsErr result ↔ (is_connected self.old conn ≡ false) }
+        ensures err { OnErr result (parts self.new ≡ parts self.old) }
+    {
+        let Some(place) = self.place_of(conn) else {
+            return Err(UnknownConnection);
+        };
+        pass(&mut self.engine, moment);
+        let mut connection = self.connections.remove(place);
+        connection.leave(&mut self.engine, moment);
+        Ok(())
+    }
+
+    /// Time passes: the clock is the greatest moment so far.
+    pub fn tick(&mut self, moment: Moment)
+        ensures state { state_of self.new ≡ at_moment (state_of self.old) moment.0 }
+        ensures connections { connections_of self.new ≡ connections_of self.old }
+    {
+        pass(&mut self.engine, moment);
+    }
+
+    /// Lets all frames that wait be seen.
+    pub fn release(&mut self)
+        ensures shown { All (λ c. visible c.outbox ≡ waiting c.outbox) (connections_of self.new) }
+        ensures waiting { map (λ c. waiting c.outbox) (connections_of self.new) ≡ map (λ c. waiting c.outbox) (connections_of self.old) }
+        ensures numbers { numbers self.new ≡ numbers self.old }
+        ensures state { state_of self.new ≡ state_of self.old }
+    {
+        release_all(&mut self.connections);
+    }
+
+    /// The bytes that the client of a connection may see; none where no connection has the number.
+    pub fn output(&self, conn: u32) -> &[u8]
+        ensures { result.now ≡ output_of self.now conn }
+    {
+        match self.place_of(conn) {
+            Some(place) => self.connections[place].outbox.visible(),
+            None => &[],
+        }
+    }
+
+    /// The client has taken the first `count` bytes of its output.
+    pub fn consume(&mut self, conn: u32, count: usize)
+        requires { count ≤ length (output_of self.old conn) }
+        ensures output { output_of self.new conn ≡ drop count (output_of self.old conn) }
+    {
+        if let Some(place) = self.place_of(conn) {
+            let connection = &mut self.connections[place];
+            connection.outbox.consume(count);
+        }
+    }
+
+    /// Whether the server has ended a connection; not so where none has the number.
+    pub fn ended(&self, conn: u32) -> bool
+        ensures { result ≡ ended_of self.now conn }
+    {
+        match self.place_of(conn) {
+            Some(place) => self.connections[place].ended,
+            None => false,
+        }
+    }
+
+    /// Where the connection stands.
+    fn place_of(&self, conn: u32) -> Option<usize>
+        ensures { result ≡ position (λ c. c.number == conn) self.now.connections.items }
+    {
+        self.connections
+            .iter()
+            .position(|connection| connection.number == conn)
+    }
+}
+
+/// Time passes.
+fn pass(engine: &mut Engine, moment: Moment)
+    ensures { machine_state engine.new ≡ at_moment (machine_state engine.old) moment.0 }
+{
+    engine.step(Event::Tick { moment }).unwrap();
+}
+
+/// Lets the frames that wait on each connection be seen.
+fn release_all(connections: &mut [Connection])
+    ensures shown { All (λ c. visible c.outbox ≡ waiting c.outbox) connections.new }
+    ensures waiting { map (λ c. waiting c.outbox) connections.new ≡ map (λ c. waiting c.outbox) connections.old }
+    ensures numbers { map (λ c. c.number) connections.new ≡ map (λ c. c.number) connections.old }
+{
+    for connection in connections.iter_mut() {
+        connection.outbox.release();
+    }
+}
+
+/// The bytes of a reply round the text of a message: length, serial, error number, type.
+const REPLY_HEAD: usize = 18;

@@ -1,0 +1,12 @@
+//! The bytes of connections: requests are read from them, in whatever pieces they come, and replies are
+//! written to them.
+#![tactic(auto)]
+
+mod connection;
+mod hub;
+mod outbox;
+
+pub use hub::{ConnectError, Hub, UnknownConnection};
+
+#[cfg(test)]
+mod tests;

@@ -1,0 +1,83 @@
+//! The frames of a connection that the client has not consumed.
+
+ghost use Rattle.std.specs.Prelude.{◌≡◌, ◌≤◌, ◌↔◌, [], length, drop, vec_len, IfOk, IsTrue};
+
+use ipc_wire::{Reply, reply_len, write_reply};
+use std::alloc::{AllocError, Global};
+
+/// A buffer of a fixed length with the frames that wait: from `consumed` to `released` those that the
+/// client may see, and behind them, to `end`, those that wait to be released.
+#[derive(Drop)]
+pub(crate) struct Outbox {
+    pub(crate) buffer: Vec<u8>,
+    pub(crate) consumed: usize,
+    pub(crate) released: usize,
+    pub(crate) end: usize,
+    ghost in_order: { consumed ≤ released },
+    ghost released_is_written: { released ≤ end },
+    ghost within: { end ≤ vec_len buffer },
+}
+
+impl Outbox {
+    ghost use Rattle.ipc_hub.specs.Outbox.{waiting, visible, IsEmpty};
+
+    /// No frame waits, and there is room for frames of `room` bytes.
+    pub(crate) fn new(alloc: Global, room: usize) -> Result<Outbox, AllocError>
+        ensures waiting { IfOk result (λ outbox. waiting outbox ≡ []) }
+        ensures room { IfOk result (λ outbox. vec_len outbox.buffer ≡ room) }
+    {
+        Ok(Outbox {
+            buffer: vec![in alloc; 0; room]?,
+            consumed: 0,
+            released: 0,
+            end: 0,
+        })
+    }
+
+    /// Whether no frame waits.
+    pub(crate) fn is_empty(&self) -> bool
+        ensures { IsTrue result ↔ IsEmpty self.now }
+    {
+        self.consumed == self.end
+    }
+
+    /// The bytes that the client may see.
+    pub(crate) fn visible(&self) -> &[u8]
+        ensures { result.now ≡ visible self.now }
+    {
+        &self.buffer[self.consumed..self.released]
+    }
+
+    /// Puts a frame behind those that wait, where there is room for it.
+    pub(crate) fn push(&mut self, reply: &Reply<'_>) -> bool {
+        let written = write_reply(reply, &mut self.buffer[self.end..]);
+        if written {
+            self.end += reply_len(reply);
+        }
+        written
+    }
+
+    /// The client may see all that waits.
+    pub(crate) fn release(&mut self)
+        ensures waiting { waiting self.new ≡ waiting self.old }
+        ensures visible { visible self.new ≡ waiting self.old }
+        ensures room { self.new.buffer ≡ self.old.buffer }
+    {
+        self.released = self.end;
+    }
+
+    /// The client has taken the first `count` bytes that it may see.
+    pub(crate) fn consume(&mut self, count: usize)
+        requires { count ≤ length (visible self.old) }
+        ensures waiting { waiting self.new ≡ drop count (waiting self.old) }
+        ensures visible { visible self.new ≡ drop count (visible self.old) }
+        ensures room { self.new.buffer ≡ self.old.buffer }
+    {
+        self.consumed += count;
+        if self.consumed == self.end {
+            self.consumed = 0;
+            self.released = 0;
+            self.end = 0;
+        }
+    }
+}
