@@ -1,0 +1,3 @@
+-- Lemmas on the disks in memory.
+mod Choices
+mod SlotsLemmas
