@@ -1,0 +1,69 @@
+-- What images hold: the batches' sectors, and what a written header adds.
+use Rattle.std.proofs.Common.{◌≡◌, inl, inr, ℕ, ◌+◌, ◌<◌, ◌≤◌, List, [], ◌∷◌, ◌++◌, length, refl, sym, ◌∙◌, ap, subst, arith}
+use Rattle.std.specs.Prelude.{slice_set}
+use Rattle.ipc_disk.specs.declared.range.Range.{Range}
+use Rattle.ipc_disk.specs.Medium.{Image}
+use Rattle.ipc_journal.specs.Journal.{sectors_for, sectors_of, epoch_in, used_in, header_epoch, header_used, IsBatch, StandsAt, Fill, Holds}
+use Rattle.ipc_journal.specs.GoesOn.{Fill-end, Fill-same}
+use Rattle.ipc_journal.proofs.Runs.{sector_at-set_same, sector_at-set_other}
+
+-- the sectors of one batch more
+pub sectors_of-push : (batches : List (List ℕ)) (batch : List ℕ) → sectors_of (batches ++ batch ∷ []) ≡ sectors_of batches + sectors_for (length batch)
+sectors_of-push [] batch = omega arith
+sectors_of-push (first ∷ batches) batch = omega (arith, sectors_of-push batches batch)
+
+module _ (range : Range) where
+  -- one more batch behind them
+  pub Fill-push : (place end : ℕ) (batches : List (List ℕ)) (batch : List ℕ) (image : Image) → Fill range place end batches image
+      → IsBatch batch → StandsAt (range.first + 1 + end) batch image → Fill range place (end + sectors_for (length batch)) (batches ++ batch ∷ []) image
+  Fill-push place end [] batch image fill is stands =
+      (is, subst (λ (n : ℕ). StandsAt (range.first + 1 + n) batch image) (sym fill) stands, ap (λ (n : ℕ). n + sectors_for (length batch)) fill)
+  Fill-push place end (first ∷ batches) batch image fill is stands =
+      (fill.0, fill.1, Fill-push (place + sectors_for (length first)) end batches batch image fill.2 is stands)
+
+module _ (range : Range) (epoch : ℕ) (batches : List (List ℕ)) where
+  -- the batches fill the body up to where they end
+  pub Holds-fill : (image : Image) → Holds range epoch batches image → Fill range 0 (sectors_of batches) batches image
+  Holds-fill image (inl older) = subst (λ (bs : List (List ℕ)). Fill range 0 (sectors_of bs) bs image) (sym older.1) refl
+  Holds-fill image (inr current) =
+      let end = Fill-end range 0 (header_used range image) batches image current.filled in
+      let same : header_used range image ≡ sectors_of batches = omega (arith, end) in
+      subst (λ (n : ℕ). Fill range 0 n batches image) same current.filled
+
+  -- under an earlier header there are none
+  pub used-older : (image : Image) → Holds range epoch batches image → header_epoch range image < epoch → 0 ≡ sectors_of batches
+  used-older image (inl older) lt = ap sectors_of (sym older.1)
+  used-older image (inr current) lt = absurd (omega (arith, current.current, lt))
+
+  -- else the header says how many sectors they take
+  pub used-current : (image : Image) → Holds range epoch batches image → epoch ≤ header_epoch range image → header_used range image ≡ sectors_of batches
+  used-current image (inl older) le = absurd (omega (arith, older.0.older, le))
+  used-current image (inr current) le = omega (arith, Fill-end range 0 (header_used range image) batches image current.filled)
+
+-- an empty journal is made
+pub Holds-empty : (range : Range) (epoch : ℕ) (sector : List ℕ) (image : Image) → range.first < length image → 0 < range.count
+    → epoch_in sector ≡ epoch → used_in sector ≡ 0 → Holds range epoch [] (slice_set image range.first sector)
+Holds-empty range epoch sector image lt has e u =
+    let header = sector_at-set_same image range.first sector lt in
+    inr (record {
+      current = ap epoch_in header ∙ e;
+      within = subst (λ (n : ℕ). n < range.count) (sym (ap used_in header ∙ u)) has;
+      filled = sym (ap used_in header ∙ u);
+    })
+
+-- a batch is there from the moment that the header says so
+pub Holds-push : (range : Range) (epoch : ℕ) (batches : List (List ℕ)) (batch sector : List ℕ) (image : Image) → range.first < length image
+    → sectors_of batches + sectors_for (length batch) < range.count → IsBatch batch → StandsAt (range.first + 1 + sectors_of batches) batch image
+    → epoch_in sector ≡ epoch → used_in sector ≡ sectors_of batches + sectors_for (length batch) → Holds range epoch batches image
+    → Holds range epoch (batches ++ batch ∷ []) (slice_set image range.first sector)
+Holds-push range epoch batches batch sector image lt room is stands e u holds =
+    let new = slice_set image range.first sector in
+    let header = sector_at-set_same image range.first sector lt in
+    let pushed = Fill-push range 0 (sectors_of batches) batches batch image (Holds-fill range epoch batches image holds) is stands in
+    let kept = Fill-same range 0 (sectors_of batches + sectors_for (length batch)) (batches ++ batch ∷ []) image new
+    (λ j low high. sym (sector_at-set_other image range.first j sector (λ same. absurd (omega (arith, same, low))))) pushed in
+    inr (record {
+      current = ap epoch_in header ∙ e;
+      within = subst (λ (n : ℕ). n < range.count) (sym (ap used_in header ∙ u)) room;
+      filled = subst (λ (n : ℕ). Fill range 0 n (batches ++ batch ∷ []) new) (sym (ap used_in header ∙ u)) kept;
+    })

@@ -1,0 +1,160 @@
+-- A batch as its pieces, and the calls that only read.
+use Rattle.std.proofs.Common.{◌≡◌, ◌⊎◌, inl, inr, ⊎_elim, ℕ, zero, suc, ◌+◌, ◌*◌, ◌<◌, ◌≤◌, List, [], ◌∷◌, ◌++◌, length, take, drop, refl, sym, ◌∙◌, ap, subst, arith, take-append-drop}
+use borrow.Rule.Slice.PartMut.{put_mid}
+use Rattle.std.proofs.lemmas.List.{take_all, take_at, drop_at, drop_all, append-nil, take-take, drop-take, length-take, length-take-le, length-drop}
+use borrow.Author.Count.{below_more}
+use Rattle.ipc_disk.specs.declared.range.Range.{Range}
+use Rattle.ipc_disk.specs.Medium.{Image, Medium, IsHonest, Stays}
+use Rattle.byteorder.specs.Endian.{big_number}
+use Rattle.byteorder.specs.Numbers.{big_from-take}
+use Rattle.ipc_journal.specs.Journal.{sectors_for, sectors_of, sector_at, length_in, header_used, IsBatch, piece, StandsAt, Fill, Holds}
+use Rattle.ipc_journal.specs.GoesOn.{Fill-end}
+use Rattle.ipc_journal.proofs.Runs.{StandsBelow}
+
+-- no call yet
+pub Stays-start : (old : Medium) → Stays old old
+Stays-start old = record {
+  contents = λ honest. refl;
+  images = λ image now. now;
+  time = record { later = omega arith; nothing_else = λ t image le left. inl left; honest = (λ h. h, λ h. h) };
+}
+
+-- one more
+pub Stays-join : (old mid new : Medium) → IsHonest old → Stays old mid → Stays mid new → Stays old new
+Stays-join old mid new honest first next = record {
+  contents = λ h. next.contents (first.time.honest.0 h) ∙ first.contents h;
+  images = λ image now. first.images image (next.images image now);
+  time = record {
+    later = omega (arith, first.time.later, next.time.later);
+    nothing_else = λ t image le left. ⊎_elim
+        (λ since. ⊎_elim (λ before. inl before) (λ here. inl (honest.since t image le (first.images image here))) (first.time.nothing_else t image le since))
+        (λ now. inr now)
+        (next.time.nothing_else t image (omega (arith, le, first.time.later)) left);
+    honest = (λ h. next.time.honest.0 (first.time.honest.0 h), λ h. first.time.honest.1 (next.time.honest.1 h));
+  };
+}
+
+-- the front decides the pieces in it
+pub piece-same : (k n : ℕ) (xs ys : List ℕ) → k < n → take (512 * n) xs ≡ take (512 * n) ys → piece k xs ≡ piece k ys
+piece-same k n xs ys lt same =
+    sym (drop-take (512 * k) 512 xs)
+    ∙ ap (λ (l : List ℕ). drop (512 * k) l) (sym (take-take (512 * k + 512) (512 * n) xs (omega arith)))
+    ∙ ap (λ (l : List ℕ). drop (512 * k) (take (512 * k + 512) l)) same
+    ∙ ap (λ (l : List ℕ). drop (512 * k) l) (take-take (512 * k + 512) (512 * n) ys (omega arith))
+    ∙ drop-take (512 * k) 512 ys
+
+-- one piece more is read
+pub pieces_more : (n at : ℕ) (old new sector : List ℕ) (image : Image) → take (512 * n) new ≡ take (512 * n) old
+    → take (length (piece n new)) sector ≡ piece n new → sector_at image (at + n) ≡ sector → StandsBelow n at old image → StandsBelow (n + 1) at new image
+pieces_more n at old new sector image front here read below =
+    let P : ℕ → Type 0 = λ i. take (length (piece i new)) (sector_at image (at + i)) ≡ piece i new in
+    below_more P n
+    (λ i less. let S : List ℕ → Type 0 = λ p. take (length p) (sector_at image (at + i)) ≡ p in subst S (sym (piece-same i n new old less front)) (below i less))
+    (ap (λ (s : List ℕ). take (length (piece n new)) s) read ∙ here)
+
+take_pieces : (n : ℕ) (xs : List ℕ) → take (512 * n + 512) xs ≡ take (512 * n) xs ++ piece n xs
+take_pieces n xs =
+    sym (take-append-drop (512 * n) (take (512 * n + 512) xs))
+    ∙ ap (λ (l : List ℕ). l ++ drop (512 * n) (take (512 * n + 512) xs)) (take-take (512 * n) (512 * n + 512) xs (omega arith))
+    ∙ ap (λ (l : List ℕ). take (512 * n) xs ++ l) (drop-take (512 * n) 512 xs)
+
+length-piece : (i : ℕ) (xs ys : List ℕ) → length xs ≡ length ys → length (piece i xs) ≡ length (piece i ys)
+length-piece i xs ys same =
+    omega (arith, length-take 512 (drop (512 * i) xs), length-take 512 (drop (512 * i) ys), length-drop (512 * i) xs, length-drop (512 * i) ys)
+
+-- what stands in the same sectors, and is as long, is the same
+module _ (at : ℕ) (xs ys : List ℕ) (image : Image) (same : length xs ≡ length ys) (first : StandsAt at xs image) (second : StandsAt at ys image) where
+  fronts : (n : ℕ) → n ≤ sectors_for (length xs) → take (512 * n) xs ≡ take (512 * n) ys
+  fronts zero le = refl
+  fronts (suc n) le =
+      let here : piece n xs ≡ piece n ys =
+      sym (first n (omega arith)) ∙ ap (λ (k : ℕ). take k (sector_at image (at + n))) (length-piece n xs ys same) ∙ second n (omega arith) in
+      let before = fronts n (omega arith) in
+      let bound : 512 * suc n ≡ 512 * n + 512 = omega arith in
+      ap (λ (k : ℕ). take k xs) bound ∙ take_pieces n xs
+      ∙ ap (λ (l : List ℕ). l ++ piece n xs) before ∙ ap (λ (l : List ℕ). take (512 * n) ys ++ l) here
+      ∙ sym (take_pieces n ys) ∙ ap (λ (k : ℕ). take k ys) (sym bound)
+
+  pub stands-same : xs ≡ ys
+  stands-same =
+      sym (take_all (512 * sectors_for (length xs)) xs (omega arith)) ∙ fronts (sectors_for (length xs)) (omega arith)
+      ∙ take_all (512 * sectors_for (length xs)) ys (omega arith)
+
+-- the first sector of a batch says how long it is
+pub length-there : (at : ℕ) (batch : List ℕ) (image : Image) → IsBatch batch → StandsAt at batch image → length_in (sector_at image at) + 4 ≡ length batch
+unfolding length_in
+length-there at batch image is stands =
+    let some : at + 0 ≡ at = omega arith in
+    let there : take (length (take 512 batch)) (sector_at image at) ≡ take 512 batch =
+    ap (λ (k : ℕ). take (length (take 512 batch)) (sector_at image k)) (sym some) ∙ stands 0 (omega (arith, is.field)) in
+    let field : big_number 4 (sector_at image at) ≡ big_number 4 batch =
+    sym (big_from-take 0 4 (length (take 512 batch)) (sector_at image at) (omega (arith, length-take 512 batch, is.field)))
+    ∙ ap (λ (l : List ℕ). big_number 4 l) there ∙ big_from-take 0 4 512 batch (omega arith) in
+    omega (arith, field, is.right)
+
+-- what is read of a length field
+pub read-length : (image : Image) (at : ℕ) (sector : List ℕ) (found : ℕ) → sector_at image at ≡ sector → found ≡ big_number 4 sector → length_in (sector_at image at) ≡ found
+unfolding length_in
+read-length image at sector found read is = ap (λ (l : List ℕ). big_number 4 l) read ∙ sym is
+
+-- one of the batches, where it stands
+pub record IsThere (range : Range) (place end : ℕ) (batch : List ℕ) (image : Image) : Type 0 where
+  pub is : IsBatch batch
+  pub stands : StandsAt (range.first + 1 + place) batch image
+  pub inside : place + sectors_for (length batch) ≤ end
+
+pub Fill-there : (range : Range) (place end : ℕ) (before : List (List ℕ)) (batch : List ℕ) (after : List (List ℕ)) (image : Image)
+    → Fill range place end (before ++ batch ∷ after) image → IsThere range (place + sectors_of before) end batch image
+Fill-there range place end [] batch after image fill =
+    let here : place + 0 ≡ place = omega arith in
+    record {
+      is = fill.0;
+      stands = subst (λ (n : ℕ). StandsAt (range.first + 1 + n) batch image) (sym here) fill.1;
+      inside = omega (arith, Fill-end range (place + sectors_for (length batch)) end after image fill.2);
+    }
+Fill-there range place end (first ∷ before) batch after image fill =
+    let there = Fill-there range (place + sectors_for (length first)) end before batch after image fill.2 in
+    let sum : place + sectors_for (length first) + sectors_of before ≡ place + (sectors_for (length first) + sectors_of before) = omega arith in
+    subst (λ (n : ℕ). IsThere range n end batch image) sum there
+
+-- what stands where it stands, and has the length that is said there, is it
+pub next_is : (range : Range) (place end : ℕ) (batch found : List ℕ) (image : Image) → IsThere range place end batch image
+    → length_in (sector_at image (range.first + 1 + place)) + 4 ≡ length found → StandsAt (range.first + 1 + place) found image → found ≡ batch
+next_is range place end batch found image there long stands =
+    stands-same (range.first + 1 + place) found batch image
+    (sym long ∙ length-there (range.first + 1 + place) batch image there.is there.stands) stands there.stands
+
+-- a piece after its bytes were put in
+pub piece-put : (i k : ℕ) (xs ys sector : List ℕ) → 512 * i ≤ length xs → (k ≡ 512) ⊎ ((k < 512) × (length xs ≤ 512 * i + k)) → length ys ≡ k → ys ≡ take k sector
+    → take (length (piece i (put_mid (512 * i) k xs ys))) sector ≡ piece i (put_mid (512 * i) k xs ys)
+piece-put i k xs ys sector le cases long is =
+    let whole : piece i (put_mid (512 * i) k xs ys) ≡ take 512 (ys ++ drop k (drop (512 * i) xs)) =
+    ap (λ (l : List ℕ). take 512 l) (drop_at (take (512 * i) xs) (ys ++ drop k (drop (512 * i) xs)) (512 * i) (length-take-le (512 * i) xs le)) in
+    let only : take 512 (ys ++ drop k (drop (512 * i) xs)) ≡ ys = ⊎_elim
+    (λ full. take_at ys (drop k (drop (512 * i) xs)) 512 (long ∙ full))
+    (λ short. let none : drop k (drop (512 * i) xs) ≡ [] = drop_all k (drop (512 * i) xs) (omega (arith, length-drop (512 * i) xs, short.1)) in
+    ap (λ (l : List ℕ). take 512 (ys ++ l)) none ∙ ap (λ (l : List ℕ). take 512 l) (append-nil ys) ∙ take_all 512 ys (omega (arith, long, short.0)))
+    cases in
+    let same : piece i (put_mid (512 * i) k xs ys) ≡ ys = whole ∙ only in
+    ap (λ (l : List ℕ). take (length l) sector) same ∙ ap (λ (n : ℕ). take n sector) long ∙ sym is ∙ sym same
+
+-- a part of the body is filled by one list of batches alone
+pub Fill-one : (range : Range) (place end : ℕ) (xs ys : List (List ℕ)) (image : Image) → Fill range place end xs image → Fill range place end ys image → xs ≡ ys
+Fill-one range place end [] [] image first second = refl
+Fill-one range place end [] (y ∷ ys) image first second =
+    absurd (omega (arith, first, second.0.field, Fill-end range (place + sectors_for (length y)) end ys image second.2))
+Fill-one range place end (x ∷ xs) [] image first second =
+    absurd (omega (arith, second, first.0.field, Fill-end range (place + sectors_for (length x)) end xs image first.2))
+Fill-one range place end (x ∷ xs) (y ∷ ys) image first second =
+    let at = range.first + 1 + place in
+    let same : x ≡ y = stands-same at x y image (sym (length-there at x image first.0 first.1) ∙ length-there at y image second.0 second.1) first.1 second.1 in
+    let next : Fill range (place + sectors_for (length x)) end ys image =
+    subst (λ (l : List ℕ). Fill range (place + sectors_for (length l)) end ys image) (sym same) second.2 in
+    ap (λ (l : List ℕ). l ∷ xs) same ∙ ap (λ (l : List (List ℕ)). y ∷ l) (Fill-one range (place + sectors_for (length x)) end xs ys image first.2 next)
+
+-- an image is one journal at an epoch
+pub Holds-one : (range : Range) (epoch : ℕ) (xs ys : List (List ℕ)) (image : Image) → Holds range epoch xs image → Holds range epoch ys image → xs ≡ ys
+Holds-one range epoch xs ys image (inl first) (inl second) = first.1 ∙ sym second.1
+Holds-one range epoch xs ys image (inl first) (inr second) = absurd (omega (arith, first.0.older, second.current))
+Holds-one range epoch xs ys image (inr first) (inl second) = absurd (omega (arith, second.0.older, first.current))
+Holds-one range epoch xs ys image (inr first) (inr second) = Fill-one range 0 (header_used range image) xs ys image first.filled second.filled

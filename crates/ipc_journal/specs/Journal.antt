@@ -1,0 +1,74 @@
+-- What the sectors of a journal mean. The first sector of its range is the header: the epoch in 8 bytes, and in 4
+-- how many of the sectors behind it, the body, are used. There stand the batches, each from a sector of its own on.
+-- Numbers have their highest byte first.
+use Rattle.std.specs.Prelude.{◌≡◌, ◌⊎◌, ℕ, ◌+◌, ◌*◌, ◌/◌, ◌≤◌, ◌<◌, List, [], ◌∷◌, length, take, drop, slice_index_or}
+use Rattle.byteorder.specs.Endian.{big_number}
+use Rattle.ipc_disk.specs.declared.range.Range.{Range}
+use Rattle.ipc_disk.specs.Medium.{Image}
+
+-- the sectors that so many bytes take
+abbrev pub sectors_for : ℕ → ℕ
+sectors_for len = (len + 511) / 512
+
+-- the sectors that these batches take
+abbrev pub sectors_of : List (List ℕ) → ℕ
+sectors_of [] = 0
+sectors_of (batch ∷ batches) = sectors_for (length batch) + sectors_of batches
+
+-- a sector of an image
+abbrev pub sector_at : Image → ℕ → List ℕ
+sector_at image i = slice_index_or image i []
+
+-- the epoch that a header names
+unfoldable pub epoch_in : List ℕ → ℕ
+epoch_in sector = big_number 8 sector
+
+-- the used sectors that a header names
+unfoldable pub used_in : List ℕ → ℕ
+used_in sector = big_number 4 (drop 8 sector)
+
+-- the number in the first four bytes of a batch
+unfoldable pub length_in : List ℕ → ℕ
+length_in bytes = big_number 4 bytes
+
+-- the epoch in an image's header
+abbrev pub header_epoch : Range → Image → ℕ
+header_epoch range image = epoch_in (sector_at image range.first)
+
+-- the used sectors in an image's header
+abbrev pub header_used : Range → Image → ℕ
+header_used range image = used_in (sector_at image range.first)
+
+-- a batch: its first four bytes are the number of the bytes behind them
+pub record IsBatch (batch : List ℕ) : Type 0 where
+  pub field : 4 ≤ length batch
+  pub right : length_in batch + 4 ≡ length batch
+
+-- the bytes of a batch that stand in the i-th of its sectors
+abbrev pub piece : ℕ → List ℕ → List ℕ
+piece i batch = take 512 (drop (512 * i) batch)
+
+-- from this sector on, each sector begins with the next piece of the batch
+abbrev pub StandsAt : ℕ → List ℕ → Image → Type 0
+StandsAt at batch image = (i : ℕ) → i < sectors_for (length batch)
+    → take (length (piece i batch)) (sector_at image (at + i)) ≡ piece i batch
+
+-- the batches, one after another, fill the body's sectors from place to end
+abbrev pub Fill : Range → ℕ → ℕ → List (List ℕ) → Image → Type 0
+Fill range place end [] image = place ≡ end
+Fill range place end (batch ∷ batches) image =
+    IsBatch batch × StandsAt (range.first + 1 + place) batch image × Fill range (place + sectors_for (length batch)) end batches image
+
+-- the header is of an earlier epoch
+pub record IsOlder (range : Range) (epoch : ℕ) (image : Image) : Type 0 where
+  pub older : header_epoch range image < epoch
+
+-- the header is of this epoch, and the batches fill what is used
+pub record IsCurrent (range : Range) (epoch : ℕ) (batches : List (List ℕ)) (image : Image) : Type 0 where
+  pub current : header_epoch range image ≡ epoch
+  pub within : header_used range image < range.count
+  pub filled : Fill range 0 (header_used range image) batches image
+
+-- at this epoch the journal of the image is these batches: none where the header is of an earlier epoch
+abbrev pub Holds : Range → ℕ → List (List ℕ) → Image → Type 0
+Holds range epoch batches image = (IsOlder range epoch image × (batches ≡ [])) ⊎ IsCurrent range epoch batches image

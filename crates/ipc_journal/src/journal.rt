@@ -1,0 +1,257 @@
+// The journal: its value, and the calls on it.
+ghost use Rattle.std.specs.Prelude.{◌≡◌, ◌⊎◌, ◌↔◌, ◌+◌, ◌-◌, ◌<◌, ◌≤◌, ◌++◌, [], ◌∷◌, List, ℕ, length, take, Ok, Some, None, IsSome, IfOk, IfErr, OnOk, OnErr, IsErrOf, IsTrue};
+ghost use Rattle.ipc_disk.specs.Range.{IsWithin, IsOutside};
+
+use crate::JournalError;
+use crate::sectors::{header_sector, read_batch, sectors_for_len, settle_sector, write_batch};
+use byteorder::{BigEndian, ByteOrder};
+use ipc_disk::{DiskFault, Range, SectorDisk};
+
+/// A place between two batches: the number of the body's sectors passed, 0 at first.
+#[derive(Clone, Copy, Debug, PartialEq, Eq)]
+pub struct Place {
+    /// How many sectors of the body lie before it.
+    pub sector: u32,
+}
+
+/// What is known of a journal on a disk: its sectors, its epoch, and how many sectors of its body are used.
+#[derive(Clone, Copy, Debug, PartialEq, Eq)]
+pub struct Journal {
+    range: Range,
+    epoch: u64,
+    used: u32,
+    ghost room: { used < range.count },
+}
+
+impl Journal {
+    ghost use Rattle.ipc_disk.specs.Counts.{counted};
+    ghost use Rattle.ipc_disk.specs.Medium.{Image, Medium, IsHonest, Stays};
+    ghost use Rattle.ipc_disk.specs.Since.{EachImageSince, LeavesAlone};
+    ghost use Rattle.ipc_journal.specs.Journal.{Holds, header_epoch, header_used, sectors_for, sectors_of, sector_at, length_in, IsBatch, StandsAt};
+    ghost use Rattle.ipc_journal.specs.IsAt.{range_of, epoch_of, used_of, Fits, IsAt, HoldsOneMoreOrNot};
+
+    /// Makes an empty journal of this epoch: writes its header and syncs.
+    pub fn create<D: SectorDisk>(
+        disk: &mut D,
+        range: Range,
+        epoch: u64,
+    ) -> Result<Journal, DiskFault>
+        requires header { 0 < range.count }
+        requires within { IsWithin range (D.size disk.old) }
+        ensures range { IfOk result (λ journal. range_of journal ≡ range) }
+        ensures epoch { IfOk result (λ journal. epoch_of journal ≡ epoch) }
+        ensures unused { IfOk result (λ journal. used_of journal ≡ 0) }
+        ensures empty { IfOk result (λ journal. IsHonest (D.medium disk.old)
+            → IsAt journal [] (D.medium disk.new)) }
+        ensures any_moment { IsHonest (D.medium disk.old)
+            → EachImageSince (D.medium disk.old) (D.medium disk.new)
+            (λ image. (D.medium disk.old).images_now image ⊎ Holds range epoch [] image) }
+        ensures others { IsHonest (D.medium disk.old)
+            → LeavesAlone (IsOutside range) (D.medium disk.old) (D.medium disk.new) }
+        ensures honest { IsHonest (D.medium disk.old) → IsHonest (D.medium disk.new) }
+        ensures size { D.size disk.new ≡ D.size disk.old }
+        ensures failure { OnErr result ((D.counts disk.new).failures
+            ≡ counted (D.counts disk.old).failures 1) }
+        ensures no_failure { OnOk result ((D.counts disk.new).failures
+            ≡ (D.counts disk.old).failures) }
+        ensures writes { OnOk result ((D.counts disk.new).writes
+            ≡ counted (D.counts disk.old).writes 1) }
+        ensures syncs { OnOk result ((D.counts disk.new).syncs
+            ≡ counted (D.counts disk.old).syncs 1) }
+    {
+        settle_sector(disk, range.first, &header_sector(epoch, 0))?;
+        Ok(Journal {
+            range,
+            epoch,
+            used: 0,
+        })
+    }
+
+    /// The journal that stands there. A header of an earlier epoch reads as empty, whatever else it says. One of a
+    /// later epoch, or with more used sectors than there are, is `Damaged` at the header's sector.
+    pub fn open<D: SectorDisk>(
+        disk: &mut D,
+        range: Range,
+        epoch: u64,
+    ) -> Result<Journal, JournalError>
+        requires header { 0 < range.count }
+        requires within { IsWithin range (D.size disk.old) }
+        ensures range { IfOk result (λ journal. range_of journal ≡ range) }
+        ensures epoch { IfOk result (λ journal. epoch_of journal ≡ epoch) }
+        ensures older { IfOk result (λ journal. IsHonest (D.medium disk.old)
+            → header_epoch range (D.medium disk.old).contents < epoch → used_of journal ≡ 0) }
+        ensures current { IfOk result (λ journal. IsHonest (D.medium disk.old)
+            → header_epoch range (D.medium disk.old).contents ≡ epoch
+            → used_of journal ≡ header_used range (D.medium disk.old).contents) }
+        ensures not_newer { OnOk result (IsHonest (D.medium disk.old)
+            → header_epoch range (D.medium disk.old).contents ≤ epoch) }
+        ensures stands { IfOk result (λ journal. IsHonest (D.medium disk.old)
+            → (batches : List (List ℕ))
+            → ((image : Image) → (D.medium disk.old).images_now image → Holds range epoch batches image)
+            → IsAt journal batches (D.medium disk.new)) }
+        ensures damaged { (sector : ℕ) → IsErrOf result (JournalError.Damaged sector)
+            → IsHonest (D.medium disk.old)
+            → (epoch < header_epoch range (D.medium disk.old).contents)
+            ⊎ ((header_epoch range (D.medium disk.old).contents ≡ epoch)
+            × (range.count ≤ header_used range (D.medium disk.old).contents)) }
+        ensures named { (sector : ℕ) → IsErrOf result (JournalError.Damaged sector)
+            → sector ≡ range.first }
+        ensures reads { Stays (D.medium disk.old) (D.medium disk.new) }
+        ensures size { D.size disk.new ≡ D.size disk.old }
+        ensures failure { IsErrOf result JournalError.Device
+            → (D.counts disk.new).failures ≡ counted (D.counts disk.old).failures 1 }
+        ensures no_failure { OnOk result (D.counts disk.new ≡ D.counts disk.old) }
+    {
+        let mut sector = [0; 512];
+        disk.read(range.first, &mut sector)?;
+        let found = BigEndian::read_u64(&sector);
+        let used = BigEndian::read_u32(&sector[8..]);
+        if found < epoch {
+            return Ok(Journal {
+                range,
+                epoch,
+                used: 0,
+            });
+        }
+        if found > epoch || used >= range.count {
+            return Err(JournalError::Damaged {
+                sector: range.first,
+            });
+        }
+        Ok(Journal { range, epoch, used })
+    }
+
+    /// Empty at a later epoch. Nothing is written: the header that stands there is of an earlier epoch from now on.
+    pub fn turn(&mut self, epoch: u64)
+        requires { epoch_of self.old < epoch }
+        ensures range { range_of self.new ≡ range_of self.old }
+        ensures epoch { epoch_of self.new ≡ epoch }
+        ensures unused { used_of self.new ≡ 0 }
+        ensures empty { (batches : List (List ℕ)) (image : Image)
+            → Holds (range_of self.old) (epoch_of self.old) batches image
+            → Holds (range_of self.new) epoch [] image }
+        ensures any_image { (image : Image) → header_epoch (range_of self.old) image < epoch
+            → Holds (range_of self.new) epoch [] image }
+    {
+        self.epoch = epoch;
+        self.used = 0;
+    }
+
+    /// A batch of so many bytes, with the four of its length, can be appended.
+    pub fn fits(&self, len: usize) -> bool
+        ensures { IsTrue result ↔ Fits self.now len }
+    {
+        sectors_for_len(len) < (self.range.count - self.used) as usize
+    }
+
+    /// Appends a batch, with its length field: its sectors and a sync, the header and a sync. A crash at any moment
+    /// leaves the batches of before, with this one or without; once it is Ok, with it. After an `Err` open the
+    /// journal again.
+    pub fn append<D: SectorDisk>(&mut self, disk: &mut D, batch: &[u8]) -> Result<(), DiskFault>
+        requires within { IsWithin (range_of self.old) (D.size disk.old) }
+        requires fits { Fits self.old (length batch.now) }
+        requires batch { IsBatch batch.now }
+        ensures range { range_of self.new ≡ range_of self.old }
+        ensures epoch { epoch_of self.new ≡ epoch_of self.old }
+        ensures used { OnOk result (used_of self.new
+            ≡ used_of self.old + sectors_for (length batch.now)) }
+        ensures acknowledged { OnOk result ((batches : List (List ℕ))
+            → IsAt self.old batches (D.medium disk.old)
+            → IsAt self.new (batches ++ batch.now ∷ []) (D.medium disk.new)) }
+        ensures any_moment { (batches : List (List ℕ)) → IsAt self.old batches (D.medium disk.old)
+            → EachImageSince (D.medium disk.old) (D.medium disk.new)
+            (HoldsOneMoreOrNot self.old batches batch.now) }
+        ensures left { (batches : List (List ℕ)) (image : Image)
+            → IsAt self.old batches (D.medium disk.old)
+            → (D.medium disk.new).images_now image
+            → HoldsOneMoreOrNot self.old batches batch.now image }
+        ensures others { IsHonest (D.medium disk.old)
+            → LeavesAlone (IsOutside (range_of self.old)) (D.medium disk.old) (D.medium disk.new) }
+        ensures honest { IsHonest (D.medium disk.old) → IsHonest (D.medium disk.new) }
+        ensures size { D.size disk.new ≡ D.size disk.old }
+        ensures failure { OnErr result ((D.counts disk.new).failures
+            ≡ counted (D.counts disk.old).failures 1) }
+        ensures no_failure { OnOk result ((D.counts disk.new).failures
+            ≡ (D.counts disk.old).failures) }
+        ensures writes { OnOk result ((D.counts disk.new).writes
+            ≡ counted (D.counts disk.old).writes (sectors_for (length batch.now) + 1)) }
+        ensures syncs { OnOk result ((D.counts disk.new).syncs
+            ≡ counted (D.counts disk.old).syncs 2) }
+    {
+        let used = self.used + sectors_for_len(batch.len()) as u32;
+        write_batch(disk, self.range.first + 1 + self.used, batch)?;
+        // The batch has to be on the disk before a header that counts it may be.
+        disk.sync()?;
+        settle_sector(disk, self.range.first, &header_sector(self.epoch, used))?;
+        self.used = used;
+        Ok(())
+    }
+
+    /// The batch that begins at `place`, with its length field, into the front of `into`; its length, and `place`
+    /// behind it. `None` where no more sectors are used. `Damaged` names the first sector of a batch whose length
+    /// does not fit what is used, or `into`. After an `Err` the bytes in `into` are any, and `place` is as it was.
+    pub fn next_batch<D: SectorDisk>(
+        &self,
+        disk: &mut D,
+        place: &mut Place,
+        into: &mut [u8],
+    ) -> Result<Option<usize>, JournalError>
+        requires { IsWithin (range_of self.now) (D.size disk.old) }
+        ensures in_order { (before : List (List ℕ)) (batch : List ℕ) (after : List (List ℕ))
+            → IsAt self.now (before ++ batch ∷ after) (D.medium disk.old)
+            → place.old.sector ≡ sectors_of before
+            → IfOk result (λ found. (found ≡ Some (length batch))
+            × (take (length batch) into.new ≡ batch)
+            × (place.new.sector ≡ sectors_of (before ++ batch ∷ []))) }
+        ensures end { used_of self.now ≤ place.old.sector → result ≡ Ok None }
+        ensures more { place.old.sector < used_of self.now
+            → IfOk result (λ found. IsSome found) }
+        ensures stands { IfOk result (λ found. (len : ℕ) → found ≡ Some len
+            → IsHonest (D.medium disk.old)
+            → StandsAt ((range_of self.now).first + 1 + place.old.sector) (take len into.new)
+            (D.medium disk.old).contents) }
+        ensures batch { IfOk result (λ found. (len : ℕ) → found ≡ Some len
+            → IsHonest (D.medium disk.old)
+            → len ≡ length_in (sector_at (D.medium disk.old).contents
+            ((range_of self.now).first + 1 + place.old.sector)) + 4) }
+        ensures fits { IfOk result (λ found. (len : ℕ) → found ≡ Some len → len ≤ length into.old) }
+        ensures passes { IfOk result (λ found. (len : ℕ) → found ≡ Some len
+            → place.new.sector ≡ place.old.sector + sectors_for len) }
+        ensures inside { IfOk result (λ found. (len : ℕ) → found ≡ Some len
+            → place.new.sector ≤ used_of self.now) }
+        ensures kept { OnErr result (place.new ≡ place.old) }
+        ensures damaged { (sector : ℕ) → IsErrOf result (JournalError.Damaged sector)
+            → IsHonest (D.medium disk.old)
+            → (used_of self.now < place.old.sector
+            + sectors_for (length_in (sector_at (D.medium disk.old).contents sector) + 4))
+            ⊎ (length into.old < length_in (sector_at (D.medium disk.old).contents sector) + 4) }
+        ensures too_short { (before : List (List ℕ)) (batch : List ℕ) (after : List (List ℕ)) (sector : ℕ)
+            → IsAt self.now (before ++ batch ∷ after) (D.medium disk.old)
+            → place.old.sector ≡ sectors_of before
+            → IsErrOf result (JournalError.Damaged sector)
+            → length into.old < length batch }
+        ensures named { (sector : ℕ) → IsErrOf result (JournalError.Damaged sector)
+            → sector ≡ (range_of self.now).first + 1 + place.old.sector }
+        ensures reads { IsHonest (D.medium disk.old)
+            → Stays (D.medium disk.old) (D.medium disk.new) }
+        ensures size { D.size disk.new ≡ D.size disk.old }
+        ensures failure { IsErrOf result JournalError.Device
+            → (D.counts disk.new).failures ≡ counted (D.counts disk.old).failures 1 }
+        ensures no_failure { OnOk result (D.counts disk.new ≡ D.counts disk.old) }
+    {
+        if place.sector >= self.used {
+            return Ok(None);
+        }
+        let at = self.range.first + 1 + place.sector;
+        let mut sector = [0; 512];
+        disk.read(at, &mut sector)?;
+        let len = BigEndian::read_u32(&sector) as usize + 4;
+        let taken = sectors_for_len(len);
+        if taken > (self.used - place.sector) as usize || len > into.len() {
+            return Err(JournalError::Damaged { sector: at });
+        }
+        read_batch(disk, at, &sector, &mut into[..len])?;
+        place.sector += taken as u32;
+        Ok(Some(len))
+    }
+}

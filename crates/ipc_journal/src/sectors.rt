@@ -1,0 +1,150 @@
+// Sectors as bytes, and runs of them written to a disk.
+ghost use Rattle.std.specs.Prelude.{◌≡◌, ◌⊎◌, ◌+◌, ◌*◌, ◌-◌, ◌/◌, ◌<◌, ◌≤◌, ◌^◌, ◌++◌, ℕ, length, take, drop, replicate, Some, OnOk, OnErr, slice_get, slice_set};
+ghost use Rattle.ipc_disk.specs.Counts.{counted};
+ghost use Rattle.ipc_disk.specs.Medium.{Image, IsHonest, IsDurable, Stays};
+ghost use Rattle.ipc_disk.specs.Range.{IsOutside};
+ghost use Rattle.ipc_disk.specs.Since.{EachImageSince, LeavesAlone};
+ghost use Rattle.ipc_journal.specs.Journal.{sectors_for, epoch_in, used_in, piece, StandsAt};
+
+use byteorder::{BigEndian, ByteOrder};
+use ipc_disk::{DiskFault, SectorDisk};
+
+// The sectors that so many bytes take.
+pub(crate) fn sectors_for_len(len: usize) -> usize
+    ensures { result ≡ sectors_for len }
+{
+    len.div_ceil(512)
+}
+
+// The bytes of a header: epoch, used sectors, and zeros.
+pub(crate) fn header_sector(epoch: u64, used: u32) -> [u8; 512]
+    ensures epoch { epoch_in result ≡ epoch }
+    ensures used { used_in result ≡ used }
+    ensures zeros { drop 12 result ≡ replicate 500 0 }
+{
+    let mut sector = [0; 512];
+    BigEndian::write_u64(&mut sector, epoch);
+    BigEndian::write_u32(&mut sector[8..], used);
+    sector
+}
+
+// The i-th 512 bytes of a batch, or what is left of it there.
+fn piece_of(batch: &[u8], i: usize) -> &[u8]
+    requires { 512 * i < length batch.now }
+    ensures { result.now ≡ piece i batch.now }
+{
+    let rest = &batch[512 * i..];
+    if rest.len() < 512 { rest } else { &rest[..512] }
+}
+
+// These bytes, filled up with zeros.
+fn padded(bytes: &[u8]) -> [u8; 512]
+    requires { length bytes.now ≤ 512 }
+    ensures { result ≡ bytes.now ++ replicate (512 - length bytes.now) 0 }
+{
+    let mut sector = [0; 512];
+    sector[..bytes.len()].copy_from_slice(bytes);
+    sector
+}
+
+// Writes the sectors of a batch from the sector `first` on. No sync.
+pub(crate) fn write_batch<D: SectorDisk>(
+    disk: &mut D,
+    first: u32,
+    batch: &[u8],
+) -> Result<(), DiskFault>
+    requires { first + sectors_for (length batch.now) ≤ D.size disk.old }
+    ensures stands { OnOk result (IsHonest (D.medium disk.old)
+        → StandsAt first batch.now (D.medium disk.new).contents) }
+    ensures others { IsHonest (D.medium disk.old)
+        → LeavesAlone (IsOutside (record { first = first; count = sectors_for (length batch.now) }))
+        (D.medium disk.old) (D.medium disk.new) }
+    ensures honest { IsHonest (D.medium disk.old) → IsHonest (D.medium disk.new) }
+    ensures size { D.size disk.new ≡ D.size disk.old }
+    ensures failure { OnErr result ((D.counts disk.new).failures
+        ≡ counted (D.counts disk.old).failures 1) }
+    ensures no_failure { OnOk result ((D.counts disk.new).failures ≡ (D.counts disk.old).failures) }
+    ensures writes { OnOk result ((D.counts disk.new).writes
+        ≡ counted (D.counts disk.old).writes (sectors_for (length batch.now))) }
+    ensures syncs { OnOk result ((D.counts disk.new).syncs ≡ (D.counts disk.old).syncs) }
+{
+    let count = sectors_for_len(batch.len());
+    for i in 0..count {
+        let sector = padded(piece_of(batch, i));
+        disk.write(first + i as u32, &sector)?;
+    }
+    Ok(())
+}
+
+// Writes one sector and makes it last.
+pub(crate) fn settle_sector<D: SectorDisk>(
+    disk: &mut D,
+    at: u32,
+    sector: &[u8; 512],
+) -> Result<(), DiskFault>
+    requires { at < D.size disk.old }
+    ensures written { OnOk result (IsHonest (D.medium disk.old)
+        → (D.medium disk.new).contents ≡ slice_set (D.medium disk.old).contents at sector.now) }
+    ensures durable { OnOk result (IsDurable (D.medium disk.new)) }
+    ensures any_moment { IsHonest (D.medium disk.old)
+        → EachImageSince (D.medium disk.old) (D.medium disk.new) (λ image. (before : Image)
+        × (D.medium disk.old).images_now before
+        × ((image ≡ before) ⊎ (image ≡ slice_set before at sector.now))) }
+    ensures others { IsHonest (D.medium disk.old)
+        → LeavesAlone (IsOutside (record { first = at; count = 1 }))
+        (D.medium disk.old) (D.medium disk.new) }
+    ensures honest { IsHonest (D.medium disk.old) → IsHonest (D.medium disk.new) }
+    ensures size { D.size disk.new ≡ D.size disk.old }
+    ensures failure { OnErr result ((D.counts disk.new).failures
+        ≡ counted (D.counts disk.old).failures 1) }
+    ensures no_failure { OnOk result ((D.counts disk.new).failures ≡ (D.counts disk.old).failures) }
+    ensures writes { OnOk result ((D.counts disk.new).writes
+        ≡ counted (D.counts disk.old).writes 1) }
+    ensures syncs { OnOk result ((D.counts disk.new).syncs
+        ≡ counted (D.counts disk.old).syncs 1) }
+{
+    disk.write(at, sector)?;
+    disk.sync()
+}
+
+// Puts the bytes of a sector in the place of the i-th 512, as far as there is room.
+fn put_piece(into: &mut [u8], i: usize, sector: &[u8; 512])
+    requires { 512 * i < length into.old }
+    ensures before { take (512 * i) into.new ≡ take (512 * i) into.old }
+    ensures piece { take (length (piece i into.new)) sector.now ≡ piece i into.new }
+{
+    let start = 512 * i;
+    let end = if into.len() - start < 512 {
+        into.len()
+    } else {
+        start + 512
+    };
+    into[start..end].copy_from_slice(&sector[..end - start]);
+}
+
+// Reads the batch of so many bytes that begins at the sector `at`, of which the first sector has been read.
+pub(crate) fn read_batch<D: SectorDisk>(
+    disk: &mut D,
+    at: u32,
+    first: &[u8; 512],
+    into: &mut [u8],
+) -> Result<(), DiskFault>
+    requires some { 0 < length into.old }
+    requires within { at + sectors_for (length into.old) ≤ D.size disk.old }
+    ensures stands { OnOk result (IsHonest (D.medium disk.old)
+        → slice_get (D.medium disk.old).contents at ≡ Some first.now
+        → StandsAt at into.new (D.medium disk.old).contents) }
+    ensures reads { IsHonest (D.medium disk.old) → Stays (D.medium disk.old) (D.medium disk.new) }
+    ensures size { D.size disk.new ≡ D.size disk.old }
+    ensures failure { OnErr result ((D.counts disk.new).failures
+        ≡ counted (D.counts disk.old).failures 1) }
+    ensures no_failure { OnOk result (D.counts disk.new ≡ D.counts disk.old) }
+{
+    put_piece(into, 0, first);
+    for i in 1..sectors_for_len(into.len()) {
+        let mut sector = [0; 512];
+        disk.read(at + i as u32, &mut sector)?;
+        put_piece(into, i, &sector);
+    }
+    Ok(())
+}
