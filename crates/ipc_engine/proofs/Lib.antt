@@ -3,3 +3,4 @@ pub mod Places
 pub mod Ends
 pub mod Rows
 pub mod Soundness
+pub mod Processes

@@ -1,2 +1,8 @@
-pub mod Connections
+pub mod Tables
+pub mod Moves
+pub mod Pieces
+pub mod Frames
 pub mod Ranges
+pub mod Serving
+pub mod Taking
+pub mod Calls

@@ -1,22 +1,20 @@
 -- What a caller sees of the hub.
-use Rattle.std.specs.Prelude.{ℕ, Bool, false, ◌==◌, List, [], map, find, Option, Some, None, is_some, IfSome}
+use Rattle.std.specs.Prelude.{◌≡◌, vec_len, ℕ, Bool, false, nat_eq, List, [], map, Option, Some, None, is_some, IfSome}
 use Rattle.ipc_engine.specs.declared.engine.Engine.{Engine}
-use Rattle.ipc_engine.specs.State.{State}
-use Rattle.ipc_engine.specs.Engine.{state_of as machine_state}
+use Rattle.ipc_engine.specs.Table.{value_at, keys_of}
 use Rattle.ipc_hub.specs.declared.connection.Connection.{Connection}
 use Rattle.ipc_hub.specs.declared.hub.Hub.{Hub}
-use Rattle.ipc_hub.specs.Outbox.{visible, IsEmpty}
+use Rattle.ipc_hub.specs.Outbox.{waiting, visible, IsEmpty}
 
-abbrev pub connections_of : Hub → List Connection
-connections_of h = h.connections.items
+-- the connections by number, and the numbers, in the order in which they came
+abbrev pub row : Connection → ℕ × Connection
+row c = (c.number, c)
 
--- the state of the machine below
-abbrev pub state_of : Hub → State
-state_of h = machine_state h.engine
+abbrev pub rows : Hub → List (ℕ × Connection)
+rows h = map row h.connections.items
 
--- the numbers in use, in the order in which they came
 abbrev pub numbers : Hub → List ℕ
-numbers h = map (λ c. c.number) h.connections.items
+numbers h = keys_of (rows h)
 
 -- all that the hub is
 abbrev pub parts : Hub → Engine × List Connection
@@ -24,7 +22,7 @@ parts h = (h.engine, h.connections.items)
 
 -- the connection that has the number
 abbrev pub connection_of : Hub → ℕ → Option Connection
-connection_of h conn = find (λ c. c.number == conn) h.connections.items
+connection_of h conn = value_at nat_eq (rows h) conn
 
 abbrev pub is_connected : Hub → ℕ → Bool
 is_connected h conn = is_some (connection_of h conn)
@@ -48,3 +46,13 @@ ended_by (Some c) = c.ended
 -- the server has ended the connection
 abbrev pub ended_of : Hub → ℕ → Bool
 ended_of h conn = ended_by (connection_of h conn)
+
+-- all that waits on the connection may be seen, and nothing else has changed
+pub record Releases (c released : Connection) : Type 0 where
+  pub number : released.number ≡ c.number
+  pub process : released.process ≡ c.process
+  pub input : released.input ≡ c.input
+  pub ended : released.ended ≡ c.ended
+  pub visible : visible released.outbox ≡ waiting c.outbox
+  pub waiting : waiting released.outbox ≡ waiting c.outbox
+  pub room : vec_len released.outbox.buffer ≡ vec_len c.outbox.buffer

@@ -1,10 +1,18 @@
 //! One connection: its process, the bytes that are no whole frame yet, and the frames that wait.
 
-ghost use Rattle.std.specs.Prelude.{◌≡◌, ◌<◌, ◌≤◌, [], None, false, IfOk, length, vec_len, vec_capacity};
+ghost use Rattle.std.specs.Prelude.{◌≡◌, ◌<◌, ◌≤◌, ◌∷◌, [], None, true, false, IfOk, length, map, take, vec_len, vec_capacity};
+ghost use Rattle.std.specs.Bool.{OnTrue, OnFalse};
+ghost use Rattle.ipc_wire.specs.Request.{plain_call, plain_request};
+ghost use Rattle.ipc_wire.specs.Reply.{plain_reply};
+ghost use Rattle.ipc_engine.specs.View.{plain_outcome, reply_of};
+ghost use Rattle.ipc_hub.specs.Clients.{refusal as refusal_of, process_of};
+ghost use Rattle.ipc_hub.specs.Serving.{IsServed, IsMisplaced, pid_of, said_by};
+ghost use Rattle.ipc_engine.specs.Event.{PlainOutcome};
+ghost use Rattle.ipc_hub.specs.Outbox.{GainsFrame};
 
 use crate::outbox::Outbox;
-use ipc_base::{Errno, Moment, Pid};
-use ipc_engine::{Engine, Event};
+use ipc_base::{Cred, Errno, Moment, Pid};
+use ipc_engine::{Engine, Event, Outcome};
 use ipc_wire::{Body, Call, Frame, GREATEST_FRAME, Reply, Request, read_frame};
 use std::alloc::{AllocError, Global};
 
@@ -24,7 +32,8 @@ pub(crate) struct Connection {
 }
 
 impl Connection {
-    ghost use Rattle.ipc_hub.specs.Outbox.{waiting, IsEmpty};
+    ghost use Rattle.ipc_hub.specs.Outbox.{waiting, visible, IsEmpty};
+    ghost use Rattle.ipc_hub.specs.Serves.{TakesIn, Leaves, BreaksOff};
 
     /// A connection without a process; a frame of `room` bytes fits.
     pub(crate) fn new(alloc: Global, number: u32, room: usize) -> Result<Connection, AllocError>
@@ -32,6 +41,8 @@ impl Connection {
         ensures process { IfOk result (λ c. c.process ≡ None) }
         ensures input { IfOk result (λ c. c.input.items ≡ []) }
         ensures waiting { IfOk result (λ c. waiting c.outbox ≡ []) }
+        ensures visible { IfOk result (λ c. visible c.outbox ≡ []) }
+        ensures buffer { IfOk result (λ c. vec_len c.outbox.buffer ≡ room) }
         ensures ended { IfOk result (λ c. c.ended ≡ false) }
     {
         Ok(Connection {
@@ -43,18 +54,17 @@ impl Connection {
         })
     }
 
-    /// Takes bytes of a piece until a frame waits, and answers each request that they complete.
-    /// Answers how many bytes it took; an ended connection takes and drops all.
+    /// Takes bytes of a piece until a frame waits, and answers each request that they complete; an ended
+    /// connection takes and drops all. Answers how many bytes it took.
     pub(crate) fn feed(&mut self, engine: &mut Engine, piece: &[u8], moment: Moment) -> usize
         ensures number { self.new.number ≡ self.old.number }
+        ensures bytes { TakesIn engine.old self.old engine.new self.new (take result piece.now) moment.0 }
         ensures within { result ≤ length piece.now }
         ensures whole { IsEmpty self.new.outbox → result ≡ length piece.now }
+        ensures starts { IsEmpty self.old.outbox → 0 < length piece.now → 0 < result }
     {
-        if self.ended {
-            return piece.len();
-        }
         for (taken, byte) in piece.iter().enumerate() {
-            if !self.outbox.is_empty() {
+            if !self.ended && !self.outbox.is_empty() {
                 return taken;
             }
             self.take(engine, *byte, moment);
@@ -64,35 +74,40 @@ impl Connection {
 
     /// One byte more.
     fn take(&mut self, engine: &mut Engine, byte: u8, moment: Moment)
-        ensures { self.new.number ≡ self.old.number }
+        ensures number { self.new.number ≡ self.old.number }
+        ensures bytes { (self.old.ended ≡ false → IsEmpty self.old.outbox) → TakesIn engine.old self.old engine.new self.new (byte ∷ []) moment.0 }
     {
+        if self.ended {
+            return;
+        }
         self.input.push(byte).unwrap();
-        let fault = match read_frame(&self.input) {
-            Frame::More => return,
+        match read_frame(&self.input) {
+            Frame::More => {}
             Frame::Whole { request, .. } => {
-                if serve(
+                let serial = request.serial;
+                let served = serve(
                     engine,
                     &mut self.process,
                     &mut self.outbox,
                     &request,
                     moment,
-                ) {
-                    None
-                } else {
-                    Some(request.serial)
+                );
+                self.input.clear();
+                if !served {
+                    self.break_off(engine, serial, moment);
                 }
             }
-            Frame::Fault { serial } => Some(serial),
-        };
-        self.input.clear();
-        if let Some(serial) = fault {
-            self.end(engine, serial, moment);
+            Frame::Fault { serial } => {
+                self.input.clear();
+                self.break_off(engine, serial, moment);
+            }
         }
     }
 
-    /// The process leaves, and the connection has ended.
-    fn end(&mut self, engine: &mut Engine, serial: u32, moment: Moment)
-        ensures { self.new.number ≡ self.old.number }
+    /// The process leaves, and an EPROTO frame is the last of the connection.
+    fn break_off(&mut self, engine: &mut Engine, serial: u32, moment: Moment)
+        ensures number { self.new.number ≡ self.old.number }
+        ensures ended { IsEmpty self.old.outbox → BreaksOff engine.old self.old engine.new self.new serial moment.0 }
     {
         self.leave(engine, moment);
         self.outbox.push(&refusal(serial, Errno::EPROTO));
@@ -101,7 +116,7 @@ impl Connection {
 
     /// The process leaves, if there is one.
     pub(crate) fn leave(&mut self, engine: &mut Engine, moment: Moment)
-        ensures { self.new.number ≡ self.old.number }
+        ensures { Leaves engine.old self.old engine.new self.new moment.0 }
     {
         if let Some(pid) = self.process
             && engine.connected(pid)
@@ -119,41 +134,71 @@ fn serve(
     outbox: &mut Outbox,
     request: &Request<'_>,
     moment: Moment,
-) -> bool {
+) -> bool
+    ensures served { OnTrue result (IsServed engine.old process.old outbox.old engine.new process.new outbox.new (plain_request request.now) moment.0) }
+    ensures misplaced { OnFalse result (IsMisplaced engine.old process.old outbox.old engine.new process.new outbox.new (plain_request request.now) moment.0) }
+{
     let serial = request.serial;
-    let event = match (*process, &request.call) {
-        (None, Call::Hello(cred)) => Event::Connect {
-            cred: *cred,
-            serial,
-            moment,
-        },
-        (None, _) | (Some(_), Call::Hello(_)) => return false,
-        (Some(pid), _) => {
+    match (*process, hello_of(&request.call)) {
+        (None, Some(cred)) => {
+            let hello = Event::Connect {
+                cred,
+                serial,
+                moment,
+            };
+            if engine.step(hello).is_ok() {
+                *process = answer(outbox, engine.outcomes());
+            } else {
+                outbox.push(&refusal(serial, Errno::ENOMEM));
+            }
+            true
+        }
+        (Some(pid), None) => {
             if !engine.connected(pid) {
                 return false;
             }
-            Event::Call {
+            let call = Event::Call {
                 pid,
                 request: *request,
                 moment,
+            };
+            if engine.step(call).is_ok() {
+                answer(outbox, engine.outcomes());
+            } else {
+                outbox.push(&refusal(serial, Errno::ENOMEM));
             }
+            true
         }
-    };
-    if engine.step(event).is_err() {
-        outbox.push(&refusal(serial, Errno::ENOMEM));
-        return true;
+        (None, None) | (Some(_), Some(_)) => false,
     }
-    for outcome in engine.outcomes() {
-        if process.is_none() && outcome.pid.0 != 0 {
-            *process = Some(outcome.pid);
-        }
-        outbox.push(&outcome.reply());
+}
+
+/// Who says HELLO, if the call is one.
+fn hello_of(call: &Call<'_>) -> Option<Cred>
+    ensures { result ≡ said_by (plain_call call.now) }
+{
+    match call {
+        Call::Hello(cred) => Some(*cred),
+        Call::Msgget { .. } | Call::Msgsnd { .. } | Call::Msgrcv { .. } => None,
     }
-    true
+}
+
+/// Puts the reply of a request, which has one. Answers for which process it is, if it is for one.
+fn answer(outbox: &mut Outbox, outcomes: &[Outcome]) -> Option<Pid>
+    ensures { (o : PlainOutcome) → map plain_outcome outcomes.now ≡ o ∷ [] → GainsFrame outbox.old outbox.new (reply_of o) × (pid_of result ≡ process_of o) }
+{
+    let outcome = outcomes.first()?;
+    outbox.push(&outcome.reply());
+    if outcome.pid.0 == 0 {
+        return None;
+    }
+    Some(outcome.pid)
 }
 
 /// A reply without a body.
-fn refusal(serial: u32, errno: Errno) -> Reply<'static> {
+fn refusal(serial: u32, errno: Errno) -> Reply<'static>
+    ensures { plain_reply result ≡ reply_of (refusal_of serial errno) }
+{
     Reply {
         serial,
         errno: Some(errno),

@@ -1,9 +1,13 @@
 //! The hub: connections by number, over one engine.
 
-ghost use Rattle.std.specs.Prelude.{◌≡◌, ◌==◌, ◌≤◌, ◌↔◌, [], ◌∷◌, ◌++◌, length, map, All, drop, position, true, false, IfOk, IsErr, OnErr, OnOk, Err};
-ghost use Rattle.ipc_engine.specs.Engine.{state_of as machine_state};
+ghost use Rattle.std.specs.Prelude.{◌≡◌, ◌==◌, ◌<◌, ◌≤◌, ◌↔◌, ℕ, get_or, length, drop, take, position, true, false, IfOk, IsErr, OnErr, OnOk, Err};
+ghost use Rattle.ipc_base.specs.declared.limits.Limits.{Limits};
+ghost use Rattle.ipc_base.specs.Limits.{standard_limits};
+ghost use Rattle.ipc_engine.specs.Engine.{limits_of, state_of as machine_state};
 ghost use Rattle.ipc_engine.specs.Step.{at_moment};
-ghost use Rattle.ipc_hub.specs.Outbox.{visible, waiting};
+ghost use Rattle.ipc_hub.specs.declared.connection.Connection.{Connection};
+ghost use Rattle.ipc_hub.specs.Hub.{Releases};
+ghost use Rattle.ipc_hub.specs.Clients.{Clients, no_clients, connect, hangup, tick, consume, shown_at, ended_at};
 
 use crate::connection::Connection;
 use ipc_base::Moment;
@@ -34,11 +38,12 @@ pub struct Hub {
 }
 
 impl Hub {
-    ghost use Rattle.ipc_hub.specs.Hub.{numbers, connections_of, state_of, parts, is_connected, HasNoFrame, output_of, ended_of};
+    ghost use Rattle.ipc_hub.specs.Hub.{parts, is_connected, HasNoFrame, output_of, ended_of};
+    ghost use Rattle.ipc_hub.specs.Stands.{Stands, Takes, TakesBytes};
 
     /// A hub without connections. It takes no memory.
     pub fn new(alloc: Global, engine: Engine) -> Hub
-        ensures { numbers result ≡ [] }
+        ensures { (limits_of engine).msgmnb ≤ standard_limits.msgmnb → Stands (limits_of engine) 0 result (no_clients (machine_state engine)) }
     {
         Hub {
             alloc,
@@ -50,7 +55,7 @@ impl Hub {
     /// Adds a connection under a number that is not in use. All that it will ever need is taken now.
     /// After a refusal nothing has changed.
     pub fn connect(&mut self, conn: u32) -> Result<(), ConnectError>
-        ensures ok { OnOk result (numbers self.new ≡ numbers self.old ++ conn ∷ []) }
+        ensures ok { OnOk result (Takes self.old self.new (λ _ h. connect h conn)) }
         ensures in_use { (result ≡ Err ConnectError.InUse) ↔ (is_connected self.old conn ≡ true) }
         ensures err { OnErr result (parts self.new ≡ parts self.old) }
     {
@@ -64,7 +69,8 @@ impl Hub {
     }
 
     fn add(&mut self, conn: u32) -> Result<(), AllocError>
-        ensures ok { OnOk result (numbers self.new ≡ numbers self.old ++ conn ∷ []) }
+        requires { is_connected self.old conn ≡ false }
+        ensures ok { OnOk result (Takes self.old self.new (λ _ h. connect h conn)) }
         ensures err { OnErr result (parts self.new ≡ parts self.old) }
     {
         let room = REPLY_HEAD + self.engine.limits().msgmnb as usize;
@@ -81,8 +87,10 @@ impl Hub {
         piece: &[u8],
         moment: Moment,
     ) -> Result<usize, UnknownConnection>
+        ensures ok { IfOk result (λ taken. TakesBytes self.old self.new conn (take taken piece.now) moment.0) }
         ensures within { IfOk result (λ taken. taken ≤ length piece.now) }
         ensures whole { IfOk result (λ taken. HasNoFrame self.new conn → taken ≡ length piece.now) }
+        ensures starts { HasNoFrame self.old conn → 0 < length piece.now → IfOk result (λ taken. 0 < taken) }
         ensures unknown { IsErr result ↔ (is_connected self.old conn ≡ false) }
         ensures err { OnErr result (parts self.new ≡ parts self.old) }
     {
@@ -96,6 +104,7 @@ impl Hub {
 
     /// The client is gone, at a moment: its process leaves, its frames are dropped, its number is free.
     pub fn hangup(&mut self, conn: u32, moment: Moment) -> Result<(), UnknownConnection>
+        ensures ok { OnOk result (Takes self.old self.new (λ limits h. hangup limits h conn moment.0)) }
         ensures unknown { IsErr result ↔ (is_connected self.old conn ≡ false) }
         ensures err { OnErr result (parts self.new ≡ parts self.old) }
     {
@@ -110,25 +119,22 @@ impl Hub {
 
     /// Time passes: the clock is the greatest moment so far.
     pub fn tick(&mut self, moment: Moment)
-        ensures state { state_of self.new ≡ at_moment (state_of self.old) moment.0 }
-        ensures connections { connections_of self.new ≡ connections_of self.old }
+        ensures { Takes self.old self.new (λ limits h. tick limits h moment.0) }
     {
         pass(&mut self.engine, moment);
     }
 
     /// Lets all frames that wait be seen.
     pub fn release(&mut self)
-        ensures shown { All (λ c. visible c.outbox ≡ waiting c.outbox) (connections_of self.new) }
-        ensures waiting { map (λ c. waiting c.outbox) (connections_of self.new) ≡ map (λ c. waiting c.outbox) (connections_of self.old) }
-        ensures numbers { numbers self.new ≡ numbers self.old }
-        ensures state { state_of self.new ≡ state_of self.old }
+        ensures { (limits : Limits) (confirmed : ℕ) (h : Clients) → Stands limits confirmed self.old h → Stands limits h.accepted self.new h }
     {
         release_all(&mut self.connections);
     }
 
     /// The bytes that the client of a connection may see; none where no connection has the number.
     pub fn output(&self, conn: u32) -> &[u8]
-        ensures { result.now ≡ output_of self.now conn }
+        ensures shown { (limits : Limits) (confirmed : ℕ) (h : Clients) → Stands limits confirmed self.now h → result.now ≡ shown_at confirmed h conn }
+        ensures bytes { result.now ≡ output_of self.now conn }
     {
         match self.place_of(conn) {
             Some(place) => self.connections[place].outbox.visible(),
@@ -139,6 +145,7 @@ impl Hub {
     /// The client has taken the first `count` bytes of its output.
     pub fn consume(&mut self, conn: u32, count: usize)
         requires { count ≤ length (output_of self.old conn) }
+        ensures ok { Takes self.old self.new (λ _ h. consume h conn count) }
         ensures output { output_of self.new conn ≡ drop count (output_of self.old conn) }
     {
         if let Some(place) = self.place_of(conn) {
@@ -149,7 +156,8 @@ impl Hub {
 
     /// Whether the server has ended a connection; not so where none has the number.
     pub fn ended(&self, conn: u32) -> bool
-        ensures { result ≡ ended_of self.now conn }
+        ensures server { (limits : Limits) (confirmed : ℕ) (h : Clients) → Stands limits confirmed self.now h → result ≡ ended_at h conn }
+        ensures ended { result ≡ ended_of self.now conn }
     {
         match self.place_of(conn) {
             Some(place) => self.connections[place].ended,
@@ -169,16 +177,16 @@ impl Hub {
 
 /// Time passes.
 fn pass(engine: &mut Engine, moment: Moment)
-    ensures { machine_state engine.new ≡ at_moment (machine_state engine.old) moment.0 }
+    ensures limits { limits_of engine.new ≡ limits_of engine.old }
+    ensures state { machine_state engine.new ≡ at_moment (machine_state engine.old) moment.0 }
 {
     engine.step(Event::Tick { moment }).unwrap();
 }
 
 /// Lets the frames that wait on each connection be seen.
 fn release_all(connections: &mut [Connection])
-    ensures shown { All (λ c. visible c.outbox ≡ waiting c.outbox) connections.new }
-    ensures waiting { map (λ c. waiting c.outbox) connections.new ≡ map (λ c. waiting c.outbox) connections.old }
-    ensures numbers { map (λ c. c.number) connections.new ≡ map (λ c. c.number) connections.old }
+    ensures count { length connections.new ≡ length connections.old }
+    ensures each { (k : ℕ) (d : Connection) → k < length connections.old → Releases (get_or connections.old k d) (get_or connections.new k d) }
 {
     for connection in connections.iter_mut() {
         connection.outbox.release();

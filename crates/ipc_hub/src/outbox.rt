@@ -1,6 +1,7 @@
 //! The frames of a connection that the client has not consumed.
 
 ghost use Rattle.std.specs.Prelude.{◌≡◌, ◌≤◌, ◌↔◌, [], length, drop, vec_len, IfOk, IsTrue};
+ghost use Rattle.ipc_wire.specs.Reply.{plain_reply};
 
 use ipc_wire::{Reply, reply_len, write_reply};
 use std::alloc::{AllocError, Global};
@@ -16,14 +17,16 @@ pub(crate) struct Outbox {
     ghost in_order: { consumed ≤ released },
     ghost released_is_written: { released ≤ end },
     ghost within: { end ≤ vec_len buffer },
+    ghost fresh: { consumed ≡ end → end ≡ 0 },
 }
 
 impl Outbox {
-    ghost use Rattle.ipc_hub.specs.Outbox.{waiting, visible, IsEmpty};
+    ghost use Rattle.ipc_hub.specs.Outbox.{waiting, visible, IsEmpty, GainsFrame};
 
     /// No frame waits, and there is room for frames of `room` bytes.
     pub(crate) fn new(alloc: Global, room: usize) -> Result<Outbox, AllocError>
         ensures waiting { IfOk result (λ outbox. waiting outbox ≡ []) }
+        ensures visible { IfOk result (λ outbox. visible outbox ≡ []) }
         ensures room { IfOk result (λ outbox. vec_len outbox.buffer ≡ room) }
     {
         Ok(Outbox {
@@ -49,12 +52,12 @@ impl Outbox {
     }
 
     /// Puts a frame behind those that wait, where there is room for it.
-    pub(crate) fn push(&mut self, reply: &Reply<'_>) -> bool {
-        let written = write_reply(reply, &mut self.buffer[self.end..]);
-        if written {
+    pub(crate) fn push(&mut self, reply: &Reply<'_>)
+        ensures { GainsFrame self.old self.new (plain_reply reply.now) }
+    {
+        if write_reply(reply, &mut self.buffer[self.end..]) {
             self.end += reply_len(reply);
         }
-        written
     }
 
     /// The client may see all that waits.

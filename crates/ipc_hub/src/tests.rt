@@ -5,11 +5,13 @@ use ipc_base::{Limits, Moment};
 use ipc_engine::Engine;
 use std::test::Fail;
 
-const HELLO: [u8; 17] = [0, 0, 0, 13, 0, 0, 0, 1, 1, 0, 0, 3, 232, 0, 0, 0, 100];
+/// HELLO of uid 1000 and gid 100, and its answer for pid 1.
+pub(crate) const HELLO: [u8; 17] = [0, 0, 0, 13, 0, 0, 0, 1, 1, 0, 0, 3, 232, 0, 0, 0, 100];
 
-const WELCOME: [u8; 14] = [0, 0, 0, 10, 0, 0, 0, 1, 0, 0, 0, 0, 0, 1];
+pub(crate) const WELCOME: [u8; 14] = [0, 0, 0, 10, 0, 0, 0, 1, 0, 0, 0, 0, 0, 1];
 
-const BROKEN: [u8; 10] = [0, 0, 0, 6, 0, 0, 0, 0, 0, 71];
+/// EPROTO without a serial.
+pub(crate) const BROKEN: [u8; 10] = [0, 0, 0, 6, 0, 0, 0, 0, 0, 71];
 
 #[test]
 fn a_client_comes_and_goes(rt: HostRuntime) -> Result<(), Fail> {
@@ -34,7 +36,7 @@ fn a_client_comes_and_goes(rt: HostRuntime) -> Result<(), Fail> {
     hub.tick(Moment(5));
 
     // a fault ends the connection, which then takes and drops what comes
-    assert_eq!(rt; hub.feed(7, &[0, 0, 0, 0, 9], Moment(5)), Ok(4));
+    assert_eq!(rt; hub.feed(7, &[0, 0, 0, 0, 9], Moment(5)), Ok(5));
     hub.release();
     assert!(rt; hub.ended(7));
     assert_eq!(rt; hub.output(7), BROKEN.as_slice());

@@ -1,5 +1,5 @@
 -- What the first frame of a stream says, step by step, and that it stays when more bytes come.
-use Rattle.std.proofs.Common.{◌≡◌, ℕ, ◌+◌, ◌≤◌, ◌<◌, Bool, true, false, cond, ltb, eqb, ◌||◌, List, ◌++◌, length, take, drop, Option, Some, None, refl, sym, ap, ◌∙◌, arith, ◌⊎◌, inl, inr}
+use Rattle.std.proofs.Common.{◌≡◌, ℕ, ◌+◌, ◌≤◌, ◌<◌, Bool, true, false, cond, ltb, eqb, ◌||◌, List, [], ◌∷◌, ◌++◌, length, take, drop, Option, Some, None, refl, sym, ap, ◌∙◌, arith, ◌⊎◌, inl, inr}
 use Rattle.std.specs.Int.{w32, from_be_bytes}
 use Rattle.std.specs.Prelude.{slice_index}
 use Rattle.std.proofs.lemmas.Bool.{cases_lt, lt-ltb, le-ltb, ltb-false, ltb-true, cond-true, cond-false, cond_both}
@@ -140,3 +140,46 @@ fault_stays bytes more serial e =
       | inl waits ↦ absurd cc
       | inr same ↦ same ∙ e
     ]
+
+-- ---- the last byte
+
+request_used : (call : Option PlainCall) (used serial n : ℕ) (request : PlainRequest) → request_or_fault used serial call ≡ Whole n request → n ≡ used
+request_used None used serial n request e = cc
+request_used (Some call) used serial n request e = cc
+
+frame_used : (text : List ℕ) (used : ℕ) (request : PlainRequest) → frame_of text ≡ Whole used request → used ≡ 4 + length text
+unfolding frame_of
+frame_used text used request =
+    let call : Option PlainCall = call_of (slice_index text 4) (drop 5 text) in
+    cond_both (eqb (u32_at 0 text) 0) (Fault 0) (request_or_fault (4 + length text) (u32_at 0 text) call) (λ (f : PlainFrame). f ≡ Whole used request → used ≡ 4 + length text) (λ _ e. cc)
+    (λ _. request_used call (4 + length text) (u32_at 0 text) used request)
+
+sized_waits : (size available : ℕ) (text : List ℕ) → is_out_of_range size ≡ false → sized size available (frame_of text) ≡ More → available < 4 + size
+sized_waits size available text inside =
+    rw inside
+    (cond_both (ltb available (4 + size)) More (frame_of text) (λ (f : PlainFrame). f ≡ More → available < 4 + size)
+    (λ short _. ltb-true _ _ short) (λ _ e. absurd (frame_waits text e)))
+
+sized_whole : (size available : ℕ) (text : List ℕ) (used : ℕ) (request : PlainRequest) → (4 + size ≤ available → length text ≡ size) → sized size available (frame_of text) ≡ Whole used request
+    → (is_out_of_range size ≡ false) × (used ≡ 4 + size)
+sized_whole size available text used request exact =
+    cond_both (is_out_of_range size) (Fault 0) (cond (ltb available (4 + size)) More (frame_of text)) (λ (f : PlainFrame). f ≡ Whole used request → (is_out_of_range size ≡ false) × (used ≡ 4 + size)) (λ _ e. cc)
+    (λ inside. cond_both (ltb available (4 + size)) More (frame_of text) (λ (f : PlainFrame). f ≡ Whole used request → (is_out_of_range size ≡ false) × (used ≡ 4 + size)) (λ _ e. cc)
+    (λ long e.
+    let enough : 4 + size ≤ available = ltb-false _ _ long in
+    (inside, omega (arith, frame_used text used request e, exact enough))))
+
+-- a frame is whole with its last byte
+pub whole_last : (bytes : List ℕ) (byte used : ℕ) (request : PlainRequest) → first bytes ≡ More → first (bytes ++ byte ∷ []) ≡ Whole used request → used ≡ length bytes + 1
+whole_last bytes byte used request waits whole =
+    let all : List ℕ = bytes ++ byte ∷ [] in
+    let count : length all ≡ length bytes + 1 = length-append bytes (byte ∷ []) in
+    let takes : TakesBytes (Whole used request) (length all) = rw whole at (first_takes all) in
+    let long : 4 ≤ length all = omega (arith, takes.0, takes.1) in
+    let size : ℕ = u32_at 0 all in
+    let found = sized_whole size (length all) (part 4 size all) used request (λ enough. length-take-le size (drop 4 all) (omega (arith, length-drop 4 all, enough))) (sym (first_long all long) ∙ whole) in
+    let least = in_range size found.0 in
+    let full : 4 ≤ length bytes = omega (arith, count, takes.1, found.1, least.0) in
+    let same : size ≡ u32_at 0 bytes = number_stays bytes (byte ∷ []) full in
+    let short = sized_waits (u32_at 0 bytes) (length bytes) (part 4 (u32_at 0 bytes) bytes) (rw same at found.0) (sym (first_long bytes full) ∙ waits) in
+    omega (arith, count, takes.1, found.1, short, same)

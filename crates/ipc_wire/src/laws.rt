@@ -1,7 +1,7 @@
 //! Laws of the frames, for crates that read or write streams of them: functions that do nothing, and whose
 //! contracts are the laws.
 
-ghost use Rattle.std.specs.Prelude.{◌≡◌, ◌<◌, ℕ, List, ◌++◌, length, take, drop, All};
+ghost use Rattle.std.specs.Prelude.{◌≡◌, ◌<◌, ◌+◌, ℕ, List, [], ◌∷◌, ◌++◌, length, take, drop, All};
 ghost use Rattle.ipc_wire.specs.Request.{PlainRequest};
 ghost use Rattle.ipc_wire.specs.Stream.{first, TakesBytes, stream_of, begins_with, continued};
 ghost use Rattle.ipc_wire.specs.Stream.PlainFrame.{More, Whole, Fault};
@@ -20,6 +20,8 @@ pub fn found_frame_stays()
 pub fn frame_is_bounded()
     ensures whole { (bytes : List ℕ) → TakesBytes (first bytes) (length bytes) }
     ensures waiting { (bytes : List ℕ) → first bytes ≡ More → length bytes < 8452 }
+    ensures last { (bytes : List ℕ) (byte used : ℕ) (request : PlainRequest) → first bytes ≡ More
+        → first (bytes ++ byte ∷ []) ≡ Whole used request → used ≡ length bytes + 1 }
 {}
 
 /// A stream is its first frame and the stream behind it.

@@ -1,0 +1,5 @@
+pub mod Input
+pub mod Line
+pub mod LineView
+pub mod Script
+pub mod Runs

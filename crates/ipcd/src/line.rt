@@ -1,16 +1,21 @@
 //! The lines of a script.
 
+ghost use Rattle.std.specs.Prelude.{◌≡◌, ◌<◌, ◌==◌, [], ◌∷◌, length, position, option_map};
+ghost use Rattle.ipcd.specs.Line.{line_of, lines_of, words_of, line_of_words, moment_of, conn_of};
+ghost use Rattle.ipcd.specs.LineView.{plain_line, words_behind};
+
+use crate::digits::Hex;
+
 /// A line, with its connection and its moment; `open` has a moment only for the form's sake.
 #[derive(Clone, Copy, Debug)]
 pub enum Line<'a> {
     Open {
         conn: u32,
     },
-    /// `hex` is two digits for each byte, of at least one byte.
     Data {
         moment: u64,
         conn: u32,
-        hex: &'a [u8],
+        hex: Hex<'a>,
     },
     End {
         moment: u64,
@@ -23,40 +28,78 @@ pub enum Line<'a> {
 
 /// The line that a text is: `M open C`, `M data C HEX`, `M end C` or `M tick`, its words parted by one
 /// space; M and C are digits alone, within their types.
-pub fn line_of(text: &[u8]) -> Option<Line<'_>> {
-    let (moment, rest) = word(text);
-    let (verb, rest) = word(rest?);
-    let moment = number(moment)?;
-    if verb == b"tick".as_slice() {
-        return match rest {
-            None => Some(Line::Tick { moment }),
-            Some(_) => None,
-        };
-    }
-    let (conn, rest) = word(rest?);
-    let conn = u32::try_from(number(conn)?).ok()?;
+pub fn line_of(text: &[u8]) -> Option<Line<'_>>
+    ensures { option_map plain_line result ≡ line_of text.now }
+{
+    let (first, rest) = word(text);
+    let (second, rest) = word(rest?);
+    let Some(rest) = rest else {
+        return two_words(first, second);
+    };
+    let (third, rest) = word(rest);
+    let Some(rest) = rest else {
+        return three_words(first, second, third);
+    };
+    let (fourth, rest) = word(rest);
     match rest {
-        None if verb == b"open".as_slice() => Some(Line::Open { conn }),
-        None if verb == b"end".as_slice() => Some(Line::End { moment, conn }),
-        Some(hex) if verb == b"data".as_slice() && is_hex(hex) => Some(Line::Data {
-            moment,
-            conn,
-            hex,
-        }),
-        _ => None,
+        None => four_words(first, second, third, fourth),
+        Some(_) => None,
     }
 }
 
+/// `M tick`.
+fn two_words<'a>(moment: &[u8], verb: &[u8]) -> Option<Line<'a>>
+    ensures { option_map plain_line result ≡ line_of_words (moment.now ∷ verb.now ∷ []) }
+{
+    if verb != b"tick".as_slice() {
+        return None;
+    }
+    let moment = number(moment)?;
+    Some(Line::Tick { moment })
+}
+
+/// `M open C` or `M end C`.
+fn three_words<'a>(moment: &[u8], verb: &[u8], conn: &[u8]) -> Option<Line<'a>>
+    ensures { option_map plain_line result ≡ line_of_words (moment.now ∷ verb.now ∷ conn.now ∷ []) }
+{
+    let moment = number(moment)?;
+    let conn = conn_number(conn)?;
+    if verb == b"open".as_slice() {
+        Some(Line::Open { conn })
+    } else if verb == b"end".as_slice() {
+        Some(Line::End { moment, conn })
+    } else {
+        None
+    }
+}
+
+/// `M data C HEX`.
+fn four_words<'a>(moment: &[u8], verb: &[u8], conn: &[u8], hex: &'a [u8]) -> Option<Line<'a>>
+    ensures { option_map plain_line result ≡ line_of_words (moment.now ∷ verb.now ∷ conn.now ∷ hex.now ∷ []) }
+{
+    if verb != b"data".as_slice() {
+        return None;
+    }
+    let moment = number(moment)?;
+    let conn = conn_number(conn)?;
+    let hex = Hex::new(hex)?;
+    Some(Line::Data { moment, conn, hex })
+}
+
 /// The bytes up to the first space, and those behind it where there is one.
-fn word(text: &[u8]) -> (&[u8], Option<&[u8]>) {
-    match text.iter().position(|byte| *byte == b' ') {
+fn word(text: &[u8]) -> (&[u8], Option<&[u8]>)
+    ensures { words_of text.now ≡ result.0.now ∷ words_behind result.1 }
+{
+    match place_of(b' ', text) {
         Some(space) => (&text[..space], Some(&text[space + 1..])),
         None => (text, None),
     }
 }
 
-/// The number that the digits spell, where they are digits and it is below 2^64.
-fn number(digits: &[u8]) -> Option<u64> {
+/// The number that the bytes spell, where they are digits alone and it is below 2^64.
+fn number(digits: &[u8]) -> Option<u64>
+    ensures { result ≡ moment_of digits.now }
+{
     if digits.is_empty() {
         return None;
     }
@@ -72,9 +115,28 @@ fn number(digits: &[u8]) -> Option<u64> {
     Some(number)
 }
 
-/// Whether the digits spell at least one byte, two for each.
-fn is_hex(digits: &[u8]) -> bool {
-    !digits.is_empty()
-        && digits.len() % 2 == 0
-        && digits.iter().all(|digit| digit.is_ascii_hexdigit())
+/// The number of a connection, below 2^32.
+fn conn_number(digits: &[u8]) -> Option<u32>
+    ensures { result ≡ conn_of digits.now }
+{
+    u32::try_from(number(digits)?).ok()
+}
+
+/// The first line, and what stands behind its newline.
+pub fn first_line(text: &[u8]) -> (&[u8], &[u8])
+    requires { 0 < length text.now }
+    ensures lines { lines_of text.now ≡ result.0.now ∷ lines_of result.1.now }
+    ensures shorter { length result.1.now < length text.now }
+{
+    match place_of(b'\n', text) {
+        Some(end) => (&text[..end], &text[end + 1..]),
+        None => (text, &[]),
+    }
+}
+
+/// The place of the first such byte.
+fn place_of(byte: u8, text: &[u8]) -> Option<usize>
+    ensures { result ≡ position (λ other. other == byte) text.now }
+{
+    text.iter().position(|other| *other == byte)
 }

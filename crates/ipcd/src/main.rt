@@ -2,7 +2,9 @@
 #![tactic(auto)]
 
 mod command;
+mod digits;
 mod fault;
+mod input;
 mod line;
 mod report;
 mod script;
@@ -15,6 +17,8 @@ use script::run_script;
 use std::io;
 use std::process::ExitCode;
 
+#[cfg(test)]
+mod cuts;
 #[cfg(test)]
 mod rows;
 #[cfg(test)]

@@ -6,7 +6,7 @@ pub struct Row {
     pub output: &'static str,
 }
 
-pub static ROWS: [Row; 16] = [
+pub static ROWS: [Row; 21] = [
     Row {
         name: "a first queue",
         script: "0 open 1\n0 data 1 0000000d0000000101000003e800000064\n0 data 1 0000000d000000020a000004d200000380\n0 data 1 00000017000000030b000000010000080000000000000000056869\n0 data 1 00000019000000040c0000000100000800000000400000000000000000\n0 data 1 00000019000000050c0000000100000800000000400000000000000000\n",
@@ -43,6 +43,21 @@ pub static ROWS: [Row; 16] = [
         output: "1 00000006000000000047\n1 end\n",
     },
     Row {
+        name: "a length above the greatest, before HELLO",
+        script: "0 open 1\n0 data 1 00002101\n",
+        output: "1 00000006000000000047\n1 end\n",
+    },
+    Row {
+        name: "a length above the greatest ends the connection",
+        script: "0 open 1\n0 data 1 0000000d0000000101000003e800000064\n0 data 1 00002101\n",
+        output: "1 0000000a00000001000000000001\n1 00000006000000000047\n1 end\n",
+    },
+    Row {
+        name: "an unknown opcode before HELLO",
+        script: "0 open 1\n0 data 1 0000000500000009ff\n",
+        output: "1 00000006000000090047\n1 end\n",
+    },
+    Row {
         name: "an unknown opcode",
         script: "0 open 1\n0 data 1 0000000d0000000101000003e800000064\n0 data 1 0000000500000009ff\n",
         output: "1 0000000a00000001000000000001\n1 00000006000000090047\n1 end\n",
@@ -56,6 +71,16 @@ pub static ROWS: [Row; 16] = [
         name: "HELLO again, then what is dropped",
         script: "0 open 1\n0 data 1 0000000d0000000101000003e800000064\n0 data 1 0000000d0000000701000003e80000006400\n0 data 1 0000\n",
         output: "1 0000000a00000001000000000001\n1 00000006000000070047\n1 end\n",
+    },
+    Row {
+        name: "an ended connection is freed by its end",
+        script: "0 open 1\n0 data 1 0000000d0000000101000003e800000064\n0 data 1 00000000\n0 data 1 0000000d0000000201000003e800000064\n0 end 1\n0 open 1\n0 data 1 0000000d0000000301000003e800000064\n",
+        output: "1 0000000a00000001000000000001\n1 00000006000000000047\n1 end\n1 0000000a00000003000000000002\n",
+    },
+    Row {
+        name: "half a frame is gone with its connection",
+        script: "0 open 1\n0 data 1 0000000d00000001\n0 end 1\n0 open 1\n0 data 1 0000000d0000000201000003e800000064\n",
+        output: "1 0000000a00000002000000000001\n",
     },
     Row {
         name: "a call without a process",

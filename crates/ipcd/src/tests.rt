@@ -133,6 +133,50 @@ fn readers_and_writers_that_fail(rt: HostRuntime) {
     assert_eq!(rt; ScriptFault::Output.status(), 1);
 }
 
+/// Gives, and takes, one byte a call.
+#[derive(Drop)]
+struct Slow<S> {
+    stream: S,
+}
+
+impl<S: Read> Read for Slow<S> {
+    fn read(&mut self, into: &mut [u8]) -> io::Result<usize> {
+        let count = into.len().min(1);
+        self.stream.read(&mut into[..count])
+    }
+}
+
+impl<S: Write> Write for Slow<S> {
+    fn write(&mut self, from: &[u8]) -> io::Result<usize> {
+        let count = from.len().min(1);
+        self.stream.write(&from[..count])
+    }
+
+    fn flush(&mut self) -> io::Result<()> {
+        self.stream.flush()
+    }
+}
+
+#[test]
+fn readers_and_writers_that_are_slow(rt: HostRuntime) {
+    for row in &ROWS {
+        let mut script = Slow {
+            stream: row.script.as_bytes(),
+        };
+        let mut output = Slow {
+            stream: Vec::<u8>::new(rt.alloc()),
+        };
+        let outcome = run(rt.alloc(), &mut script, &mut output);
+        assert_eq!(rt; outcome, Ok(()), "{}", row.name);
+        assert_eq!(rt;
+            output.stream.as_slice(),
+            row.output.as_bytes(),
+            "{}",
+            row.name
+        );
+    }
+}
+
 #[test]
 fn command_lines(rt: HostRuntime) {
     let alloc = rt.alloc();

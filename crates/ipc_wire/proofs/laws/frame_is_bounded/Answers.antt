@@ -1,4 +1,4 @@
-use Rattle.ipc_wire.proofs.Frames.{first_takes, waiting_short}
+use Rattle.ipc_wire.proofs.Frames.{first_takes, waiting_short, whole_last}
 use Rattle.ipc_wire.proofs.laws.frame_is_bounded.Goals as goal
 
 pub returns-clause-whole : goal.returns-clause-whole
@@ -6,3 +6,6 @@ returns-clause-whole c = first_takes
 
 pub returns-clause-waiting : goal.returns-clause-waiting
 returns-clause-waiting c = waiting_short
+
+pub returns-clause-last : goal.returns-clause-last
+returns-clause-last c = whole_last

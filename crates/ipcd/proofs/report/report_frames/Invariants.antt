@@ -1,6 +1,16 @@
-use Rattle.std.proofs.Common.{length}
+use Rattle.std.proofs.Common.{length, IfSome}
+use Rattle.ipc_base.specs.declared.limits.Limits.{Limits}
+use Rattle.ipc_hub.specs.Clients.{Clients, client_at}
 use Rattle.ipc_hub.specs.Hub.{output_of}
+use Rattle.ipc_hub.specs.Stands.{Stands}
+use Rattle.ipcd.specs.Runs.{IsUntouched}
+use Rattle.ipcd.proofs.Frames.{Partly}
 use Rattle.ipcd.proofs.report.report_frames.Given as goal
+
+abbrev pub invariant-frames : goal.invariant-frames
+invariant-frames g l =
+    (limits : Limits) (h : Clients) → Stands limits h.accepted l.fn.hub h → IfSome (client_at h l.conn) IsUntouched
+    → Partly limits h l.conn l.hub (g.W.Write.contents l.fn.writer) (g.W.Write.contents l.writer)
 
 -- what the client has not taken
 abbrev pub decreases-frames : goal.decreases-frames

@@ -1,11 +1,23 @@
 use Rattle.std.proofs.Common.{sym, ap, ◌∙◌}
-use Rattle.ipc_hub.specs.Hub.{ended_by}
-use Rattle.ipc_hub.proofs.Connections.{found_at_place, found_nowhere}
+use Rattle.std.specs.Prelude.{nat_eq}
+use Rattle.ipc_engine.proofs.Tables.{value_at_place, value_nowhere}
+use Rattle.ipc_hub.specs.Hub.{row, ended_by}
+use Rattle.ipc_hub.proofs.Calls.{ended-stands}
 use Rattle.ipc_hub.proofs.hub.Hub.ended.Goals as goal
 
-pub returns-in-Some : goal.returns-in-Some
-returns-in-Some c =
-    sym (ap ended_by (found_at_place c.args.self.now.connections.items c.args.conn c.in-Some.place c.index.result.now (sym c.place_of.ensures ∙ c.in-Some.is) c.index.ensures))
+pub returns-in-Some-clause-ended : goal.returns-in-Some-clause-ended
+returns-in-Some-clause-ended c =
+    sym (ap ended_by (value_at_place row nat_eq c.args.conn c.args.self.now.connections.items c.in-Some.place c.index.result.now (sym c.place_of.ensures ∙ c.in-Some.is) c.index.ensures))
 
-pub returns-in-None : goal.returns-in-None
-returns-in-None c = sym (ap ended_by (found_nowhere c.args.self.now.connections.items c.args.conn (sym c.place_of.ensures ∙ c.in-None.is)))
+pub returns-in-Some-clause-server : goal.returns-in-Some-clause-server
+returns-in-Some-clause-server c limits confirmed h stands =
+    sym (ap ended_by (value_at_place row nat_eq c.args.conn c.args.self.now.connections.items c.in-Some.place c.index.result.now (sym c.place_of.ensures ∙ c.in-Some.is) c.index.ensures))
+    ∙ ended-stands limits confirmed c.args.self.now h c.args.conn stands
+
+pub returns-in-None-clause-ended : goal.returns-in-None-clause-ended
+returns-in-None-clause-ended c = sym (ap ended_by (value_nowhere row nat_eq c.args.conn c.args.self.now.connections.items (sym c.place_of.ensures ∙ c.in-None.is)))
+
+pub returns-in-None-clause-server : goal.returns-in-None-clause-server
+returns-in-None-clause-server c limits confirmed h stands =
+    sym (ap ended_by (value_nowhere row nat_eq c.args.conn c.args.self.now.connections.items (sym c.place_of.ensures ∙ c.in-None.is)))
+    ∙ ended-stands limits confirmed c.args.self.now h c.args.conn stands

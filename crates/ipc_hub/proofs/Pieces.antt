@@ -1,0 +1,293 @@
+-- Bytes taken in at once, and in pieces.
+use Rattle.std.proofs.Common.{◌≡◌, ℕ, zero, suc, ◌+◌, ◌≤◌, Bool, true, false, ◌&&◌, List, [], ◌∷◌, ◌++◌, length, drop, Option, Some, None, refl, sym, ap, ◌∙◌, subst, arith, append_assoc, append-nil}
+use Rattle.std.specs.Prelude.{nat_eq, if◌then◌else◌, option_map}
+use Rattle.std.proofs.lemmas.List.{length-drop}
+use Rattle.ipc_base.specs.declared.limits.Limits.{Limits}
+use Rattle.ipc_base.specs.Limits.{standard_limits}
+use Rattle.ipc_wire.specs.Request.{PlainCall, PlainRequest, Hello, Msgget, Msgsnd, Msgrcv}
+use Rattle.ipc_wire.specs.Stream.{PlainFrame, TakesBytes, first, Ending, Stream, begins_with, stream_of, continued}
+use Rattle.ipc_wire.specs.Stream.PlainFrame.{More, Whole, Fault}
+use Rattle.ipc_wire.specs.Stream.Ending.{Rest, Broken}
+use Rattle.ipc_wire.proofs.Frames.{first_takes, first_short}
+use Rattle.ipc_wire.proofs.Streams.{stream_step, pieces}
+use Rattle.ipc_engine.specs.Table.{value_at, with_value}
+use Rattle.ipc_engine.specs.Event.{Connect, Call, PlainOutcome}
+use Rattle.ipc_engine.specs.Step.{step}
+use Rattle.ipc_hub.specs.Clients.{Client, Clients, client_at, with_client, with_frame, delivered, deliver, deliver_all, accept, hello_answered, leave, break_off, refuse, answered, on_request, unless_ended, on_requests, on_ending, first_of, take_in, is_for, fitted, arriving}
+use Rattle.ipc_hub.specs.Orderly.{IsOrderly}
+use Rattle.ipc_engine.proofs.Rows.{choice}
+use Rattle.ipc_hub.proofs.Tables.{at-with, twice, own, at-map}
+use Rattle.ipc_hub.proofs.Moves.{Moves, then_moves, unless-moves, requests-move, ending-moves, keep-moves, broken}
+
+-- a stream of which the first frame is known
+pub begun : (bytes : List ℕ) (f : PlainFrame) → first bytes ≡ f → stream_of bytes ≡ begins_with f bytes (λ used. stream_of (drop used bytes))
+begun bytes f e = stream_step bytes ∙ ap (λ (g : PlainFrame). begins_with g bytes (λ used. stream_of (drop used bytes))) e
+
+waits_by : (n : ℕ) (bytes rest : List ℕ) (f : PlainFrame) → length bytes ≤ n → first bytes ≡ f → (stream_of bytes).ending ≡ Rest rest → first rest ≡ More
+waits_by n bytes rest More le e is =
+    let same : Rest bytes ≡ Rest rest = sym (ap (λ (s : Stream). s.ending) (begun bytes More e)) ∙ is in
+    let here : bytes ≡ rest = cc in
+    subst (λ (bs : List ℕ). first bs ≡ More) here e
+waits_by n bytes rest (Fault serial) le e is =
+    let never : Broken serial ≡ Rest rest = sym (ap (λ (s : Stream). s.ending) (begun bytes (Fault serial) e)) ∙ is in
+    cc
+waits_by zero bytes rest (Whole used request) le e is =
+    let takes : TakesBytes (Whole used request) (length bytes) = rw e at (first_takes bytes) in
+    absurd (omega (arith, takes.0, takes.1))
+waits_by (suc n) bytes rest (Whole used request) le e is =
+    let takes : TakesBytes (Whole used request) (length bytes) = rw e at (first_takes bytes) in
+    waits_by n (drop used bytes) rest (first (drop used bytes)) (omega (arith, takes.0, length-drop used bytes)) refl
+    (sym (ap (λ (s : Stream). s.ending) (begun bytes (Whole used request) e)) ∙ is)
+
+-- what stands behind the requests of a stream is no whole frame
+pub rest-waits : (bytes rest : List ℕ) → (stream_of bytes).ending ≡ Rest rest → first rest ≡ More
+rest-waits bytes rest is = waits_by (length bytes) bytes rest (first bytes) (omega arith) refl is
+
+-- ---- a connection that has ended, and one that has not
+
+pub ended-stays : (h : Clients) (conn : ℕ) (act : Client → Clients) (c : Client) → client_at h conn ≡ Some c → c.ended ≡ true → unless_ended h conn act ≡ h
+ended-stays h conn act c here over = rw here (rw over refl)
+
+pub gone-stays : (h : Clients) (conn : ℕ) (act : Client → Clients) → client_at h conn ≡ None → unless_ended h conn act ≡ h
+gone-stays h conn act none = rw none refl
+
+pub acts : (h : Clients) (conn : ℕ) (act : Client → Clients) (c : Client) → client_at h conn ≡ Some c → c.ended ≡ false → unless_ended h conn act ≡ act c
+acts h conn act c here live = rw here (rw live refl)
+
+-- ---- the bytes kept are out of the way while requests are answered
+
+-- the client at a number keeps no bytes
+abbrev pub KeepsNone : Clients → ℕ → Type 0
+KeepsNone h conn = (c : Client) → client_at h conn ≡ Some c → c.input ≡ []
+
+put-is_by : (e : ℕ × Client) (es : List (ℕ × Client)) (k : ℕ) (d x : Client) (b : Bool) → nat_eq e.0 k ≡ b → value_at nat_eq (with_value nat_eq (e ∷ es) k d) k ≡ Some x
+    → (value_at nat_eq (with_value nat_eq es k d) k ≡ Some x → d ≡ x) → d ≡ x
+put-is_by e es k d x true t is rest = let same : Some d ≡ Some x = rw t at (rw t at is) in cc
+put-is_by e es k d x false t is rest = rest (rw t at (rw t at is))
+
+-- what is found at a key where a value was put is this value
+put-is : (es : List (ℕ × Client)) (k : ℕ) (d x : Client) → value_at nat_eq (with_value nat_eq es k d) k ≡ Some x → d ≡ x
+put-is [] k d x is = cc
+put-is (e ∷ es) k d x is = put-is_by e es k d x (nat_eq e.0 k) refl is (put-is es k d x)
+
+put-keeps : (es : List (ℕ × Client)) (k : ℕ) (d : Client) → d.input ≡ [] → (x : Client) → value_at nat_eq (with_value nat_eq es k d) k ≡ Some x → x.input ≡ []
+put-keeps es k d none x is = subst (λ (y : Client). y.input ≡ []) (put-is es k d x is) none
+
+delivered-keeps : (mark : ℕ) (o : PlainOutcome) (r : Option Client) → ((c : Client) → r ≡ Some c → c.input ≡ [])
+    → (d : Client) → option_map (delivered mark o) r ≡ Some d → d.input ≡ []
+delivered-keeps mark o None none d is = cc
+delivered-keeps mark o (Some c) none d is =
+    let same : delivered mark o c ≡ d = cc in
+    subst (λ (x : Client). x.input ≡ []) same (input_kept c (none c refl))
+  where
+    input_kept : (c : Client) → c.input ≡ [] → (delivered mark o c).input ≡ []
+    input_kept c none = choice (λ (x : Client). x.input ≡ []) (is_for o.pid c.process) (with_frame c mark o) c (λ _. none) (λ _. none)
+
+delivers-keep : (mark conn : ℕ) (os : List PlainOutcome) (clients : List (ℕ × Client))
+    → ((c : Client) → value_at nat_eq clients conn ≡ Some c → c.input ≡ [])
+    → (c : Client) → value_at nat_eq (deliver_all mark clients os) conn ≡ Some c → c.input ≡ []
+delivers-keep mark conn [] clients none = none
+delivers-keep mark conn (o ∷ os) clients none =
+    delivers-keep mark conn os (deliver mark clients o)
+    (λ c is. delivered-keeps mark o (value_at nat_eq clients conn) none c (sym (at-map (delivered mark o) clients conn) ∙ is))
+
+hello-keeps : (c : Client) (mark : ℕ) (os : List PlainOutcome) → c.input ≡ [] → (hello_answered c mark os).input ≡ []
+hello-keeps c mark [] none = none
+hello-keeps c mark (o ∷ os) none = none
+
+length-fitted : (n : ℕ) (xs : List Bool) → length (fitted n xs) ≡ n
+length-fitted zero xs = refl
+length-fitted (suc n) xs = ap suc (length-fitted n (drop 1 xs))
+
+module _ (limits : Limits) where
+  call-keeps : (h : Clients) (conn pid moment : ℕ) (c : Client) (request : PlainRequest) (b : Bool) → KeepsNone h conn → c.input ≡ []
+      → KeepsNone (if b then refuse h conn c request.serial else accept limits h (Call pid request moment)) conn
+  call-keeps h conn pid moment c request true all none = put-keeps h.clients conn _ none
+  call-keeps h conn pid moment c request false all none = delivers-keep (h.accepted + 1) conn (step limits h.state (Call pid request moment)).outcomes h.clients all
+
+  pub request-keeps_by : (h : Clients) (conn moment : ℕ) (c : Client) (request : PlainRequest) (refused : Bool) (p : Option ℕ) (call : PlainCall) → KeepsNone h conn
+      → c.input ≡ [] → KeepsNone (answered limits h conn c moment request refused p call) conn
+  request-keeps_by h conn moment c request true None (Hello cred) all none = put-keeps h.clients conn _ none
+  request-keeps_by h conn moment c request false None (Hello cred) all none = put-keeps h.clients conn _ (hello-keeps c (h.accepted + 1) (step limits h.state (Connect cred request.serial moment)).outcomes none)
+  request-keeps_by h conn moment c request refused None (Msgget key flags) all none = put-keeps _ conn _ refl
+  request-keeps_by h conn moment c request refused None (Msgsnd id flags mtype text) all none = put-keeps _ conn _ refl
+  request-keeps_by h conn moment c request refused None (Msgrcv id flags size mtype) all none = put-keeps _ conn _ refl
+  request-keeps_by h conn moment c request refused (Some pid) (Hello cred) all none = put-keeps _ conn _ refl
+  request-keeps_by h conn moment c request refused (Some pid) (Msgget key flags) all none = call-keeps h conn pid moment c request (refused && true) all none
+  request-keeps_by h conn moment c request refused (Some pid) (Msgsnd id flags mtype text) all none = call-keeps h conn pid moment c request (refused && true) all none
+  request-keeps_by h conn moment c request refused (Some pid) (Msgrcv id flags size mtype) all none = call-keeps h conn pid moment c request (refused && false) all none
+
+  unless-keeps : (h : Clients) (conn : ℕ) (act : Client → Clients) (r : Option Client) → KeepsNone h conn → client_at h conn ≡ r
+      → ((c : Client) → client_at h conn ≡ Some c → KeepsNone (act c) conn) → KeepsNone (unless_ended h conn act) conn
+  unless-keeps h conn act None all is does = rw is all
+  unless-keeps h conn act (Some c) all is does = rw is (if_ended c.ended)
+    where
+      if_ended : (b : Bool) → KeepsNone (if b then h else act c) conn
+      if_ended true = all
+      if_ended false = does c is
+
+  pub requests-keep : (h : Clients) (conn moment : ℕ) (requests : List PlainRequest) (refused : List Bool) → KeepsNone h conn
+      → KeepsNone (on_requests limits h conn moment requests refused) conn
+  requests-keep h conn moment [] refused all = all
+  requests-keep h conn moment (r ∷ rs) refused all =
+      requests-keep (unless_ended h conn (λ c. on_request limits h conn c moment r (first_of refused))) conn moment rs (drop 1 refused)
+      (unless-keeps h conn (λ c. on_request limits h conn c moment r (first_of refused)) (client_at h conn) all refl
+      (λ c is. request-keeps_by h conn moment c r (first_of refused) c.process r.call all (all c is)))
+
+  -- ---- requests one after the other
+
+  pub requests-append : (h : Clients) (conn moment : ℕ) (rs qs : List PlainRequest) (xs ys : List Bool) → length xs ≡ length rs
+      → on_requests limits h conn moment (rs ++ qs) (xs ++ ys) ≡ on_requests limits (on_requests limits h conn moment rs xs) conn moment qs ys
+  requests-append h conn moment [] qs [] ys same = refl
+  requests-append h conn moment [] qs (x ∷ xs) ys same = cc
+  requests-append h conn moment (r ∷ rs) qs [] ys same = cc
+  requests-append h conn moment (r ∷ rs) qs (x ∷ xs) ys same =
+      requests-append (unless_ended h conn (λ c. on_request limits h conn c moment r x)) conn moment rs qs xs ys (omega (arith, same))
+
+  -- answers that are missing are no, and those too many are not looked at
+  pub requests-fitted : (h : Clients) (conn moment : ℕ) (rs : List PlainRequest) (xs : List Bool)
+      → on_requests limits h conn moment rs (fitted (length rs) xs) ≡ on_requests limits h conn moment rs xs
+  requests-fitted h conn moment [] xs = refl
+  requests-fitted h conn moment (r ∷ rs) xs =
+      requests-fitted (unless_ended h conn (λ c. on_request limits h conn c moment r (first_of xs))) conn moment rs (drop 1 xs)
+
+  -- nothing happens on a connection that has ended, or is not there
+  abbrev pub IsOver : Clients → ℕ → Type 0
+  IsOver h conn = (act : Client → Clients) → unless_ended h conn act ≡ h
+
+  pub requests-over : (h : Clients) (conn moment : ℕ) (rs : List PlainRequest) (xs : List Bool) → IsOver h conn → on_requests limits h conn moment rs xs ≡ h
+  requests-over h conn moment [] xs over = refl
+  requests-over h conn moment (r ∷ rs) xs over =
+      ap (λ (t : Clients). on_requests limits t conn moment rs (drop 1 xs)) (over (λ c. on_request limits h conn c moment r (first_of xs)))
+      ∙ requests-over h conn moment rs (drop 1 xs) over
+
+  pub ending-over : (h : Clients) (conn moment : ℕ) (ending : Ending) → IsOver h conn → on_ending limits h conn moment ending ≡ h
+  ending-over h conn moment (Rest bytes) over = over (λ c. with_client h conn (record c { input = bytes }))
+  ending-over h conn moment (Broken serial) over = over (λ c. break_off limits h conn c serial moment)
+
+  -- how a stream goes on with a client of which the requests so far are answered
+  abbrev pub settled : Clients → ℕ → ℕ → Stream → List Bool → Clients
+  settled h conn moment s refused = on_ending limits (on_requests limits h conn moment s.requests refused) conn moment s.ending
+
+  -- the hub with the bytes kept by a client taken out
+  abbrev pub emptied : Clients → ℕ → Client → Clients
+  emptied h conn c = with_client h conn (record c { input = [] })
+
+  pub take_in-acts : (h : Clients) (conn moment : ℕ) (c : Client) (bytes : List ℕ) (refused : List Bool) → client_at h conn ≡ Some c → c.ended ≡ false
+      → take_in limits h conn bytes moment refused ≡ settled (emptied h conn c) conn moment (stream_of (c.input ++ bytes)) refused
+  take_in-acts h conn moment c bytes refused here live =
+      acts h conn (λ d. settled (emptied h conn d) conn moment (stream_of (d.input ++ bytes)) refused) c here live
+
+  -- the clients stay as a process leaves
+  pub left_at : (h : Clients) (conn moment : ℕ) (p : Option ℕ) → client_at (leave limits h p moment) conn ≡ client_at h conn
+  left_at h conn moment None = refl
+  left_at h conn moment (Some pid) = refl
+
+  -- a stream that broke: the connection is over
+  broken-over : (h : Clients) (conn moment serial : ℕ) (r : Option Client) → client_at h conn ≡ r → IsOver (on_ending limits h conn moment (Broken serial)) conn
+  broken-over h conn moment serial None is act =
+      let same : on_ending limits h conn moment (Broken serial) ≡ h = gone-stays h conn (λ c. break_off limits h conn c serial moment) is in
+      subst (λ (t : Clients). unless_ended t conn act ≡ t) (sym same) (gone-stays h conn act is)
+  broken-over h conn moment serial (Some c) is act = by_end c.ended refl
+    where
+      by_end : (b : Bool) → c.ended ≡ b → unless_ended (on_ending limits h conn moment (Broken serial)) conn act ≡ on_ending limits h conn moment (Broken serial)
+      by_end true over =
+          let same : on_ending limits h conn moment (Broken serial) ≡ h = ended-stays h conn (λ d. break_off limits h conn d serial moment) c is over in
+          subst (λ (t : Clients). unless_ended t conn act ≡ t) (sym same) (ended-stays h conn act c is over)
+      by_end false live =
+          let same : on_ending limits h conn moment (Broken serial) ≡ break_off limits h conn c serial moment = acts h conn (λ d. break_off limits h conn d serial moment) c is live in
+          let left : Clients = leave limits h c.process moment in
+          let now : Client = broken c left.accepted serial in
+          subst (λ (t : Clients). unless_ended t conn act ≡ t) (sym same)
+          (ended-stays (break_off limits h conn c serial moment) conn act now (at-with left.clients conn now c (left_at h conn moment c.process ∙ is)) refl)
+
+  -- the rest of a stream that did not break, with more bytes
+  rest-more : (h : Clients) (conn moment : ℕ) (bytes more : List ℕ) (refused : List Bool) (r : Option Client) → KeepsNone h conn → client_at h conn ≡ r
+      → take_in limits (on_ending limits h conn moment (Rest bytes)) conn more moment refused ≡ settled h conn moment (stream_of (bytes ++ more)) refused
+  rest-more h conn moment bytes more refused None none is =
+      let over : IsOver h conn = λ act. gone-stays h conn act is in
+      let s : Stream = stream_of (bytes ++ more) in
+      ap (λ (t : Clients). take_in limits t conn more moment refused) (ending-over h conn moment (Rest bytes) over)
+      ∙ over (λ d. settled (emptied h conn d) conn moment (stream_of (d.input ++ more)) refused)
+      ∙ sym (ap (λ (t : Clients). on_ending limits t conn moment s.ending) (requests-over h conn moment s.requests refused over) ∙ ending-over h conn moment s.ending over)
+  rest-more h conn moment bytes more refused (Some c) none is = by_end c.ended refl
+    where
+      s : Stream
+      s = stream_of (bytes ++ more)
+
+      by_end : (b : Bool) → c.ended ≡ b → take_in limits (on_ending limits h conn moment (Rest bytes)) conn more moment refused ≡ settled h conn moment (stream_of (bytes ++ more)) refused
+      by_end true ended =
+          let over : IsOver h conn = λ act. ended-stays h conn act c is ended in
+          ap (λ (t : Clients). take_in limits t conn more moment refused) (ending-over h conn moment (Rest bytes) over)
+          ∙ over (λ d. settled (emptied h conn d) conn moment (stream_of (d.input ++ more)) refused)
+          ∙ sym (ap (λ (t : Clients). on_ending limits t conn moment s.ending) (requests-over h conn moment s.requests refused over) ∙ ending-over h conn moment s.ending over)
+      by_end false live =
+          let kept : Client = record c { input = bytes } in
+          let same : on_ending limits h conn moment (Rest bytes) ≡ with_client h conn kept = acts h conn (λ d. with_client h conn (record d { input = bytes })) c is live in
+          let empty : record c { input = [] } ≡ c = ap (λ (i : List ℕ). record c { input = i }) (sym (none c is)) in
+          let back : emptied (with_client h conn kept) conn kept ≡ h =
+          ap (λ (es : List (ℕ × Client)). record h { clients = es }) (twice h.clients conn kept (record c { input = [] }) ∙ ap (λ (d : Client). with_value nat_eq h.clients conn d) empty ∙ own h.clients conn c is) in
+          ap (λ (t : Clients). take_in limits t conn more moment refused) same
+          ∙ take_in-acts (with_client h conn kept) conn moment kept more refused (at-with h.clients conn kept c is) live
+          ∙ ap (λ (t : Clients). settled t conn moment (stream_of (bytes ++ more)) refused) back
+
+  goes-on : (h : Clients) (conn moment : ℕ) (rs : List PlainRequest) (ending : Ending) (more : List ℕ) (xs ys : List Bool) → KeepsNone h conn → length xs ≡ length rs
+      → take_in limits (on_ending limits (on_requests limits h conn moment rs xs) conn moment ending) conn more moment ys
+      ≡ settled h conn moment (continued rs ending more) (xs ++ ys)
+  goes-on h conn moment rs (Rest bytes) more xs ys none same =
+      let now : Clients = on_requests limits h conn moment rs xs in
+      rest-more now conn moment bytes more ys (client_at now conn) (requests-keep h conn moment rs xs none) refl
+      ∙ ap (λ (t : Clients). on_ending limits t conn moment (stream_of (bytes ++ more)).ending) (sym (requests-append h conn moment rs (stream_of (bytes ++ more)).requests xs ys same))
+  goes-on h conn moment rs (Broken serial) more xs ys none same =
+      let now : Clients = on_requests limits h conn moment rs xs in
+      broken-over now conn moment serial (client_at now conn) refl (λ d. settled (emptied (on_ending limits now conn moment (Broken serial)) conn d) conn moment (stream_of (d.input ++ more)) ys)
+      ∙ ap (λ (t : Clients). on_ending limits t conn moment (Broken serial))
+      (sym (ap (λ (qs : List PlainRequest). on_requests limits h conn moment qs (xs ++ ys)) (sym (append-nil rs)) ∙ requests-append h conn moment rs [] xs ys same))
+
+  -- bytes taken in in two pieces are taken in at once
+  pub take_in-pieces : (h : Clients) (conn moment : ℕ) (bytes more : List ℕ) (xs ys : List Bool) (r : Option Client) → client_at h conn ≡ r
+      → take_in limits (take_in limits h conn bytes moment xs) conn more moment ys ≡ take_in limits h conn (bytes ++ more) moment (fitted (length (arriving r bytes)) xs ++ ys)
+  take_in-pieces h conn moment bytes more xs ys None is =
+      let over : IsOver h conn = λ act. gone-stays h conn act is in
+      ap (λ (t : Clients). take_in limits t conn more moment ys) (over _) ∙ over _ ∙ sym (over _)
+  take_in-pieces h conn moment bytes more xs ys (Some c) is = by_end c.ended refl
+    where
+      by_end : (b : Bool) → c.ended ≡ b → take_in limits (take_in limits h conn bytes moment xs) conn more moment ys ≡ take_in limits h conn (bytes ++ more) moment (fitted (length (if b then [] else (stream_of (c.input ++ bytes)).requests)) xs ++ ys)
+      by_end true ended =
+          let over : IsOver h conn = λ act. ended-stays h conn act c is ended in
+          ap (λ (t : Clients). take_in limits t conn more moment ys) (over _) ∙ over _ ∙ sym (over _)
+      by_end false live =
+          let s : Stream = stream_of (c.input ++ bytes) in
+          let zs : List Bool = fitted (length s.requests) xs in
+          ap (λ (t : Clients). take_in limits t conn more moment ys)
+          (take_in-acts h conn moment c bytes xs is live ∙ ap (λ (t : Clients). on_ending limits t conn moment s.ending) (sym (requests-fitted (emptied h conn c) conn moment s.requests xs)))
+          ∙ goes-on (emptied h conn c) conn moment s.requests s.ending more zs ys (put-keeps h.clients conn _ refl) (length-fitted (length s.requests) xs)
+          ∙ ap (λ (t : Stream). settled (emptied h conn c) conn moment t (zs ++ ys)) (sym (pieces (c.input ++ bytes) more) ∙ ap stream_of (append_assoc c.input bytes more))
+          ∙ sym (take_in-acts h conn moment c (bytes ++ more) (zs ++ ys) is live)
+
+  -- taking in nothing does nothing
+  pub take_in-nothing : (h : Clients) (conn moment : ℕ) (r : Option Client) → client_at h conn ≡ r → ((c : Client) → r ≡ Some c → first c.input ≡ More) → take_in limits h conn [] moment [] ≡ h
+  take_in-nothing h conn moment None is waits = gone-stays h conn _ is
+  take_in-nothing h conn moment (Some c) is waits = by_end c.ended refl
+    where
+      by_end : (b : Bool) → c.ended ≡ b → take_in limits h conn [] moment [] ≡ h
+      by_end true ended = ended-stays h conn _ c is ended
+      by_end false live =
+          let e : Client = record c { input = [] } in
+          let s : stream_of (c.input ++ []) ≡ record { requests = []; ending = Rest c.input } = ap stream_of (append-nil c.input) ∙ begun c.input More (waits c refl) in
+          take_in-acts h conn moment c [] [] is live
+          ∙ ap (λ (t : Stream). settled (emptied h conn c) conn moment t []) s
+          ∙ acts (emptied h conn c) conn (λ d. with_client (emptied h conn c) conn (record d { input = c.input })) e (at-with h.clients conn e c is) live
+          ∙ ap (λ (es : List (ℕ × Client)). record h { clients = es }) (twice h.clients conn e c ∙ own h.clients conn c is)
+
+  -- bytes taken in leave the hub in order
+  pub take_in-moves : (h : Clients) (conn moment : ℕ) (bytes : List ℕ) (refused : List Bool) → limits.msgmnb ≤ standard_limits.msgmnb → IsOrderly limits h
+      → Moves limits conn h (take_in limits h conn bytes moment refused)
+  take_in-moves h conn moment bytes refused range o =
+      unless-moves limits range h conn (λ c. settled (emptied h conn c) conn moment (stream_of (c.input ++ bytes)) refused) (client_at h conn) o refl
+      (λ c is.
+      let s : Stream = stream_of (c.input ++ bytes) in
+      let empty = keep-moves limits range h conn c [] (first_short [] (omega arith)) o is in
+      let asked = requests-move limits range (emptied h conn c) conn moment s.requests refused empty.orderly in
+      let end = ending-moves limits range (on_requests limits (emptied h conn c) conn moment s.requests refused) conn moment s.ending asked.orderly (rest-waits (c.input ++ bytes)) in
+      then_moves limits conn h (emptied h conn c) _ empty (then_moves limits conn (emptied h conn c) (on_requests limits (emptied h conn c) conn moment s.requests refused) _ asked end))
