@@ -1,4 +1,5 @@
-# ipcd: the commands of this repository. They need the Rattle toolchain's `rt` on the path, and nothing else.
+# ipcd: the commands of this repository. They need the Rattle toolchain's `rt` on the path, and `bench`
+# needs awk too.
 
 .PHONY: help run test memory program bench
 

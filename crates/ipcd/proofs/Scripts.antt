@@ -1,5 +1,5 @@
 -- The lines of a script, run one after the other.
-use Rattle.std.proofs.Common.{◌≡◌, ℕ, ◌+◌, Bool, true, false, drop, List, [], ◌∷◌, ◌++◌, length, Option, Some, None, refl, sym, ap, ◌∙◌, subst, append_assoc, append-nil, arith}
+use Rattle.std.proofs.Common.{◌≡◌, ℕ, ◌+◌, ◌≤◌, Bool, true, false, drop, List, [], ◌∷◌, ◌++◌, length, Option, Some, None, refl, sym, ap, ◌∙◌, subst, append_assoc, append-nil, arith}
 use Rattle.std.specs.Prelude.{Ok, Err, Result, ⊤, IfSome, if◌then◌else◌}
 use Rattle.std.specs.Io.KnownBytes.{Appends}
 use Rattle.std.proofs.KnownBytes.{Appends-nil, Appends-trans}
@@ -11,7 +11,7 @@ use Rattle.ipc_hub.specs.Stands.{Stands}
 use Rattle.ipcd.specs.declared.fault.ScriptFault.{ScriptFault}
 use Rattle.ipcd.specs.declared.report.Opened.{Opened}
 use Rattle.ipcd.specs.declared.fault.ScriptFault.TheVariants.{NoMemory, Input, Output, TooLong, BadLine, InUse, Unknown}
-use Rattle.ipcd.specs.Line.{PlainLine, Open, Data, End, Tick, line_of, lines_of}
+use Rattle.ipcd.specs.Line.{longest_script, PlainLine, Open, Data, End, Tick, line_of, lines_of}
 use Rattle.ipcd.specs.Script.{Run, Cut, Progress, Outcome, start_run, text_done, first_cut, goes_on, run_lines, is_open, opened, report, fed_in_pieces, EndsAs, Runs}
 use Rattle.ipcd.specs.Runs.{IsBehind, LinesRun}
 
@@ -111,20 +111,22 @@ never_long limits number r (line ∷ lines) cuts is =
     never_on (text_done limits number r (line_of line) (first_cut cuts)) (λ now. run_lines limits (number + 1) now lines (drop 1 cuts))
     (never_text limits number r (line_of line) (first_cut cuts)) (λ now. never_long limits (number + 1) now lines (drop 1 cuts)) is
 
--- all lines of a script are the script's run
-pub all_lines : (limits : Limits) (s : State) (script : List ℕ) (before after : Option (List ℕ)) (result : Result ⊤ ScriptFault) → LinesRun limits s script before after result → Runs limits s script before after result
-all_lines limits s script before after (Ok u) ran = ran
-all_lines limits s script before after (Err NoMemory) ran = ran
-all_lines limits s script before after (Err Input) ran = ran
-all_lines limits s script before after (Err Output) ran = ran
-all_lines limits s script before after (Err TooLong) ran = absurd (never_long limits 1 (start_run s) (lines_of script) ran.0 ran.1.1)
-all_lines limits s script before after (Err (BadLine number)) ran = ran
-all_lines limits s script before after (Err (InUse number)) ran = ran
-all_lines limits s script before after (Err (Unknown number)) ran = ran
+-- all lines of a script that is not too long are the script's run
+pub all_lines : (limits : Limits) (s : State) (script : List ℕ) (before after : Option (List ℕ)) (result : Result ⊤ ScriptFault) → length script ≤ longest_script
+    → LinesRun limits s script before after result → Runs limits s script before after result
+all_lines limits s script before after (Ok u) short ran = (short, ran)
+all_lines limits s script before after (Err NoMemory) short ran = ran
+all_lines limits s script before after (Err Input) short ran = ran
+all_lines limits s script before after (Err Output) short ran = ran
+all_lines limits s script before after (Err TooLong) short ran = absurd (never_long limits 1 (start_run s) (lines_of script) ran.0 ran.1.1)
+all_lines limits s script before after (Err (BadLine number)) short ran = (short, ran)
+all_lines limits s script before after (Err (InUse number)) short ran = (short, ran)
+all_lines limits s script before after (Err (Unknown number)) short ran = (short, ran)
 
 -- a script that was read whole and run is the run of all that there was to read
 pub script_ends : (limits : Limits) (s : State) (seen items : List ℕ) (remaining before after : Option (List ℕ)) (result : Result ⊤ ScriptFault) → seen ≡ items
-    → IfSome remaining (λ input. items ≡ input) → LinesRun limits s seen before after result → IfSome remaining (λ script. Runs limits s script before after result)
-script_ends limits s seen items None before after result same whole ran = tt
-script_ends limits s seen items (Some input) before after result same whole ran =
-    subst (λ (text : List ℕ). Runs limits s text before after result) (same ∙ whole) (all_lines limits s seen before after result ran)
+    → length items ≤ longest_script → IfSome remaining (λ input. items ≡ input) → LinesRun limits s seen before after result
+    → IfSome remaining (λ script. Runs limits s script before after result)
+script_ends limits s seen items None before after result same short whole ran = tt
+script_ends limits s seen items (Some input) before after result same short whole ran =
+    subst (λ (text : List ℕ). Runs limits s text before after result) (same ∙ whole) (all_lines limits s seen before after result (omega (arith, short, ap length same)) ran)

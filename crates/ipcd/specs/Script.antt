@@ -1,6 +1,6 @@
 -- The run of a script: what its lines do to the server and its clients, and what is written. After each line all
 -- that was accepted is confirmed, so that each frame that waits is written and taken.
-use Rattle.std.specs.Prelude.{◌≡◌, ◌<◌, ⊤, length, ℕ, ◌+◌, Bool, false, ◌&&◌, ◌||◌, not, nat_eq, nat_lt, if◌then◌else◌, List, [], ◌∷◌, ◌++◌, map, take, drop, codes, Option, Some, None, is_some, Result, Ok, Err}
+use Rattle.std.specs.Prelude.{◌≡◌, ◌<◌, ◌≤◌, ⊤, length, ℕ, ◌+◌, Bool, false, ◌&&◌, ◌||◌, not, nat_eq, nat_lt, if◌then◌else◌, List, [], ◌∷◌, ◌++◌, map, take, drop, codes, Option, Some, None, is_some, Result, Ok, Err}
 use Rattle.std.specs.List.{flat_map}
 use Rattle.std.specs.Fmt.{decimal}
 use Rattle.std.specs.Io.KnownBytes.{Appends}
@@ -151,13 +151,17 @@ abbrev pub EndsAs : Limits → State → List ℕ → Option (List ℕ) → Opti
 EndsAs limits s script before after fault =
     (cuts : List Cut) × (let outcome = script_run limits s script cuts in Appends before after outcome.text × (outcome.fault ≡ fault))
 
+-- a script that is not too long has run
+abbrev pub HasRun : Limits → State → List ℕ → Option (List ℕ) → Option (List ℕ) → Option ScriptFault → Type 0
+HasRun limits s script before after fault = (length script ≤ longest_script) × EndsAs limits s script before after fault
+
 -- What holds of a script when its run has ended, where the world did not fail. A script that is too long is not begun.
 abbrev pub Runs : Limits → State → List ℕ → Option (List ℕ) → Option (List ℕ) → Result ⊤ ScriptFault → Type 0
-Runs limits s script before after (Ok _) = EndsAs limits s script before after None
+Runs limits s script before after (Ok _) = HasRun limits s script before after None
 Runs limits s script before after (Err NoMemory) = ⊤
 Runs limits s script before after (Err Input) = ⊤
 Runs limits s script before after (Err Output) = ⊤
 Runs limits s script before after (Err TooLong) = (longest_script < length script) × Appends before after []
-Runs limits s script before after (Err (BadLine number)) = EndsAs limits s script before after (Some (BadLine number))
-Runs limits s script before after (Err (InUse number)) = EndsAs limits s script before after (Some (InUse number))
-Runs limits s script before after (Err (Unknown number)) = EndsAs limits s script before after (Some (Unknown number))
+Runs limits s script before after (Err (BadLine number)) = HasRun limits s script before after (Some (BadLine number))
+Runs limits s script before after (Err (InUse number)) = HasRun limits s script before after (Some (InUse number))
+Runs limits s script before after (Err (Unknown number)) = HasRun limits s script before after (Some (Unknown number))
