@@ -1,8 +1,8 @@
 -- Fields of bytes: a number is spelled with its most significant byte first, a signed one in two's
 -- complement. A reader takes fields from the front of its bytes; a writer puts them side by side.
-use Rattle.std.specs.Prelude.{◌≡◌, ◌≤◌, ◌<◌, ◌+◌, ℕ, ℤ, Bool, List, ◌++◌, length, take, drop, nat_lt, Option, Some, None, MatchOption}
+use Rattle.std.specs.Prelude.{◌≡◌, ◌≤◌, ◌<◌, ◌+◌, ℕ, ℤ, Bool, List, ◌++◌, length, take, drop, Option, MatchOption}
 use Rattle.std.specs.Bool.{MatchBool}
-use Rattle.std.specs.Int.{Width, byte_len, from_be_bytes, to_be_bytes, cast_signed, cast_unsigned}
+use Rattle.std.specs.Int.{Width, from_be_bytes, to_be_bytes, cast_signed, cast_unsigned}
 
 -- A field of n bytes was read: the bytes were those of the field and then those that are left. Where fewer
 -- than n were there, none is given and all are left.

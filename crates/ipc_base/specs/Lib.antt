@@ -1,3 +1,4 @@
 pub mod Errno
 pub mod Fields
 pub mod Limits
+pub mod Table

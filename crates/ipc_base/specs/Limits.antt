@@ -1,6 +1,6 @@
 -- The limits: each at least 1 and at most the standard one, a message no longer than a queue, a set
 -- no larger than all sets.
-use Rattle.std.specs.Prelude.{ℕ, Bool, List, [], ◌∷◌, nat_le, ◌&&◌}
+use Rattle.std.specs.Prelude.{◌≡◌, ℕ, ◌+◌, ◌*◌, max, Bool, not, List, [], ◌∷◌, nat_le, ◌&&◌, position, None}
 use Rattle.ipc_base.specs.declared.limits.Limits.{Limits}
 
 abbrev pub standard_limits : Limits
@@ -68,3 +68,16 @@ tests l =
     ∷ is_within l.call_bytes standard_limits.call_bytes
     ∷ is_within l.descriptors standard_limits.descriptors
     ∷ []
+
+-- each field passes
+abbrev pub ArePassed : Limits → Type 0
+ArePassed l = position not (tests l) ≡ None
+
+-- The longest body of a reply: the record that msgctl(2) gives of a queue, a message with its type, the values of a
+-- semaphore set, a POSIX message with its priority, or the bytes of a segment that one call reads.
+abbrev pub longest_body : Limits → ℕ
+longest_body l = max 68 (max (8 + l.msgmax) (max (2 * l.semmsl) (max (4 + l.msgsize) l.call_bytes)))
+
+-- the longest reply: before the body come its length, the serial and the error number
+abbrev pub longest_reply : Limits → ℕ
+longest_reply l = 10 + longest_body l

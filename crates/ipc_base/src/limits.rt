@@ -1,7 +1,9 @@
 //! The sixteen limits of a server.
 
 ghost use Rattle.std.specs.Prelude.{◌≡◌, IfErr, OnOk, position, not};
-ghost use Rattle.ipc_base.specs.Limits.{tests, standard_limits, small_limits, is_within as passes_within};
+ghost use Rattle.ipc_base.specs.Limits.{
+    tests, standard_limits, small_limits, ArePassed, longest_reply, is_within as passes_within,
+};
 
 use thiserror::Error;
 
@@ -53,7 +55,8 @@ pub struct BadLimits {
 impl Limits {
     /// The limits of a server that serves.
     pub fn standard() -> Limits
-        ensures { result ≡ standard_limits }
+        ensures limits { result ≡ standard_limits }
+        ensures passed { ArePassed result }
     {
         Limits {
             processes: 64,
@@ -77,7 +80,8 @@ impl Limits {
 
     /// The limits of a small server, as for trials.
     pub fn small() -> Limits
-        ensures { result ≡ small_limits }
+        ensures limits { result ≡ small_limits }
+        ensures passed { ArePassed result }
     {
         Limits {
             processes: 4,
@@ -102,7 +106,7 @@ impl Limits {
     /// Tests each field in order: it is at least 1 and at most the standard value, `msgmax` is at
     /// most `msgmnb`, and `semmsl` at most `semmns`. The fault names the first field that fails.
     pub fn check(&self) -> Result<(), BadLimits>
-        ensures ok { OnOk result (position not (tests self.now) ≡ None) }
+        ensures ok { OnOk result (ArePassed self.now) }
         ensures first { IfErr result (λ fault. position not (tests self.now) ≡ Some fault.field) }
     {
         let passes = [
@@ -129,6 +133,19 @@ impl Limits {
                 field: field as u32,
             }),
         }
+    }
+
+    /// The bytes of the longest reply under these limits, from 78 to 8210.
+    pub fn longest_reply(&self) -> usize
+        requires { ArePassed self.now }
+        ensures { result ≡ longest_reply self.now }
+    {
+        let body = 68
+            .max(8 + self.msgmax)
+            .max(2 * self.semmsl)
+            .max(4 + self.msgsize)
+            .max(self.call_bytes);
+        10 + body as usize
     }
 }
 

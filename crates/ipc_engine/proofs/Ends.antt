@@ -3,7 +3,7 @@ use Rattle.std.proofs.Common.{◌≡◌, ℕ, ℤ, pos, true, false, List, lengt
 use Rattle.std.specs.Prelude.{nat_lt, int_lt}
 use Rattle.ipc_base.specs.declared.limits.Limits.{Limits}
 use Rattle.ipc_base.specs.declared.errno.Errno.TheVariants.{EAGAIN, E2BIG}
-use Rattle.ipc_wire.specs.Reply.{Empty, Message}
+use Rattle.ipc_wire.specs.declared.reply.Body.TheVariants.{Empty, Message}
 use Rattle.sysv_msg.specs.Queue.{Queue, PlainMessage, full, sent, taken}
 use Rattle.ipc_engine.specs.State.{State, queue_of, with_queue, last_number}
 use Rattle.ipc_engine.specs.Calls.{done, refused, msgsnd, send_to, msgrcv, receive_from, receive_at, message_at}

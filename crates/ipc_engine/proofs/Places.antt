@@ -7,7 +7,7 @@ use Rattle.ipc_engine.specs.declared.state.State.{State as Tables}
 use Rattle.ipc_engine.specs.declared.state.QueueEntry.{QueueEntry}
 use Rattle.ipc_engine.specs.State.{State, queue_of, with_queue}
 use Rattle.ipc_engine.specs.View.{state_of, queue_row}
-use Rattle.ipc_engine.proofs.Tables.{value_at_place, value_nowhere, set_at_place, set_same_at_place, find_at_place, find_nowhere, find_set_at_place}
+use Rattle.ipc_base.proofs.CallerLemmas.{value_at_place, value_nowhere, set_at_place, set_same_at_place, find_at_place, find_nowhere, find_set_at_place}
 use Rattle.ipc_engine.specs.Room.{HasTextRoom}
 
 -- the place of the queue that has the identifier

@@ -4,11 +4,11 @@ use Rattle.std.specs.Prelude.{int_lt, nat_lt, nat_le}
 use Rattle.std.specs.Ordering.{int_eq}
 use Rattle.ipc_base.specs.declared.limits.Limits.{Limits}
 use Rattle.ipc_base.specs.declared.errno.Errno.TheVariants.{ENOENT, EEXIST, EINVAL, ENOSPC, EAGAIN, E2BIG}
-use Rattle.ipc_wire.specs.Request.{PlainCall, Hello, Msgget, Msgsnd, Msgrcv}
+use Rattle.ipc_wire.specs.Request.{PlainCall, PlainKind, Hello, Calls, Msgget, Msgsnd, Msgrcv}
 use Rattle.sysv_msg.specs.Queue.{Queue, PlainMessage, full, pick}
 use Rattle.ipc_engine.specs.State.{State, queue_of, last_number}
-use Rattle.ipc_engine.specs.Calls.{Finish, attempt, get_found, keyed, send_to, receive_from, receive_at, message_at, has, creat, excl}
-use Rattle.ipc_engine.proofs.Rows.{choice}
+use Rattle.ipc_engine.specs.Calls.{Finish, attempt, asked, get_found, keyed, send_to, receive_from, receive_at, message_at, has, creat, excl}
+use Rattle.ipc_base.proofs.CallerLemmas.{choice}
 
 -- the call ends with the processes of before
 abbrev Keeps : State → Finish → Type 0
@@ -33,7 +33,6 @@ found-keeps s pid id size mtype None = refl
 found-keeps s pid id size mtype (Some q) = receive-keeps s pid id size q (pick q.messages mtype false)
 
 pub attempt-keeps : (limits : Limits) (s : State) (pid : ℕ) (call : PlainCall) → (attempt limits s pid call).state.processes ≡ s.processes
-attempt-keeps limits s pid (Hello cred) = refl
 attempt-keeps limits s pid (Msgget key flags) = get-keeps limits s key flags (keyed s key)
 attempt-keeps limits s pid (Msgsnd id flags mtype text) =
     choice (Keeps s) (not (int_lt (pos 0) mtype)) _ _ (λ _. refl)
@@ -41,3 +40,7 @@ attempt-keeps limits s pid (Msgsnd id flags mtype text) =
     (λ _. send-keeps s pid id (record { mtype = mtype; text = text }) (queue_of s id)))
 attempt-keeps limits s pid (Msgrcv id flags size mtype) =
     choice (Keeps s) (nat_lt last_number size) _ _ (λ _. refl) (λ _. found-keeps s pid id size mtype (queue_of s id))
+
+pub asked-keeps : (limits : Limits) (s : State) (pid : ℕ) (kind : PlainKind) → (asked limits s pid kind).state.processes ≡ s.processes
+asked-keeps limits s pid (Hello cred) = refl
+asked-keeps limits s pid (Calls call) = attempt-keeps limits s pid call

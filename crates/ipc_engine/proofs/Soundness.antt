@@ -6,8 +6,10 @@ use Rattle.std.specs.Ordering.{int_eq}
 use Rattle.std.specs.Cmp.{nat_eq_equiv}
 use Rattle.std.proofs.lemmas.Cmp.{int_eq_equiv}
 use Rattle.std.proofs.lemmas.Bool.Decides.{nat_tests, Decides-int_eq}
+use Rattle.std.proofs.lemmas.Bool.{ltb-false}
+use Rattle.ipc_wire.specs.declared.reply.Body.TheVariants.{Message}
 use Rattle.std.proofs.lemmas.List.{map-append, length-append}
-use Rattle.std.proofs.lemmas.List.Elements.{All-nil, All-cons, All-push, All-append, All-take, All-drop, All-weaker}
+use Rattle.std.proofs.lemmas.List.Elements.{All-nil, All-cons, All-push, All-append, All-take, All-drop, All-weaker, All-get_or}
 use Rattle.std.proofs.lemmas.List.Quantifiers.{position-Some}
 use Rattle.std.proofs.lemmas.List.Edits.{length-remove}
 use Rattle.std.proofs.lemmas.List.Sums.{sum_by-append, sum_by-remove}
@@ -17,15 +19,15 @@ use Rattle.ipc_base.specs.declared.limits.Limits.{Limits}
 use Rattle.ipc_base.specs.declared.errno.Errno.{Errno}
 use Rattle.ipc_base.specs.declared.errno.Errno.TheVariants.{ENOENT, EEXIST, EINVAL, ENOSPC, EAGAIN, ENOMSG, E2BIG, EPROTO}
 use Rattle.ipc_base.specs.declared.identity.Cred.{Cred}
-use Rattle.ipc_wire.specs.Request.{PlainCall, Hello, Msgget, Msgsnd, Msgrcv}
+use Rattle.ipc_wire.specs.Request.{PlainCall, PlainKind, Hello, Calls, Msgget, Msgsnd, Msgrcv}
 use Rattle.sysv_msg.specs.Queue.{Queue, PlainMessage, new_queue, pick, is_allowed, full, byte_count, sent, taken}
-use Rattle.ipc_engine.specs.Table.{value_at, with_value, keys_of, values_of}
+use Rattle.ipc_base.specs.Table.{value_at, with_value, keys_of, values_of, IsRising}
 use Rattle.ipc_engine.specs.State.{State, start, queue_of, with_queue, last_number}
-use Rattle.ipc_engine.specs.Calls.{Finish, refused, keyed, with_new_queue, get_new, get_found, send_to, msgsnd, message_at, receive_at, receive_from, msgrcv, attempt, has, creat, excl}
+use Rattle.ipc_engine.specs.Calls.{Finish, refused, keyed, with_new_queue, get_new, get_found, send_to, msgsnd, message_at, receive_at, receive_from, msgrcv, attempt, asked, has, creat, excl}
 use Rattle.ipc_engine.specs.Event.{PlainEvent, Connect, Call, Tick, Exit, PlainOutcome}
 use Rattle.ipc_engine.specs.Step.{Step, at_moment, connect, exit, step}
-use Rattle.ipc_engine.specs.Sound.{IsRising, IsSoundQueue, IsSound, FitsBody}
-use Rattle.ipc_engine.proofs.Rows.{choice, rising-weaker, rising-push, rising-without, length-without, length-with_value, keys_of-with_value, All-with_value, All-value_at, is_some-with_value, is_some-append, is_some-push, no_key}
+use Rattle.ipc_engine.specs.Sound.{IsSoundQueue, IsSound, FitsBody}
+use Rattle.ipc_base.proofs.CallerLemmas.{message-is_bounded, choice, rising-weaker, rising-push, rising-without, length-without, length-with_value, keys_of-with_value, All-with_value, All-value_at, is_some-with_value, is_some-append, is_some-push, no_key}
 
 -- a test of two parts that fails, fails in each
 neither : (a b : Bool) → (a || b) ≡ false → (a ≡ false) × (b ≡ false)
@@ -44,6 +46,10 @@ abbrev IsTyped : PlainMessage → Type 0
 IsTyped m = IsTrue (int_lt (pos 0) m.mtype)
 
 module _ (limits : Limits) where
+  -- its text is not too long
+  abbrev IsShort : PlainMessage → Type 0
+  IsShort m = length m.text ≤ limits.msgmax
+
   pub begin-sound : (s : State) (moment : ℕ) → IsSound limits s → IsSound limits (at_moment s moment)
   begin-sound s moment h =
       record {
@@ -106,7 +112,7 @@ module _ (limits : Limits) where
     pub body : FitsBody limits f.body
 
   new_queue-sound : (moment : ℕ) → IsSoundQueue limits (new_queue limits.msgmnb moment)
-  new_queue-sound moment = record { bytes = omega arith; count = omega arith; qbytes = omega arith; types = All-nil _ }
+  new_queue-sound moment = record { bytes = omega arith; count = omega arith; qbytes = omega arith; types = All-nil _; texts = All-nil _ }
 
   unkeyed : (b : Bool) (found : Option ℕ) → (if b then None else found) ≡ None → b ≡ false → found ≡ None
   unkeyed true found none is = cc
@@ -146,7 +152,7 @@ module _ (limits : Limits) where
       }
 
   refused-sound : (s : State) (e : Errno) → IsSound limits s → EndsSound (refused s e)
-  refused-sound s e h = record { state = h; body = tt }
+  refused-sound s e h = record { state = h; body = omega arith }
 
   get_new-sound : (s : State) (key : ℤ) (flags : ℕ) → keyed s key ≡ None → IsSound limits s → EndsSound (get_new limits s key flags)
   get_new-sound s key flags unused h =
@@ -156,13 +162,13 @@ module _ (limits : Limits) where
       (λ _. refused-sound s ENOSPC h)
       (λ is.
       let both = neither (nat_le limits.msgmni (length s.queues)) (nat_lt last_number s.next_msg) is in
-      record { state = with_new_queue-sound s key unused (grind (arith, nat_tests)) (grind (arith, nat_tests)) h; body = tt }))
+      record { state = with_new_queue-sound s key unused (grind (arith, nat_tests)) (grind (arith, nat_tests)) h; body = omega arith }))
 
   get_found-sound : (s : State) (key : ℤ) (flags : ℕ) (found : Option ℕ) → keyed s key ≡ found → IsSound limits s
       → EndsSound (get_found limits s key flags found)
   get_found-sound s key flags None is h = get_new-sound s key flags is h
   get_found-sound s key flags (Some id) is h =
-      choice EndsSound (has flags creat && has flags excl) _ _ (λ _. refused-sound s EEXIST h) (λ _. record { state = h; body = tt })
+      choice EndsSound (has flags creat && has flags excl) _ _ (λ _. refused-sound s EEXIST h) (λ _. record { state = h; body = omega arith })
 
   -- another queue at an identifier
   with_queue-sound : (s : State) (id : ℕ) (q : Queue) → IsSoundQueue limits q → IsSound limits s → IsSound limits (with_queue s id q)
@@ -183,8 +189,8 @@ module _ (limits : Limits) where
       }
 
   sent-sound : (q : Queue) (m : PlainMessage) (pid moment : ℕ) → full q (length m.text) ≡ false → IsTrue (int_lt (pos 0) m.mtype)
-      → IsSoundQueue limits q → IsSoundQueue limits (sent q m pid moment)
-  sent-sound q m pid moment fits above h =
+      → length m.text ≤ limits.msgmax → IsSoundQueue limits q → IsSoundQueue limits (sent q m pid moment)
+  sent-sound q m pid moment fits above short h =
       let both = neither (nat_lt q.qbytes (byte_count q.messages + length m.text)) (nat_lt q.qbytes (length q.messages + 1)) fits in
       let bytes : byte_count q.messages + length m.text ≤ q.qbytes = grind (arith, nat_tests) in
       let count : length q.messages + 1 ≤ q.qbytes = grind (arith, nat_tests) in
@@ -193,6 +199,7 @@ module _ (limits : Limits) where
         count = rw length-append (omega arith);
         qbytes = h.qbytes;
         types = All-push IsTyped q.messages m h.types above;
+        texts = All-push IsShort q.messages m h.texts short;
       }
 
   taken-sound : (q : Queue) (at pid moment : ℕ) → at < length q.messages → IsSoundQueue limits q → IsSoundQueue limits (taken q at pid moment)
@@ -204,27 +211,30 @@ module _ (limits : Limits) where
         count = omega arith;
         qbytes = h.qbytes;
         types = All-append IsTyped _ _ (All-take IsTyped at q.messages h.types) (All-drop IsTyped (suc at) q.messages h.types);
+        texts = All-append IsShort _ _ (All-take IsShort at q.messages h.texts) (All-drop IsShort (suc at) q.messages h.texts);
       }
 
   -- the text of a message of a queue
-  message_at-fits : (q : Queue) (at : ℕ) → at < length q.messages → IsSoundQueue limits q → length (message_at q at).text ≤ limits.msgmnb
+  message_at-fits : (q : Queue) (at : ℕ) → at < length q.messages → IsSoundQueue limits q
+      → FitsBody limits (Message (message_at q at).mtype (message_at q at).text)
   message_at-fits q at inside h =
       let none : PlainMessage = record { mtype = pos 0; text = [] } in
-      let fewer = sum_by-remove (λ (m : PlainMessage). length m.text) q.messages at none inside in
-      rw unwrap_or-slice_get (omega arith)
+      let short : length (message_at q at).text ≤ limits.msgmax =
+      rw unwrap_or-slice_get (All-get_or IsShort q.messages at none inside h.texts) in
+      omega (arith, message-is_bounded limits (length (message_at q at).text) short)
 
   queue_of-sound : (s : State) (id : ℕ) (q : Queue) → queue_of s id ≡ Some q → IsSound limits s → IsSoundQueue limits q
   queue_of-sound s id q is h = All-value_at nat_eq (IsSoundQueue limits) s.queues id q h.queues is
 
   send_to-sound : (s : State) (pid id : ℕ) (m : PlainMessage) (found : Option Queue) → IsTrue (int_lt (pos 0) m.mtype)
-      → queue_of s id ≡ found → IsSound limits s → EndsSound (send_to s pid id m found)
-  send_to-sound s pid id m None above is h = refused-sound s EINVAL h
-  send_to-sound s pid id m (Some q) above is h =
+      → length m.text ≤ limits.msgmax → queue_of s id ≡ found → IsSound limits s → EndsSound (send_to s pid id m found)
+  send_to-sound s pid id m None above short is h = refused-sound s EINVAL h
+  send_to-sound s pid id m (Some q) above short is h =
       choice EndsSound (full q (length m.text)) _ _
       (λ _. refused-sound s EAGAIN h)
       (λ fits. record {
-        state = with_queue-sound s id (sent q m pid s.clock) (sent-sound q m pid s.clock fits above (queue_of-sound s id q is h)) h;
-        body = tt;
+        state = with_queue-sound s id (sent q m pid s.clock) (sent-sound q m pid s.clock fits above short (queue_of-sound s id q is h)) h;
+        body = omega arith;
       })
 
   msgsnd-sound : (s : State) (pid id : ℕ) (mtype : ℤ) (text : List ℕ) → IsSound limits s → EndsSound (msgsnd limits s pid id mtype text)
@@ -233,7 +243,7 @@ module _ (limits : Limits) where
       (λ _. refused-sound s EINVAL h)
       (λ above. choice EndsSound (nat_lt limits.msgmax (length text)) _ _
       (λ _. refused-sound s EINVAL h)
-      (λ _. send_to-sound s pid id (record { mtype = mtype; text = text }) (queue_of s id) (not_false (int_lt (pos 0) mtype) above) refl h))
+      (λ short. send_to-sound s pid id (record { mtype = mtype; text = text }) (queue_of s id) (not_false (int_lt (pos 0) mtype) above) (ltb-false _ _ short) refl h))
 
   receive_at-sound : (s : State) (pid id size : ℕ) (q : Queue) (picked : Option ℕ) → ((at : ℕ) → picked ≡ Some at → at < length q.messages)
       → IsSoundQueue limits q → IsSound limits s → EndsSound (receive_at s pid id size q picked)
@@ -261,10 +271,13 @@ module _ (limits : Limits) where
       (λ _. receive_from-sound s pid id size mtype (queue_of s id) refl h)
 
   pub attempt-sound : (s : State) (pid : ℕ) (call : PlainCall) → IsSound limits s → EndsSound (attempt limits s pid call)
-  attempt-sound s pid (Hello cred) h = refused-sound s EPROTO h
   attempt-sound s pid (Msgget key flags) h = get_found-sound s key flags (keyed s key) refl h
   attempt-sound s pid (Msgsnd id flags mtype text) h = msgsnd-sound s pid id mtype text h
   attempt-sound s pid (Msgrcv id flags size mtype) h = msgrcv-sound s pid id size mtype h
+
+  asked-sound : (s : State) (pid : ℕ) (kind : PlainKind) → IsSound limits s → EndsSound (asked limits s pid kind)
+  asked-sound s pid (Hello cred) h = refused-sound s EPROTO h
+  asked-sound s pid (Calls call) h = attempt-sound s pid call h
 
   pub start-sound : IsSound limits start
   start-sound =
@@ -283,7 +296,7 @@ module _ (limits : Limits) where
 
   pub step-sound : (s : State) (e : PlainEvent) → IsSound limits s → IsSound limits (step limits s e).state
   step-sound s (Connect cred serial moment) h = connect-sound (at_moment s moment) cred serial (begin-sound s moment h)
-  step-sound s (Call pid request moment) h = (attempt-sound (at_moment s moment) pid request.call (begin-sound s moment h)).state
+  step-sound s (Call pid request moment) h = (asked-sound (at_moment s moment) pid request.kind (begin-sound s moment h)).state
   step-sound s (Tick moment) h = begin-sound s moment h
   step-sound s (Exit pid moment) h = exit-sound (at_moment s moment) pid (begin-sound s moment h)
 
@@ -296,9 +309,9 @@ module _ (limits : Limits) where
   step-fits s (Connect cred serial moment) h =
       choice (λ (t : Step). All (λ (o : PlainOutcome). FitsBody limits o.body) t.outcomes)
       (nat_le limits.processes (length s.processes) || nat_lt last_number s.next_pid) _ _
-      (λ _. All-cons Fits _ [] tt (All-nil Fits)) (λ _. All-cons Fits _ [] tt (All-nil Fits))
+      (λ _. All-cons Fits _ [] (omega arith) (All-nil Fits)) (λ _. All-cons Fits _ [] (omega arith) (All-nil Fits))
   step-fits s (Call pid request moment) h =
-      All-cons Fits _ [] (attempt-sound (at_moment s moment) pid request.call (begin-sound s moment h)).body (All-nil Fits)
+      All-cons Fits _ [] (asked-sound (at_moment s moment) pid request.kind (begin-sound s moment h)).body (All-nil Fits)
   step-fits s (Tick moment) h = All-nil Fits
   step-fits s (Exit pid moment) h = All-nil Fits
 

@@ -6,10 +6,11 @@ use Rattle.std.specs.Int.RustNames.{bit_and}
 use Rattle.ipc_base.specs.declared.errno.Errno.{Errno}
 use Rattle.ipc_base.specs.declared.errno.Errno.TheVariants.{ENOENT, EEXIST, EINVAL, ENOSPC, EAGAIN, ENOMSG, E2BIG, EPROTO}
 use Rattle.ipc_base.specs.declared.limits.Limits.{Limits}
-use Rattle.ipc_wire.specs.Request.{PlainCall, Hello, Msgget, Msgsnd, Msgrcv}
-use Rattle.ipc_wire.specs.Reply.{PlainBody, Empty, Number, Message}
+use Rattle.ipc_wire.specs.Request.{PlainCall, PlainKind, Msgget, Msgsnd, Msgrcv, Hello, Calls}
+use Rattle.ipc_wire.specs.declared.reply.Body.TheVariants.{Empty, Number, Message}
+use Rattle.ipc_wire.specs.Reply.{PlainBody}
 use Rattle.sysv_msg.specs.Queue.{Queue, PlainMessage, new_queue, pick, full, sent, taken}
-use Rattle.ipc_engine.specs.Table.{value_at}
+use Rattle.ipc_base.specs.Table.{value_at}
 use Rattle.ipc_engine.specs.State.{State, queue_of, with_queue, last_number}
 
 -- how a call ends: the state after it, the error where it is refused, and the body of its reply
@@ -101,9 +102,13 @@ receive_from s pid id size mtype (Some q) = receive_at s pid id size q (pick q.m
 abbrev pub msgrcv : State → ℕ → ℕ → ℕ → ℤ → Finish
 msgrcv s pid id size mtype = if nat_lt last_number size then refused s EINVAL else receive_from s pid id size mtype (queue_of s id)
 
--- The attempt of a call by a process. HELLO has no place here: a process has said it.
+-- the attempt of a call by a process
 abbrev pub attempt : Limits → State → ℕ → PlainCall → Finish
-attempt limits s pid (Hello cred) = refused s EPROTO
 attempt limits s pid (Msgget key flags) = msgget limits s key flags
 attempt limits s pid (Msgsnd id flags mtype text) = msgsnd limits s pid id mtype text
 attempt limits s pid (Msgrcv id flags size mtype) = msgrcv s pid id size mtype
+
+-- A request of a process. HELLO has no place there: the process has said it.
+abbrev pub asked : Limits → State → ℕ → PlainKind → Finish
+asked limits s pid (Hello cred) = refused s EPROTO
+asked limits s pid (Calls call) = attempt limits s pid call

@@ -1,21 +1,16 @@
--- What a caller sees of the engine: its limits, its state, and the replies of the last event.
-use Rattle.std.specs.Prelude.{◌≡◌, true, List, map}
+-- What a caller sees of the machine, and what it may ask.
+use Rattle.std.specs.Prelude.{◌≡◌, ℕ, Bool, true, false, List}
 use Rattle.ipc_base.specs.declared.limits.Limits.{Limits}
-use Rattle.ipc_engine.specs.declared.engine.Engine.{Engine}
+use Rattle.ipc_wire.specs.Request.{PlainKind, Hello, Calls}
 use Rattle.ipc_engine.specs.State.{State, is_process}
+use Rattle.ipc_engine.specs.Room.{takes_memory as call_takes_memory}
 use Rattle.ipc_engine.specs.Event.{PlainEvent, Connect, Call, Tick, Exit, PlainOutcome}
-use Rattle.ipc_engine.specs.Room.{TakesNoMemory as CallTakesNoMemory}
-use Rattle.ipc_engine.specs.View.{state_of as tables_of, plain_outcome}
 
--- the limits, the state, and the replies of the last event
-abbrev pub limits_of : Engine → Limits
-limits_of e = e.state.limits
-
-abbrev pub state_of : Engine → State
-state_of e = tables_of e.state
-
-abbrev pub outcomes_of : Engine → List PlainOutcome
-outcomes_of e = map plain_outcome e.outcomes.items
+-- the limits that it keeps, the state, and the replies of the last event
+pub record Machine : Type 0 where
+  pub limits : Limits
+  pub state : State
+  pub outcomes : List PlainOutcome
 
 -- the process that an event names is connected
 abbrev pub IsForProcess : State → PlainEvent → Type 0
@@ -24,9 +19,13 @@ IsForProcess s (Call pid request moment) = is_process s pid ≡ true
 IsForProcess s (Tick moment) = Unit {0}
 IsForProcess s (Exit pid moment) = is_process s pid ≡ true
 
--- events that need no memory
-abbrev pub TakesNoMemory : PlainEvent → Type 0
-TakesNoMemory (Connect cred serial moment) = ⊥
-TakesNoMemory (Call pid request moment) = CallTakesNoMemory request.call
-TakesNoMemory (Tick moment) = Unit {0}
-TakesNoMemory (Exit pid moment) = Unit {0}
+abbrev pub kind_takes_memory : PlainKind → Bool
+kind_takes_memory (Hello cred) = false
+kind_takes_memory (Calls call) = call_takes_memory call
+
+-- whether an event may need memory, and so may be refused
+abbrev pub takes_memory : PlainEvent → Bool
+takes_memory (Connect cred serial moment) = true
+takes_memory (Call pid request moment) = kind_takes_memory request.kind
+takes_memory (Tick moment) = false
+takes_memory (Exit pid moment) = false

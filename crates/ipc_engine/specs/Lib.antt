@@ -1,4 +1,3 @@
-pub mod Table
 pub mod State
 pub mod Calls
 pub mod Event

@@ -1,6 +1,6 @@
 -- The memory that a call has taken before its attempt, so that the attempt takes none.
-use Rattle.std.specs.Prelude.{ℕ, ◌<◌, ◌==◌, List, length, IfSome, find, vec_len, vec_capacity}
-use Rattle.ipc_wire.specs.Request.{PlainCall, Hello, Msgget, Msgsnd, Msgrcv}
+use Rattle.std.specs.Prelude.{ℕ, Bool, true, false, ◌<◌, ◌==◌, List, length, IfSome, find, vec_len, vec_capacity}
+use Rattle.ipc_wire.specs.Request.{PlainCall, PlainKind, Hello, Calls, Msgget, Msgsnd, Msgrcv}
 use Rattle.sysv_msg.specs.Queue.{HasRoom}
 use Rattle.ipc_engine.specs.declared.state.State.{State}
 use Rattle.ipc_engine.specs.declared.state.QueueEntry.{QueueEntry}
@@ -17,14 +17,17 @@ HasTextRoom queues id bytes =
 
 -- what the attempt of a call needs
 abbrev pub IsReserved : State → PlainCall → Type 0
-IsReserved s (Hello cred) = Unit {0}
 IsReserved s (Msgget key flags) = HasPlace s
 IsReserved s (Msgsnd id flags mtype text) = HasTextRoom s.queues.items id (length text)
 IsReserved s (Msgrcv id flags size mtype) = Unit {0}
 
--- calls that need none
-abbrev pub TakesNoMemory : PlainCall → Type 0
-TakesNoMemory (Hello cred) = Unit {0}
-TakesNoMemory (Msgget key flags) = ⊥
-TakesNoMemory (Msgsnd id flags mtype text) = ⊥
-TakesNoMemory (Msgrcv id flags size mtype) = Unit {0}
+-- whether the attempt of a call may need memory
+abbrev pub takes_memory : PlainCall → Bool
+takes_memory (Msgget key flags) = true
+takes_memory (Msgsnd id flags mtype text) = true
+takes_memory (Msgrcv id flags size mtype) = false
+
+-- what a request of a process needs
+abbrev pub IsReadyFor : State → PlainKind → Type 0
+IsReadyFor s (Hello cred) = Unit {0}
+IsReadyFor s (Calls call) = IsReserved s call

@@ -3,7 +3,7 @@
 use Rattle.std.specs.Prelude.{ℕ, ℤ, Bool, List, [], Option, nat_eq, is_some}
 use Rattle.ipc_base.specs.declared.identity.Cred.{Cred}
 use Rattle.sysv_msg.specs.Queue.{Queue}
-use Rattle.ipc_engine.specs.Table.{value_at, with_value}
+use Rattle.ipc_base.specs.Table.{value_at, with_value}
 
 pub record State : Type 0 where
   -- the greatest moment so far

@@ -4,10 +4,10 @@ use Rattle.std.specs.Prelude.{ℕ, ◌+◌, ◌||◌, List, [], ◌∷◌, ◌++
 use Rattle.ipc_base.specs.declared.errno.Errno.TheVariants.{ENFILE}
 use Rattle.ipc_base.specs.declared.identity.Cred.{Cred}
 use Rattle.ipc_base.specs.declared.limits.Limits.{Limits}
-use Rattle.ipc_wire.specs.Reply.{Empty, Number}
-use Rattle.ipc_engine.specs.Table.{without}
+use Rattle.ipc_wire.specs.declared.reply.Body.TheVariants.{Empty, Number}
+use Rattle.ipc_base.specs.Table.{without}
 use Rattle.ipc_engine.specs.State.{State, last_number}
-use Rattle.ipc_engine.specs.Calls.{Finish, attempt}
+use Rattle.ipc_engine.specs.Calls.{Finish, asked}
 use Rattle.ipc_engine.specs.Event.{PlainEvent, Connect, Call, Tick, Exit, PlainOutcome}
 
 pub record Step : Type 0 where
@@ -38,7 +38,7 @@ exit s pid = record s { processes = without nat_eq s.processes pid }
 
 abbrev pub step : Limits → State → PlainEvent → Step
 step limits s (Connect cred serial moment) = connect limits (at_moment s moment) cred serial
-step limits s (Call pid request moment) = replied pid request.serial (attempt limits (at_moment s moment) pid request.call)
+step limits s (Call pid request moment) = replied pid request.serial (asked limits (at_moment s moment) pid request.kind)
 step limits s (Tick moment) = record { state = at_moment s moment; outcomes = [] }
 step limits s (Exit pid moment) = record { state = exit (at_moment s moment) pid; outcomes = [] }
 

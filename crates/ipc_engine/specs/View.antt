@@ -3,13 +3,13 @@ use Rattle.std.specs.Prelude.{ℕ, ℤ, [], ◌∷◌, map, Result, Ok, Err}
 use Rattle.ipc_base.specs.declared.errno.Errno.{Errno}
 use Rattle.ipc_base.specs.declared.identity.Cred.{Cred}
 use Rattle.ipc_wire.specs.Request.{plain_request}
-use Rattle.ipc_wire.specs.Reply.{PlainBody, PlainReply, Empty as NoBody, Number as NumberBody, Message as MessageBody}
+use Rattle.ipc_wire.specs.declared.reply.Body.{Body}
+use Rattle.ipc_wire.specs.Reply.{PlainBody, PlainReply, body_of}
+use Rattle.std.specs.Global.{Vec}
 use Rattle.sysv_msg.specs.Queue.{Queue}
 use Rattle.ipc_engine.specs.declared.event.Event.{Event}
 use Rattle.ipc_engine.specs.declared.event.Event.TheVariants.{Connect, Call, Tick, Exit}
 use Rattle.ipc_engine.specs.declared.event.Outcome.{Outcome}
-use Rattle.ipc_engine.specs.declared.event.OutcomeBody.{OutcomeBody}
-use Rattle.ipc_engine.specs.declared.event.OutcomeBody.TheVariants.{Empty, Number, Message}
 use Rattle.ipc_engine.specs.declared.state.State.{State as Tables}
 use Rattle.ipc_engine.specs.declared.state.Process.{Process}
 use Rattle.ipc_engine.specs.declared.state.Key.{Key}
@@ -45,10 +45,8 @@ plain_event (Call pid request moment) = Calls pid.0 (plain_request request) mome
 plain_event (Tick moment) = Ticks moment.0
 plain_event (Exit pid moment) = Exits pid.0 moment.0
 
-abbrev pub plain_body : OutcomeBody → PlainBody
-plain_body Empty = NoBody
-plain_body (Number n) = NumberBody n
-plain_body (Message mtype text) = MessageBody mtype text.items
+abbrev pub plain_body : Body (Vec ℕ) → PlainBody
+plain_body body = body_of (λ text. text.items) body
 
 abbrev pub plain_outcome : Outcome → PlainOutcome
 plain_outcome o = record { pid = o.pid.0; serial = o.serial; errno = o.errno; body = plain_body o.body }
@@ -58,7 +56,7 @@ abbrev pub reply_of : PlainOutcome → PlainReply
 reply_of o = record { serial = o.serial; errno = o.errno; body = o.body }
 
 -- how a call ended: the state that it left, and its answer
-abbrev pub finish_of : Tables → Result OutcomeBody Errno → Finish
+abbrev pub finish_of : Tables → Result (Body (Vec ℕ)) Errno → Finish
 finish_of t (Ok body) = done (state_of t) (plain_body body)
 finish_of t (Err e) = refused (state_of t) e
 

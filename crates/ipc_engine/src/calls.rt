@@ -1,28 +1,27 @@
 //! The attempts of the calls: each changes the state and answers, or refuses and changes nothing.
 
-ghost use Rattle.std.specs.Prelude.{◌≡◌, ◌<◌, ◌^◌, length, IsOk, OnOk, option_map};
+ghost use Rattle.std.specs.Prelude.{◌≡◌, ◌<◌, ◌^◌, false, length, IsOk, OnOk, option_map};
 ghost use Rattle.ipc_engine.specs.Calls.{attempt as attempt_of, msgget as msgget_of, msgsnd as msgsnd_of, msgrcv as msgrcv_of, keyed as keyed_of, with_new_queue};
 ghost use Rattle.ipc_engine.specs.View.{state_of, finish_of};
-ghost use Rattle.ipc_engine.specs.Room.{HasPlace, HasTextRoom, IsReserved, TakesNoMemory};
+ghost use Rattle.ipc_engine.specs.Room.{HasPlace, HasTextRoom, IsReserved, takes_memory};
 ghost use Rattle.ipc_wire.specs.Request.{plain_call};
 
-use crate::event::OutcomeBody;
 use crate::state::{Key, LAST_NUMBER, QueueEntry, State, key_place, queue_place};
 use bitflags::Flags;
 use ipc_base::{Errno, GetFlags, Id, Pid};
-use ipc_wire::Call;
+use ipc_wire::{Body, Call};
 use std::alloc::{AllocError, Global};
 use sysv_msg::MsgQueue;
 
 /// How a call ends: the body of its reply, or the error.
-pub(crate) type Answer = Result<OutcomeBody, Errno>;
+pub(crate) type Answer = Result<Body<Vec<u8>>, Errno>;
 
 /// Takes the memory that the attempt of a call may need. Refused, the state is as before.
 pub(crate) fn reserve(state: &mut State, call: &Call<'_>) -> Result<(), AllocError>
     ensures state { state_of state.new ≡ state_of state.old }
     ensures limits { state.new.limits ≡ state.old.limits }
     ensures ok { OnOk result (IsReserved state.new (plain_call call.now)) }
-    ensures memory { TakesNoMemory (plain_call call.now) → IsOk result }
+    ensures memory { takes_memory (plain_call call.now) ≡ false → IsOk result }
 {
     match call {
         Call::Msgget { .. } => {
@@ -30,7 +29,7 @@ pub(crate) fn reserve(state: &mut State, call: &Call<'_>) -> Result<(), AllocErr
             state.queues.reserve(1)
         }
         Call::Msgsnd { id, text, .. } => reserve_text(state, *id, text.len()),
-        Call::Hello(_) | Call::Msgrcv { .. } => Ok(()),
+        Call::Msgrcv { .. } => Ok(()),
     }
 }
 
@@ -53,7 +52,6 @@ pub(crate) fn attempt(alloc: Global, state: &mut State, pid: Pid, call: &Call<'_
     ensures limits { state.new.limits ≡ state.old.limits }
 {
     match call {
-        Call::Hello(_) => Err(Errno::EPROTO),
         Call::Msgget { key, flags } => msgget(alloc, state, *key, *flags),
         Call::Msgsnd {
             id,
@@ -80,7 +78,7 @@ fn msgget(alloc: Global, state: &mut State, key: i32, flags: GetFlags) -> Answer
         if flags.contains(GetFlags::IPC_CREAT) && flags.contains(GetFlags::IPC_EXCL) {
             return Err(Errno::EEXIST);
         }
-        return Ok(OutcomeBody::Number(id.0));
+        return Ok(Body::Number(id.0));
     }
     if key != IPC_PRIVATE && !flags.contains(GetFlags::IPC_CREAT) {
         return Err(Errno::ENOENT);
@@ -88,7 +86,7 @@ fn msgget(alloc: Global, state: &mut State, key: i32, flags: GetFlags) -> Answer
     if state.limits.msgmni as usize <= state.queues.len() || LAST_NUMBER < state.next_msg {
         return Err(Errno::ENOSPC);
     }
-    Ok(OutcomeBody::Number(add_queue(alloc, state, key).0))
+    Ok(Body::Number(add_queue(alloc, state, key).0))
 }
 
 /// The key of msgget(2) that always makes a new queue.
@@ -140,7 +138,7 @@ fn msgsnd(state: &mut State, pid: Pid, id: Id, mtype: i64, text: &[u8]) -> Answe
         return Err(Errno::EAGAIN);
     }
     entry.queue.send(mtype, text, pid, state.clock);
-    Ok(OutcomeBody::Empty)
+    Ok(Body::Empty)
 }
 
 /// msgrcv of msgop(2).
@@ -162,7 +160,7 @@ fn msgrcv(state: &mut State, pid: Pid, id: Id, size: u32, mtype: i64) -> Answer
         return Err(Errno::E2BIG);
     }
     let message = entry.queue.take(at, pid, state.clock);
-    Ok(OutcomeBody::Message {
+    Ok(Body::Message {
         mtype: message.mtype,
         text: message.text,
     })

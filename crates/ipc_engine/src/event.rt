@@ -38,17 +38,7 @@ pub struct Outcome {
     pub pid: Pid,
     pub serial: u32,
     pub errno: Option<Errno>,
-    pub body: OutcomeBody,
-}
-
-/// The body of a reply. A refusal has none.
-#[derive(Debug, Drop)]
-pub enum OutcomeBody {
-    Empty,
-    /// A pid or an identifier.
-    Number(u32),
-    /// A message of msgrcv(2).
-    Message { mtype: i64, text: Vec<u8> },
+    pub body: Body<Vec<u8>>,
 }
 
 impl Outcome {
@@ -60,9 +50,9 @@ impl Outcome {
         ensures { plain_reply result ≡ reply_of (plain_outcome self.now) }
     {
         let body = match &self.body {
-            OutcomeBody::Empty => Body::Empty,
-            OutcomeBody::Number(number) => Body::Number(*number),
-            OutcomeBody::Message { mtype, text } => Body::Message {
+            Body::Empty => Body::Empty,
+            Body::Number(number) => Body::Number(*number),
+            Body::Message { mtype, text } => Body::Message {
                 mtype: *mtype,
                 text: text.as_slice(),
             },

@@ -5,7 +5,7 @@ ghost use Rattle.ipc_base.specs.declared.limits.Limits.{Limits};
 ghost use Rattle.ipc_base.specs.declared.identity.Cred.{Cred};
 ghost use Rattle.ipc_wire.specs.Request.{PlainRequest};
 ghost use Rattle.ipc_engine.specs.State.{State, start, is_process};
-ghost use Rattle.ipc_engine.specs.Calls.{attempt};
+ghost use Rattle.ipc_engine.specs.Calls.{asked};
 ghost use Rattle.ipc_engine.specs.Event.{PlainEvent, Connect, Call, Tick, Exit, moment_of};
 ghost use Rattle.ipc_engine.specs.Step.{step, run, at_moment};
 ghost use Rattle.ipc_engine.specs.Sound.{IsSound, FitsBody};
@@ -17,7 +17,7 @@ pub fn step_keeps_soundness()
         → IsSound limits s → IsSound limits (step limits s e).state }
 {}
 
-/// A message in a reply is no longer than what a queue holds.
+/// No body of a reply is longer than the longest one.
 pub fn replies_fit()
     ensures { (limits : Limits) (s : State) (e : PlainEvent)
         → IsSound limits s → All (λ o. FitsBody limits o.body) (step limits s e).outcomes }
@@ -48,7 +48,7 @@ pub fn event_sets_clock()
 /// A call that is refused changes the clock alone.
 pub fn refused_call_changes_nothing()
     ensures { (limits : Limits) (s : State) (pid moment : ℕ) (request : PlainRequest)
-        → IsSome (attempt limits (at_moment s moment) pid request.call).errno
+        → IsSome (asked limits (at_moment s moment) pid request.kind).errno
         → (step limits s (Call pid request moment)).state ≡ at_moment s moment }
 {}
 

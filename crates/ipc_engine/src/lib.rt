@@ -8,7 +8,7 @@ mod laws;
 mod state;
 
 pub use engine::Engine;
-pub use event::{Event, Outcome, OutcomeBody};
+pub use event::{Event, Outcome};
 pub use laws::{
     connect_adds_one_process, event_sets_clock, exit_removes_one_process, late_tick_does_nothing,
     only_connect_and_exit_change_processes, pid_is_below_next, refused_call_changes_nothing,

@@ -2,7 +2,7 @@
 
 ghost use Rattle.std.specs.Prelude.{◌≡◌, ◌==◌, map, max, nat_eq, position};
 ghost use Rattle.std.specs.Ordering.{int_eq};
-ghost use Rattle.ipc_engine.specs.Table.{without};
+ghost use Rattle.ipc_base.specs.Table.{without};
 ghost use Rattle.ipc_engine.specs.View.{process_row};
 
 use ipc_base::{Cred, Id, Limits, Moment, Pid};

@@ -2,12 +2,12 @@
 //! refused, a step is taken again, so that the tests pass whichever allocation is refused.
 
 ghost use Rattle.std.specs.Prelude.{◌≤◌};
-ghost use Rattle.ipc_engine.specs.Engine.{IsForProcess, state_of};
+ghost use Rattle.ipc_engine.specs.Engine.{IsForProcess};
 ghost use Rattle.ipc_engine.specs.View.{plain_event};
 
-use crate::{Engine, Event, OutcomeBody};
+use crate::{Engine, Event};
 use ipc_base::{Cred, Errno, GetFlags, Id, Limits, Moment, MsgFlags, Pid};
-use ipc_wire::{Call, Request};
+use ipc_wire::{Body, Call, Request, RequestKind};
 use std::alloc::{AllocError, Global};
 use std::process::Abort;
 use std::test::Fail;
@@ -30,12 +30,12 @@ fn is_answer(engine: &Engine, pid: Pid, serial: u32, wanted: Answer<'_>) -> bool
         return false;
     }
     match (wanted, outcome.errno, &outcome.body) {
-        (Answer::Done, None, OutcomeBody::Empty) => true,
-        (Answer::Number(wanted), None, OutcomeBody::Number(number)) => wanted == *number,
-        (Answer::Message(wanted, bytes), None, OutcomeBody::Message { mtype, text }) => {
+        (Answer::Done, None, Body::Empty) => true,
+        (Answer::Number(wanted), None, Body::Number(number)) => wanted == *number,
+        (Answer::Message(wanted, bytes), None, Body::Message { mtype, text }) => {
             wanted == *mtype && text.as_slice() == bytes
         }
-        (Answer::Refused(wanted), Some(errno), OutcomeBody::Empty) => wanted == errno,
+        (Answer::Refused(wanted), Some(errno), Body::Empty) => wanted == errno,
         _ => false,
     }
 }
@@ -49,7 +49,7 @@ fn small_engine(alloc: Global) -> Result<Engine, AllocError> {
 
 /// A step; after a refusal for memory, which leaves the replies as they were, the same step again.
 fn take(rt: &impl Abort, engine: &mut Engine, event: Event<'_>) -> Result<(), AllocError>
-    requires { IsForProcess (state_of engine.old) (plain_event event) }
+    requires { IsForProcess engine.old.state (plain_event event) }
 {
     let replies = engine.outcomes().len();
     match engine.step(event) {
@@ -82,14 +82,14 @@ fn hello(rt: &impl Abort, engine: &mut Engine, serial: u32) -> Result<(), AllocE
 fn talk(
     rt: &impl Abort,
     engine: &mut Engine,
-    lines: &[(Call<'_>, Answer<'_>)],
+    lines: &[(RequestKind<'_>, Answer<'_>)],
 ) -> Result<(), AllocError> {
     let pid = Pid(1);
-    for (line, (call, wanted)) in lines.iter().enumerate() {
+    for (line, (kind, wanted)) in lines.iter().enumerate() {
         assert!(rt; engine.connected(pid));
         let request = Request {
             serial: 9,
-            call: *call,
+            kind: *kind,
         };
         let moment = Moment(8);
         take(
@@ -106,29 +106,29 @@ fn talk(
     Ok(())
 }
 
-fn get(key: i32, flags: u32) -> Call<'static> {
-    Call::Msgget {
+fn get(key: i32, flags: u32) -> RequestKind<'static> {
+    RequestKind::Call(Call::Msgget {
         key,
         flags: GetFlags(flags),
-    }
+    })
 }
 
-fn send(id: u32, mtype: i64, text: &[u8]) -> Call<'_> {
-    Call::Msgsnd {
+fn send(id: u32, mtype: i64, text: &[u8]) -> RequestKind<'_> {
+    RequestKind::Call(Call::Msgsnd {
         id: Id(id),
         flags: MsgFlags(0),
         mtype,
         text,
-    }
+    })
 }
 
-fn receive(id: u32, size: u32, mtype: i64) -> Call<'static> {
-    Call::Msgrcv {
+fn receive(id: u32, size: u32, mtype: i64) -> RequestKind<'static> {
+    RequestKind::Call(Call::Msgrcv {
         id: Id(id),
         flags: MsgFlags(0),
         size,
         mtype,
-    }
+    })
 }
 
 #[test]
@@ -219,7 +219,7 @@ fn receives_by_type_and_size(rt: HostRuntime) -> Result<(), Fail> {
     hello(&rt, &mut engine, 1)?;
     let cred = Cred { uid: 0, gid: 0 };
     let lines = [
-        (Call::Hello(cred), Answer::Refused(Errno::EPROTO)),
+        (RequestKind::Hello(cred), Answer::Refused(Errno::EPROTO)),
         (get(0, 0), Answer::Number(1)),
         (receive(1, 8, 0), Answer::Refused(Errno::ENOMSG)),
         (receive(2, 8, 0), Answer::Refused(Errno::EINVAL)),

@@ -1,21 +1,21 @@
 -- What the first frame of a stream says, step by step, and that it stays when more bytes come.
-use Rattle.std.proofs.Common.{◌≡◌, ℕ, ◌+◌, ◌≤◌, ◌<◌, Bool, true, false, cond, ltb, eqb, ◌||◌, List, [], ◌∷◌, ◌++◌, length, take, drop, Option, Some, None, refl, sym, ap, ◌∙◌, arith, ◌⊎◌, inl, inr}
+use Rattle.std.proofs.Common.{◌≡◌, ℕ, ◌+◌, ◌-◌, ◌≤◌, ◌<◌, Bool, true, false, cond, ltb, eqb, ◌||◌, List, [], ◌∷◌, ◌++◌, length, take, drop, Option, Some, None, refl, sym, ap, ◌∙◌, arith, ◌⊎◌, inl, inr}
 use Rattle.std.specs.Int.{w32, from_be_bytes}
 use Rattle.std.specs.Prelude.{slice_index}
 use Rattle.std.proofs.lemmas.Bool.{cases_lt, lt-ltb, le-ltb, ltb-false, ltb-true, cond-true, cond-false, cond_both}
 use Rattle.std.proofs.lemmas.List.{length-append, length-drop, length-take-le, take-append-le, drop-append-le}
-use Rattle.ipc_wire.specs.Request.{PlainCall, PlainRequest}
-use Rattle.ipc_wire.specs.Stream.{PlainFrame, TakesBytes, part, u32_at, call_of, request_or_fault, frame_of, first}
+use Rattle.ipc_wire.specs.Request.{PlainKind, PlainRequest}
+use Rattle.ipc_wire.specs.Stream.{PlainFrame, TakesBytes, part, u32_at, kind_of, request_or_fault, frame_of, first, missing}
 use Rattle.ipc_wire.specs.Stream.PlainFrame.{More, Whole, Fault}
 
-request_takes : (call : Option PlainCall) (used serial available : ℕ) → 9 ≤ used → used ≤ available → TakesBytes (request_or_fault used serial call) available
+request_takes : (call : Option PlainKind) (used serial available : ℕ) → 9 ≤ used → used ≤ available → TakesBytes (request_or_fault used serial call) available
 request_takes None used serial available least most = tt
 request_takes (Some call) used serial available least most = (least, most)
 
 pub frame_takes : (text : List ℕ) (available : ℕ) → 5 ≤ length text → 4 + length text ≤ available → TakesBytes (frame_of text) available
 unfolding frame_of
 frame_takes text available least most =
-    let call : Option PlainCall = call_of (slice_index text 4) (drop 5 text) in
+    let call : Option PlainKind = kind_of (slice_index text 4) (drop 5 text) in
     cond_both (eqb (u32_at 0 text) 0) (Fault 0) (request_or_fault (4 + length text) (u32_at 0 text) call) (λ (f : PlainFrame). TakesBytes f available) (λ _. tt) (λ _. request_takes call (4 + length text) (u32_at 0 text) available (omega arith) most)
 
 -- a length out of range, and what a frame of this length is
@@ -61,14 +61,14 @@ first_takes bytes =
     ]
 
 -- a whole frame waits for nothing
-request_waits : (call : Option PlainCall) (used serial : ℕ) → request_or_fault used serial call ≡ More → ⊥
+request_waits : (call : Option PlainKind) (used serial : ℕ) → request_or_fault used serial call ≡ More → ⊥
 request_waits None used serial e = cc
 request_waits (Some call) used serial e = cc
 
 pub frame_waits : (text : List ℕ) → frame_of text ≡ More → ⊥
 unfolding frame_of
 frame_waits text =
-    let call : Option PlainCall = call_of (slice_index text 4) (drop 5 text) in
+    let call : Option PlainKind = kind_of (slice_index text 4) (drop 5 text) in
     cond_both (eqb (u32_at 0 text) 0) (Fault 0) (request_or_fault (4 + length text) (u32_at 0 text) call) (λ (f : PlainFrame). f ≡ More → ⊥) (λ _ e. cc) (λ _. request_waits call (4 + length text) (u32_at 0 text))
 
 pub waiting_short : (bytes : List ℕ) → first bytes ≡ More → length bytes < 8452
@@ -143,14 +143,14 @@ fault_stays bytes more serial e =
 
 -- ---- the last byte
 
-request_used : (call : Option PlainCall) (used serial n : ℕ) (request : PlainRequest) → request_or_fault used serial call ≡ Whole n request → n ≡ used
+request_used : (call : Option PlainKind) (used serial n : ℕ) (request : PlainRequest) → request_or_fault used serial call ≡ Whole n request → n ≡ used
 request_used None used serial n request e = cc
 request_used (Some call) used serial n request e = cc
 
 frame_used : (text : List ℕ) (used : ℕ) (request : PlainRequest) → frame_of text ≡ Whole used request → used ≡ 4 + length text
 unfolding frame_of
 frame_used text used request =
-    let call : Option PlainCall = call_of (slice_index text 4) (drop 5 text) in
+    let call : Option PlainKind = kind_of (slice_index text 4) (drop 5 text) in
     cond_both (eqb (u32_at 0 text) 0) (Fault 0) (request_or_fault (4 + length text) (u32_at 0 text) call) (λ (f : PlainFrame). f ≡ Whole used request → used ≡ 4 + length text) (λ _ e. cc)
     (λ _. request_used call (4 + length text) (u32_at 0 text) used request)
 
@@ -169,17 +169,56 @@ sized_whole size available text used request exact =
     let enough : 4 + size ≤ available = ltb-false _ _ long in
     (inside, omega (arith, frame_used text used request e, exact enough))))
 
--- a frame is whole with its last byte
-pub whole_last : (bytes : List ℕ) (byte used : ℕ) (request : PlainRequest) → first bytes ≡ More → first (bytes ++ byte ∷ []) ≡ Whole used request → used ≡ length bytes + 1
-whole_last bytes byte used request waits whole =
-    let all : List ℕ = bytes ++ byte ∷ [] in
-    let count : length all ≡ length bytes + 1 = length-append bytes (byte ∷ []) in
+-- what is missing of a frame that is not whole is a byte at least, and the frame has no more than 8452
+pub missing_some : (bytes : List ℕ) → first bytes ≡ More → (0 < missing bytes) × (length bytes + missing bytes ≤ 8452)
+unfolding missing
+missing_some bytes waits =
+    elim (cases_lt (length bytes) 4) [
+      | inl short ↦ rw (lt-ltb _ _ short) (omega arith, omega arith)
+      | inr long ↦
+          let size : ℕ = u32_at 0 bytes in
+          let text : List ℕ = part 4 size bytes in
+          rw (le-ltb _ _ long)
+          (cond_both (is_out_of_range size) (Fault 0) (cond (ltb (length bytes) (4 + size)) More (frame_of text))
+          (λ (f : PlainFrame). f ≡ More → (0 < 4 + size - length bytes) × (length bytes + (4 + size - length bytes) ≤ 8452)) (λ _ w. cc)
+          (λ inside. cond_both (ltb (length bytes) (4 + size)) More (frame_of text)
+          (λ (f : PlainFrame). f ≡ More → (0 < 4 + size - length bytes) × (length bytes + (4 + size - length bytes) ≤ 8452))
+          (λ short _.
+          let least = in_range size inside in
+          let fewer : length bytes < 4 + size = ltb-true _ _ short in
+          (omega (arith, least), omega (arith, least)))
+          (λ _ w. absurd (frame_waits text w)))
+          (sym (first_long bytes long) ∙ waits))
+    ]
+
+-- a frame is whole with its last byte: no byte stands behind it where no more came than were missing
+pub whole_last : (bytes more : List ℕ) (used : ℕ) (request : PlainRequest) → first bytes ≡ More → length more ≤ missing bytes
+    → first (bytes ++ more) ≡ Whole used request → used ≡ length (bytes ++ more)
+unfolding missing
+whole_last bytes more used request waits few whole =
+    let all : List ℕ = bytes ++ more in
+    let count : length all ≡ length bytes + length more = length-append bytes more in
     let takes : TakesBytes (Whole used request) (length all) = rw whole at (first_takes all) in
     let long : 4 ≤ length all = omega (arith, takes.0, takes.1) in
     let size : ℕ = u32_at 0 all in
-    let found = sized_whole size (length all) (part 4 size all) used request (λ enough. length-take-le size (drop 4 all) (omega (arith, length-drop 4 all, enough))) (sym (first_long all long) ∙ whole) in
-    let least = in_range size found.0 in
-    let full : 4 ≤ length bytes = omega (arith, count, takes.1, found.1, least.0) in
-    let same : size ≡ u32_at 0 bytes = number_stays bytes (byte ∷ []) full in
-    let short = sized_waits (u32_at 0 bytes) (length bytes) (part 4 (u32_at 0 bytes) bytes) (rw same at found.0) (sym (first_long bytes full) ∙ waits) in
-    omega (arith, count, takes.1, found.1, short, same)
+    let found = sized_whole size (length all) (part 4 size all) used request
+    (λ enough. length-take-le size (drop 4 all) (omega (arith, length-drop 4 all, enough))) (sym (first_long all long) ∙ whole) in
+    elim (cases_lt (length bytes) 4) [
+      | inl begins ↦
+          let few' : length more ≤ 4 - length bytes = rw (lt-ltb _ _ begins) at few in
+          absurd (omega (arith, count, takes.0, takes.1, few'))
+      | inr full ↦
+          let few' : length more ≤ 4 + u32_at 0 bytes - length bytes = rw (le-ltb _ _ full) at few in
+          let same : size ≡ u32_at 0 bytes = number_stays bytes more full in
+          let short = sized_waits (u32_at 0 bytes) (length bytes) (part 4 (u32_at 0 bytes) bytes) (rw same at found.0) (sym (first_long bytes full) ∙ waits) in
+          omega (arith, count, takes.1, found.1, short, same, few')
+    ]
+
+-- a frame whose length is there and that is not whole
+pub waiting_long : (bytes : List ℕ) (size : ℕ) → 4 ≤ length bytes → from_be_bytes w32 (take 4 bytes) ≡ size → first bytes ≡ More
+    → (length bytes < 4 + size) × (4 + size ≤ 8452)
+unfolding missing u32_at
+waiting_long bytes size long is waits =
+    let some = missing_some bytes waits in
+    let left : missing bytes ≡ 4 + size - length bytes = rw (le-ltb _ _ long) (ap (λ (n : ℕ). 4 + n - length bytes) is) in
+    (omega (arith, some.0, left), omega (arith, some.1, some.0, left))

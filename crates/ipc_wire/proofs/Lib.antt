@@ -3,3 +3,4 @@ pub mod Puts
 pub mod Read
 pub mod Spellings
 pub mod Streams
+pub mod CallerLemmas

@@ -9,9 +9,10 @@ use Rattle.std.proofs.lemmas.List.{length-take, length-take-le, length-drop, tak
 use Rattle.std.proofs.lemmas.List.Elements.{All-get_or}
 use Rattle.std.proofs.lemmas.Nat.{be_bytes_4, be_bytes_8}
 use Rattle.ipc_base.specs.Fields.{signed_bytes}
-use Rattle.ipc_wire.specs.Request.{PlainCall, PlainRequest}
-use Rattle.ipc_wire.specs.Request.PlainCall.{Hello, Msgget, Msgsnd, Msgrcv}
-use Rattle.ipc_wire.specs.Stream.{PlainFrame, part, u32_at, i32_at, i64_at, hello_of, msgget_of, msgsnd_of, msgrcv_of, call_of, request_or_fault, frame_of, first}
+use Rattle.ipc_wire.specs.Request.{PlainKind, PlainRequest}
+use Rattle.ipc_wire.specs.Request.PlainCall.{Msgget, Msgsnd, Msgrcv}
+use Rattle.ipc_wire.specs.Request.PlainKind.{Hello, Calls}
+use Rattle.ipc_wire.specs.Stream.{PlainFrame, part, u32_at, i32_at, i64_at, hello_of, msgget_of, msgsnd_of, msgrcv_of, kind_of, request_or_fault, frame_of, first}
 use Rattle.ipc_wire.specs.Stream.PlainFrame.{More, Whole, Fault}
 use Rattle.ipc_wire.specs.Spelling.{opcode_of, fields_of, frame, FieldsFit, HasFrame}
 use Rattle.ipc_wire.proofs.Frames.{first_short, first_long, is_out_of_range, in_range}
@@ -93,12 +94,12 @@ signed64_back at bytes fits enough =
 
 -- ---- calls
 
-record Spelled (opcode : ℕ) (fields : List ℕ) (call : PlainCall) : Type 0 where
+record Spelled (opcode : ℕ) (fields : List ℕ) (call : PlainKind) : Type 0 where
   opcode_is : opcode_of call ≡ opcode
   fields_are : fields_of call ≡ fields
   fit : FieldsFit call
 
-guard_some : (b : Bool) (x y : PlainCall) → cond b (Some x) None ≡ Some y → (b ≡ true) × (x ≡ y)
+guard_some : (b : Bool) (x y : PlainKind) → cond b (Some x) None ≡ Some y → (b ≡ true) × (x ≡ y)
 guard_some true x y e = (refl, cc)
 guard_some false x y e = absurd cc
 
@@ -113,68 +114,68 @@ side a a' b b' p q = ap (λ (x : List ℕ). x ++ b) p ∙ ap (λ (x : List ℕ).
 behind : (at n : ℕ) (bytes front field : List ℕ) → front ≡ take at bytes → field ≡ part at n bytes → front ++ field ≡ take (at + n) bytes
 behind at n bytes front field p q = side front (take at bytes) field (part at n bytes) p q ∙ grows at n bytes
 
-hello_back : (fields : List ℕ) (call : PlainCall) → IsBytes fields → hello_of fields ≡ Some call → Spelled 0x01 fields call
+hello_back : (fields : List ℕ) (call : PlainKind) → IsBytes fields → hello_of fields ≡ Some call → Spelled 0x01 fields call
 unfolding hello_of
 hello_back fields call fits e =
-    let made : PlainCall = Hello (record { uid = u32_at 0 fields; gid = u32_at 4 fields }) in
+    let made : PlainKind = Hello (record { uid = u32_at 0 fields; gid = u32_at 4 fields }) in
     let g = guard_some (eqb (length fields) 8) made call e in
     let size : length fields ≡ 8 = eqb-true _ _ g.0 in
     let uid = number_back 0 fields fits (omega arith) in
     let both = behind 4 4 fields (to_be_bytes w32 (u32_at 0 fields)) (to_be_bytes w32 (u32_at 4 fields)) uid (number_back 4 fields fits (omega arith)) in
-    subst (λ (c : PlainCall). Spelled 0x01 fields c) g.1
+    subst (λ (c : PlainKind). Spelled 0x01 fields c) g.1
     (record { opcode_is = refl; fields_are = both ∙ take_all 8 fields (omega arith); fit = (number_below 0 fields fits, number_below 4 fields fits) })
 
-msgget_back : (fields : List ℕ) (call : PlainCall) → IsBytes fields → msgget_of fields ≡ Some call → Spelled 0x0a fields call
+msgget_back : (fields : List ℕ) (call : PlainKind) → IsBytes fields → msgget_of fields ≡ Some call → Spelled 0x0a fields call
 unfolding msgget_of
 msgget_back fields call fits e =
-    let made : PlainCall = Msgget (i32_at 0 fields) (u32_at 4 fields) in
+    let made : PlainKind = Calls (Msgget (i32_at 0 fields) (u32_at 4 fields)) in
     let g = guard_some (eqb (length fields) 8) made call e in
     let size : length fields ≡ 8 = eqb-true _ _ g.0 in
     let key = signed32_back 0 fields fits (omega arith) in
     let both = behind 4 4 fields (signed_bytes w32 (i32_at 0 fields)) (to_be_bytes w32 (u32_at 4 fields)) key (number_back 4 fields fits (omega arith)) in
-    subst (λ (c : PlainCall). Spelled 0x0a fields c) g.1
+    subst (λ (c : PlainKind). Spelled 0x0a fields c) g.1
     (record { opcode_is = refl; fields_are = both ∙ take_all 8 fields (omega arith); fit = (signed32_fits 0 fields fits, number_below 4 fields fits) })
 
-msgsnd_back : (fields : List ℕ) (call : PlainCall) → IsBytes fields → length fields ≤ 8443 → msgsnd_of fields ≡ Some call → Spelled 0x0b fields call
+msgsnd_back : (fields : List ℕ) (call : PlainKind) → IsBytes fields → length fields ≤ 8443 → msgsnd_of fields ≡ Some call → Spelled 0x0b fields call
 unfolding msgsnd_of
 msgsnd_back fields call fits short e =
-    let made : PlainCall = Msgsnd (u32_at 0 fields) (u32_at 4 fields) (i64_at 8 fields) (drop 16 fields) in
+    let made : PlainKind = Calls (Msgsnd (u32_at 0 fields) (u32_at 4 fields) (i64_at 8 fields) (drop 16 fields)) in
     let g = guard_some (leb 16 (length fields)) made call e in
     let size : 16 ≤ length fields = leb-true _ _ g.0 in
     let id = number_back 0 fields fits (omega arith) in
     let two = behind 4 4 fields (to_be_bytes w32 (u32_at 0 fields)) (to_be_bytes w32 (u32_at 4 fields)) id (number_back 4 fields fits (omega arith)) in
     let three = behind 8 8 fields (to_be_bytes w32 (u32_at 0 fields) ++ to_be_bytes w32 (u32_at 4 fields)) (signed_bytes w64 (i64_at 8 fields)) two (signed64_back 8 fields fits (omega arith)) in
-    subst (λ (c : PlainCall). Spelled 0x0b fields c) g.1
+    subst (λ (c : PlainKind). Spelled 0x0b fields c) g.1
     (record {
       opcode_is = refl;
       fields_are = ap (λ (x : List ℕ). x ++ drop 16 fields) three ∙ take-append-drop 16 fields;
       fit = (number_below 0 fields fits, number_below 4 fields fits, signed64_fits 8 fields fits, omega (arith, length-drop 16 fields));
     })
 
-msgrcv_back : (fields : List ℕ) (call : PlainCall) → IsBytes fields → msgrcv_of fields ≡ Some call → Spelled 0x0c fields call
+msgrcv_back : (fields : List ℕ) (call : PlainKind) → IsBytes fields → msgrcv_of fields ≡ Some call → Spelled 0x0c fields call
 unfolding msgrcv_of
 msgrcv_back fields call fits e =
-    let made : PlainCall = Msgrcv (u32_at 0 fields) (u32_at 4 fields) (u32_at 8 fields) (i64_at 12 fields) in
+    let made : PlainKind = Calls (Msgrcv (u32_at 0 fields) (u32_at 4 fields) (u32_at 8 fields) (i64_at 12 fields)) in
     let g = guard_some (eqb (length fields) 20) made call e in
     let size : length fields ≡ 20 = eqb-true _ _ g.0 in
     let id = number_back 0 fields fits (omega arith) in
     let two = behind 4 4 fields (to_be_bytes w32 (u32_at 0 fields)) (to_be_bytes w32 (u32_at 4 fields)) id (number_back 4 fields fits (omega arith)) in
     let three = behind 8 4 fields (to_be_bytes w32 (u32_at 0 fields) ++ to_be_bytes w32 (u32_at 4 fields)) (to_be_bytes w32 (u32_at 8 fields)) two (number_back 8 fields fits (omega arith)) in
     let four = behind 12 8 fields (to_be_bytes w32 (u32_at 0 fields) ++ to_be_bytes w32 (u32_at 4 fields) ++ to_be_bytes w32 (u32_at 8 fields)) (signed_bytes w64 (i64_at 12 fields)) three (signed64_back 12 fields fits (omega arith)) in
-    subst (λ (c : PlainCall). Spelled 0x0c fields c) g.1
+    subst (λ (c : PlainKind). Spelled 0x0c fields c) g.1
     (record {
       opcode_is = refl;
       fields_are = four ∙ take_all 20 fields (omega arith);
       fit = (number_below 0 fields fits, number_below 4 fields fits, number_below 8 fields fits, signed64_fits 12 fields fits);
     })
 
-call_back : (opcode : ℕ) (fields : List ℕ) (call : PlainCall) → IsBytes fields → length fields ≤ 8443 → call_of opcode fields ≡ Some call → Spelled opcode fields call
-unfolding call_of
+call_back : (opcode : ℕ) (fields : List ℕ) (call : PlainKind) → IsBytes fields → length fields ≤ 8443 → kind_of opcode fields ≡ Some call → Spelled opcode fields call
+unfolding kind_of
 call_back opcode fields call fits short e =
     let at : (n : ℕ) → eqb opcode n ≡ true → Spelled n fields call → Spelled opcode fields call = λ n is s. subst (λ (o : ℕ). Spelled o fields call) (sym (eqb-true opcode n is)) s in
-    let last : Option PlainCall = cond (eqb opcode 0x0c) (msgrcv_of fields) None in
-    let later : Option PlainCall = cond (eqb opcode 0x0b) (msgsnd_of fields) last in
-    let next : Option PlainCall = cond (eqb opcode 0x0a) (msgget_of fields) later in
+    let last : Option PlainKind = cond (eqb opcode 0x0c) (msgrcv_of fields) None in
+    let later : Option PlainKind = cond (eqb opcode 0x0b) (msgsnd_of fields) last in
+    let next : Option PlainKind = cond (eqb opcode 0x0a) (msgget_of fields) later in
     elim (chosen (eqb opcode 0x01) (hello_of fields) next (Some call) e) [
       | inl p ↦ at 0x01 p.0 (hello_back fields call fits p.1)
       | inr p ↦ elim (chosen (eqb opcode 0x0a) (msgget_of fields) later (Some call) p.1) [
@@ -191,37 +192,37 @@ call_back opcode fields call fits short e =
 
 -- ---- frames
 
-request_found : (call : Option PlainCall) (size serial used : ℕ) (request : PlainRequest) → request_or_fault size serial call ≡ Whole used request
-    → (call ≡ Some request.call) × (size ≡ used) × (serial ≡ request.serial)
+request_found : (call : Option PlainKind) (size serial used : ℕ) (request : PlainRequest) → request_or_fault size serial call ≡ Whole used request
+    → (call ≡ Some request.kind) × (size ≡ used) × (serial ≡ request.serial)
 request_found None size serial used request e = absurd cc
 request_found (Some call) size serial used request e =
-    let parts : (size ≡ used) × (record { serial = serial; call = call } ≡ request) = (cc, cc) in
-    (ap (λ (r : PlainRequest). Some r.call) parts.1, parts.0, ap (λ (r : PlainRequest). r.serial) parts.1)
+    let parts : (size ≡ used) × (record { serial = serial; kind = call } ≡ request) = (cc, cc) in
+    (ap (λ (r : PlainRequest). Some r.kind) parts.1, parts.0, ap (λ (r : PlainRequest). r.serial) parts.1)
 
 record Read (text : List ℕ) (used : ℕ) (request : PlainRequest) : Type 0 where
   used_is : 4 + length text ≡ used
-  text_is : text ≡ text_of request.serial (opcode_of request.call) (fields_of request.call)
+  text_is : text ≡ text_of request.serial (opcode_of request.kind) (fields_of request.kind)
   has : HasFrame request
 
 text_back : (text : List ℕ) (used : ℕ) (request : PlainRequest) → IsBytes text → 5 ≤ length text → length text ≤ 8448 → frame_of text ≡ Whole used request → Read text used request
 unfolding frame_of
 text_back text used request fits least most e =
-    let call : Option PlainCall = call_of (slice_index text 4) (drop 5 text) in
+    let call : Option PlainKind = kind_of (slice_index text 4) (drop 5 text) in
     elim (chosen (eqb (u32_at 0 text) 0) (Fault 0) (request_or_fault (4 + length text) (u32_at 0 text) call) (Whole used request) e) [
       | inl p ↦ absurd (let fault = p.1 in cc)
       | inr p ↦
           let found = request_found call (4 + length text) (u32_at 0 text) used request p.1 in
-          let spelled = call_back (slice_index text 4) (drop 5 text) request.call (drop_bytes 5 text fits) (omega (arith, length-drop 5 text)) found.0 in
+          let spelled = call_back (slice_index text 4) (drop 5 text) request.kind (drop_bytes 5 text fits) (omega (arith, length-drop 5 text)) found.0 in
           let nonzero : u32_at 0 text ≡ 0 → ⊥ = eqb-false _ _ p.0 in
           let below = number_below 0 text fits in
           let serial : to_be_bytes w32 request.serial ≡ take 4 text = ap (to_be_bytes w32) (sym found.2) ∙ number_back 0 text fits (omega arith) in
-          let fields : opcode_of request.call ∷ fields_of request.call ≡ drop 4 text =
-          ap (λ (n : ℕ). n ∷ fields_of request.call) spelled.opcode_is ∙ ap (λ (x : List ℕ). slice_index text 4 ∷ x) spelled.fields_are ∙ sym (drop_more text 4 0 (omega arith)) in
+          let fields : opcode_of request.kind ∷ fields_of request.kind ≡ drop 4 text =
+          ap (λ (n : ℕ). n ∷ fields_of request.kind) spelled.opcode_is ∙ ap (λ (x : List ℕ). slice_index text 4 ∷ x) spelled.fields_are ∙ sym (drop_more text 4 0 (omega arith)) in
           let least_serial : 1 ≤ request.serial = omega (arith, found.2, nonzero) in
           let most_serial : request.serial < 2 ^ 32 = omega (arith, found.2) in
           record {
             used_is = found.1;
-            text_is = sym (take-append-drop 4 text) ∙ sym (side (to_be_bytes w32 request.serial) (take 4 text) (opcode_of request.call ∷ fields_of request.call) (drop 4 text) serial fields);
+            text_is = sym (take-append-drop 4 text) ∙ sym (side (to_be_bytes w32 request.serial) (take 4 text) (opcode_of request.kind ∷ fields_of request.kind) (drop 4 text) serial fields);
             has = record { serial = (least_serial, most_serial); fields = spelled.fit };
           }
     ]
@@ -244,12 +245,12 @@ request_back bytes used request fits e =
                   let enough : 4 + size ≤ length bytes = ltb-false _ _ q.0 in
                   let len : length text ≡ size = length_part 4 size bytes enough in
                   let read = text_back text used request (part_bytes 4 size bytes fits) (omega (arith, range)) (omega (arith, range)) q.1 in
-                  let spelled : List ℕ = text_of request.serial (opcode_of request.call) (fields_of request.call) in
-                  let count : 5 + length (fields_of request.call) ≡ size = omega (arith, len, ap length read.text_is) in
+                  let spelled : List ℕ = text_of request.serial (opcode_of request.kind) (fields_of request.kind) in
+                  let count : 5 + length (fields_of request.kind) ≡ size = omega (arith, len, ap length read.text_is) in
                   let used_is : used ≡ 4 + size = omega (arith, read.used_is, len) in
-                  let header : to_be_bytes w32 (5 + length (fields_of request.call)) ≡ take 4 bytes = ap (to_be_bytes w32) count ∙ number_back 0 bytes fits long in
-                  let all : to_be_bytes w32 (5 + length (fields_of request.call)) ++ spelled ≡ take (4 + size) bytes =
-                  behind 4 size bytes (to_be_bytes w32 (5 + length (fields_of request.call))) spelled header (sym read.text_is) in
+                  let header : to_be_bytes w32 (5 + length (fields_of request.kind)) ≡ take 4 bytes = ap (to_be_bytes w32) count ∙ number_back 0 bytes fits long in
+                  let all : to_be_bytes w32 (5 + length (fields_of request.kind)) ++ spelled ≡ take (4 + size) bytes =
+                  behind 4 size bytes (to_be_bytes w32 (5 + length (fields_of request.kind))) spelled header (sym read.text_is) in
                   (ap (λ (n : ℕ). take n bytes) used_is ∙ sym all, read.has)
             ]
           ]

@@ -5,9 +5,10 @@ use Rattle.std.proofs.lemmas.Bool.{le-ltb, le-leb, cond-false, ne_eqb}
 use Rattle.std.proofs.lemmas.List.{length-append, take_at}
 use Rattle.std.proofs.lemmas.Nat.{from_be_bytes-to_be_bytes_4, from_be_bytes-to_be_bytes_8}
 use Rattle.ipc_base.specs.Fields.{signed, signed_bytes}
-use Rattle.ipc_wire.specs.Request.{PlainCall, PlainRequest}
-use Rattle.ipc_wire.specs.Request.PlainCall.{Hello, Msgget, Msgsnd, Msgrcv}
-use Rattle.ipc_wire.specs.Stream.{part, u32_at, i32_at, i64_at, hello_of, msgget_of, msgsnd_of, msgrcv_of, call_of, frame_of, first}
+use Rattle.ipc_wire.specs.Request.{PlainKind, PlainRequest}
+use Rattle.ipc_wire.specs.Request.PlainCall.{Msgget, Msgsnd, Msgrcv}
+use Rattle.ipc_wire.specs.Request.PlainKind.{Hello, Calls}
+use Rattle.ipc_wire.specs.Stream.{part, u32_at, i32_at, i64_at, hello_of, msgget_of, msgsnd_of, msgrcv_of, kind_of, frame_of, first}
 use Rattle.ipc_wire.specs.Stream.PlainFrame.{Whole}
 use Rattle.ipc_wire.specs.Spelling.{opcode_of, fields_of, frame, FieldsFit, HasFrame}
 use Rattle.ipc_wire.proofs.Frames.{first_long, is_out_of_range, sized}
@@ -26,30 +27,30 @@ again32 z fits = ap (cast_signed w32) (from_be_bytes-to_be_bytes_4 (cast_unsigne
 again64 : (z : ℤ) → FitsSigned w64 z → signed w64 (signed_bytes w64 z) ≡ z
 again64 z fits = ap (cast_signed w64) (from_be_bytes-to_be_bytes_8 (cast_unsigned w64 z) (bits64 z fits)) ∙ to_z-of_z fits
 
-call_again : (call : PlainCall) → FieldsFit call → call_of (opcode_of call) (fields_of call) ≡ Some call
-unfolding call_of hello_of msgget_of msgsnd_of msgrcv_of u32_at i32_at i64_at
+call_again : (call : PlainKind) → FieldsFit call → kind_of (opcode_of call) (fields_of call) ≡ Some call
+unfolding kind_of hello_of msgget_of msgsnd_of msgrcv_of u32_at i32_at i64_at
 call_again (Hello cred) fits =
     rw (from_be_bytes-to_be_bytes_4 cred.uid fits.0, from_be_bytes-to_be_bytes_4 cred.gid fits.1) refl
-call_again (Msgget key flags) fits =
+call_again (Calls (Msgget key flags)) fits =
     rw (again32 key fits.0, from_be_bytes-to_be_bytes_4 flags fits.1) refl
-call_again (Msgsnd id flags mtype text) fits =
-    let long : leb 16 (length (fields_of (Msgsnd id flags mtype text))) ≡ true = le-leb _ _ (omega arith) in
+call_again (Calls (Msgsnd id flags mtype text)) fits =
+    let long : leb 16 (length (fields_of (Calls (Msgsnd id flags mtype text)))) ≡ true = le-leb _ _ (omega arith) in
     rw (long, from_be_bytes-to_be_bytes_4 id fits.0, from_be_bytes-to_be_bytes_4 flags fits.1, again64 mtype fits.2) refl
-call_again (Msgrcv id flags size mtype) fits =
+call_again (Calls (Msgrcv id flags size mtype)) fits =
     rw (from_be_bytes-to_be_bytes_4 id fits.0, from_be_bytes-to_be_bytes_4 flags fits.1, from_be_bytes-to_be_bytes_4 size fits.2, again64 mtype fits.3) refl
 
-fields_short : (call : PlainCall) → FieldsFit call → length (fields_of call) ≤ 8443
+fields_short : (call : PlainKind) → FieldsFit call → length (fields_of call) ≤ 8443
 fields_short (Hello cred) fits = omega arith
-fields_short (Msgget key flags) fits = omega arith
-fields_short (Msgsnd id flags mtype text) fits = omega (arith, fits.3)
-fields_short (Msgrcv id flags size mtype) fits = omega arith
+fields_short (Calls (Msgget key flags)) fits = omega arith
+fields_short (Calls (Msgsnd id flags mtype text)) fits = omega (arith, fits.3)
+fields_short (Calls (Msgrcv id flags size mtype)) fits = omega arith
 
 -- what stands behind the length
 abbrev pub text_of : ℕ → ℕ → List ℕ → List ℕ
 text_of serial opcode fields = to_be_bytes w32 serial ++ opcode ∷ fields
 
-text_again : (serial opcode : ℕ) (fields : List ℕ) (call : PlainCall) → 1 ≤ serial → serial < 2 ^ 32 → call_of opcode fields ≡ Some call
-    → frame_of (text_of serial opcode fields) ≡ Whole (9 + length fields) (record { serial = serial; call = call })
+text_again : (serial opcode : ℕ) (fields : List ℕ) (call : PlainKind) → 1 ≤ serial → serial < 2 ^ 32 → kind_of opcode fields ≡ Some call
+    → frame_of (text_of serial opcode fields) ≡ Whole (9 + length fields) (record { serial = serial; kind = call })
 unfolding frame_of u32_at
 text_again serial opcode fields call least most read =
     let named : from_be_bytes w32 (to_be_bytes w32 serial) ≡ serial = from_be_bytes-to_be_bytes_4 serial most in
@@ -79,11 +80,11 @@ framed_again text rest size len least most =
 pub request_again : (request : PlainRequest) (rest : List ℕ) → HasFrame request → first (frame request ++ rest) ≡ Whole (length (frame request)) request
 unfolding frame
 request_again request rest has =
-    let fields : List ℕ = fields_of request.call in
-    let short : length fields ≤ 8443 = fields_short request.call has.fields in
-    let text : List ℕ = text_of request.serial (opcode_of request.call) fields in
+    let fields : List ℕ = fields_of request.kind in
+    let short : length fields ≤ 8443 = fields_short request.kind has.fields in
+    let text : List ℕ = text_of request.serial (opcode_of request.kind) fields in
     let size : length text ≡ 5 + length fields = omega arith in
     let total : length (frame request) ≡ 9 + length fields = omega arith in
     framed_again text rest (5 + length fields) size (omega arith) (omega arith)
-    ∙ text_again request.serial (opcode_of request.call) fields request.call has.serial.0 has.serial.1 (call_again request.call has.fields)
+    ∙ text_again request.serial (opcode_of request.kind) fields request.kind has.serial.0 has.serial.1 (call_again request.kind has.fields)
     ∙ ap (λ (n : ℕ). Whole n request) (sym total)

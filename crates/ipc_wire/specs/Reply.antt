@@ -1,28 +1,32 @@
 -- Replies as plain values, and the bytes of one: the length of what follows (four bytes), the serial (four),
 -- the error number (two, 0 for success) and the body.
 use Rattle.std.specs.Prelude.{ℕ, ℤ, ◌+◌, List, [], ◌++◌, length, Option, Some, None}
+use Rattle.std.specs.Borrow.{Bor}
 use Rattle.std.specs.Int.{w16, w32, w64, to_be_bytes}
 use Rattle.ipc_base.specs.declared.errno.Errno.{Errno}
 use Rattle.ipc_base.specs.Errno.{number_of}
 use Rattle.ipc_base.specs.Fields.{signed_bytes}
 use Rattle.ipc_wire.specs.declared.reply.Body.{Body}
-use Rattle.ipc_wire.specs.declared.reply.Body.TheVariants as bodies
+use Rattle.ipc_wire.specs.declared.reply.Body.TheVariants.{Empty, Number, Message}
 use Rattle.ipc_wire.specs.declared.reply.Reply.{Reply}
 
-pub data PlainBody : Type 0 where
-  Empty : PlainBody
-  Number : (number : ℕ) → PlainBody
-  Message : (mtype : ℤ) → (text : List ℕ) → PlainBody
+-- a body whose text is a list of bytes
+abbrev pub PlainBody : Type 0
+PlainBody = Body (List ℕ)
 
 pub record PlainReply : Type 0 where
   pub serial : ℕ
   pub errno : Option Errno
   pub body : PlainBody
 
-abbrev pub plain_body : Body → PlainBody
-plain_body bodies.Empty = Empty
-plain_body (bodies.Number number) = Number number
-plain_body (bodies.Message mtype text) = Message mtype text.now
+-- a body, where the bytes of its text are given
+abbrev pub body_of : {T : Type 0} → (T → List ℕ) → Body T → PlainBody
+body_of bytes Empty = Empty
+body_of bytes (Number number) = Number number
+body_of bytes (Message mtype text) = Message mtype (bytes text)
+
+abbrev pub plain_body : Body (Bor (List ℕ)) → PlainBody
+plain_body body = body_of (λ text. text.now) body
 
 abbrev pub plain_reply : Reply → PlainReply
 plain_reply r = record { serial = r.serial; errno = r.errno; body = plain_body r.body }

@@ -4,22 +4,31 @@ use Rattle.ipc_base.specs.declared.identity.Cred.{Cred}
 use Rattle.ipc_wire.specs.declared.request.Call.{Call}
 use Rattle.ipc_wire.specs.declared.request.Call.TheVariants as calls
 use Rattle.ipc_wire.specs.declared.request.Request.{Request}
+use Rattle.ipc_wire.specs.declared.request.RequestKind.{RequestKind}
+use Rattle.ipc_wire.specs.declared.request.RequestKind.TheVariants as kinds
 
 pub data PlainCall : Type 0 where
-  Hello : (cred : Cred) → PlainCall
   Msgget : (key : ℤ) → (flags : ℕ) → PlainCall
   Msgsnd : (id flags : ℕ) → (mtype : ℤ) → (text : List ℕ) → PlainCall
   Msgrcv : (id flags size : ℕ) → (mtype : ℤ) → PlainCall
 
+-- HELLO, or a call of the process
+pub data PlainKind : Type 0 where
+  Hello : (cred : Cred) → PlainKind
+  Calls : (call : PlainCall) → PlainKind
+
 pub record PlainRequest : Type 0 where
   pub serial : ℕ
-  pub call : PlainCall
+  pub kind : PlainKind
 
 abbrev pub plain_call : Call → PlainCall
-plain_call (calls.Hello cred) = Hello cred
 plain_call (calls.Msgget key flags) = Msgget key flags.0
 plain_call (calls.Msgsnd id flags mtype text) = Msgsnd id.0 flags.0 mtype text.now
 plain_call (calls.Msgrcv id flags size mtype) = Msgrcv id.0 flags.0 size mtype
 
+abbrev pub plain_kind : RequestKind → PlainKind
+plain_kind (kinds.Hello cred) = Hello cred
+plain_kind (kinds.Call call) = Calls (plain_call call)
+
 abbrev pub plain_request : Request → PlainRequest
-plain_request r = record { serial = r.serial; call = plain_call r.call }
+plain_request r = record { serial = r.serial; kind = plain_kind r.kind }

@@ -1,13 +1,14 @@
 -- The requests of a stream of bytes. A frame is the length of what follows (four bytes, from 5 to 8448), a
 -- serial of four bytes that is not 0, an opcode of one byte, and the fields of the call with that opcode.
 -- Numbers have their most significant byte first; signed ones are in two's complement.
-use Rattle.std.specs.Prelude.{◌≤◌, ◌+◌, ℕ, zero, suc, ℤ, List, [], ◌∷◌, ◌++◌, length, take, drop, slice_index, nat_lt, nat_le, ◌==◌, ◌||◌, if◌then◌else◌, Option, Some, None}
+use Rattle.std.specs.Prelude.{◌≤◌, ◌+◌, ◌-◌, ℕ, zero, suc, ℤ, List, [], ◌∷◌, ◌++◌, length, take, drop, slice_index, nat_lt, nat_le, ◌==◌, ◌||◌, if◌then◌else◌, Option, Some, None}
 use Rattle.std.specs.Int.{w32, w64, from_be_bytes}
 use Rattle.ipc_base.specs.Fields.{signed}
 use Rattle.ipc_wire.specs.declared.request.Frame.{Frame}
 use Rattle.ipc_wire.specs.declared.request.Frame.TheVariants as frames
-use Rattle.ipc_wire.specs.Request.{PlainCall, PlainRequest, plain_request}
-use Rattle.ipc_wire.specs.Request.PlainCall.{Hello, Msgget, Msgsnd, Msgrcv}
+use Rattle.ipc_wire.specs.Request.{PlainCall, PlainKind, PlainRequest, plain_request}
+use Rattle.ipc_wire.specs.Request.PlainCall.{Msgget, Msgsnd, Msgrcv}
+use Rattle.ipc_wire.specs.Request.PlainKind.{Hello, Calls}
 
 -- What stands at the front of a stream: no whole frame yet, a request and how many bytes its frame takes, or
 -- a fault, with the serial of the frame or 0.
@@ -38,24 +39,24 @@ unfoldable pub i64_at : ℕ → List ℕ → ℤ
 i64_at at bytes = signed w64 (part at 8 bytes)
 
 -- uid, gid
-unfoldable pub hello_of : List ℕ → Option PlainCall
+unfoldable pub hello_of : List ℕ → Option PlainKind
 hello_of fields = if length fields == 8 then Some (Hello (record { uid = u32_at 0 fields; gid = u32_at 4 fields })) else None
 
 -- key, flags
-unfoldable pub msgget_of : List ℕ → Option PlainCall
-msgget_of fields = if length fields == 8 then Some (Msgget (i32_at 0 fields) (u32_at 4 fields)) else None
+unfoldable pub msgget_of : List ℕ → Option PlainKind
+msgget_of fields = if length fields == 8 then Some (Calls (Msgget (i32_at 0 fields) (u32_at 4 fields))) else None
 
 -- id, flags, type, and the rest is the text
-unfoldable pub msgsnd_of : List ℕ → Option PlainCall
-msgsnd_of fields = if nat_le 16 (length fields) then Some (Msgsnd (u32_at 0 fields) (u32_at 4 fields) (i64_at 8 fields) (drop 16 fields)) else None
+unfoldable pub msgsnd_of : List ℕ → Option PlainKind
+msgsnd_of fields = if nat_le 16 (length fields) then Some (Calls (Msgsnd (u32_at 0 fields) (u32_at 4 fields) (i64_at 8 fields) (drop 16 fields))) else None
 
 -- id, flags, size, type
-unfoldable pub msgrcv_of : List ℕ → Option PlainCall
-msgrcv_of fields = if length fields == 20 then Some (Msgrcv (u32_at 0 fields) (u32_at 4 fields) (u32_at 8 fields) (i64_at 12 fields)) else None
+unfoldable pub msgrcv_of : List ℕ → Option PlainKind
+msgrcv_of fields = if length fields == 20 then Some (Calls (Msgrcv (u32_at 0 fields) (u32_at 4 fields) (u32_at 8 fields) (i64_at 12 fields))) else None
 
--- The call of an opcode, or None where no call has it or the fields have another size.
-unfoldable pub call_of : ℕ → List ℕ → Option PlainCall
-call_of opcode fields =
+-- What a request with this opcode asks, or None where none has it or the fields have another size.
+unfoldable pub kind_of : ℕ → List ℕ → Option PlainKind
+kind_of opcode fields =
     if opcode == 0x01 then hello_of fields
     else if opcode == 0x0a then msgget_of fields
     else if opcode == 0x0b then msgsnd_of fields
@@ -64,15 +65,15 @@ call_of opcode fields =
 
 -- ---- frames
 
-abbrev pub request_or_fault : ℕ → ℕ → Option PlainCall → PlainFrame
+abbrev pub request_or_fault : ℕ → ℕ → Option PlainKind → PlainFrame
 request_or_fault used serial None = Fault serial
-request_or_fault used serial (Some call) = Whole used (record { serial = serial; call = call })
+request_or_fault used serial (Some kind) = Whole used (record { serial = serial; kind = kind })
 
 -- the frame of which these bytes stand behind the length
 unfoldable pub frame_of : List ℕ → PlainFrame
 frame_of text =
     if u32_at 0 text == 0 then Fault 0
-    else request_or_fault (4 + length text) (u32_at 0 text) (call_of (slice_index text 4) (drop 5 text))
+    else request_or_fault (4 + length text) (u32_at 0 text) (kind_of (slice_index text 4) (drop 5 text))
 
 -- the first frame of a stream
 unfoldable pub first : List ℕ → PlainFrame
@@ -82,6 +83,11 @@ first bytes =
     else if nat_lt size 5 || nat_lt 8448 size then Fault 0
     else if nat_lt (length bytes) (4 + size) then More
     else frame_of (part 4 size bytes)
+
+-- How many bytes are missing, at least, of a frame that is not whole: those of its length, and then those that the
+-- length counts.
+unfoldable pub missing : List ℕ → ℕ
+missing bytes = if nat_lt (length bytes) 4 then 4 - length bytes else 4 + u32_at 0 bytes - length bytes
 
 -- a request takes at least nine bytes, and no more than there are
 abbrev pub TakesBytes : PlainFrame → ℕ → Type 0

@@ -1,13 +1,13 @@
 //! Laws of the frames, for crates that read or write streams of them: functions that do nothing, and whose
 //! contracts are the laws.
 
-ghost use Rattle.std.specs.Prelude.{◌≡◌, ◌<◌, ◌+◌, ℕ, List, [], ◌∷◌, ◌++◌, length, take, drop, All};
+ghost use Rattle.std.specs.Prelude.{◌≡◌, ◌<◌, ◌≤◌, ◌+◌, ℕ, List, ◌++◌, length, take, drop, All};
 ghost use Rattle.ipc_wire.specs.Request.{PlainRequest};
-ghost use Rattle.ipc_wire.specs.Stream.{first, TakesBytes, stream_of, begins_with, continued};
+ghost use Rattle.ipc_wire.specs.Stream.{first, missing, TakesBytes, stream_of, begins_with, continued};
 ghost use Rattle.ipc_wire.specs.Stream.PlainFrame.{More, Whole, Fault};
 ghost use Rattle.ipc_wire.specs.Spelling.{frame, HasFrame};
 
-/// What is found in a part of a stream is found in the stream, however it goes on.
+/// A request or fault that stands at the front of a beginning of a stream stands at the front of the stream.
 pub fn found_frame_stays()
     ensures whole { (bytes more : List ℕ) (used : ℕ) (request : PlainRequest) →
         first bytes ≡ Whole used request → first (bytes ++ more) ≡ Whole used request }
@@ -15,13 +15,15 @@ pub fn found_frame_stays()
         first bytes ≡ Fault serial → first (bytes ++ more) ≡ Fault serial }
 {}
 
-/// How many bytes are looked at: a request takes from nine of them to all, and a frame that is not whole yet
-/// has fewer than the longest one.
+/// How many bytes are looked at: a request takes from nine of them to all; a frame that is not whole has fewer
+/// than the longest one, misses a byte at least, and becomes whole exactly with its last byte.
 pub fn frame_is_bounded()
     ensures whole { (bytes : List ℕ) → TakesBytes (first bytes) (length bytes) }
     ensures waiting { (bytes : List ℕ) → first bytes ≡ More → length bytes < 8452 }
-    ensures last { (bytes : List ℕ) (byte used : ℕ) (request : PlainRequest) → first bytes ≡ More
-        → first (bytes ++ byte ∷ []) ≡ Whole used request → used ≡ length bytes + 1 }
+    ensures missing { (bytes : List ℕ) → first bytes ≡ More → (0 < missing bytes) × (length bytes + missing bytes ≤ 8452) }
+    ensures last { (bytes more : List ℕ) (used : ℕ) (request : PlainRequest)
+        → first bytes ≡ More → length more ≤ missing bytes
+        → first (bytes ++ more) ≡ Whole used request → used ≡ length (bytes ++ more) }
 {}
 
 /// A stream is its first frame and the stream behind it.

@@ -12,10 +12,11 @@ pub use laws::{
     stream_begins, stream_in_pieces,
 };
 pub use reading::{
-    GREATEST_FRAME, GREATEST_LENGTH, HELLO, LEAST_LENGTH, MSGGET, MSGRCV, MSGSND, read_frame,
+    GREATEST_FRAME, GREATEST_LENGTH, HELLO, LEAST_LENGTH, MSGGET, MSGRCV, MSGSND, bytes_missing,
+    read_frame,
 };
 pub use reply::{Body, Reply};
-pub use request::{Call, Frame, Request};
+pub use request::{Call, Frame, Request, RequestKind};
 pub use writing::{reply_len, write_reply};
 
 #[cfg(test)]

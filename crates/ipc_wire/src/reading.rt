@@ -1,11 +1,11 @@
 //! Requests read from the front of a stream.
 
-ghost use Rattle.std.specs.Prelude.{◌≡◌, ◌<◌, ◌≤◌, length, option_map};
-ghost use Rattle.ipc_wire.specs.Request.{plain_call};
-ghost use Rattle.ipc_wire.specs.Stream.{plain_frame, TakesBytes, first, frame_of, call_of, hello_of, msgget_of, msgsnd_of, msgrcv_of};
+ghost use Rattle.std.specs.Prelude.{◌≡◌, ◌<◌, ◌≤◌, ◌+◌, length, option_map};
+ghost use Rattle.ipc_wire.specs.Request.{plain_kind};
+ghost use Rattle.ipc_wire.specs.Stream.{plain_frame, TakesBytes, first, missing, frame_of, kind_of, hello_of, msgget_of, msgsnd_of, msgrcv_of};
 ghost use Rattle.ipc_wire.specs.Stream.PlainFrame.{More};
 
-use crate::request::{Call, Frame, Request};
+use crate::request::{Call, Frame, Request, RequestKind};
 use ipc_base::{Cred, Cursor, GetFlags, Id, MsgFlags};
 
 /// The least length of a request, in bytes behind the length itself: a serial and an opcode.
@@ -17,7 +17,7 @@ pub const GREATEST_LENGTH: u32 = 8448;
 /// The bytes of the longest whole frame, its length with it.
 pub const GREATEST_FRAME: usize = 4 + GREATEST_LENGTH as usize;
 
-/// The opcode of `Call::Hello`.
+/// The opcode of HELLO.
 pub const HELLO: u8 = 0x01;
 
 /// The opcode of msgget(2).
@@ -49,6 +49,22 @@ pub fn read_frame(bytes: &[u8]) -> Frame<'_>
     }
 }
 
+/// How many bytes are missing, at least, of the frame that these bytes begin: no frame is whole, and no fault is
+/// seen, before as many have come.
+#[tactic(auto, unfolding(crate::specs::Stream::missing, crate::specs::Stream::u32_at))]
+pub fn bytes_missing(bytes: &[u8]) -> usize
+    requires { first bytes.now ≡ More }
+    ensures exact { result ≡ missing bytes.now }
+    ensures some { 0 < result }
+    ensures bounded { length bytes.now + result ≤ 8452 }
+{
+    let mut cursor = Cursor::new(bytes);
+    match cursor.u32() {
+        Some(length) => 4 + length as usize - bytes.len(),
+        None => 4 - bytes.len(),
+    }
+}
+
 /// The frame of which these bytes stand behind the length.
 #[tactic(auto, unfolding(crate::specs::Stream::frame_of, crate::specs::Stream::u32_at))]
 fn whole_frame(text: &[u8]) -> Frame<'_>
@@ -65,19 +81,19 @@ fn whole_frame(text: &[u8]) -> Frame<'_>
     if serial == 0 {
         return Frame::Fault { serial: 0 };
     }
-    match read_call(opcode, cursor.rest()) {
-        Some(call) => Frame::Whole {
+    match read_kind(opcode, cursor.rest()) {
+        Some(kind) => Frame::Whole {
             used: 4 + text.len(),
-            request: Request { serial, call },
+            request: Request { serial, kind },
         },
         None => Frame::Fault { serial },
     }
 }
 
-/// The call that has this opcode, or `None` where none has it or its fields have another size.
-#[tactic(auto, unfolding(crate::specs::Stream::call_of))]
-fn read_call(opcode: u8, fields: &[u8]) -> Option<Call<'_>>
-    ensures { option_map plain_call result ≡ call_of opcode fields.now }
+/// What a request with this opcode asks, or `None` where none has it or its fields have another size.
+#[tactic(auto, unfolding(crate::specs::Stream::kind_of))]
+fn read_kind(opcode: u8, fields: &[u8]) -> Option<RequestKind<'_>>
+    ensures { option_map plain_kind result ≡ kind_of opcode fields.now }
 {
     match opcode {
         HELLO => read_hello(fields),
@@ -89,8 +105,8 @@ fn read_call(opcode: u8, fields: &[u8]) -> Option<Call<'_>>
 }
 
 #[tactic(auto, unfolding(crate::specs::Stream::hello_of, crate::specs::Stream::u32_at, crate::specs::Stream::i32_at, crate::specs::Stream::i64_at))]
-fn read_hello(fields: &[u8]) -> Option<Call<'_>>
-    ensures { option_map plain_call result ≡ hello_of fields.now }
+fn read_hello(fields: &[u8]) -> Option<RequestKind<'_>>
+    ensures { option_map plain_kind result ≡ hello_of fields.now }
 {
     let mut cursor = Cursor::new(fields);
     let uid = cursor.u32()?;
@@ -98,12 +114,12 @@ fn read_hello(fields: &[u8]) -> Option<Call<'_>>
     if !cursor.is_empty() {
         return None;
     }
-    Some(Call::Hello(Cred { uid, gid }))
+    Some(RequestKind::Hello(Cred { uid, gid }))
 }
 
 #[tactic(auto, unfolding(crate::specs::Stream::msgget_of, crate::specs::Stream::u32_at, crate::specs::Stream::i32_at, crate::specs::Stream::i64_at))]
-fn read_msgget(fields: &[u8]) -> Option<Call<'_>>
-    ensures { option_map plain_call result ≡ msgget_of fields.now }
+fn read_msgget(fields: &[u8]) -> Option<RequestKind<'_>>
+    ensures { option_map plain_kind result ≡ msgget_of fields.now }
 {
     let mut cursor = Cursor::new(fields);
     let key = cursor.i32()?;
@@ -111,29 +127,29 @@ fn read_msgget(fields: &[u8]) -> Option<Call<'_>>
     if !cursor.is_empty() {
         return None;
     }
-    Some(Call::Msgget { key, flags })
+    Some(RequestKind::Call(Call::Msgget { key, flags }))
 }
 
 #[tactic(auto, unfolding(crate::specs::Stream::msgsnd_of, crate::specs::Stream::u32_at, crate::specs::Stream::i32_at, crate::specs::Stream::i64_at))]
-fn read_msgsnd(fields: &[u8]) -> Option<Call<'_>>
-    ensures { option_map plain_call result ≡ msgsnd_of fields.now }
+fn read_msgsnd(fields: &[u8]) -> Option<RequestKind<'_>>
+    ensures { option_map plain_kind result ≡ msgsnd_of fields.now }
 {
     let mut cursor = Cursor::new(fields);
     let id = Id(cursor.u32()?);
     let flags = MsgFlags(cursor.u32()?);
     let mtype = cursor.i64()?;
     let text = cursor.rest();
-    Some(Call::Msgsnd {
+    Some(RequestKind::Call(Call::Msgsnd {
         id,
         flags,
         mtype,
         text,
-    })
+    }))
 }
 
 #[tactic(auto, unfolding(crate::specs::Stream::msgrcv_of, crate::specs::Stream::u32_at, crate::specs::Stream::i32_at, crate::specs::Stream::i64_at))]
-fn read_msgrcv(fields: &[u8]) -> Option<Call<'_>>
-    ensures { option_map plain_call result ≡ msgrcv_of fields.now }
+fn read_msgrcv(fields: &[u8]) -> Option<RequestKind<'_>>
+    ensures { option_map plain_kind result ≡ msgrcv_of fields.now }
 {
     let mut cursor = Cursor::new(fields);
     let id = Id(cursor.u32()?);
@@ -143,10 +159,10 @@ fn read_msgrcv(fields: &[u8]) -> Option<Call<'_>>
     if !cursor.is_empty() {
         return None;
     }
-    Some(Call::Msgrcv {
+    Some(RequestKind::Call(Call::Msgrcv {
         id,
         flags,
         size,
         mtype,
-    })
+    }))
 }

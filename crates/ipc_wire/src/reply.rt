@@ -3,20 +3,21 @@
 use ipc_base::Errno;
 
 /// What the server answers to the request with this serial; 0 where no request has one.
-#[derive(Clone, Copy, Debug)]
+#[derive(Debug, Drop)]
 pub struct Reply<'a> {
     pub serial: u32,
     /// `None` for success.
     pub errno: Option<Errno>,
-    pub body: Body<'a>,
+    pub body: Body<&'a [u8]>,
 }
 
-/// What a reply brings besides its error number.
-#[derive(Clone, Copy, Debug)]
-pub enum Body<'a> {
+/// What a reply brings besides its error number; a refusal brings nothing. A text is a `T`: bytes that lie
+/// elsewhere, or a buffer of the body's own.
+#[derive(Debug, Drop)]
+pub enum Body<T> {
     Empty,
-    /// An identifier or another number.
+    /// A pid or an identifier.
     Number(u32),
     /// A message of msgrcv(2): its type and its text.
-    Message { mtype: i64, text: &'a [u8] },
+    Message { mtype: i64, text: T },
 }

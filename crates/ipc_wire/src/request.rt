@@ -5,16 +5,23 @@ use ipc_base::{Cred, GetFlags, Id, MsgFlags};
 /// What a client asks, under a serial by which it knows the reply.
 #[derive(Clone, Copy, Debug)]
 pub struct Request<'a> {
-    /// Not 0. A serial may come again.
+    /// Not 0. The server does not require serials to differ.
     pub serial: u32,
-    pub call: Call<'a>,
+    pub kind: RequestKind<'a>,
 }
 
-/// A call with its fields, as they stand in the frame: of their values none is tested yet.
+/// Who is to answer: the connection itself, or the machine by a call.
+#[derive(Clone, Copy, Debug)]
+pub enum RequestKind<'a> {
+    /// HELLO: the connection becomes a process of this user and group.
+    Hello(Cred),
+    /// A call of the process.
+    Call(Call<'a>),
+}
+
+/// A call with its fields, as they stand in the frame: no value is tested.
 #[derive(Clone, Copy, Debug)]
 pub enum Call<'a> {
-    /// The connection becomes a process of this user and group.
-    Hello(Cred),
     /// msgget(2).
     Msgget {
         key: i32,

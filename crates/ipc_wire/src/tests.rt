@@ -1,6 +1,6 @@
 //! Frames to the byte.
 
-use crate::{Body, Call, Frame, Reply, Request, read_frame, reply_len, write_reply};
+use crate::{Body, Call, Frame, Reply, Request, RequestKind, read_frame, reply_len, write_reply};
 use ipc_base::{Cred, Errno, Id, MsgFlags};
 
 #[test]
@@ -16,7 +16,7 @@ fn hello_is_read(rt: HostRuntime) {
         Some(
             Request {
                 serial: 1,
-                call: Call::Hello(cred),
+                kind: RequestKind::Hello(cred),
             },
         ) => Some(cred),
         _ => None,
@@ -43,12 +43,14 @@ fn msgsnd_is_read(rt: HostRuntime) {
         Some(
             Request {
                 serial: 3,
-                call: Call::Msgsnd {
-                    id: Id(1),
-                    flags,
-                    mtype: 5,
-                    text: b"hi",
-                },
+                kind: RequestKind::Call(
+                    Call::Msgsnd {
+                        id: Id(1),
+                        flags,
+                        mtype: 5,
+                        text: b"hi",
+                    },
+                ),
             },
         ) => Some(flags),
         _ => None,

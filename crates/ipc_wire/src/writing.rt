@@ -16,7 +16,7 @@ pub fn reply_len(reply: &Reply<'_>) -> usize
     10 + body_len(&reply.body)
 }
 
-fn body_len(body: &Body<'_>) -> usize
+fn body_len(body: &Body<&[u8]>) -> usize
     ensures exact { result ≡ length (body_bytes (plain_body body.now)) }
     ensures bound { result + 10 < 2 ^ 64 }
 {
@@ -66,7 +66,7 @@ fn number_of(errno: Option<Errno>) -> u16
 }
 
 /// Puts a body for which there is room.
-fn put_body(put: &mut Put, out: &mut [u8], body: &Body<'_>) -> bool
+fn put_body(put: &mut Put, out: &mut [u8], body: &Body<&[u8]>) -> bool
     requires { put.old + length (body_bytes (plain_body body.now)) ≤ length out.old }
     ensures done { IsTrue result }
     ensures bytes { Puts (body_bytes (plain_body body.now)) put.old put.new out.old out.new true }

@@ -5,7 +5,7 @@ use Rattle.std.proofs.lemmas.Int.{to_z-of_z}
 use Rattle.std.specs.Ordering.{int_eq}
 use Rattle.ipc_engine.specs.declared.state.Key.{Key}
 use Rattle.ipc_engine.specs.View.{key_row}
-use Rattle.ipc_engine.proofs.Tables.{value_at_place, value_nowhere}
+use Rattle.ipc_base.proofs.CallerLemmas.{value_at_place, value_nowhere}
 use Rattle.ipc_engine.proofs.calls.keyed.Goals as goal
 
 pub returns-in_err-place : goal.returns-in_err-place

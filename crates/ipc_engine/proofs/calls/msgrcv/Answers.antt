@@ -3,7 +3,7 @@ use Rattle.std.specs.Prelude.{position, nat_lt, unwrap_or}
 use Rattle.std.specs.Int.{w64, cast_signed as to_z, cast_unsigned as of_z}
 use Rattle.std.proofs.lemmas.Int.{to_z-of_z}
 use Rattle.sysv_msg.specs.Queue.{Queue, PlainMessage, pick, plain, taken}
-use Rattle.ipc_wire.specs.Reply.{Message}
+use Rattle.ipc_wire.specs.declared.reply.Body.TheVariants.{Message}
 use Rattle.ipc_base.specs.declared.errno.Errno.TheVariants.{ENOMSG, E2BIG}
 use Rattle.ipc_engine.specs.State.{State, with_queue, last_number}
 use Rattle.ipc_engine.specs.View.{state_of}

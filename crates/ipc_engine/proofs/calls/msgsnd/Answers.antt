@@ -1,7 +1,7 @@
 use Rattle.std.proofs.Common.{◌≡◌, true, false, Some, None, pos, length, refl, sym, ap, ◌∙◌, rules}
 use Rattle.std.specs.Prelude.{position, nat_lt, int_lt}
 use Rattle.sysv_msg.specs.Queue.{Queue, full, sent}
-use Rattle.ipc_wire.specs.Reply.{Empty}
+use Rattle.ipc_wire.specs.declared.reply.Body.TheVariants.{Empty}
 use Rattle.ipc_base.specs.declared.errno.Errno.TheVariants.{EAGAIN}
 use Rattle.ipc_engine.specs.State.{State, with_queue}
 use Rattle.ipc_engine.specs.View.{state_of}

@@ -6,7 +6,7 @@ use Rattle.ipc_base.specs.declared.identity.Cred.{Cred}
 use Rattle.ipc_engine.specs.State.{State, is_process, last_number}
 use Rattle.ipc_engine.specs.Event.{PlainOutcome}
 use Rattle.ipc_engine.specs.Step.{Step, at_moment}
-use Rattle.ipc_engine.proofs.Rows.{choice, rising-found, is_some-append, is_some-push}
+use Rattle.ipc_base.proofs.CallerLemmas.{choice, rising-found, is_some-append, is_some-push}
 use Rattle.ipc_engine.proofs.laws.connect_adds_one_process.Goals as goal
 
 abbrev with_process : State → Cred → State

@@ -1,6 +1,6 @@
 use Rattle.std.proofs.Common.{ap}
 use Rattle.std.specs.Prelude.{is_some}
-use Rattle.ipc_engine.proofs.Rows.{rising-gone, value_at-without}
+use Rattle.ipc_base.proofs.CallerLemmas.{rising-gone, value_at-without}
 use Rattle.ipc_engine.proofs.laws.exit_removes_one_process.Goals as goal
 
 pub returns-clause-gone : goal.returns-clause-gone

@@ -1,4 +1,4 @@
-use Rattle.ipc_engine.proofs.Rows.{rising-found}
+use Rattle.ipc_base.proofs.CallerLemmas.{rising-found}
 use Rattle.ipc_engine.proofs.laws.pid_is_below_next.Goals as goal
 
 pub returns-clause-least : goal.returns-clause-least

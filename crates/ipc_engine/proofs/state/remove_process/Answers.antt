@@ -2,7 +2,7 @@ use Rattle.std.proofs.Common.{◌≡◌, Some, None, sym, ap, ◌∙◌}
 use Rattle.std.specs.Prelude.{nat_eq, position, map}
 use Rattle.ipc_engine.specs.declared.state.Process.{Process}
 use Rattle.ipc_engine.specs.View.{process_row}
-use Rattle.ipc_engine.proofs.Tables.{remove_at_place, without_nowhere}
+use Rattle.ipc_base.proofs.CallerLemmas.{remove_at_place, without_nowhere}
 use Rattle.ipc_engine.proofs.state.remove_process.Goals as goal
 
 pub returns-in-Some : goal.returns-in-Some

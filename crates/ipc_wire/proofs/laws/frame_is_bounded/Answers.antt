@@ -1,4 +1,4 @@
-use Rattle.ipc_wire.proofs.Frames.{first_takes, waiting_short, whole_last}
+use Rattle.ipc_wire.proofs.Frames.{first_takes, waiting_short, missing_some, whole_last}
 use Rattle.ipc_wire.proofs.laws.frame_is_bounded.Goals as goal
 
 pub returns-clause-whole : goal.returns-clause-whole
@@ -9,3 +9,6 @@ returns-clause-waiting c = waiting_short
 
 pub returns-clause-last : goal.returns-clause-last
 returns-clause-last c = whole_last
+
+pub returns-clause-missing : goal.returns-clause-missing
+returns-clause-missing c = missing_some

@@ -1,34 +1,72 @@
-use Rattle.std.proofs.Common.{map, rules}
+use Rattle.std.proofs.Common.{◌≡◌, ◌<◌, map, vec_capacity, subst, sym, rules}
+use Rattle.ipc_base.specs.declared.limits.Limits.{Limits}
+use Rattle.ipc_base.specs.Limits.{ArePassed}
 use Rattle.ipc_wire.specs.Request.{plain_request}
 use Rattle.ipc_engine.specs.Event.{Connect, Call, Exit}
 use Rattle.ipc_engine.specs.View.{state_of, plain_outcome}
 use Rattle.ipc_engine.proofs.Soundness.{after-sound, after-fits}
 use Rattle.ipc_engine.proofs.engine.Engine.step.Goals as goal
 
-pub invariant_of-self-in-Connect-clause-sound : goal.invariant_of-self-in-Connect-clause-sound
-invariant_of-self-in-Connect-clause-sound c =
-    let old = c.args.self.now.state in
+pub returns-in_ok-reserve-in-Connect-clause-sound : goal.returns-in_ok-reserve-in-Connect-clause-sound
+returns-in_ok-reserve-in-Connect-clause-sound c =
+    let old = c.self.inside.state in
     let new = c.connect-outcome.new.state in
     let event = Connect c.in-Connect.cred c.in-Connect.serial c.in-Connect.moment.0 in
-    after-sound old.limits new.limits (state_of old) (state_of new) event (search rules) (search rules) c.args.self.now.sound
+    after-sound old.limits new.limits (state_of old) (state_of new) event (search rules) (search rules) c.self.invariant.1
 
-pub invariant_of-self-in-Call-clause-sound : goal.invariant_of-self-in-Call-clause-sound
-invariant_of-self-in-Call-clause-sound c =
-    let old = c.args.self.now.state in
-    let new = c.call-outcome.new.state in
+pub invariant_of-self-in-Connect : goal.invariant_of-self-in-Connect
+invariant_of-self-in-Connect c =
+    let old = c.self.inside.state in
+    let new = c.connect-outcome.new.state in
+    let event = Connect c.in-Connect.cred c.in-Connect.serial c.in-Connect.moment.0 in
+    let room : 0 < vec_capacity c.answer.new.outcomes = search rules in
+    let same : new.limits ≡ old.limits = search rules in (
+      room,
+      after-sound old.limits new.limits (state_of old) (state_of new) event same (search rules) c.self.invariant.1,
+      subst (λ (l : Limits). ArePassed l) (sym same) c.self.invariant.2,
+    )
+
+pub returns-in_ok-reserve_kind-in-Call-clause-sound : goal.returns-in_ok-reserve_kind-in-Call-clause-sound
+returns-in_ok-reserve_kind-in-Call-clause-sound c =
+    let old = c.self.inside.state in
+    let new = c.ask-ended.new.state in
     let event = Call c.in-Call.pid.0 (plain_request c.in-Call.request) c.in-Call.moment.0 in
-    after-sound old.limits new.limits (state_of old) (state_of new) event (search rules) (search rules) c.args.self.now.sound
+    after-sound old.limits new.limits (state_of old) (state_of new) event (search rules) (search rules) c.self.invariant.1
 
-pub invariant_of-self-in-Exit-clause-sound : goal.invariant_of-self-in-Exit-clause-sound
-invariant_of-self-in-Exit-clause-sound c =
-    let old = c.args.self.now.state in
+pub invariant_of-self-in-Call : goal.invariant_of-self-in-Call
+invariant_of-self-in-Call c =
+    let old = c.self.inside.state in
+    let new = c.ask-ended.new.state in
+    let event = Call c.in-Call.pid.0 (plain_request c.in-Call.request) c.in-Call.moment.0 in
+    let room : 0 < vec_capacity c.answer-in-Call.new.outcomes = search rules in
+    let same : new.limits ≡ old.limits = search rules in (
+      room,
+      after-sound old.limits new.limits (state_of old) (state_of new) event same (search rules) c.self.invariant.1,
+      subst (λ (l : Limits). ArePassed l) (sym same) c.self.invariant.2,
+    )
+
+pub returns-in_ok-reserve_kind-in-Call-clause-fits : goal.returns-in_ok-reserve_kind-in-Call-clause-fits
+returns-in_ok-reserve_kind-in-Call-clause-fits c =
+    let old = c.self.inside.state in
+    let new = c.ask-ended.new.state in
+    let event = Call c.in-Call.pid.0 (plain_request c.in-Call.request) c.in-Call.moment.0 in
+    after-fits old.limits new.limits (state_of old) (map plain_outcome c.answer-in-Call.new.outcomes.items) event (search rules) (search rules) c.self.invariant.1
+
+pub returns-in-Exit-clause-sound : goal.returns-in-Exit-clause-sound
+returns-in-Exit-clause-sound c =
+    let old = c.self.inside.state in
     let new = record c.begin-in-Exit.new.self { processes = c.remove_process.new.processes } in
     let event = Exit c.in-Exit.pid.0 c.in-Exit.moment.0 in
-    after-sound old.limits new.limits (state_of old) (state_of new) event (search rules) (search rules) c.args.self.now.sound
+    after-sound old.limits new.limits (state_of old) (state_of new) event (search rules) (search rules) c.self.invariant.1
 
-pub returns-in_ok-reserve-in-Call-clause-fits : goal.returns-in_ok-reserve-in-Call-clause-fits
-returns-in_ok-reserve-in-Call-clause-fits c =
-    let old = c.args.self.now.state in
-    let new = c.call-outcome.new.state in
-    let event = Call c.in-Call.pid.0 (plain_request c.in-Call.request) c.in-Call.moment.0 in
-    after-fits old.limits new.limits (state_of old) (map plain_outcome c.answer-in-Call.new.outcomes.items) event (search rules) (search rules) c.args.self.now.sound
+pub invariant_of-self-in-Exit : goal.invariant_of-self-in-Exit
+invariant_of-self-in-Exit c =
+    let old = c.self.inside.state in
+    let new = record c.begin-in-Exit.new.self { processes = c.remove_process.new.processes } in
+    let event = Exit c.in-Exit.pid.0 c.in-Exit.moment.0 in
+    let room : 0 < vec_capacity c.clear-in-Exit.new.self = search rules in
+    let same : new.limits ≡ old.limits = search rules in (
+      room,
+      after-sound old.limits new.limits (state_of old) (state_of new) event same (search rules) c.self.invariant.1,
+      subst (λ (l : Limits). ArePassed l) (sym same) c.self.invariant.2,
+    )

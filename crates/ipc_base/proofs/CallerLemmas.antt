@@ -1,0 +1,504 @@
+-- What the crates above cite of tables, of numbers that rise, and of limits that were checked.
+use Rattle.std.proofs.Common.{◌≡◌, ◌≢◌, ℕ, zero, suc, ◌+◌, ◌<◌, ◌≤◌, Bool, true, false, not, ◌&&◌, leb, cond, List, [], ◌∷◌, ◌++◌, length, map, find, get_or, set, is_some, Option, Some, None, refl, sym, ap, subst, ◌∙◌, arith}
+use Rattle.std.specs.Prelude.{nat_eq, if◌then◌else◌, All, ◌||◌, option_map}
+use Rattle.std.specs.List.{list_any, remove, position, position_or_len, IsDistinct, AllByRecursion}
+use Rattle.std.specs.Cmp.{IsEquivalence}
+use Rattle.std.proofs.lemmas.Bool.{ltb-false, leb-true}
+use Rattle.std.proofs.lemmas.Bool.Decides.{nat_tests}
+use Rattle.std.proofs.lemmas.List.Elements.{All-cons, All-head, All-tail}
+use Rattle.std.proofs.lemmas.List.Quantifiers.{position-Some}
+use Rattle.std.proofs.lemmas.List.Sums.{fails_before_first}
+use Rattle.std.proofs.lemmas.Map.Keys.{IsDistinct-head, IsDistinct-tail, IsDistinct-cons}
+use Rattle.ipc_base.specs.declared.limits.Limits.{Limits}
+use Rattle.ipc_base.specs.Limits.{tests, is_within, ArePassed, longest_body, longest_reply}
+use Rattle.ipc_base.specs.Table.{value_at, with_value, without, keys_of, IsRising}
+
+-- ---- a table kept as a list of entries, each seen as a row of a key and a value
+
+-- an item stands at its own place whatever stands in for a missing one
+get_or_self : {A : Type 0} (xs : List A) (i : ℕ) (d : A) → i < length xs → get_or xs i d ≡ get_or xs i (get_or xs i d)
+get_or_self [] i d within = absurd (omega arith)
+get_or_self (x ∷ xs) zero d within = refl
+get_or_self (x ∷ xs) (suc i) d within = get_or_self xs i d (omega arith)
+
+-- an option that a test left empty
+not_some : (b : Bool) (n : ℕ) → cond b (Some n) None ≡ None → b ≡ false
+not_some true n e = cc
+not_some false n e = refl
+
+module _ {A K X : Type 0} (row : A → K × X) (same : K → K → Bool) (k : K) where
+  abbrev pub is_at : A → Bool
+  is_at a = same (row a).0 k
+
+  first_value : (xs : List A) (i : ℕ) (d : A) → i < length xs → is_at (get_or xs i d) ≡ true
+      → ((j : ℕ) → j < i → is_at (get_or xs j d) ≡ false) → value_at same (map row xs) k ≡ Some (row (get_or xs i d)).1
+  first_value [] i d within here before = absurd (omega arith)
+  first_value (x ∷ xs) zero d within here before = rw here refl
+  first_value (x ∷ xs) (suc i) d within here before =
+      let other : is_at x ≡ false = before 0 (omega arith) in
+      rw other (first_value xs i d (omega arith) here (λ j h. before (suc j) (omega arith)))
+
+  no_value : (xs : List A) → ((j : ℕ) (d : A) → j < length xs → is_at (get_or xs j d) ≡ false) → value_at same (map row xs) k ≡ None
+  no_value [] before = refl
+  no_value (x ∷ xs) before =
+      let other : is_at x ≡ false = before 0 x (omega arith) in
+      rw other (no_value xs (λ j d h. before (suc j) d (omega arith)))
+
+  first_set : (xs : List A) (i : ℕ) (d b : A) → i < length xs → is_at (get_or xs i d) ≡ true
+      → ((j : ℕ) → j < i → is_at (get_or xs j d) ≡ false) → (row b).0 ≡ (row (get_or xs i d)).0
+      → map row (set xs i b) ≡ with_value same (map row xs) k (row b).1
+  first_set [] i d b within here before key = absurd (omega arith)
+  first_set (x ∷ xs) zero d b within here before key = rw here (ap (λ (j : K). (j, (row b).1) ∷ map row xs) key)
+  first_set (x ∷ xs) (suc i) d b within here before key =
+      let other : is_at x ≡ false = before 0 (omega arith) in
+      rw other (ap (λ (ys : List (K × X)). row x ∷ ys) (first_set xs i d b (omega arith) here (λ j h. before (suc j) (omega arith)) key))
+
+  same_set : (xs : List A) (i : ℕ) (d b : A) → i < length xs → row b ≡ row (get_or xs i d) → map row (set xs i b) ≡ map row xs
+  same_set [] i d b within e = absurd (omega arith)
+  same_set (x ∷ xs) zero d b within e = ap (λ (r : K × X). r ∷ map row xs) e
+  same_set (x ∷ xs) (suc i) d b within e = ap (λ (ys : List (K × X)). row x ∷ ys) (same_set xs i d b (omega arith) e)
+
+  first_find : (xs : List A) (i : ℕ) (d : A) → i < length xs → is_at (get_or xs i d) ≡ true
+      → ((j : ℕ) → j < i → is_at (get_or xs j d) ≡ false) → find is_at xs ≡ Some (get_or xs i d)
+  first_find [] i d within here before = absurd (omega arith)
+  first_find (x ∷ xs) zero d within here before = rw here refl
+  first_find (x ∷ xs) (suc i) d within here before =
+      let other : is_at x ≡ false = before 0 (omega arith) in
+      rw other (first_find xs i d (omega arith) here (λ j h. before (suc j) (omega arith)))
+
+  no_find : (xs : List A) → ((j : ℕ) (d : A) → j < length xs → is_at (get_or xs j d) ≡ false) → find is_at xs ≡ None
+  no_find [] before = refl
+  no_find (x ∷ xs) before =
+      let other : is_at x ≡ false = before 0 x (omega arith) in
+      rw other (no_find xs (λ j d h. before (suc j) d (omega arith)))
+
+  first_find_set : (xs : List A) (i : ℕ) (d b : A) → i < length xs → is_at b ≡ true
+      → ((j : ℕ) → j < i → is_at (get_or xs j d) ≡ false) → find is_at (set xs i b) ≡ Some b
+  first_find_set [] i d b within here before = absurd (omega arith)
+  first_find_set (x ∷ xs) zero d b within here before = rw here refl
+  first_find_set (x ∷ xs) (suc i) d b within here before =
+      let other : is_at x ≡ false = before 0 (omega arith) in
+      rw other (first_find_set xs i d b (omega arith) here (λ j h. before (suc j) (omega arith)))
+
+  -- what stands at the place that a search found
+  pub find_at_place : (xs : List A) (i : ℕ) (a : A) → position is_at xs ≡ Some i → a ≡ get_or xs i a → find is_at xs ≡ Some a
+  find_at_place xs i a found is =
+      let first = position-Some is_at xs i a found in
+      first_find xs i a first.0 first.1 first.2 ∙ ap (λ (b : A). Some b) (sym is)
+
+  -- nothing where a search found no place
+  pub find_nowhere : (xs : List A) → position is_at xs ≡ None → find is_at xs ≡ None
+  find_nowhere xs none =
+      let late : length xs ≤ position_or_len is_at xs = ltb-false _ _ (not_some _ _ none) in
+      no_find xs (λ j d h. fails_before_first is_at xs j d (omega arith))
+
+  -- what stands there after a write of an entry of the same key
+  pub find_set_at_place : (xs : List A) (i : ℕ) (a b : A) → position is_at xs ≡ Some i → a ≡ get_or xs i a → (row b).0 ≡ (row a).0
+      → find is_at (set xs i b) ≡ Some b
+  find_set_at_place xs i a b found is key =
+      let first = position-Some is_at xs i a found in
+      first_find_set xs i a b first.0 (ap (λ (j : K). same j k) (key ∙ ap (λ (c : A). (row c).0) is) ∙ first.1) first.2
+
+  -- the value at the place that a search found
+  pub value_at_place : (xs : List A) (i : ℕ) (a : A) → position is_at xs ≡ Some i → a ≡ get_or xs i a
+      → value_at same (map row xs) k ≡ Some (row a).1
+  value_at_place xs i a found is =
+      let first = position-Some is_at xs i a found in
+      first_value xs i a first.0 first.1 first.2 ∙ ap (λ (b : A). Some (row b).1) (sym is)
+
+  -- before value where a search found before place
+  pub value_nowhere : (xs : List A) → position is_at xs ≡ None → value_at same (map row xs) k ≡ None
+  value_nowhere xs none =
+      let late : length xs ≤ position_or_len is_at xs = ltb-false _ _ (not_some _ _ none) in
+      no_value xs (λ j d h. fails_before_first is_at xs j d (omega arith))
+
+  -- another value at the place that a search found
+  pub set_at_place : (xs : List A) (i : ℕ) (a b : A) → position is_at xs ≡ Some i → a ≡ get_or xs i a → (row b).0 ≡ (row a).0
+      → map row (set xs i b) ≡ with_value same (map row xs) k (row b).1
+  set_at_place xs i a b found is key =
+      let first = position-Some is_at xs i a found in
+      first_set xs i a b first.0 first.1 first.2 (key ∙ ap (λ (c : A). (row c).0) is)
+
+  -- the same value at the place that a search found
+  pub set_same_at_place : (xs : List A) (i : ℕ) (a b : A) → position is_at xs ≡ Some i → a ≡ get_or xs i a → row b ≡ row a
+      → map row (set xs i b) ≡ map row xs
+  set_same_at_place xs i a b found is e =
+      let first = position-Some is_at xs i a found in
+      same_set xs i a b first.0 (e ∙ ap row is)
+
+  first_without : (xs : List A) (i : ℕ) (d : A) → i < length xs → is_at (get_or xs i d) ≡ true
+      → ((j : ℕ) → j < i → is_at (get_or xs j d) ≡ false) → map row (remove xs i) ≡ without same (map row xs) k
+  first_without [] i d within here before = absurd (omega arith)
+  first_without (x ∷ xs) zero d within here before = rw here refl
+  first_without (x ∷ xs) (suc i) d within here before =
+      let other : is_at x ≡ false = before 0 (omega arith) in
+      rw other (ap (λ (ys : List (K × X)). row x ∷ ys) (first_without xs i d (omega arith) here (λ j h. before (suc j) (omega arith))))
+
+  no_without : (xs : List A) → ((j : ℕ) (d : A) → j < length xs → is_at (get_or xs j d) ≡ false) → without same (map row xs) k ≡ map row xs
+  no_without [] before = refl
+  no_without (x ∷ xs) before =
+      let other : is_at x ≡ false = before 0 x (omega arith) in
+      rw other (ap (λ (ys : List (K × X)). row x ∷ ys) (no_without xs (λ j d h. before (suc j) d (omega arith))))
+
+  -- the key taken out at the place that a search found
+  pub remove_at_place : (xs : List A) (i : ℕ) (d : A) → position is_at xs ≡ Some i → map row (remove xs i) ≡ without same (map row xs) k
+  remove_at_place xs i d found =
+      let first = position-Some is_at xs i d found in
+      first_without xs i d first.0 first.1 first.2
+
+  -- no key to take out where a search found no place
+  pub without_nowhere : (xs : List A) → position is_at xs ≡ None → without same (map row xs) k ≡ map row xs
+  without_nowhere xs none =
+      let late : length xs ≤ position_or_len is_at xs = ltb-false _ _ (not_some _ _ none) in
+      no_without xs (λ j d h. fails_before_first is_at xs j d (omega arith))
+
+  is_some_found : (xs : List A) (r : Option ℕ) → position is_at xs ≡ r → is_some (value_at same (map row xs) k) ≡ is_some r
+  is_some_found xs None e = ap is_some (value_nowhere xs e)
+  is_some_found [] (Some i) e = cc
+  is_some_found (x ∷ xs) (Some i) e = ap is_some (value_at_place (x ∷ xs) i (get_or (x ∷ xs) i x) e (get_or_self (x ∷ xs) i x (position-Some is_at (x ∷ xs) i x e).0))
+
+  -- whether there is a value is whether a search finds a place
+  pub is_some_value : (xs : List A) → is_some (value_at same (map row xs) k) ≡ is_some (position is_at xs)
+  is_some_value xs = is_some_found xs (position is_at xs) refl
+
+-- ---- entries that come, change or go
+
+-- what holds in both cases of a test holds of the choice
+pub choice : {A : Type 0} (P : A → Type 0) (b : Bool) (x y : A) → (b ≡ true → P x) → (b ≡ false → P y) → P (if b then x else y)
+choice P true x y first second = first refl
+choice P false x y first second = second refl
+
+not_true : (b : Bool) → (b ≡ true → ⊥) → b ≡ false
+not_true true never = absurd (never refl)
+not_true false never = refl
+
+pub rising-weaker : (low : ℕ) (ns : List ℕ) (high further : ℕ) → high ≤ further → IsRising low ns high → IsRising low ns further
+rising-weaker low [] high further le h = omega arith
+rising-weaker low (n ∷ ns) high further le h = (h.0, rising-weaker (n + 1) ns high further le h.1)
+
+pub rising-lower : (least low : ℕ) (ns : List ℕ) (high : ℕ) → least ≤ low → IsRising low ns high → IsRising least ns high
+rising-lower least low [] high le h = omega arith
+rising-lower least low (n ∷ ns) high le h = (omega arith, h.1)
+
+pub rising-push : (low : ℕ) (ns : List ℕ) (high : ℕ) → IsRising low ns high → IsRising low (ns ++ high ∷ []) (high + 1)
+rising-push low [] high h = (h, omega arith)
+rising-push low (n ∷ ns) high h = (h.0, rising-push (n + 1) ns high h.1)
+
+pub rising-bounds : (low : ℕ) (ns : List ℕ) (high : ℕ) → IsRising low ns high → low ≤ high
+rising-bounds low [] high h = h
+rising-bounds low (n ∷ ns) high h = let rest = rising-bounds (n + 1) ns high h.1 in omega arith
+
+module _ {X : Type 0} where
+  pub rising-without : (low : ℕ) (es : List (ℕ × X)) (high k : ℕ) → IsRising low (keys_of es) high → IsRising low (keys_of (without nat_eq es k)) high
+  rising-without low [] high k h = h
+  rising-without low (e ∷ es) high k h =
+      choice (λ (t : List (ℕ × X)). IsRising low (keys_of t) high) (nat_eq e.0 k) es (e ∷ without nat_eq es k)
+      (λ _. rising-lower low (e.0 + 1) (keys_of es) high (omega arith) h.1)
+      (λ _. (h.0, rising-without (e.0 + 1) es high k h.1))
+
+  within_found : (b : Bool) (low high k : ℕ) (e : ℕ × X) (r : Option X) → nat_eq e.0 k ≡ b → low ≤ e.0 → e.0 + 1 ≤ high
+      → (is_some r ≡ true → (e.0 + 1 ≤ k) × (k < high)) → is_some (if b then Some e.1 else r) ≡ true → (low ≤ k) × (k < high)
+  within_found true low high k e r is least most rest h = grind (arith, nat_tests)
+  within_found false low high k e r is least most rest h = let there = rest h in (omega arith, there.1)
+
+  -- a key that has a value lies in the range
+  pub rising-found : (low : ℕ) (es : List (ℕ × X)) (high k : ℕ) → IsRising low (keys_of es) high
+      → is_some (value_at nat_eq es k) ≡ true → (low ≤ k) × (k < high)
+  rising-found low [] high k h there = cc
+  rising-found low (e ∷ es) high k h there =
+      within_found (nat_eq e.0 k) low high k e (value_at nat_eq es k) refl h.0 (rising-bounds (e.0 + 1) (keys_of es) high h.1)
+      (rising-found (e.0 + 1) es high k h.1) there
+
+  -- a key below the range has no value
+  pub rising-missing : (low : ℕ) (es : List (ℕ × X)) (high k : ℕ) → IsRising low (keys_of es) high → k < low
+      → is_some (value_at nat_eq es k) ≡ false
+  rising-missing low es high k h below =
+      not_true _ (λ there. let range = rising-found low es high k h there in omega arith)
+
+  -- a key that was taken out has no value
+  pub rising-gone : (low : ℕ) (es : List (ℕ × X)) (high k : ℕ) → IsRising low (keys_of es) high
+      → is_some (value_at nat_eq (without nat_eq es k) k) ≡ false
+  rising-gone low [] high k h = refl
+  rising-gone low (e ∷ es) high k h =
+      choice (λ (t : List (ℕ × X)). is_some (value_at nat_eq t k) ≡ false) (nat_eq e.0 k) es (e ∷ without nat_eq es k)
+      (λ is. rising-missing (e.0 + 1) es high k h.1 (grind (arith, nat_tests)))
+      (λ is. rw is (rising-gone (e.0 + 1) es high k h.1))
+
+  -- the other keys keep their values
+  pub value_at-without : (es : List (ℕ × X)) (k j : ℕ) → j ≢ k → value_at nat_eq (without nat_eq es k) j ≡ value_at nat_eq es j
+  value_at-without [] k j other = refl
+  value_at-without (e ∷ es) k j other =
+      choice (λ (t : List (ℕ × X)). value_at nat_eq t j ≡ value_at nat_eq (e ∷ es) j) (nat_eq e.0 k) es (e ∷ without nat_eq es k)
+      (λ is. let apart : nat_eq e.0 j ≡ false = grind (arith, nat_tests) in rw apart refl)
+      (λ is. ap (λ (r : Option X). if nat_eq e.0 j then Some e.1 else r) (value_at-without es k j other))
+
+module _ {K X : Type 0} (same : K → K → Bool) where
+  pub length-without : (es : List (K × X)) (k : K) → length (without same es k) ≤ length es
+  length-without [] k = omega arith
+  length-without (e ∷ es) k =
+      let rest = length-without es k in
+      choice (λ (t : List (K × X)). length t ≤ length (e ∷ es)) (same e.0 k) es (e ∷ without same es k) (λ _. omega arith) (λ _. omega arith)
+
+  pub length-with_value : (es : List (K × X)) (k : K) (x : X) → length (with_value same es k x) ≡ length es
+  length-with_value [] k x = refl
+  length-with_value (e ∷ es) k x =
+      choice (λ (t : List (K × X)). length t ≡ length (e ∷ es)) (same e.0 k) ((e.0, x) ∷ es) (e ∷ with_value same es k x)
+      (λ _. refl) (λ _. ap suc (length-with_value es k x))
+
+  pub keys_of-with_value : (es : List (K × X)) (k : K) (x : X) → keys_of (with_value same es k x) ≡ keys_of es
+  keys_of-with_value [] k x = refl
+  keys_of-with_value (e ∷ es) k x =
+      choice (λ (t : List (K × X)). keys_of t ≡ keys_of (e ∷ es)) (same e.0 k) ((e.0, x) ∷ es) (e ∷ with_value same es k x)
+      (λ _. refl) (λ _. ap (λ ks. e.0 ∷ ks) (keys_of-with_value es k x))
+
+  pub All-with_value : (Q : X → Type 0) (es : List (K × X)) (k : K) (x : X) → All (λ (e : K × X). Q e.1) es → Q x
+      → All (λ (e : K × X). Q e.1) (with_value same es k x)
+  All-with_value Q [] k x h q = h
+  All-with_value Q (e ∷ es) k x h q =
+      let P : K × X → Type 0 = λ (e : K × X). Q e.1 in
+      choice (All P) (same e.0 k) ((e.0, x) ∷ es) (e ∷ with_value same es k x)
+      (λ _. All-cons P (e.0, x) es q (All-tail P e es h))
+      (λ _. All-cons P e (with_value same es k x) (All-head P e es h) (All-with_value Q es k x (All-tail P e es h) q))
+
+  found_is : (Q : X → Type 0) (b : Bool) (v x : X) (r : Option X) → (if b then Some v else r) ≡ Some x → Q v → (r ≡ Some x → Q x) → Q x
+  found_is Q true v x r is here rest = let e : v ≡ x = cc in subst Q e here
+  found_is Q false v x r is here rest = rest is
+
+  pub All-value_at : (Q : X → Type 0) (es : List (K × X)) (k : K) (x : X) → All (λ (e : K × X). Q e.1) es → value_at same es k ≡ Some x → Q x
+  All-value_at Q [] k x h is = cc
+  All-value_at Q (e ∷ es) k x h is =
+      let P : K × X → Type 0 = λ (e : K × X). Q e.1 in
+      found_is Q (same e.0 k) e.1 x (value_at same es k) is (All-head P e es h) (All-value_at Q es k x (All-tail P e es h))
+
+  either : (b : Bool) (v w : X) (r : Option X) → is_some (if b then Some v else r) ≡ is_some (if b then Some w else r)
+  either true v w r = refl
+  either false v w r = refl
+
+  -- the same keys have values
+  pub is_some-with_value : (es : List (K × X)) (k j : K) (x : X) → is_some (value_at same (with_value same es k x) j) ≡ is_some (value_at same es j)
+  is_some-with_value [] k j x = refl
+  is_some-with_value (e ∷ es) k j x =
+      choice (λ (t : List (K × X)). is_some (value_at same t j) ≡ is_some (value_at same (e ∷ es) j)) (same e.0 k) ((e.0, x) ∷ es) (e ∷ with_value same es k x)
+      (λ _. either (same e.0 j) x e.1 (value_at same es j))
+      (λ _. elim (same e.0 j) as (λ b. is_some (if b then Some e.1 else value_at same (with_value same es k x) j) ≡ is_some (if b then Some e.1 else value_at same es j))
+      [ true ↦ refl | false ↦ is_some-with_value es k j x ])
+
+  some_kept : (b : Bool) (v : X) (r more : Option X) → is_some (if b then Some v else r) ≡ true → (is_some r ≡ true → is_some more ≡ true)
+      → is_some (if b then Some v else more) ≡ true
+  some_kept true v r more h rest = refl
+  some_kept false v r more h rest = rest h
+
+  -- a key that has a value has one when entries come
+  pub is_some-append : (es more : List (K × X)) (j : K) → is_some (value_at same es j) ≡ true → is_some (value_at same (es ++ more) j) ≡ true
+  is_some-append [] more j h = cc
+  is_some-append (e ∷ es) more j h =
+      some_kept (same e.0 j) e.1 (value_at same es j) (value_at same (es ++ more) j) h (is_some-append es more j)
+
+  module _ (laws : IsEquivalence same) where
+    -- the key that came has a value
+    pub is_some-push : (es : List (K × X)) (k : K) (x : X) → is_some (value_at same (es ++ (k, x) ∷ []) k) ≡ true
+    is_some-push [] k x = rw (laws.refl k) refl
+    is_some-push (e ∷ es) k x =
+        choice (λ (o : Option X). is_some o ≡ true) (same e.0 k) (Some e.1) (value_at same (es ++ (k, x) ∷ []) k) (λ _. refl) (λ _. is_some-push es k x)
+
+    none_among : (b a : Bool) (v : X) (r : Option X) → (if b then Some v else r) ≡ None → (r ≡ None → a ≡ false) → (b || a) ≡ false
+    none_among true a v r is rest = cc
+    none_among false a v r is rest = rest is
+
+    -- a key with no value is none of the keys
+    pub no_key : (es : List (K × X)) (k : K) → value_at same es k ≡ None → list_any (same k) (keys_of es) ≡ false
+    no_key [] k is = refl
+    no_key (e ∷ es) k is =
+        rw (laws.symm k e.0) (none_among (same e.0 k) (list_any (same k) (keys_of es)) e.1 (value_at same es k) is (no_key es k))
+
+-- ---- tables by number
+
+pub same_key : (n : ℕ) → nat_eq n n ≡ true
+same_key n = grind (arith, nat_tests)
+
+pub other_key : (n k : ℕ) → n ≢ k → nat_eq n k ≡ false
+other_key n k apart = grind (arith, nat_tests)
+
+module _ {X : Type 0} where
+  at-with_by : (e : ℕ × X) (es : List (ℕ × X)) (k : ℕ) (x v : X) (b : Bool) → nat_eq e.0 k ≡ b → value_at nat_eq (e ∷ es) k ≡ Some v
+      → (value_at nat_eq es k ≡ Some v → value_at nat_eq (with_value nat_eq es k x) k ≡ Some x) → value_at nat_eq (with_value nat_eq (e ∷ es) k x) k ≡ Some x
+  at-with_by e es k x v true t is rest = rw t (rw t refl)
+  at-with_by e es k x v false t is rest = rw t (rw t (rest (rw t at is)))
+
+  -- a value that was put is there
+  pub at-with : (es : List (ℕ × X)) (k : ℕ) (x v : X) → value_at nat_eq es k ≡ Some v → value_at nat_eq (with_value nat_eq es k x) k ≡ Some x
+  at-with [] k x v is = cc
+  at-with (e ∷ es) k x v is = at-with_by e es k x v (nat_eq e.0 k) refl is (at-with es k x v)
+
+  other-with_by : (e : ℕ × X) (es : List (ℕ × X)) (k j : ℕ) (x : X) (b : Bool) → j ≢ k → nat_eq e.0 k ≡ b
+      → value_at nat_eq (with_value nat_eq es k x) j ≡ value_at nat_eq es j → value_at nat_eq (with_value nat_eq (e ∷ es) k x) j ≡ value_at nat_eq (e ∷ es) j
+  other-with_by e es k j x true apart t rest =
+      let missed : nat_eq e.0 j ≡ false = grind (arith, nat_tests) in
+      rw t (rw missed refl)
+  other-with_by e es k j x false apart t rest = rw t (ap (λ (r : Option X). if nat_eq e.0 j then Some e.1 else r) rest)
+
+  -- the other keys keep their values
+  pub other-with : (es : List (ℕ × X)) (k j : ℕ) (x : X) → j ≢ k → value_at nat_eq (with_value nat_eq es k x) j ≡ value_at nat_eq es j
+  other-with [] k j x apart = refl
+  other-with (e ∷ es) k j x apart = other-with_by e es k j x (nat_eq e.0 k) apart refl (other-with es k j x apart)
+
+  twice_by : (e : ℕ × X) (es : List (ℕ × X)) (k : ℕ) (x y : X) (b : Bool) → nat_eq e.0 k ≡ b
+      → with_value nat_eq (with_value nat_eq es k x) k y ≡ with_value nat_eq es k y
+      → with_value nat_eq (with_value nat_eq (e ∷ es) k x) k y ≡ with_value nat_eq (e ∷ es) k y
+  twice_by e es k x y true t rest = rw t (rw t refl)
+  twice_by e es k x y false t rest = rw t (rw t (ap (λ (ts : List (ℕ × X)). e ∷ ts) rest))
+
+  -- of two values that are put at a key the second stays
+  pub twice : (es : List (ℕ × X)) (k : ℕ) (x y : X) → with_value nat_eq (with_value nat_eq es k x) k y ≡ with_value nat_eq es k y
+  twice [] k x y = refl
+  twice (e ∷ es) k x y = twice_by e es k x y (nat_eq e.0 k) refl (twice es k x y)
+
+  own_by : (e : ℕ × X) (es : List (ℕ × X)) (k : ℕ) (x : X) (b : Bool) → nat_eq e.0 k ≡ b → value_at nat_eq (e ∷ es) k ≡ Some x
+      → (value_at nat_eq es k ≡ Some x → with_value nat_eq es k x ≡ es) → with_value nat_eq (e ∷ es) k x ≡ e ∷ es
+  own_by e es k x true t is rest =
+      let found : Some e.1 ≡ Some x = rw t at is in
+      let same : e.1 ≡ x = cc in
+      rw t (ap (λ (y : X). (e.0, y) ∷ es) (sym same))
+  own_by e es k x false t is rest = rw t (ap (λ (ts : List (ℕ × X)). e ∷ ts) (rest (rw t at is)))
+
+  -- the value that is there changes nothing
+  pub own : (es : List (ℕ × X)) (k : ℕ) (x : X) → value_at nat_eq es k ≡ Some x → with_value nat_eq es k x ≡ es
+  own [] k x is = cc
+  own (e ∷ es) k x is = own_by e es k x (nat_eq e.0 k) refl is (own es k x)
+
+  gone_by : (ks : List ℕ) (es : List (ℕ × X)) (k : ℕ) → ks ≡ keys_of es → AllByRecursion (λ y. nat_eq k y ≡ false) ks → value_at nat_eq es k ≡ None
+  gone_by ks [] k same apart = refl
+  gone_by [] (e ∷ es) k same apart = cc
+  gone_by (n ∷ ks) (e ∷ es) k same apart =
+      let head : n ≡ e.0 = cc in
+      let rest : ks ≡ keys_of es = cc in
+      let missed : nat_eq e.0 k ≡ false = grind (arith, nat_tests, apart.0) in
+      rw missed (gone_by ks es k rest apart.1)
+
+  -- a key that was taken out of distinct ones has no value
+  pub gone : (es : List (ℕ × X)) (k : ℕ) → IsDistinct nat_eq (keys_of es) → value_at nat_eq (without nat_eq es k) k ≡ None
+  gone [] k distinct = refl
+  gone (e ∷ es) k distinct = gone_if (nat_eq e.0 k) refl (gone es k (IsDistinct-tail nat_eq e.0 (keys_of es) distinct))
+    where
+      gone_if : (b : Bool) → nat_eq e.0 k ≡ b → value_at nat_eq (without nat_eq es k) k ≡ None → value_at nat_eq (without nat_eq (e ∷ es) k) k ≡ None
+      gone_if true t rest =
+          let here : e.0 ≡ k = grind (arith, nat_tests) in
+          rw t (gone_by (keys_of es) es k refl (rw here at (IsDistinct-head nat_eq e.0 (keys_of es) distinct)))
+      gone_if false t rest = rw t (rw t rest)
+
+  apart-without : (n : ℕ) (es : List (ℕ × X)) (k : ℕ) → AllByRecursion (λ y. nat_eq n y ≡ false) (keys_of es) → AllByRecursion (λ y. nat_eq n y ≡ false) (keys_of (without nat_eq es k))
+  apart-without n [] k apart = apart
+  apart-without n (e ∷ es) k apart = by_test (nat_eq e.0 k) refl (apart-without n es k apart.1)
+    where
+      by_test : (b : Bool) → nat_eq e.0 k ≡ b → AllByRecursion (λ y. nat_eq n y ≡ false) (keys_of (without nat_eq es k))
+          → AllByRecursion (λ y. nat_eq n y ≡ false) (keys_of (without nat_eq (e ∷ es) k))
+      by_test true t rest = rw t apart.1
+      by_test false t rest = rw t (apart.0, rest)
+
+  -- the keys that are left stay distinct
+  pub distinct-without : (es : List (ℕ × X)) (k : ℕ) → IsDistinct nat_eq (keys_of es) → IsDistinct nat_eq (keys_of (without nat_eq es k))
+  distinct-without [] k distinct = distinct
+  distinct-without (e ∷ es) k distinct = by_test (nat_eq e.0 k) refl (distinct-without es k (IsDistinct-tail nat_eq e.0 (keys_of es) distinct))
+    where
+      by_test : (b : Bool) → nat_eq e.0 k ≡ b → IsDistinct nat_eq (keys_of (without nat_eq es k)) → IsDistinct nat_eq (keys_of (without nat_eq (e ∷ es) k))
+      by_test true t rest = rw t (IsDistinct-tail nat_eq e.0 (keys_of es) distinct)
+      by_test false t rest =
+          rw t (IsDistinct-cons nat_eq e.0 (keys_of (without nat_eq es k)) (apart-without e.0 es k (IsDistinct-head nat_eq e.0 (keys_of es) distinct)) rest)
+
+  -- an entry that came is found where its key was not there, and changes no other
+  pub at-push : (es : List (ℕ × X)) (k : ℕ) (x : X) → value_at nat_eq es k ≡ None → value_at nat_eq (es ++ (k, x) ∷ []) k ≡ Some x
+  at-push [] k x none = rw (same_key k) refl
+  at-push (e ∷ es) k x none = by_test (nat_eq e.0 k) refl (at-push es k x)
+    where
+      by_test : (b : Bool) → nat_eq e.0 k ≡ b → (value_at nat_eq es k ≡ None → value_at nat_eq (es ++ (k, x) ∷ []) k ≡ Some x)
+          → value_at nat_eq ((e ∷ es) ++ (k, x) ∷ []) k ≡ Some x
+      by_test true t rest = let found : Some e.1 ≡ None = rw t at none in cc
+      by_test false t rest = rw t (rest (rw t at none))
+
+  pub other-push : (es : List (ℕ × X)) (k j : ℕ) (x : X) → j ≢ k → value_at nat_eq (es ++ (k, x) ∷ []) j ≡ value_at nat_eq es j
+  other-push [] k j x apart = rw (other_key k j (λ e. apart (sym e))) refl
+  other-push (e ∷ es) k j x apart = ap (λ (r : Option X). if nat_eq e.0 j then Some e.1 else r) (other-push es k j x apart)
+
+module _ {X Y : Type 0} (f : X → Y) where
+  at-map_by : (b : Bool) (v : X) (r : Option X) (s : Option Y) → s ≡ option_map f r → (if b then Some (f v) else s) ≡ option_map f (if b then Some v else r)
+  at-map_by true v r s same = refl
+  at-map_by false v r s same = same
+
+  -- each value changed
+  pub at-map : (es : List (ℕ × X)) (k : ℕ) → value_at nat_eq (map (λ e. (e.0, f e.1)) es) k ≡ option_map f (value_at nat_eq es k)
+  at-map [] k = refl
+  at-map (e ∷ es) k = at-map_by (nat_eq e.0 k) e.1 (value_at nat_eq es k) _ (at-map es k)
+
+  pub keys-map : (es : List (ℕ × X)) → keys_of (map (λ e. (e.0, f e.1)) es) ≡ keys_of es
+  keys-map [] = refl
+  keys-map (e ∷ es) = ap (λ (ks : List ℕ). e.0 ∷ ks) (keys-map es)
+
+module _ {X Y : Type 0} where
+  -- tables with the same keys have values at the same keys
+  pub same_keys : (es : List (ℕ × X)) (ts : List (ℕ × Y)) (k : ℕ) → keys_of es ≡ keys_of ts → is_some (value_at nat_eq es k) ≡ is_some (value_at nat_eq ts k)
+  same_keys [] [] k same = refl
+  same_keys [] (t ∷ ts) k same = cc
+  same_keys (e ∷ es) [] k same = cc
+  same_keys (e ∷ es) (t ∷ ts) k same =
+      let head : e.0 ≡ t.0 = cc in
+      let rest : keys_of es ≡ keys_of ts = cc in
+      by_test (nat_eq t.0 k) (ap (λ (n : ℕ). nat_eq n k) head) (same_keys es ts k rest)
+    where
+      by_test : (b : Bool) → nat_eq e.0 k ≡ b → is_some (value_at nat_eq es k) ≡ is_some (value_at nat_eq ts k)
+          → is_some (value_at nat_eq (e ∷ es) k) ≡ is_some (if b then Some t.1 else value_at nat_eq ts k)
+      by_test true t rest = rw t refl
+      by_test false t rest = rw t rest
+
+-- ---- limits that were checked
+
+both_true : (a b : Bool) → (a && b) ≡ true → (a ≡ true) × (b ≡ true)
+both_true true b h = (refl, h)
+both_true false b h = cc
+
+not_failing : (b : Bool) → not b ≡ false → b ≡ true
+not_failing true e = refl
+not_failing false e = cc
+
+-- each of a list of tests passes where the search for one that fails finds none
+each_passes : (bs : List Bool) → position not bs ≡ None → (j : ℕ) → j < length bs → get_or bs j false ≡ true
+each_passes bs none j within =
+    let late : length bs ≤ position_or_len not bs = ltb-false _ _ (not_some _ _ none) in
+    not_failing _ (fails_before_first not bs j false (omega arith))
+
+within-bounds : (value most : ℕ) → is_within value most ≡ true → (1 ≤ value) × (value ≤ most)
+within-bounds value most h =
+    let both = both_true (leb 1 value) (leb value most) h in
+    (leb-true 1 value both.0, leb-true value most both.1)
+
+-- what is used of limits that were checked
+pub record PassedBounds (l : Limits) : Type 0 where
+  pub processes : (1 ≤ l.processes) × (l.processes ≤ 64)
+  pub msgmax : (1 ≤ l.msgmax) × (l.msgmax ≤ 8192) × (l.msgmax ≤ l.msgmnb)
+  pub msgmnb : (1 ≤ l.msgmnb) × (l.msgmnb ≤ 16384)
+  pub semmsl : l.semmsl ≤ 64
+  pub msgsize : l.msgsize ≤ 8192
+  pub call_bytes : l.call_bytes ≤ 8192
+
+pub passed-bounds : (l : Limits) → ArePassed l → PassedBounds l
+passed-bounds l passed =
+    let all = each_passes (tests l) passed in
+    let size = both_true (is_within l.msgmax 8192) (leb l.msgmax l.msgmnb) (all 2 (omega arith)) in
+    let msgmax = within-bounds l.msgmax 8192 size.0 in
+    let set = both_true (is_within l.semmsl 64) (leb l.semmsl l.semmns) (all 5 (omega arith)) in
+    record {
+      processes = within-bounds _ _ (all 0 (omega arith));
+      msgmax = (msgmax.0, msgmax.1, leb-true _ _ size.1);
+      msgmnb = within-bounds _ _ (all 3 (omega arith));
+      semmsl = (within-bounds _ _ set.0).1;
+      msgsize = (within-bounds _ _ (all 10 (omega arith))).1;
+      call_bytes = (within-bounds _ _ (all 14 (omega arith))).1;
+    }
+
+pub longest_reply-bound : (l : Limits) → ArePassed l → longest_reply l ≤ 8210
+longest_reply-bound l passed =
+    let b = passed-bounds l passed in
+    omega (arith, b.msgmax.1, b.semmsl, b.msgsize, b.call_bytes)
+
+-- a message of at most msgmax bytes, its type before it, is no longer than the longest body
+pub message-is_bounded : (l : Limits) (n : ℕ) → n ≤ l.msgmax → 8 + n ≤ longest_body l
+message-is_bounded l n le = omega arith

@@ -1,0 +1,34 @@
+-- What the crates above cite of streams and replies.
+use Rattle.std.proofs.Common.{◌≡◌, ℕ, ◌+◌, ◌≤◌, ◌<◌, List, ◌++◌, length, drop, ap, ◌∙◌, arith}
+use Rattle.ipc_wire.specs.Reply.{PlainReply, body_bytes, reply_bytes}
+use Rattle.ipc_wire.specs.Request.{PlainRequest}
+use Rattle.ipc_wire.specs.Stream.{PlainFrame, first, missing, begins_with, stream_of, continued}
+use Rattle.ipc_wire.specs.Stream.PlainFrame.{More, Whole}
+use Rattle.ipc_wire.proofs.Frames as frames
+use Rattle.ipc_wire.proofs.Streams as streams
+
+-- fewer than four bytes are no whole frame
+pub first_short : (bytes : List ℕ) → length bytes < 4 → first bytes ≡ More
+first_short = frames.first_short
+
+-- a frame that is not whole misses a byte at least, and has no more than 8452
+pub missing_some : (bytes : List ℕ) → first bytes ≡ More → (0 < missing bytes) × (length bytes + missing bytes ≤ 8452)
+missing_some = frames.missing_some
+
+-- no byte stands behind a frame that became whole with bytes of which no more came than were missing
+pub whole_last : (bytes more : List ℕ) (used : ℕ) (request : PlainRequest) → first bytes ≡ More → length more ≤ missing bytes
+    → first (bytes ++ more) ≡ Whole used request → used ≡ length (bytes ++ more)
+whole_last = frames.whole_last
+
+-- a stream whose first frame is known
+pub stream_begun : (bytes : List ℕ) (f : PlainFrame) → first bytes ≡ f → stream_of bytes ≡ begins_with f bytes (λ used. stream_of (drop used bytes))
+stream_begun bytes f e = streams.stream_step bytes ∙ ap (λ (g : PlainFrame). begins_with g bytes (λ used. stream_of (drop used bytes))) e
+
+-- a stream in two pieces
+pub stream_pieces : (bytes more : List ℕ) → stream_of (bytes ++ more) ≡ continued (stream_of bytes).requests (stream_of bytes).ending more
+stream_pieces = streams.pieces
+
+-- the bytes of a reply are ten and its body
+pub length-reply_bytes : (r : PlainReply) → length (reply_bytes r) ≡ 10 + length (body_bytes r.body)
+unfolding reply_bytes
+length-reply_bytes r = omega arith
