@@ -8,17 +8,17 @@ use Rattle.std.proofs.lemmas.List.{map-append, length-drop, drop-drop}
 use Rattle.std.proofs.lemmas.List.Elements.{All-nil, All-weaker}
 use Rattle.std.proofs.lemmas.Map.Keys.{IsDistinct-push}
 use Rattle.ipc_base.specs.declared.limits.Limits.{Limits}
-use Rattle.ipc_base.specs.Limits.{standard_limits}
-use Rattle.ipc_wire.proofs.Frames.{first_short}
-use Rattle.ipc_engine.specs.declared.engine.Engine.{Engine}
-use Rattle.ipc_engine.specs.Table.{value_at, with_value, without, keys_of}
-use Rattle.ipc_engine.specs.Engine.{limits_of, state_of}
+use Rattle.ipc_base.specs.Limits.{ArePassed, longest_reply}
+use Rattle.ipc_wire.proofs.CallerLemmas.{first_short}
+use Rattle.ipc_engine.specs.Engine.{Machine}
+use Rattle.ipc_base.specs.Table.{value_at, with_value, without, keys_of}
+
 use Rattle.ipc_engine.specs.State.{State}
 use Rattle.ipc_engine.specs.Step.{at_moment}
 use Rattle.ipc_engine.specs.Event.{Exit}
 use Rattle.ipc_engine.specs.Sound.{IsSound}
-use Rattle.ipc_engine.proofs.Soundness.{step-sound}
-use Rattle.ipc_engine.proofs.Rows.{keys_of-with_value, no_key, value_at-without}
+use Rattle.ipc_engine.proofs.CallerLemmas.{step-sound}
+use Rattle.ipc_base.proofs.CallerLemmas.{keys_of-with_value, no_key, value_at-without}
 use Rattle.ipc_hub.specs.declared.connection.Connection.{Connection}
 use Rattle.ipc_hub.specs.declared.hub.Hub.{Hub}
 use Rattle.ipc_hub.specs.Clients.{Frame, Client, Clients, start_client, no_clients, client_at, process_at, with_client, leave, all_bytes, confirmed_bytes, shown_at, ended_at, connect, tick, feed, take_in, hangup, consume, consumed_from}
@@ -28,7 +28,7 @@ use Rattle.ipc_hub.specs.Serving.{pid_of}
 use Rattle.ipc_hub.specs.Serves.{IsClient, AreClient, TakesIn, Leaves, left}
 use Rattle.ipc_hub.specs.Hub.{row, rows, connection_of, output_of, ended_of, ended_by, visible_of, Releases}
 use Rattle.ipc_hub.specs.Stands.{Stands}
-use Rattle.ipc_hub.proofs.Tables.{at-with, other-with, gone, distinct-without, at-push, other-push, same_keys}
+use Rattle.ipc_base.proofs.CallerLemmas.{at-with, other-with, gone, distinct-without, at-push, other-push, same_keys}
 use Rattle.ipc_hub.proofs.Moves.{Spares, process_in, tick-orderly, tidy_in-later, others-stay, orderly-change}
 use Rattle.ipc_hub.proofs.Pieces.{take_in-moves}
 use Rattle.ipc_hub.proofs.Frames.{all-confirmed, confirmed-short, consumed-bytes, consumed-bound, consumed-shown, consumed-all}
@@ -61,10 +61,10 @@ present limits confirmed hub h conn c stands is = rw is at (stands.clients conn)
 
 -- ---- a connection changes
 
-pub stands-after : (limits : Limits) (confirmed : ℕ) (old new : Hub) (h h' : Clients) (conn : ℕ) (c c' : Connection) → Stands limits confirmed old h → connection_of old conn ≡ Some c
-    → Spares conn h h' → limits_of new.engine ≡ limits → state_of new.engine ≡ h'.state → rows new ≡ with_value nat_eq (rows old) conn c'
+pub stands-after : (limits : Limits) (confirmed : ℕ) (old new : Hub) (h h' : Clients) (conn : ℕ) (c c' : Connection) → Stands limits confirmed old h → new.room ≡ old.room → connection_of old conn ≡ Some c
+    → Spares conn h h' → new.engine.limits ≡ limits → new.engine.state ≡ h'.state → rows new ≡ with_value nat_eq (rows old) conn c'
     → AreClient limits confirmed (Some c') (client_at h' conn) → IsOrderly limits h' → confirmed ≤ h'.accepted → Stands limits confirmed new h'
-stands-after limits confirmed old new h h' conn c c' stands found spares keeps state row_is are orderly known =
+stands-after limits confirmed old new h h' conn c c' stands kept found spares keeps state row_is are orderly known =
     record {
       keeps = keeps;
       state = state;
@@ -75,15 +75,16 @@ stands-after limits confirmed old new h h' conn c c' stands found spares keeps s
       ];
       orderly = orderly;
       range = stands.range;
+      room = kept ∙ stands.room;
       known = known;
     }
 
 -- ---- new, connect
 
-pub new-stands : (hub : Hub) → hub.connections.items ≡ [] → (limits_of hub.engine).msgmnb ≤ standard_limits.msgmnb → IsSound (limits_of hub.engine) (state_of hub.engine)
-    → Stands (limits_of hub.engine) 0 hub (no_clients (state_of hub.engine))
+pub new-stands : (hub : Hub) → hub.connections.items ≡ [] → ArePassed (hub.engine.limits) → hub.room ≡ longest_reply (hub.engine.limits) → IsSound (hub.engine.limits) (hub.engine.state)
+    → Stands (hub.engine.limits) 0 hub (no_clients (hub.engine.state))
 unfolding IsDistinct
-new-stands hub none range sound =
+new-stands hub none range room sound =
     record {
       keeps = refl;
       state = refl;
@@ -91,6 +92,7 @@ new-stands hub none range sound =
       clients = λ conn. rw none tt;
       orderly = record { sound = sound; numbers = tt; connected = λ conn pid is. cc; own = λ one other pid is. cc; tidy = λ conn. tt };
       range = range;
+      room = room;
       known = omega arith;
     }
 
@@ -119,12 +121,12 @@ connect-orderly limits h conn o none =
           | inr apart ↦ sym (ap process_in (other-push h.clients conn j start_client apart)) ∙ is
         ]
 
-pub connect-stands : (limits : Limits) (confirmed : ℕ) (old new : Hub) (h : Clients) (conn : ℕ) (c : Connection) → Stands limits confirmed old h → connection_of old conn ≡ None
+pub connect-stands : (limits : Limits) (confirmed : ℕ) (old new : Hub) (h : Clients) (conn : ℕ) (c : Connection) → Stands limits confirmed old h → new.room ≡ old.room → connection_of old conn ≡ None
     → new.engine ≡ old.engine → new.connections.items ≡ old.connections.items ++ c ∷ [] → c.number ≡ conn → IsClient limits confirmed c start_client → Stands limits confirmed new (connect h conn)
-connect-stands limits confirmed old new h conn c stands none engine items number is =
+connect-stands limits confirmed old new h conn c stands kept none engine items number is =
     record {
-      keeps = ap limits_of engine ∙ stands.keeps;
-      state = ap state_of engine ∙ stands.state;
+      keeps = ap (λ (m : Machine). m.limits) ∙ stands.keeps;
+      state = ap (λ (m : Machine). m.state) ∙ stands.state;
       numbers = ap keys_of row_is ∙ map-append (λ (e : ℕ × Connection). e.0) (rows old) ((conn, c) ∷ []) ∙ ap (λ (ks : List ℕ). ks ++ conn ∷ []) stands.numbers
           ∙ sym (map-append (λ (e : ℕ × Client). e.0) h.clients ((conn, start_client) ∷ []));
       clients = λ j. elim (cases_eq j conn) [
@@ -133,6 +135,7 @@ connect-stands limits confirmed old new h conn c stands none engine items number
       ];
       orderly = connect-orderly limits h conn stands.orderly no;
       range = stands.range;
+      room = kept ∙ stands.room;
       known = stands.known;
     }
   where
@@ -144,9 +147,9 @@ connect-stands limits confirmed old new h conn c stands none engine items number
 
 -- ---- tick, feed
 
-pub tick-stands : (limits : Limits) (confirmed : ℕ) (old new : Hub) (h : Clients) (moment : ℕ) → Stands limits confirmed old h → new.connections ≡ old.connections
-    → limits_of new.engine ≡ limits_of old.engine → state_of new.engine ≡ at_moment (state_of old.engine) moment → Stands limits confirmed new (tick limits h moment)
-tick-stands limits confirmed old new h moment stands same keeps state =
+pub tick-stands : (limits : Limits) (confirmed : ℕ) (old new : Hub) (h : Clients) (moment : ℕ) → Stands limits confirmed old h → new.room ≡ old.room → new.connections ≡ old.connections
+    → new.engine.limits ≡ old.engine.limits → new.engine.state ≡ at_moment (old.engine.state) moment → Stands limits confirmed new (tick limits h moment)
+tick-stands limits confirmed old new h moment stands kept same keeps state =
     record {
       keeps = keeps ∙ stands.keeps;
       state = state ∙ ap (λ (s : State). at_moment s moment) stands.state;
@@ -154,14 +157,15 @@ tick-stands limits confirmed old new h moment stands same keeps state =
       clients = λ conn. rw same (stands.clients conn);
       orderly = tick-orderly limits h moment stands.orderly;
       range = stands.range;
+      room = kept ∙ stands.room;
       known = omega (arith, stands.known);
     }
 
-pub feed-stands : (limits : Limits) (confirmed : ℕ) (old new : Hub) (engine : Engine) (h : Clients) (conn moment : ℕ) (bytes : List ℕ) (c c' : Connection) → Stands limits confirmed old h
-    → connection_of old conn ≡ Some c → limits_of engine ≡ limits_of old.engine → state_of engine ≡ at_moment (state_of old.engine) moment
+pub feed-stands : (limits : Limits) (confirmed : ℕ) (old new : Hub) (engine : Machine) (h : Clients) (conn moment : ℕ) (bytes : List ℕ) (c c' : Connection) → Stands limits confirmed old h → new.room ≡ old.room
+    → connection_of old conn ≡ Some c → engine.limits ≡ old.engine.limits → engine.state ≡ at_moment (old.engine.state) moment
     → TakesIn engine c new.engine c' bytes moment → rows new ≡ with_value nat_eq (rows old) conn c'
     → (refused : List Bool) × Stands limits confirmed new (feed limits h conn bytes moment refused)
-feed-stands limits confirmed old new engine h conn moment bytes c c' stands found keeps state takes row_is =
+feed-stands limits confirmed old new engine h conn moment bytes c c' stands kept found keeps state takes row_is =
     let now : Clients = tick limits h moment in
     let orderly = tick-orderly limits h moment stands.orderly in
     let done = takes limits confirmed now conn (record {
@@ -170,7 +174,7 @@ feed-stands limits confirmed old new engine h conn moment bytes c c' stands foun
     }) in
     let moved = take_in-moves limits now conn moment bytes done.0 stands.range orderly in (
       done.0,
-      stands-after limits confirmed old new h (take_in limits now conn bytes moment done.0) conn c c' stands found
+      stands-after limits confirmed old new h (take_in limits now conn bytes moment done.0) conn c c' stands kept found
           (record { keys = moved.spares.keys; others = moved.spares.others }) done.1.runs.keeps done.1.runs.state row_is done.1.client done.1.runs.orderly (omega (arith, done.1.runs.later)),
     )
 
@@ -243,18 +247,18 @@ keys-without (e ∷ es) (t ∷ ts) k same =
     by_test true is both head rest more = rw (both ∙ is) (rw is rest)
     by_test false is both head rest more = rw (both ∙ is) (rw is (ap (λ (n : ℕ). n ∷ keys_of (without nat_eq es k)) head ∙ ap (λ (ks : List ℕ). t.0 ∷ ks) more))
 
-pub hangup-stands : (limits : Limits) (confirmed : ℕ) (old new : Hub) (engine : Engine) (h : Clients) (conn moment : ℕ) (c c' : Connection) → Stands limits confirmed old h
-    → connection_of old conn ≡ Some c → limits_of engine ≡ limits_of old.engine → state_of engine ≡ at_moment (state_of old.engine) moment
+pub hangup-stands : (limits : Limits) (confirmed : ℕ) (old new : Hub) (engine : Machine) (h : Clients) (conn moment : ℕ) (c c' : Connection) → Stands limits confirmed old h → new.room ≡ old.room
+    → connection_of old conn ≡ Some c → engine.limits ≡ old.engine.limits → engine.state ≡ at_moment (old.engine.state) moment
     → Leaves engine c new.engine c' moment → rows new ≡ without nat_eq (rows old) conn
     → Stands limits confirmed new (hangup limits h conn moment)
-hangup-stands limits confirmed old new engine h conn moment c c' stands found keeps state leaves row_is =
+hangup-stands limits confirmed old new engine h conn moment c c' stands kept found keeps state leaves row_is =
     let now : Clients = tick limits h moment in
     let orderly = tick-orderly limits h moment stands.orderly in
-    let at_now : state_of engine ≡ now.state = state ∙ ap (λ (s : State). at_moment s moment) stands.state in
+    let at_now : engine.state ≡ now.state = state ∙ ap (λ (s : State). at_moment s moment) stands.state in
     let has = client-of limits confirmed c (client_at h conn) (present limits confirmed old h conn c stands found) in
     let p : Option ℕ = process_at now conn in
     let mine : pid_of c.process ≡ p = has.1.1.process ∙ sym (ap process_in has.1.0) in
-    let there = connected-in limits now conn (state_of engine) (pid_of c.process) orderly at_now (sym mine) in
+    let there = connected-in limits now conn (engine.state) (pid_of c.process) orderly at_now (sym mine) in
     let none = gone now.clients conn orderly.numbers in
     let clients_are = dropped-clients limits now conn moment p in
     let later = dropped-later limits now conn moment p in
@@ -269,6 +273,7 @@ hangup-stands limits confirmed old new engine h conn moment c c' stands found ke
       ];
       orderly = dropped-orderly limits now conn moment p orderly refl;
       range = stands.range;
+      room = kept ∙ stands.room;
       known = omega (arith, stands.known, later);
     }
 
@@ -323,19 +328,20 @@ released-client limits confirmed accepted (Some c) (Some d) (Some cl) released a
       };
     }
 
-pub release-stands : (limits : Limits) (confirmed : ℕ) (old new : Hub) (h : Clients) → Stands limits confirmed old h → new.engine ≡ old.engine
+pub release-stands : (limits : Limits) (confirmed : ℕ) (old new : Hub) (h : Clients) → Stands limits confirmed old h → new.room ≡ old.room → new.engine ≡ old.engine
     → length new.connections.items ≡ length old.connections.items
     → ((k : ℕ) (d : Connection) → k < length old.connections.items → Releases (get_or old.connections.items k d) (get_or new.connections.items k d))
     → Stands limits h.accepted new h
-release-stands limits confirmed old new h stands engine count each =
+release-stands limits confirmed old new h stands kept engine count each =
     record {
-      keeps = ap limits_of engine ∙ stands.keeps;
-      state = ap state_of engine ∙ stands.state;
+      keeps = ap (λ (m : Machine). m.limits) ∙ stands.keeps;
+      state = ap (λ (m : Machine). m.state) ∙ stands.state;
       numbers = released-numbers old.connections.items new.connections.items count each ∙ stands.numbers;
       clients = λ conn. released-client limits confirmed h.accepted (connection_of old conn) (connection_of new conn) (client_at h conn)
           (released-at old.connections.items new.connections.items conn count each) (stands.clients conn) (stands.orderly.tidy conn);
       orderly = stands.orderly;
       range = stands.range;
+      room = kept ∙ stands.room;
       known = omega arith;
     }
 
@@ -374,12 +380,12 @@ consume-is : (h : Clients) (conn n : ℕ) (cl : Client) → client_at h conn ≡
     → consume h conn n ≡ with_client h conn (record cl { frames = (consumed_from cl.frames (cl.consumed + n)).0; consumed = (consumed_from cl.frames (cl.consumed + n)).1 })
 consume-is h conn n cl here = rw here refl
 
-pub consume-stands : (limits : Limits) (confirmed : ℕ) (old new : Hub) (h : Clients) (conn n : ℕ) (c c' : Connection) → Stands limits confirmed old h → connection_of old conn ≡ Some c
+pub consume-stands : (limits : Limits) (confirmed : ℕ) (old new : Hub) (h : Clients) (conn n : ℕ) (c c' : Connection) → Stands limits confirmed old h → new.room ≡ old.room → connection_of old conn ≡ Some c
     → new.engine ≡ old.engine → rows new ≡ with_value nat_eq (rows old) conn c'
     → c'.process ≡ c.process → c'.input ≡ c.input → c'.ended ≡ c.ended → n ≤ length (visible c.outbox)
     → waiting c'.outbox ≡ drop n (waiting c.outbox) → visible c'.outbox ≡ drop n (visible c.outbox) → vec_len c'.outbox.buffer ≡ vec_len c.outbox.buffer
     → Stands limits confirmed new (consume h conn n)
-consume-stands limits confirmed old new h conn n c c' stands found engine row_is process input ended within waits sees room =
+consume-stands limits confirmed old new h conn n c c' stands kept found engine row_is process input ended within waits sees room =
     let has = client-of limits confirmed c (client_at h conn) (present limits confirmed old h conn c stands found) in
     let cl : Client = has.0 in
     let here : client_at h conn ≡ Some cl = has.1.0 in
@@ -398,7 +404,7 @@ consume-stands limits confirmed old new h conn n c c' stands found engine row_is
     (λ pid mine. (stands.orderly.connected conn pid (ap process_in here ∙ mine), λ j too. stands.orderly.own j conn pid too (ap process_in here ∙ mine)))
     (λ j pid apart other. stands.orderly.connected j pid other) in
     subst (λ (t : Clients). Stands limits confirmed new t) (sym to)
-    (stands-after limits confirmed old new h (with_client h conn d) conn c c' stands found spares (ap limits_of engine ∙ stands.keeps) (ap state_of engine ∙ stands.state) row_is
+    (stands-after limits confirmed old new h (with_client h conn d) conn c c' stands kept found spares (ap (λ (m : Machine). m.limits) ∙ stands.keeps) (ap (λ (m : Machine). m.state) ∙ stands.state) row_is
     (rw (at-with h.clients conn d cl here)
     (record {
       process = ap pid_of process ∙ is.process;

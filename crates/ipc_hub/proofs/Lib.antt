@@ -1,4 +1,3 @@
-pub mod Tables
 pub mod Moves
 pub mod Pieces
 pub mod Frames

@@ -9,17 +9,18 @@ use Rattle.std.proofs.lemmas.List.{length-append}
 use Rattle.std.proofs.lemmas.List.Elements.{All-weaker, All-push, All-head}
 use Rattle.std.proofs.lemmas.Grind.{flat_map-append}
 use Rattle.ipc_base.specs.declared.limits.Limits.{Limits}
-use Rattle.ipc_base.specs.Limits.{standard_limits}
+use Rattle.ipc_base.specs.Limits.{ArePassed}
 use Rattle.ipc_base.specs.Fields.{signed_bytes}
-use Rattle.ipc_wire.specs.Request.{PlainCall, PlainRequest, Hello, Msgget, Msgsnd, Msgrcv}
-use Rattle.ipc_wire.specs.Reply.{PlainBody, Empty, Number, Message, reply_bytes, body_bytes}
+use Rattle.ipc_wire.specs.Request.{PlainKind, PlainRequest, Hello, Calls}
+use Rattle.ipc_wire.specs.declared.reply.Body.TheVariants.{Empty, Number}
+use Rattle.ipc_wire.specs.Reply.{PlainBody, reply_bytes, body_bytes}
 use Rattle.ipc_wire.specs.Stream.{first, Ending}
 use Rattle.ipc_wire.specs.Stream.Ending.{Rest, Broken}
-use Rattle.ipc_wire.proofs.Frames.{first_short}
+use Rattle.ipc_wire.proofs.CallerLemmas.{first_short}
 use Rattle.ipc_wire.specs.Stream.PlainFrame.{More}
-use Rattle.ipc_engine.specs.Table.{value_at, with_value, keys_of}
+use Rattle.ipc_base.specs.Table.{value_at, with_value, keys_of}
 use Rattle.ipc_engine.specs.State.{State, is_process}
-use Rattle.ipc_engine.specs.Calls.{Finish, attempt}
+use Rattle.ipc_engine.specs.Calls.{Finish, asked}
 use Rattle.ipc_engine.specs.Step.{Step, at_moment, step, connect, exit}
 use Rattle.ipc_engine.specs.Event.{PlainEvent, Connect, Call, Tick, Exit, PlainOutcome}
 use Rattle.ipc_engine.specs.View.{reply_of}
@@ -28,13 +29,15 @@ use Rattle.ipc_base.specs.declared.errno.Errno.{Errno}
 use Rattle.ipc_base.specs.declared.errno.Errno.TheVariants.{ENOMEM, EPROTO, ENFILE}
 use Rattle.ipc_base.specs.declared.identity.Cred.{Cred}
 use Rattle.ipc_engine.specs.State.{last_number}
-use Rattle.ipc_engine.proofs.Soundness.{step-sound, step-fits}
-use Rattle.ipc_engine.proofs.Processes.{attempt-keeps}
-use Rattle.ipc_engine.proofs.Rows.{keys_of-with_value, rising-found, is_some-append, is_some-push, value_at-without}
+use Rattle.ipc_engine.proofs.CallerLemmas.{step-sound, step-fits}
+use Rattle.ipc_engine.proofs.CallerLemmas.{asked-keeps}
+use Rattle.ipc_base.proofs.CallerLemmas.{keys_of-with_value, rising-found, is_some-append, is_some-push, value_at-without}
 use Rattle.std.specs.Cmp.{nat_eq_equiv}
+use Rattle.ipc_engine.specs.Engine.{takes_memory}
+use Rattle.ipc_base.proofs.CallerLemmas.{longest_reply-bound}
 use Rattle.ipc_hub.specs.Clients.{Frame, Client, Clients, client_at, process_at, all_bytes, with_client, with_frame, delivered, deliver, accept, refusal, process_of, hello_answered, greet, leave, break_off, refuse, tick, answered, on_request, unless_ended, on_requests, on_ending, first_of}
 use Rattle.ipc_hub.specs.Orderly.{IsFrame, IsTidy, IsOrderly}
-use Rattle.ipc_hub.proofs.Tables.{same_key, at-with, other-with, at-map, keys-map}
+use Rattle.ipc_base.proofs.CallerLemmas.{same_key, at-with, other-with, at-map, keys-map}
 
 -- every other connection is as it was
 pub record Spares (conn : ℕ) (h h' : Clients) : Type 0 where
@@ -116,13 +119,8 @@ orderly-change limits conn h h' c o spares here later sound tidy mine theirs =
 
 -- ---- frames
 
-pub body-length : (limits : Limits) (b : PlainBody) → FitsBody limits b → length (body_bytes b) ≤ 8 + limits.msgmnb
-body-length limits Empty fits = omega arith
-body-length limits (Number n) fits = omega arith
-body-length limits (Message mtype text) fits = omega (arith, length-append (signed_bytes w64 mtype) text, fits)
-
-pub frame-fits : (limits : Limits) (o : PlainOutcome) → limits.msgmnb ≤ standard_limits.msgmnb → FitsBody limits o.body → IsFrame (reply_bytes (reply_of o))
-frame-fits limits o range fits = (reply_of o, (refl, omega (arith, body-length limits o.body fits, range)))
+pub frame-fits : (limits : Limits) (o : PlainOutcome) → ArePassed limits → FitsBody limits o.body → IsFrame (reply_bytes (reply_of o))
+frame-fits limits o range fits = (reply_of o, (refl, omega (arith, fits, longest_reply-bound limits range)))
 
 pub tidy-frame : (accepted mark : ℕ) (c : Client) (o : PlainOutcome) → accepted ≤ mark → IsTidy accepted c → IsFrame (reply_bytes (reply_of o))
     → IsTidy mark (with_frame c mark o)
@@ -168,16 +166,16 @@ tick-orderly limits h moment o =
       tidy = λ j. tidy_in-later h.accepted (h.accepted + 1) (client_at h j) (omega arith) (o.tidy j);
     }
 
-pub call-moves : (limits : Limits) (h : Clients) (conn pid moment : ℕ) (c : Client) (request : PlainRequest) → limits.msgmnb ≤ standard_limits.msgmnb → IsOrderly limits h
+pub call-moves : (limits : Limits) (h : Clients) (conn pid moment : ℕ) (c : Client) (request : PlainRequest) → ArePassed limits → IsOrderly limits h
     → client_at h conn ≡ Some c → c.process ≡ Some pid → Moves limits conn h (accept limits h (Call pid request moment))
 call-moves limits h conn pid moment c request range o here mine =
     let e : PlainEvent = Call pid request moment in
     let now : Step = step limits h.state e in
-    let end : Finish = attempt limits (at_moment h.state moment) pid request.call in
+    let end : Finish = asked limits (at_moment h.state moment) pid request.kind in
     let reply : PlainOutcome = record { pid = pid; serial = request.serial; errno = end.errno; body = end.body } in
     let mark : ℕ = h.accepted + 1 in
     let spares = reply-spares limits h conn mark c reply o here mine in
-    let there : (q : ℕ) → is_process now.state q ≡ is_process h.state q = λ q. ap (λ (ps : List (ℕ × Cred)). is_some (value_at nat_eq ps q)) (attempt-keeps limits (at_moment h.state moment) pid request.call) in
+    let there : (q : ℕ) → is_process now.state q ≡ is_process h.state q = λ q. ap (λ (ps : List (ℕ × Cred)). is_some (value_at nat_eq ps q)) (asked-keeps limits (at_moment h.state moment) pid request.kind) in
     let tidy : IsTidy h.accepted c = rw here at (o.tidy conn) in
     orderly-change limits conn h (accept limits h e) (with_frame c mark reply) o (record { keys = keys-map (delivered mark reply) h.clients; others = spares.1 }) spares.0
     (omega arith) (step-sound limits h.state e o.sound)
@@ -186,10 +184,10 @@ call-moves limits h conn pid moment c request range o here mine =
     (λ j q apart is. there q ∙ o.connected j q is)
 
 -- the bytes of a reply without a body are a frame
-bare-frame : (limits : Limits) (serial : ℕ) (e : Errno) → limits.msgmnb ≤ standard_limits.msgmnb → IsFrame (reply_bytes (reply_of (refusal serial e)))
-bare-frame limits serial e range = frame-fits limits (refusal serial e) range tt
+bare-frame : (limits : Limits) (serial : ℕ) (e : Errno) → ArePassed limits → IsFrame (reply_bytes (reply_of (refusal serial e)))
+bare-frame limits serial e range = frame-fits limits (refusal serial e) range (omega arith)
 
-pub refuse-moves : (limits : Limits) (h : Clients) (conn serial : ℕ) (c : Client) → limits.msgmnb ≤ standard_limits.msgmnb → IsOrderly limits h
+pub refuse-moves : (limits : Limits) (h : Clients) (conn serial : ℕ) (c : Client) → ArePassed limits → IsOrderly limits h
     → client_at h conn ≡ Some c → Moves limits conn h (refuse h conn c serial)
 refuse-moves limits h conn serial c range o here =
     let now : Client = with_frame c h.accepted (refusal serial ENOMEM) in
@@ -224,7 +222,7 @@ given : (n pid : ℕ) (b : Bool) → (if b then None else Some n) ≡ Some pid �
 given n pid true is = cc
 given n pid false is = cc
 
-pub greet-moves : (limits : Limits) (h : Clients) (conn serial moment : ℕ) (cred : Cred) (c : Client) → limits.msgmnb ≤ standard_limits.msgmnb → IsOrderly limits h
+pub greet-moves : (limits : Limits) (h : Clients) (conn serial moment : ℕ) (cred : Cred) (c : Client) → ArePassed limits → IsOrderly limits h
     → client_at h conn ≡ Some c → Moves limits conn h (greet limits h conn c (Connect cred serial moment))
 greet-moves limits h conn serial moment cred c range o here =
     let s : State = at_moment h.state moment in
@@ -252,7 +250,7 @@ greet-moves limits h conn serial moment cred c range o here =
 abbrev pub broken : Client → ℕ → ℕ → Client
 broken c mark serial = record (with_frame c mark (refusal serial EPROTO)) { process = None; input = []; ended = true }
 
-broken-moves : (limits : Limits) (h : Clients) (conn serial accepted : ℕ) (c : Client) (s : State) → limits.msgmnb ≤ standard_limits.msgmnb → IsOrderly limits h
+broken-moves : (limits : Limits) (h : Clients) (conn serial accepted : ℕ) (c : Client) (s : State) → ArePassed limits → IsOrderly limits h
     → client_at h conn ≡ Some c → h.accepted ≤ accepted → IsSound limits s
     → ((j pid : ℕ) → j ≢ conn → process_at h j ≡ Some pid → is_process s pid ≡ true)
     → Moves limits conn h (record { state = s; accepted = accepted; clients = with_value nat_eq h.clients conn (broken c accepted serial) })
@@ -271,7 +269,7 @@ pub others-stay : (limits : Limits) (h : Clients) (conn pid moment : ℕ) → Is
 others-stay limits h conn pid moment o mine j q apart is =
     ap is_some (value_at-without h.state.processes pid q (λ same. apart (o.own j conn pid (is ∙ ap Some same) mine))) ∙ o.connected j q is
 
-break_off-by : (limits : Limits) (h : Clients) (conn serial moment : ℕ) (c : Client) (p : Option ℕ) → limits.msgmnb ≤ standard_limits.msgmnb → IsOrderly limits h
+break_off-by : (limits : Limits) (h : Clients) (conn serial moment : ℕ) (c : Client) (p : Option ℕ) → ArePassed limits → IsOrderly limits h
     → client_at h conn ≡ Some c → c.process ≡ p
     → Moves limits conn h (with_client (leave limits h p moment) conn (broken c (leave limits h p moment).accepted serial))
 break_off-by limits h conn serial moment c None range o here mine =
@@ -280,33 +278,30 @@ break_off-by limits h conn serial moment c (Some pid) range o here mine =
     broken-moves limits h conn serial (h.accepted + 1) c (exit (at_moment h.state moment) pid) range o here (omega arith) (step-sound limits h.state (Exit pid moment) o.sound)
     (others-stay limits h conn pid moment o (ap process_in here ∙ mine))
 
-pub break_off-moves : (limits : Limits) (h : Clients) (conn serial moment : ℕ) (c : Client) → limits.msgmnb ≤ standard_limits.msgmnb → IsOrderly limits h
+pub break_off-moves : (limits : Limits) (h : Clients) (conn serial moment : ℕ) (c : Client) → ArePassed limits → IsOrderly limits h
     → client_at h conn ≡ Some c → Moves limits conn h (break_off limits h conn c serial moment)
 break_off-moves limits h conn serial moment c range o here = break_off-by limits h conn serial moment c c.process range o here refl
 
 -- ---- requests
 
-module _ (limits : Limits) (range : limits.msgmnb ≤ standard_limits.msgmnb) where
+module _ (limits : Limits) (range : ArePassed limits) where
   may_refuse : (h : Clients) (conn pid moment : ℕ) (c : Client) (request : PlainRequest) (b : Bool) → IsOrderly limits h → client_at h conn ≡ Some c → c.process ≡ Some pid
       → Moves limits conn h (if b then refuse h conn c request.serial else accept limits h (Call pid request moment))
   may_refuse h conn pid moment c request true o here mine = refuse-moves limits h conn request.serial c range o here
   may_refuse h conn pid moment c request false o here mine = call-moves limits h conn pid moment c request range o here mine
 
-  answered-moves : (h : Clients) (conn moment : ℕ) (c : Client) (request : PlainRequest) (refused : Bool) (p : Option ℕ) (call : PlainCall) → IsOrderly limits h
-      → client_at h conn ≡ Some c → c.process ≡ p → Moves limits conn h (answered limits h conn c moment request refused p call)
+  answered-moves : (h : Clients) (conn moment : ℕ) (c : Client) (request : PlainRequest) (refused : Bool) (p : Option ℕ) (kind : PlainKind) → IsOrderly limits h
+      → client_at h conn ≡ Some c → c.process ≡ p → Moves limits conn h (answered limits h conn c moment request refused p kind)
   answered-moves h conn moment c request true None (Hello cred) o here mine = refuse-moves limits h conn request.serial c range o here
   answered-moves h conn moment c request false None (Hello cred) o here mine = greet-moves limits h conn request.serial moment cred c range o here
-  answered-moves h conn moment c request refused None (Msgget key flags) o here mine = break_off-moves limits h conn request.serial moment c range o here
-  answered-moves h conn moment c request refused None (Msgsnd id flags mtype text) o here mine = break_off-moves limits h conn request.serial moment c range o here
-  answered-moves h conn moment c request refused None (Msgrcv id flags size mtype) o here mine = break_off-moves limits h conn request.serial moment c range o here
+  answered-moves h conn moment c request refused None (Calls call) o here mine = break_off-moves limits h conn request.serial moment c range o here
   answered-moves h conn moment c request refused (Some pid) (Hello cred) o here mine = break_off-moves limits h conn request.serial moment c range o here
-  answered-moves h conn moment c request refused (Some pid) (Msgget key flags) o here mine = may_refuse h conn pid moment c request (refused && true) o here mine
-  answered-moves h conn moment c request refused (Some pid) (Msgsnd id flags mtype text) o here mine = may_refuse h conn pid moment c request (refused && true) o here mine
-  answered-moves h conn moment c request refused (Some pid) (Msgrcv id flags size mtype) o here mine = may_refuse h conn pid moment c request (refused && false) o here mine
+  answered-moves h conn moment c request refused (Some pid) (Calls call) o here mine =
+      may_refuse h conn pid moment c request (refused && takes_memory (Call pid request moment)) o here mine
 
   pub request-moves : (h : Clients) (conn moment : ℕ) (c : Client) (request : PlainRequest) (refused : Bool) → IsOrderly limits h → client_at h conn ≡ Some c
       → Moves limits conn h (on_request limits h conn c moment request refused)
-  request-moves h conn moment c request refused o here = answered-moves h conn moment c request refused c.process request.call o here refl
+  request-moves h conn moment c request refused o here = answered-moves h conn moment c request refused c.process request.kind o here refl
 
   pub unless-moves : (h : Clients) (conn : ℕ) (act : Client → Clients) (r : Option Client) → IsOrderly limits h → client_at h conn ≡ r
       → ((c : Client) → client_at h conn ≡ Some c → Moves limits conn h (act c)) → Moves limits conn h (unless_ended h conn act)

@@ -3,20 +3,21 @@ use Rattle.std.proofs.Common.{◌≡◌, ℕ, zero, suc, ◌+◌, ◌≤◌, Boo
 use Rattle.std.specs.Prelude.{nat_eq, if◌then◌else◌, option_map}
 use Rattle.std.proofs.lemmas.List.{length-drop}
 use Rattle.ipc_base.specs.declared.limits.Limits.{Limits}
-use Rattle.ipc_base.specs.Limits.{standard_limits}
-use Rattle.ipc_wire.specs.Request.{PlainCall, PlainRequest, Hello, Msgget, Msgsnd, Msgrcv}
+use Rattle.ipc_base.specs.Limits.{ArePassed}
+use Rattle.ipc_wire.specs.Request.{PlainKind, PlainRequest, Hello, Calls}
 use Rattle.ipc_wire.specs.Stream.{PlainFrame, TakesBytes, first, Ending, Stream, begins_with, stream_of, continued}
 use Rattle.ipc_wire.specs.Stream.PlainFrame.{More, Whole, Fault}
 use Rattle.ipc_wire.specs.Stream.Ending.{Rest, Broken}
-use Rattle.ipc_wire.proofs.Frames.{first_takes, first_short}
-use Rattle.ipc_wire.proofs.Streams.{stream_step, pieces}
-use Rattle.ipc_engine.specs.Table.{value_at, with_value}
+use Rattle.ipc_wire.proofs.CallerLemmas.{first_takes, first_short}
+use Rattle.ipc_wire.proofs.CallerLemmas.{stream_step, stream_pieces as pieces}
+use Rattle.ipc_base.specs.Table.{value_at, with_value}
 use Rattle.ipc_engine.specs.Event.{Connect, Call, PlainOutcome}
 use Rattle.ipc_engine.specs.Step.{step}
+use Rattle.ipc_engine.specs.Engine.{takes_memory}
 use Rattle.ipc_hub.specs.Clients.{Client, Clients, client_at, with_client, with_frame, delivered, deliver, deliver_all, accept, hello_answered, leave, break_off, refuse, answered, on_request, unless_ended, on_requests, on_ending, first_of, take_in, is_for, fitted, arriving}
 use Rattle.ipc_hub.specs.Orderly.{IsOrderly}
-use Rattle.ipc_engine.proofs.Rows.{choice}
-use Rattle.ipc_hub.proofs.Tables.{at-with, twice, own, at-map}
+use Rattle.ipc_base.proofs.CallerLemmas.{choice}
+use Rattle.ipc_base.proofs.CallerLemmas.{at-with, twice, own, at-map}
 use Rattle.ipc_hub.proofs.Moves.{Moves, then_moves, unless-moves, requests-move, ending-moves, keep-moves, broken}
 
 -- a stream of which the first frame is known
@@ -105,17 +106,14 @@ module _ (limits : Limits) where
   call-keeps h conn pid moment c request true all none = put-keeps h.clients conn _ none
   call-keeps h conn pid moment c request false all none = delivers-keep (h.accepted + 1) conn (step limits h.state (Call pid request moment)).outcomes h.clients all
 
-  pub request-keeps_by : (h : Clients) (conn moment : ℕ) (c : Client) (request : PlainRequest) (refused : Bool) (p : Option ℕ) (call : PlainCall) → KeepsNone h conn
-      → c.input ≡ [] → KeepsNone (answered limits h conn c moment request refused p call) conn
+  pub request-keeps_by : (h : Clients) (conn moment : ℕ) (c : Client) (request : PlainRequest) (refused : Bool) (p : Option ℕ) (kind : PlainKind) → KeepsNone h conn
+      → c.input ≡ [] → KeepsNone (answered limits h conn c moment request refused p kind) conn
   request-keeps_by h conn moment c request true None (Hello cred) all none = put-keeps h.clients conn _ none
   request-keeps_by h conn moment c request false None (Hello cred) all none = put-keeps h.clients conn _ (hello-keeps c (h.accepted + 1) (step limits h.state (Connect cred request.serial moment)).outcomes none)
-  request-keeps_by h conn moment c request refused None (Msgget key flags) all none = put-keeps _ conn _ refl
-  request-keeps_by h conn moment c request refused None (Msgsnd id flags mtype text) all none = put-keeps _ conn _ refl
-  request-keeps_by h conn moment c request refused None (Msgrcv id flags size mtype) all none = put-keeps _ conn _ refl
+  request-keeps_by h conn moment c request refused None (Calls call) all none = put-keeps _ conn _ refl
   request-keeps_by h conn moment c request refused (Some pid) (Hello cred) all none = put-keeps _ conn _ refl
-  request-keeps_by h conn moment c request refused (Some pid) (Msgget key flags) all none = call-keeps h conn pid moment c request (refused && true) all none
-  request-keeps_by h conn moment c request refused (Some pid) (Msgsnd id flags mtype text) all none = call-keeps h conn pid moment c request (refused && true) all none
-  request-keeps_by h conn moment c request refused (Some pid) (Msgrcv id flags size mtype) all none = call-keeps h conn pid moment c request (refused && false) all none
+  request-keeps_by h conn moment c request refused (Some pid) (Calls call) all none =
+      call-keeps h conn pid moment c request (refused && takes_memory (Call pid request moment)) all none
 
   unless-keeps : (h : Clients) (conn : ℕ) (act : Client → Clients) (r : Option Client) → KeepsNone h conn → client_at h conn ≡ r
       → ((c : Client) → client_at h conn ≡ Some c → KeepsNone (act c) conn) → KeepsNone (unless_ended h conn act) conn
@@ -281,7 +279,7 @@ module _ (limits : Limits) where
           ∙ ap (λ (es : List (ℕ × Client)). record h { clients = es }) (twice h.clients conn e c ∙ own h.clients conn c is)
 
   -- bytes taken in leave the hub in order
-  pub take_in-moves : (h : Clients) (conn moment : ℕ) (bytes : List ℕ) (refused : List Bool) → limits.msgmnb ≤ standard_limits.msgmnb → IsOrderly limits h
+  pub take_in-moves : (h : Clients) (conn moment : ℕ) (bytes : List ℕ) (refused : List Bool) → ArePassed limits → IsOrderly limits h
       → Moves limits conn h (take_in limits h conn bytes moment refused)
   take_in-moves h conn moment bytes refused range o =
       unless-moves limits range h conn (λ c. settled (emptied h conn c) conn moment (stream_of (c.input ++ bytes)) refused) (client_at h conn) o refl

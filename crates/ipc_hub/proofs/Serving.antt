@@ -10,27 +10,26 @@ use Rattle.ipc_base.specs.declared.limits.Limits.{Limits}
 use Rattle.ipc_base.specs.declared.errno.Errno.TheVariants.{ENOMEM}
 use Rattle.ipc_base.specs.declared.identity.Cred.{Cred}
 use Rattle.ipc_base.specs.declared.identity.Pid.{Pid}
-use Rattle.ipc_base.specs.Limits.{standard_limits}
-use Rattle.ipc_wire.specs.Request.{PlainCall, PlainRequest, Hello, Msgget, Msgsnd, Msgrcv}
+use Rattle.ipc_base.specs.Limits.{ArePassed}
+use Rattle.ipc_wire.specs.Request.{PlainCall, PlainKind, PlainRequest, Hello, Calls}
 use Rattle.ipc_wire.specs.Reply.{PlainReply, reply_bytes, body_bytes, error_number}
-use Rattle.ipc_engine.specs.declared.engine.Engine.{Engine}
-use Rattle.ipc_engine.specs.Engine.{limits_of, state_of}
+use Rattle.ipc_engine.specs.Engine.{Machine, takes_memory}
+
 use Rattle.ipc_engine.specs.State.{State, is_process, last_number}
-use Rattle.ipc_engine.specs.Room.{TakesNoMemory}
-use Rattle.ipc_engine.specs.Calls.{attempt}
+use Rattle.ipc_engine.specs.Calls.{asked}
 use Rattle.ipc_engine.specs.Event.{Connect, Call, PlainOutcome}
 use Rattle.ipc_engine.specs.Step.{Step, at_moment, step}
 use Rattle.ipc_engine.specs.View.{reply_of}
 use Rattle.ipc_engine.specs.Sound.{FitsBody}
-use Rattle.ipc_engine.proofs.Soundness.{step-fits}
-use Rattle.ipc_engine.proofs.Rows.{choice}
+use Rattle.ipc_engine.proofs.CallerLemmas.{step-fits}
+use Rattle.ipc_base.proofs.CallerLemmas.{choice}
 use Rattle.ipc_hub.specs.declared.outbox.Outbox.{Outbox}
-use Rattle.ipc_hub.specs.Clients.{Frame, Client, Clients, all_bytes, confirmed_bytes, with_frame, accept, greet, refuse, break_off, refusal, hello_answered, process_of, answered, on_request, takes_memory}
+use Rattle.ipc_hub.specs.Clients.{Frame, Client, Clients, all_bytes, confirmed_bytes, with_frame, accept, greet, refuse, break_off, refusal, hello_answered, process_of, answered, on_request}
 use Rattle.ipc_hub.specs.Orderly.{IsTidy}
 use Rattle.ipc_hub.specs.Outbox.{IsEmpty, GainsFrame, HasFrames}
 use Rattle.ipc_hub.specs.Serving.{pid_of, said_by, Meets, IsServed, IsMisplaced}
-use Rattle.ipc_hub.proofs.Tables.{at-with}
-use Rattle.ipc_hub.proofs.Moves.{body-length, reply-spares, greet-moves, call-moves, refuse-moves}
+use Rattle.ipc_base.proofs.CallerLemmas.{at-with, longest_reply-bound}
+use Rattle.ipc_hub.proofs.Moves.{reply-spares, greet-moves, call-moves, refuse-moves}
 
 -- ---- frames
 
@@ -45,17 +44,17 @@ not_yet confirmed [] f later =
 not_yet confirmed (g ∷ gs) f later = ap (λ (bytes : List ℕ). if nat_le g.mark confirmed then g.bytes ++ bytes else []) (not_yet confirmed gs f later)
 
 -- a reply that was put into an empty outbox is the client's next frame, and is not seen yet
-pub frames-gain : (limits : Limits) (confirmed mark accepted : ℕ) (old new : Outbox) (c : Client) (o : PlainOutcome) → limits.msgmnb ≤ standard_limits.msgmnb
+pub frames-gain : (limits : Limits) (confirmed mark accepted : ℕ) (old new : Outbox) (c : Client) (o : PlainOutcome) → ArePassed limits
     → HasFrames limits confirmed old c → IsTidy accepted c → confirmed < mark → IsEmpty old → GainsFrame old new (reply_of o) → FitsBody limits o.body
     → HasFrames limits confirmed new (with_frame c mark o)
 frames-gain limits confirmed mark accepted old new c o range has tidy later empty gain fits =
     let bytes : List ℕ = reply_bytes (reply_of o) in
     let f : Frame = record { mark = mark; bytes = bytes } in
-    let body = body-length limits o.body fits in
+    let bound = longest_reply-bound limits range in
     let start = old.fresh empty in
-    let room : old.end + length bytes ≤ vec_len old.buffer = omega (arith, start, has.room, reply-length (reply_of o), body) in
+    let room : old.end + length bytes ≤ vec_len old.buffer = omega (arith, start, has.room, reply-length (reply_of o), fits) in
     record {
-      waiting = gain.waiting room (omega (arith, body, range))
+      waiting = gain.waiting room (omega (arith, fits, bound))
           ∙ ap (λ (w : List ℕ). w ++ bytes) has.waiting
           ∙ sym (drop-append-le c.consumed (all_bytes c.frames) bytes tidy.consumed)
           ∙ ap (λ (w : List ℕ). drop c.consumed (all_bytes c.frames ++ w)) (sym (append-nil bytes))
@@ -67,58 +66,41 @@ frames-gain limits confirmed mark accepted old new c o range has tidy later empt
 
 -- ---- what a request asks for
 
-pub hello-asks : (limits : Limits) (h : Clients) (conn moment : ℕ) (c : Client) (request : PlainRequest) (cred : Cred) → c.process ≡ None → request.call ≡ Hello cred
+pub hello-asks : (limits : Limits) (h : Clients) (conn moment : ℕ) (c : Client) (request : PlainRequest) (cred : Cred) → c.process ≡ None → request.kind ≡ Hello cred
     → (on_request limits h conn c moment request false ≡ greet limits h conn c (Connect cred request.serial moment)) × (on_request limits h conn c moment request true ≡ refuse h conn c request.serial)
 hello-asks limits h conn moment c request cred none said = (rw none (rw said refl), rw none (rw said refl))
 
-abbrev pub IsNoHello : PlainCall → Type 0
-IsNoHello (Hello cred) = ⊥
-IsNoHello (Msgget key flags) = Unit {0}
-IsNoHello (Msgsnd id flags mtype text) = Unit {0}
-IsNoHello (Msgrcv id flags size mtype) = Unit {0}
+asks-call : (kind : PlainKind) → said_by kind ≡ None → (call : PlainCall) × (kind ≡ Calls call)
+asks-call (Hello cred) is = cc
+asks-call (Calls call) is = (call, refl)
 
-asks-none : (call : PlainCall) → said_by call ≡ None → IsNoHello call
-asks-none (Hello cred) is = cc
-asks-none (Msgget key flags) is = tt
-asks-none (Msgsnd id flags mtype text) is = tt
-asks-none (Msgrcv id flags size mtype) is = tt
-
-asks-hello : (call : PlainCall) (cred : Cred) → said_by call ≡ Some cred → call ≡ Hello cred
+asks-hello : (kind : PlainKind) (cred : Cred) → said_by kind ≡ Some cred → kind ≡ Hello cred
 asks-hello (Hello cred') cred is = let same : cred' ≡ cred = cc in ap Hello same
-asks-hello (Msgget key flags) cred is = cc
-asks-hello (Msgsnd id flags mtype text) cred is = cc
-asks-hello (Msgrcv id flags size mtype) cred is = cc
+asks-hello (Calls call) cred is = cc
 
-pub call-asks : (limits : Limits) (h : Clients) (conn pid moment : ℕ) (c : Client) (request : PlainRequest) (call : PlainCall) → c.process ≡ Some pid → request.call ≡ call → IsNoHello call
+pub call-asks : (limits : Limits) (h : Clients) (conn pid moment : ℕ) (c : Client) (request : PlainRequest) → c.process ≡ Some pid → said_by request.kind ≡ None
     → on_request limits h conn c moment request false ≡ accept limits h (Call pid request moment)
-call-asks limits h conn pid moment c request (Hello cred) mine said asks = absurd asks
-call-asks limits h conn pid moment c request (Msgget key flags) mine said asks = rw mine (rw said refl)
-call-asks limits h conn pid moment c request (Msgsnd id flags mtype text) mine said asks = rw mine (rw said refl)
-call-asks limits h conn pid moment c request (Msgrcv id flags size mtype) mine said asks = rw mine (rw said refl)
+call-asks limits h conn pid moment c request mine said = rw mine (rw (asks-call request.kind said).1 refl)
 
-pub call-refused : (limits : Limits) (h : Clients) (conn pid moment : ℕ) (c : Client) (request : PlainRequest) (call : PlainCall) → c.process ≡ Some pid → request.call ≡ call → IsNoHello call
-    → takes_memory call ≡ true → on_request limits h conn c moment request true ≡ refuse h conn c request.serial
-call-refused limits h conn pid moment c request (Hello cred) mine said asks takes = absurd asks
-call-refused limits h conn pid moment c request (Msgget key flags) mine said asks takes = rw mine (rw said refl)
-call-refused limits h conn pid moment c request (Msgsnd id flags mtype text) mine said asks takes = rw mine (rw said refl)
-call-refused limits h conn pid moment c request (Msgrcv id flags size mtype) mine said asks takes = cc
+pub call-refused : (limits : Limits) (h : Clients) (conn pid moment : ℕ) (c : Client) (request : PlainRequest) → c.process ≡ Some pid → said_by request.kind ≡ None
+    → takes_memory (Call pid request moment) ≡ true → on_request limits h conn c moment request true ≡ refuse h conn c request.serial
+call-refused limits h conn pid moment c request mine said takes =
+    let call = asks-call request.kind said in
+    ap (λ (p : Option ℕ). answered limits h conn c moment request true p request.kind) mine
+    ∙ ap (λ (k : PlainKind). answered limits h conn c moment request true (Some pid) k) call.1
+    ∙ ap (λ (b : Bool). if b then refuse h conn c request.serial else accept limits h (Call pid request moment)) takes
 
-pub hello-misplaced : (limits : Limits) (h : Clients) (conn pid moment : ℕ) (c : Client) (request : PlainRequest) (cred : Cred) (refused : Bool) → c.process ≡ Some pid → request.call ≡ Hello cred
+pub hello-misplaced : (limits : Limits) (h : Clients) (conn pid moment : ℕ) (c : Client) (request : PlainRequest) (cred : Cred) (refused : Bool) → c.process ≡ Some pid → request.kind ≡ Hello cred
     → on_request limits h conn c moment request refused ≡ break_off limits h conn c request.serial moment
-hello-misplaced limits h conn pid moment c request cred refused mine said = on_some c.process mine
-  where
-    on_some : (p : Option ℕ) → p ≡ Some pid → answered limits h conn c moment request refused p request.call ≡ break_off limits h conn c request.serial moment
-    on_some p is = rw is (rw said refl)
+hello-misplaced limits h conn pid moment c request cred refused mine said =
+    ap (λ (p : Option ℕ). answered limits h conn c moment request refused p request.kind) mine
+    ∙ ap (λ (k : PlainKind). answered limits h conn c moment request refused (Some pid) k) said
 
-pub call-misplaced : (limits : Limits) (h : Clients) (conn moment : ℕ) (c : Client) (request : PlainRequest) (call : PlainCall) (refused : Bool) → c.process ≡ None → request.call ≡ call → IsNoHello call
+pub call-misplaced : (limits : Limits) (h : Clients) (conn moment : ℕ) (c : Client) (request : PlainRequest) (refused : Bool) → c.process ≡ None → said_by request.kind ≡ None
     → on_request limits h conn c moment request refused ≡ break_off limits h conn c request.serial moment
-call-misplaced limits h conn moment c request call refused none said asks = on_none c.process none call said asks
-  where
-    on_none : (p : Option ℕ) → p ≡ None → (call : PlainCall) → request.call ≡ call → IsNoHello call → answered limits h conn c moment request refused p request.call ≡ break_off limits h conn c request.serial moment
-    on_none p is (Hello cred) said asks = absurd asks
-    on_none p is (Msgget key flags) said asks = rw is (rw said refl)
-    on_none p is (Msgsnd id flags mtype text) said asks = rw is (rw said refl)
-    on_none p is (Msgrcv id flags size mtype) said asks = rw is (rw said refl)
+call-misplaced limits h conn moment c request refused none said =
+    ap (λ (p : Option ℕ). answered limits h conn c moment request refused p request.kind) none
+    ∙ ap (λ (k : PlainKind). answered limits h conn c moment request refused None k) (asks-call request.kind said).1
 
 -- ---- what the engine did
 
@@ -131,12 +113,12 @@ hello-once limits s cred serial moment =
 abbrev pub Answers : Outbox → Outbox → Option Pid → Step → Type 0
 Answers old new process now = (o : PlainOutcome) → now.outcomes ≡ o ∷ [] → GainsFrame old new (reply_of o) × (pid_of process ≡ process_of o)
 
-module _ (limits : Limits) (confirmed : ℕ) (h : Clients) (conn : ℕ) (c : Client) (engine engine' : Engine) (process : Option Pid) (old new : Outbox)
-    (meets : Meets limits confirmed engine process old h conn c) (empty : IsEmpty old) (keeps : limits_of engine' ≡ limits_of engine) where
+module _ (limits : Limits) (confirmed : ℕ) (h : Clients) (conn : ℕ) (c : Client) (engine engine' : Machine) (process : Option Pid) (old new : Outbox)
+    (meets : Meets limits confirmed engine process old h conn c) (empty : IsEmpty old) (keeps : engine'.limits ≡ engine.limits) where
   tidy : IsTidy h.accepted c
   tidy = rw meets.found at (meets.runs.orderly.tidy conn)
 
-  pub greeted-meets : (cred : Cred) (serial moment : ℕ) (process' : Option Pid) → state_of engine' ≡ (step limits h.state (Connect cred serial moment)).state
+  pub greeted-meets : (cred : Cred) (serial moment : ℕ) (process' : Option Pid) → engine'.state ≡ (step limits h.state (Connect cred serial moment)).state
       → Answers old new process' (step limits h.state (Connect cred serial moment))
       → (d : Client) × (Meets limits confirmed engine' process' new (greet limits h conn c (Connect cred serial moment)) conn d × (d.ended ≡ c.ended))
   greeted-meets cred serial moment process' state answers =
@@ -160,11 +142,11 @@ module _ (limits : Limits) (confirmed : ℕ) (h : Clients) (conn : ℕ) (c : Cli
         ),
       )
 
-  pub called-meets : (pid moment : ℕ) (request : PlainRequest) (process' : Option Pid) → c.process ≡ Some pid → state_of engine' ≡ (step limits h.state (Call pid request moment)).state
+  pub called-meets : (pid moment : ℕ) (request : PlainRequest) (process' : Option Pid) → c.process ≡ Some pid → engine'.state ≡ (step limits h.state (Call pid request moment)).state
       → Answers old new process' (step limits h.state (Call pid request moment))
       → (d : Client) × (Meets limits confirmed engine' process new (accept limits h (Call pid request moment)) conn d × (d.ended ≡ c.ended))
   called-meets pid moment request process' mine state answers =
-      let o : PlainOutcome = record { pid = pid; serial = request.serial; errno = (attempt limits (at_moment h.state moment) pid request.call).errno; body = (attempt limits (at_moment h.state moment) pid request.call).body } in
+      let o : PlainOutcome = record { pid = pid; serial = request.serial; errno = (asked limits (at_moment h.state moment) pid request.kind).errno; body = (asked limits (at_moment h.state moment) pid request.kind).body } in
       let mark : ℕ = h.accepted + 1 in
       let d : Client = with_frame c mark o in
       let fits : FitsBody limits o.body = All-head (λ (p : PlainOutcome). FitsBody limits p.body) o [] (step-fits limits h.state (Call pid request moment) meets.runs.orderly.sound) in
@@ -182,7 +164,7 @@ module _ (limits : Limits) (confirmed : ℕ) (h : Clients) (conn : ℕ) (c : Cli
         ),
       )
 
-  pub refused-meets : (serial : ℕ) → state_of engine' ≡ state_of engine → GainsFrame old new (reply_of (refusal serial ENOMEM))
+  pub refused-meets : (serial : ℕ) → engine'.state ≡ engine.state → GainsFrame old new (reply_of (refusal serial ENOMEM))
       → (d : Client) × (Meets limits confirmed engine' process new (refuse h conn c serial) conn d × (d.ended ≡ c.ended))
   refused-meets serial state gains =
       let o : PlainOutcome = refusal serial ENOMEM in
@@ -212,58 +194,56 @@ pub failed : {A E : Type 0} (r : Result A E) (P : Type 0) → is_ok r ≡ false 
 failed (Ok a) P is p = cc
 failed (Err e) P is p = p
 
-module _ (engine engine' : Engine) (process process' : Option Pid) (old new : Outbox) (request : PlainRequest) (moment : ℕ)
-    (keeps : limits_of engine' ≡ limits_of engine) where
-  pub hello-served : (cred : Cred) → process ≡ None → said_by request.call ≡ Some cred
-      → state_of engine' ≡ (step (limits_of engine) (state_of engine) (Connect cred request.serial moment)).state
-      → Answers old new process' (step (limits_of engine) (state_of engine) (Connect cred request.serial moment))
+module _ (engine engine' : Machine) (process process' : Option Pid) (old new : Outbox) (request : PlainRequest) (moment : ℕ)
+    (keeps : engine'.limits ≡ engine.limits) where
+  pub hello-served : (cred : Cred) → process ≡ None → said_by request.kind ≡ Some cred
+      → engine'.state ≡ (step (engine.limits) (engine.state) (Connect cred request.serial moment)).state
+      → Answers old new process' (step (engine.limits) (engine.state) (Connect cred request.serial moment))
       → IsServed engine process old engine' process' new request moment
   hello-served cred none said state answers limits confirmed h conn c meets empty =
-      let asked = hello-asks limits h conn moment c request cred (sym meets.same ∙ ap pid_of none) (asks-hello request.call cred said) in
-      let same : step (limits_of engine) (state_of engine) (Connect cred request.serial moment) ≡ step limits h.state (Connect cred request.serial moment) =
-      ap (λ (l : Limits). step l (state_of engine) (Connect cred request.serial moment)) meets.runs.keeps ∙ ap (λ (s : State). step limits s (Connect cred request.serial moment)) meets.runs.state in
+      let asked = hello-asks limits h conn moment c request cred (sym meets.same ∙ ap pid_of none) (asks-hello request.kind cred said) in
+      let same : step (engine.limits) (engine.state) (Connect cred request.serial moment) ≡ step limits h.state (Connect cred request.serial moment) =
+      ap (λ (l : Limits). step l (engine.state) (Connect cred request.serial moment)) meets.runs.keeps ∙ ap (λ (s : State). step limits s (Connect cred request.serial moment)) meets.runs.state in
       let served = greeted-meets limits confirmed h conn c engine engine' process old new meets empty keeps cred request.serial moment process' (state ∙ ap (λ (t : Step). t.state) same)
       (λ o once. answers o (ap (λ (t : Step). t.outcomes) same ∙ once)) in
       (false, (served.0, (subst (λ (t : Clients). Meets limits confirmed engine' process' new t conn served.0) (sym asked.0) served.1.0, served.1.1)))
 
-  pub hello-refused : (cred : Cred) → process ≡ None → process' ≡ process → said_by request.call ≡ Some cred → state_of engine' ≡ state_of engine
+  pub hello-refused : (cred : Cred) → process ≡ None → process' ≡ process → said_by request.kind ≡ Some cred → engine'.state ≡ engine.state
       → GainsFrame old new (reply_of (refusal request.serial ENOMEM)) → IsServed engine process old engine' process' new request moment
   hello-refused cred none kept said state gains limits confirmed h conn c meets empty =
-      let asked = hello-asks limits h conn moment c request cred (sym meets.same ∙ ap pid_of none) (asks-hello request.call cred said) in
+      let asked = hello-asks limits h conn moment c request cred (sym meets.same ∙ ap pid_of none) (asks-hello request.kind cred said) in
       let served = refused-meets limits confirmed h conn c engine engine' process old new meets empty keeps request.serial state gains in
       (true, (served.0, (subst (λ (t : Clients). Meets limits confirmed engine' process' new t conn served.0) (sym asked.1) (subst (λ (p : Option Pid). Meets limits confirmed engine' p new (refuse h conn c request.serial) conn served.0) (sym kept) served.1.0), served.1.1)))
 
-  pub call-served : (pid : Pid) (answered_to : Option Pid) → process ≡ Some pid → process' ≡ process → said_by request.call ≡ None
-      → state_of engine' ≡ (step (limits_of engine) (state_of engine) (Call pid.0 request moment)).state
-      → Answers old new answered_to (step (limits_of engine) (state_of engine) (Call pid.0 request moment))
+  pub call-served : (pid : Pid) (answered_to : Option Pid) → process ≡ Some pid → process' ≡ process → said_by request.kind ≡ None
+      → engine'.state ≡ (step (engine.limits) (engine.state) (Call pid.0 request moment)).state
+      → Answers old new answered_to (step (engine.limits) (engine.state) (Call pid.0 request moment))
       → IsServed engine process old engine' process' new request moment
   call-served pid answered_to mine kept said state answers limits confirmed h conn c meets empty =
       let own : c.process ≡ Some pid.0 = sym meets.same ∙ ap pid_of mine in
-      let asked = call-asks limits h conn pid.0 moment c request request.call own refl (asks-none request.call said) in
-      let same : step (limits_of engine) (state_of engine) (Call pid.0 request moment) ≡ step limits h.state (Call pid.0 request moment) =
-      ap (λ (l : Limits). step l (state_of engine) (Call pid.0 request moment)) meets.runs.keeps ∙ ap (λ (s : State). step limits s (Call pid.0 request moment)) meets.runs.state in
+      let asked = call-asks limits h conn pid.0 moment c request own said in
+      let same : step (engine.limits) (engine.state) (Call pid.0 request moment) ≡ step limits h.state (Call pid.0 request moment) =
+      ap (λ (l : Limits). step l (engine.state) (Call pid.0 request moment)) meets.runs.keeps ∙ ap (λ (s : State). step limits s (Call pid.0 request moment)) meets.runs.state in
       let served = called-meets limits confirmed h conn c engine engine' process old new meets empty keeps pid.0 moment request answered_to own (state ∙ ap (λ (t : Step). t.state) same)
       (λ o once. answers o (ap (λ (t : Step). t.outcomes) same ∙ once)) in
       (false, (served.0, (subst (λ (t : Clients). Meets limits confirmed engine' process' new t conn served.0) (sym asked) (subst (λ (p : Option Pid). Meets limits confirmed engine' p new (accept limits h (Call pid.0 request moment)) conn served.0) (sym kept) served.1.0), served.1.1)))
 
-  pub call-not-served : (pid : Pid) → process ≡ Some pid → process' ≡ process → said_by request.call ≡ None → takes_memory request.call ≡ true → state_of engine' ≡ state_of engine
+  pub call-not-served : (pid : Pid) → process ≡ Some pid → process' ≡ process → said_by request.kind ≡ None → takes_memory (Call pid.0 request moment) ≡ true → engine'.state ≡ engine.state
       → GainsFrame old new (reply_of (refusal request.serial ENOMEM)) → IsServed engine process old engine' process' new request moment
   call-not-served pid mine kept said takes state gains limits confirmed h conn c meets empty =
       let own : c.process ≡ Some pid.0 = sym meets.same ∙ ap pid_of mine in
-      let asked = call-refused limits h conn pid.0 moment c request request.call own refl (asks-none request.call said) takes in
+      let asked = call-refused limits h conn pid.0 moment c request own said takes in
       let served = refused-meets limits confirmed h conn c engine engine' process old new meets empty keeps request.serial state gains in
       (true, (served.0, (subst (λ (t : Clients). Meets limits confirmed engine' process' new t conn served.0) (sym asked) (subst (λ (p : Option Pid). Meets limits confirmed engine' p new (refuse h conn c request.serial) conn served.0) (sym kept) served.1.0), served.1.1)))
 
--- only a call that takes memory is refused for it
-pub refused-takes : {A E : Type 0} (call : PlainCall) (r : Result A E) → said_by call ≡ None → is_ok r ≡ false → (TakesNoMemory call → IsOk r) → takes_memory call ≡ true
-refused-takes (Hello cred) r said failed must = cc
-refused-takes (Msgget key flags) r said failed must = refl
-refused-takes (Msgsnd id flags mtype text) r said failed must = refl
-refused-takes (Msgrcv id flags size mtype) r said failed must = let never : true ≡ false = sym (must tt) ∙ failed in cc
+-- only an event that may need memory is refused for it
+pub refused-takes : {A E : Type 0} (takes : Bool) (r : Result A E) → is_ok r ≡ false → (takes ≡ false → IsOk r) → takes ≡ true
+refused-takes true r failed must = refl
+refused-takes false r failed must = let never : true ≡ false = sym (must refl) ∙ failed in cc
 
-module _ (engine : Engine) (process : Option Pid) (old : Outbox) (request : PlainRequest) (moment : ℕ) where
+module _ (engine : Machine) (process : Option Pid) (old : Outbox) (request : PlainRequest) (moment : ℕ) where
   -- a process of a connection is connected
-  pub always-connected : (pid : Pid) → process ≡ Some pid → is_process (state_of engine) pid.0 ≡ false → IsMisplaced engine process old engine process old request moment
+  pub always-connected : (pid : Pid) → process ≡ Some pid → is_process (engine.state) pid.0 ≡ false → IsMisplaced engine process old engine process old request moment
   always-connected pid mine apart = (
     refl,
     refl,
@@ -274,10 +254,10 @@ module _ (engine : Engine) (process : Option Pid) (old : Outbox) (request : Plai
         cc,
   )
 
-  pub none-misplaced : process ≡ None → said_by request.call ≡ None → IsMisplaced engine process old engine process old request moment
+  pub none-misplaced : process ≡ None → said_by request.kind ≡ None → IsMisplaced engine process old engine process old request moment
   none-misplaced none said =
-      (refl, refl, refl, λ limits confirmed h conn c meets refused. call-misplaced limits h conn moment c request request.call refused (sym meets.same ∙ ap pid_of none) refl (asks-none request.call said))
+      (refl, refl, refl, λ limits confirmed h conn c meets refused. call-misplaced limits h conn moment c request refused (sym meets.same ∙ ap pid_of none) said)
 
-  pub some-misplaced : (pid : Pid) (cred : Cred) → process ≡ Some pid → said_by request.call ≡ Some cred → IsMisplaced engine process old engine process old request moment
+  pub some-misplaced : (pid : Pid) (cred : Cred) → process ≡ Some pid → said_by request.kind ≡ Some cred → IsMisplaced engine process old engine process old request moment
   some-misplaced pid cred mine said =
-      (refl, refl, refl, λ limits confirmed h conn c meets refused. hello-misplaced limits h conn pid.0 moment c request cred refused (sym meets.same ∙ ap pid_of mine) (asks-hello request.call cred said))
+      (refl, refl, refl, λ limits confirmed h conn c meets refused. hello-misplaced limits h conn pid.0 moment c request cred refused (sym meets.same ∙ ap pid_of mine) (asks-hello request.kind cred said))

@@ -7,9 +7,9 @@ use Rattle.ipc_wire.specs.Request.{PlainRequest}
 use Rattle.ipc_wire.specs.Stream.{PlainFrame, first, Stream, begins_with, stream_of}
 use Rattle.ipc_wire.specs.Stream.PlainFrame.{More, Whole, Fault}
 use Rattle.ipc_wire.specs.Stream.Ending.{Rest}
-use Rattle.ipc_wire.proofs.Frames.{first_short, whole_last}
-use Rattle.ipc_engine.specs.declared.engine.Engine.{Engine}
-use Rattle.ipc_engine.specs.Engine.{limits_of, state_of}
+use Rattle.ipc_wire.proofs.CallerLemmas.{first_short, whole_last}
+use Rattle.ipc_engine.specs.Engine.{Machine}
+
 use Rattle.ipc_engine.specs.State.{State, is_process}
 use Rattle.ipc_engine.specs.View.{reply_of}
 use Rattle.ipc_base.specs.declared.identity.Pid.{Pid}
@@ -20,7 +20,7 @@ use Rattle.ipc_hub.specs.Orderly.{IsTidy, IsOrderly}
 use Rattle.ipc_hub.specs.Outbox.{IsEmpty, GainsFrame, HasFrames}
 use Rattle.ipc_hub.specs.Serving.{pid_of, Meets, IsServed}
 use Rattle.ipc_hub.specs.Serves.{IsClient, AreClient, Serves, TakesIn, BreaksOff, left, IsConnected}
-use Rattle.ipc_hub.proofs.Tables.{at-with, own}
+use Rattle.ipc_base.proofs.CallerLemmas.{at-with, own}
 use Rattle.ipc_hub.proofs.Moves.{Moves, broken, break_off-moves, keep-moves, process_in}
 use Rattle.ipc_hub.proofs.Pieces.{begun, acts, ended-stays, request-keeps_by, settled, emptied, take_in-acts, take_in-moves, take_in-nothing, take_in-pieces, left_at}
 use Rattle.ipc_hub.proofs.Serving.{frames-gain}
@@ -48,8 +48,8 @@ connected-in limits h conn s None o same is = tt
 connected-in limits h conn s (Some pid) o same is = ap (λ (t : State). is_process t pid) same ∙ o.connected conn pid is
 
 -- the server has ended the connection
-pub breaks-off : (engine engine' : Engine) (c c' : Connection) (serial moment : ℕ) → IsEmpty c.outbox → limits_of engine' ≡ limits_of engine
-    → (IsConnected (state_of engine) (pid_of c.process) → state_of engine' ≡ left (state_of engine) (pid_of c.process) moment)
+pub breaks-off : (engine engine' : Machine) (c c' : Connection) (serial moment : ℕ) → IsEmpty c.outbox → engine'.limits ≡ engine.limits
+    → (IsConnected (engine.state) (pid_of c.process) → engine'.state ≡ left (engine.state) (pid_of c.process) moment)
     → c'.process ≡ None → c'.input ≡ c.input → c'.ended ≡ true → GainsFrame c.outbox c'.outbox (reply_of (refusal serial EPROTO))
     → BreaksOff engine c engine' c' serial moment
 breaks-off engine engine' c c' serial moment empty keeps state none input ended gains limits confirmed h conn cl meets cleared =
@@ -59,7 +59,7 @@ breaks-off engine engine' c c' serial moment empty keeps state none input ended 
     let moved = break_off-moves limits h conn serial moment cl meets.runs.range meets.runs.orderly meets.found in
     let tidy : IsTidy h.accepted cl = rw meets.found at (meets.runs.orderly.tidy conn) in
     let has = frames-gain limits confirmed went.accepted h.accepted c.outbox c'.outbox cl (refusal serial EPROTO) meets.runs.range meets.frames tidy (omega (arith, later, meets.runs.later)) empty gains tt in
-    let there = connected-in limits h conn (state_of engine) (pid_of c.process) meets.runs.orderly meets.runs.state (ap process_in meets.found ∙ sym meets.same) in
+    let there = connected-in limits h conn (engine.state) (pid_of c.process) meets.runs.orderly meets.runs.state (ap process_in meets.found ∙ sym meets.same) in
     let found : client_at (break_off limits h conn cl serial moment) conn ≡ Some now = at-with went.clients conn now cl (left_at limits h conn moment cl.process ∙ meets.found) in
     record {
       runs = record {
@@ -74,16 +74,16 @@ breaks-off engine engine' c c' serial moment empty keeps state none input ended 
     }
 
 -- nothing of the client was touched
-pub same-meets : (limits : Limits) (confirmed : ℕ) (engine engine' : Engine) (process process' : Option Pid) (outbox outbox' : Outbox) (h : Clients) (conn : ℕ) (cl : Client)
+pub same-meets : (limits : Limits) (confirmed : ℕ) (engine engine' : Machine) (process process' : Option Pid) (outbox outbox' : Outbox) (h : Clients) (conn : ℕ) (cl : Client)
     → engine' ≡ engine → process' ≡ process → outbox' ≡ outbox → Meets limits confirmed engine process outbox h conn cl → Meets limits confirmed engine' process' outbox' h conn cl
 same-meets limits confirmed engine engine' process process' outbox outbox' h conn cl e p o meets =
-    subst (λ (x : Engine). Meets limits confirmed x process' outbox' h conn cl) (sym e)
+    subst (λ (x : Machine). Meets limits confirmed x process' outbox' h conn cl) (sym e)
     (subst (λ (x : Option Pid). Meets limits confirmed engine x outbox' h conn cl) (sym p)
     (subst (λ (x : Outbox). Meets limits confirmed engine process x h conn cl) (sym o) meets))
 
 -- ---- one byte
 
-module _ (limits : Limits) (confirmed : ℕ) (engine : Engine) (c : Connection) (h : Clients) (conn byte moment : ℕ) (serves : Serves limits confirmed engine c h conn) where
+module _ (limits : Limits) (confirmed : ℕ) (engine : Machine) (c : Connection) (h : Clients) (conn byte moment : ℕ) (serves : Serves limits confirmed engine c h conn) where
   abbrev pub cl : Client
   cl = (client-of limits confirmed c (client_at h conn) serves.client).0
 
@@ -153,7 +153,7 @@ module _ (limits : Limits) (confirmed : ℕ) (engine : Engine) (c : Connection) 
       })
 
   -- a fault
-  pub takes-fault : (engine' : Engine) (c' : Connection) (serial : ℕ) → c.ended ≡ false → first bytes ≡ Fault serial
+  pub takes-fault : (engine' : Machine) (c' : Connection) (serial : ℕ) → c.ended ≡ false → first bytes ≡ Fault serial
       → Serves limits confirmed engine' c' (break_off limits bare conn e serial moment) conn → Serves limits confirmed engine' c' (take_in limits h conn (byte ∷ []) moment []) conn
   takes-fault engine' c' serial live is broke =
       let to : take_in limits h conn (byte ∷ []) moment [] ≡ break_off limits bare conn e serial moment =
@@ -180,7 +180,7 @@ module _ (limits : Limits) (confirmed : ℕ) (engine : Engine) (c : Connection) 
       ∙ ap (λ (t : Clients). on_ending limits t conn moment (Rest [])) (acts bare conn (λ x. on_request limits bare conn x moment request refused) e bare-found (sym same.ended ∙ live))
 
   -- a request that was answered
-  pub takes-served : (engine' : Engine) (c' : Connection) (used : ℕ) (request : PlainRequest) → c.ended ≡ false → IsEmpty c.outbox → first bytes ≡ Whole used request
+  pub takes-served : (engine' : Machine) (c' : Connection) (used : ℕ) (request : PlainRequest) → c.ended ≡ false → IsEmpty c.outbox → first bytes ≡ Whole used request
       → IsServed engine c.process c.outbox engine' c'.process c'.outbox request moment → c'.input.items ≡ [] → c'.ended ≡ c.ended
       → (refused : List Bool) × Serves limits confirmed engine' c' (take_in limits h conn (byte ∷ []) moment refused) conn
   takes-served engine' c' used request live empty is served input ended =
@@ -189,7 +189,7 @@ module _ (limits : Limits) (confirmed : ℕ) (engine : Engine) (c : Connection) 
       let d : Client = done.1.0 in
       let meets = done.1.1.0 in
       let after : Clients = on_request limits bare conn e moment request refused in
-      let kept : d.input ≡ [] = request-keeps_by limits bare conn moment e request refused e.process request.call (λ x found'. let one : e ≡ x = some_same e x (sym bare-found ∙ found') in subst (λ (y : Client). y.input ≡ []) one refl) refl d meets.found in
+      let kept : d.input ≡ [] = request-keeps_by limits bare conn moment e request refused e.process request.kind (λ x found'. let one : e ≡ x = some_same e x (sym bare-found ∙ found') in subst (λ (y : Client). y.input ≡ []) one refl) refl d meets.found in
       let whole : record d { input = [] } ≡ d = ap (λ (i : List ℕ). record d { input = i }) (sym kept) in
       let to : take_in limits h conn (byte ∷ []) moment (refused ∷ []) ≡ after =
       taken-whole refused used request live is
@@ -209,7 +209,7 @@ module _ (limits : Limits) (confirmed : ℕ) (engine : Engine) (c : Connection) 
       some_same x y is = cc
 
   -- a request that has no place
-  pub takes-misplaced : (engine' : Engine) (c' : Connection) (used : ℕ) (request : PlainRequest) → c.ended ≡ false → first bytes ≡ Whole used request
+  pub takes-misplaced : (engine' : Machine) (c' : Connection) (used : ℕ) (request : PlainRequest) → c.ended ≡ false → first bytes ≡ Whole used request
       → ((refused : Bool) → on_request limits bare conn e moment request refused ≡ break_off limits bare conn e request.serial moment)
       → Serves limits confirmed engine' c' (break_off limits bare conn e request.serial moment) conn
       → (refused : List Bool) × Serves limits confirmed engine' c' (take_in limits h conn (byte ∷ []) moment refused) conn
@@ -232,7 +232,7 @@ module _ (limits : Limits) (confirmed : ℕ) (engine : Engine) (c : Connection) 
 
 -- ---- bytes in a row
 
-pub takes-none : (engine : Engine) (c : Connection) (moment : ℕ) → TakesIn engine c engine c [] moment
+pub takes-none : (engine : Machine) (c : Connection) (moment : ℕ) → TakesIn engine c engine c [] moment
 takes-none engine c moment limits confirmed h conn serves =
     let has = client-of limits confirmed c (client_at h conn) serves.client in
     let tidy : IsTidy h.accepted has.0 = rw has.1.0 at (serves.runs.orderly.tidy conn) in (
@@ -244,7 +244,7 @@ takes-none engine c moment limits confirmed h conn serves =
     some_same : (x y : Client) → Some x ≡ Some y → x ≡ y
     some_same x y is = cc
 
-pub takes-then : (one two three : Engine) (c d f : Connection) (bytes more : List ℕ) (moment : ℕ) → TakesIn one c two d bytes moment → TakesIn two d three f more moment
+pub takes-then : (one two three : Machine) (c d f : Connection) (bytes more : List ℕ) (moment : ℕ) → TakesIn one c two d bytes moment → TakesIn two d three f more moment
     → TakesIn one c three f (bytes ++ more) moment
 takes-then one two three c d f bytes more moment first_part second_part limits confirmed h conn serves =
     let a = first_part limits confirmed h conn serves in

@@ -5,12 +5,13 @@ use Rattle.std.specs.List.{flat_map}
 use Rattle.ipc_base.specs.declared.errno.Errno.TheVariants.{ENOMEM, EPROTO}
 use Rattle.ipc_base.specs.declared.errno.Errno.{Errno}
 use Rattle.ipc_base.specs.declared.limits.Limits.{Limits}
-use Rattle.ipc_wire.specs.Request.{PlainCall, PlainRequest}
-use Rattle.ipc_wire.specs.Request.PlainCall.{Hello, Msgget, Msgsnd, Msgrcv}
-use Rattle.ipc_wire.specs.Reply.{Empty, reply_bytes}
+use Rattle.ipc_wire.specs.Request.{PlainKind, PlainRequest, Hello, Calls}
+use Rattle.ipc_wire.specs.declared.reply.Body.TheVariants.{Empty}
+use Rattle.ipc_wire.specs.Reply.{reply_bytes}
+use Rattle.ipc_engine.specs.Engine.{takes_memory}
 use Rattle.ipc_wire.specs.Stream.{Ending, stream_of}
 use Rattle.ipc_wire.specs.Stream.Ending.{Rest, Broken}
-use Rattle.ipc_engine.specs.Table.{value_at, with_value, without}
+use Rattle.ipc_base.specs.Table.{value_at, with_value, without}
 use Rattle.ipc_engine.specs.State.{State}
 use Rattle.ipc_engine.specs.Event.{PlainEvent, Connect, Call, Tick, Exit, PlainOutcome}
 use Rattle.ipc_engine.specs.Step.{step}
@@ -120,25 +121,18 @@ break_off limits h conn c serial moment =
 abbrev pub refuse : Clients → ℕ → Client → ℕ → Clients
 refuse h conn c serial = with_client h conn (with_frame c h.accepted (refusal serial ENOMEM))
 
--- the calls that may be refused for memory: those that make something
-abbrev pub takes_memory : PlainCall → Bool
-takes_memory (Hello cred) = true
-takes_memory (Msgget key flags) = true
-takes_memory (Msgsnd id flags mtype text) = true
-takes_memory (Msgrcv id flags size mtype) = false
-
--- A request of a client with or without a process, by its call: a HELLO without a process, another call with one.
--- Any other has no place here. Refused says whether memory was refused, which only a call that takes some can meet.
-abbrev pub answered : Limits → Clients → ℕ → Client → ℕ → PlainRequest → Bool → Option ℕ → PlainCall → Clients
+-- A request of a client: a HELLO if it has no process, a call if it has one. Any other has no place here. Refused says
+-- whether memory was refused, which only an event that may need some can meet.
+abbrev pub answered : Limits → Clients → ℕ → Client → ℕ → PlainRequest → Bool → Option ℕ → PlainKind → Clients
 answered limits h conn c moment request refused None (Hello cred) =
     if refused then refuse h conn c request.serial else greet limits h conn c (Connect cred request.serial moment)
-answered limits h conn c moment request refused None call = break_off limits h conn c request.serial moment
+answered limits h conn c moment request refused None (Calls call) = break_off limits h conn c request.serial moment
 answered limits h conn c moment request refused (Some pid) (Hello cred) = break_off limits h conn c request.serial moment
-answered limits h conn c moment request refused (Some pid) call =
-    if refused && takes_memory call then refuse h conn c request.serial else accept limits h (Call pid request moment)
+answered limits h conn c moment request refused (Some pid) (Calls call) =
+    if refused && takes_memory (Call pid request moment) then refuse h conn c request.serial else accept limits h (Call pid request moment)
 
 abbrev pub on_request : Limits → Clients → ℕ → Client → ℕ → PlainRequest → Bool → Clients
-on_request limits h conn c moment request refused = answered limits h conn c moment request refused c.process request.call
+on_request limits h conn c moment request refused = answered limits h conn c moment request refused c.process request.kind
 
 -- what a connection does, unless it has ended
 abbrev pub unless_ended : Clients → ℕ → (Client → Clients) → Clients

@@ -1,7 +1,7 @@
 -- What a caller sees of the hub.
 use Rattle.std.specs.Prelude.{◌≡◌, vec_len, ℕ, Bool, false, nat_eq, List, [], map, Option, Some, None, is_some, IfSome}
-use Rattle.ipc_engine.specs.declared.engine.Engine.{Engine}
-use Rattle.ipc_engine.specs.Table.{value_at, keys_of}
+use Rattle.ipc_engine.specs.Engine.{Machine}
+use Rattle.ipc_base.specs.Table.{value_at, keys_of}
 use Rattle.ipc_hub.specs.declared.connection.Connection.{Connection}
 use Rattle.ipc_hub.specs.declared.hub.Hub.{Hub}
 use Rattle.ipc_hub.specs.Outbox.{waiting, visible, IsEmpty}
@@ -17,8 +17,8 @@ abbrev pub numbers : Hub → List ℕ
 numbers h = keys_of (rows h)
 
 -- all that the hub is
-abbrev pub parts : Hub → Engine × List Connection
-parts h = (h.engine, h.connections.items)
+abbrev pub parts : Hub → Machine × List Connection × ℕ
+parts h = (h.engine, h.connections.items, h.room)
 
 -- the connection that has the number
 abbrev pub connection_of : Hub → ℕ → Option Connection

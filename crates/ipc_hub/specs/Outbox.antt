@@ -1,6 +1,7 @@
 -- What an outbox keeps: the bytes that wait, and of these the ones that the client may see.
 use Rattle.std.specs.Prelude.{◌≡◌, ℕ, ◌+◌, ◌^◌, ◌<◌, ◌≤◌, List, ◌++◌, length, drop, slice_range, vec_len}
 use Rattle.ipc_base.specs.declared.limits.Limits.{Limits}
+use Rattle.ipc_base.specs.Limits.{longest_reply}
 use Rattle.ipc_wire.specs.Reply.{PlainReply, reply_bytes, body_bytes}
 use Rattle.ipc_hub.specs.declared.outbox.Outbox.{Outbox}
 use Rattle.ipc_hub.specs.Clients.{Client, all_bytes, confirmed_bytes, shown}
@@ -21,13 +22,9 @@ pub record GainsFrame (old new : Outbox) (r : PlainReply) : Type 0 where
   pub visible : visible new ≡ visible old
   pub room : vec_len new.buffer ≡ vec_len old.buffer
 
--- the bytes of a reply round the text of a message: length, serial, error number, type
-abbrev pub reply_head : ℕ
-reply_head = 18
-
 -- an outbox has the frames of a client, and shows those that are confirmed
 pub record HasFrames (limits : Limits) (confirmed : ℕ) (outbox : Outbox) (client : Client) : Type 0 where
   pub waiting : waiting outbox ≡ drop client.consumed (all_bytes client.frames)
   pub visible : visible outbox ≡ shown confirmed client
   pub seen : client.consumed ≤ length (confirmed_bytes confirmed client.frames)
-  pub room : vec_len outbox.buffer ≡ reply_head + limits.msgmnb
+  pub room : vec_len outbox.buffer ≡ longest_reply limits

@@ -1,8 +1,8 @@
 -- What a connection does to the engine and to itself.
 use Rattle.std.specs.Prelude.{◌≡◌, ℕ, true, Bool, List, [], Option, Some, None}
 use Rattle.ipc_base.specs.declared.limits.Limits.{Limits}
-use Rattle.ipc_engine.specs.declared.engine.Engine.{Engine}
-use Rattle.ipc_engine.specs.Engine.{limits_of, state_of}
+use Rattle.ipc_engine.specs.Engine.{Machine}
+
 use Rattle.ipc_engine.specs.State.{State, is_process}
 use Rattle.ipc_engine.specs.Step.{at_moment, exit}
 use Rattle.ipc_hub.specs.declared.connection.Connection.{Connection}
@@ -24,18 +24,18 @@ AreClient limits confirmed (Some c) None = ⊥
 AreClient limits confirmed (Some c) (Some client) = IsClient limits confirmed c client
 
 -- engine and connection are those of the client that a number has
-pub record Serves (limits : Limits) (confirmed : ℕ) (engine : Engine) (c : Connection) (h : Clients) (conn : ℕ) : Type 0 where
+pub record Serves (limits : Limits) (confirmed : ℕ) (engine : Machine) (c : Connection) (h : Clients) (conn : ℕ) : Type 0 where
   pub runs : Runs limits confirmed engine h
   pub client : AreClient limits confirmed (Some c) (client_at h conn)
 
 -- bytes were taken in; some of the requests in them may have been refused for memory
-abbrev pub TakesIn : Engine → Connection → Engine → Connection → List ℕ → ℕ → Type 0
+abbrev pub TakesIn : Machine → Connection → Machine → Connection → List ℕ → ℕ → Type 0
 TakesIn engine c engine' c' bytes moment =
     (limits : Limits) (confirmed : ℕ) (h : Clients) (conn : ℕ) → Serves limits confirmed engine c h conn
     → (refused : List Bool) × Serves limits confirmed engine' c' (take_in limits h conn bytes moment refused) conn
 
 -- the server has ended the connection
-abbrev pub BreaksOff : Engine → Connection → Engine → Connection → ℕ → ℕ → Type 0
+abbrev pub BreaksOff : Machine → Connection → Machine → Connection → ℕ → ℕ → Type 0
 BreaksOff engine c engine' c' serial moment =
     (limits : Limits) (confirmed : ℕ) (h : Clients) (conn : ℕ) → (client : Client) → Meets limits confirmed engine c.process c.outbox h conn client → c.input.items ≡ []
     → Serves limits confirmed engine' c' (break_off limits h conn client serial moment) conn
@@ -51,9 +51,9 @@ IsConnected s None = Unit {0}
 IsConnected s (Some pid) = is_process s pid ≡ true
 
 -- the process has left, and nothing else has changed
-pub record Leaves (engine : Engine) (c : Connection) (engine' : Engine) (c' : Connection) (moment : ℕ) : Type 0 where
-  pub keeps : limits_of engine' ≡ limits_of engine
-  pub state : IsConnected (state_of engine) (pid_of c.process) → state_of engine' ≡ left (state_of engine) (pid_of c.process) moment
+pub record Leaves (engine : Machine) (c : Connection) (engine' : Machine) (c' : Connection) (moment : ℕ) : Type 0 where
+  pub keeps : engine'.limits ≡ engine.limits
+  pub state : IsConnected (engine.state) (pid_of c.process) → engine'.state ≡ left (engine.state) (pid_of c.process) moment
   pub process : c'.process ≡ None
   pub number : c'.number ≡ c.number
   pub input : c'.input ≡ c.input

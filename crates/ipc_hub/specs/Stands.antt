@@ -3,9 +3,9 @@
 -- that are confirmed.
 use Rattle.std.specs.Prelude.{◌≡◌, ℕ, ◌≤◌, List, Bool, nat_eq}
 use Rattle.ipc_base.specs.declared.limits.Limits.{Limits}
-use Rattle.ipc_base.specs.Limits.{standard_limits}
-use Rattle.ipc_engine.specs.Table.{value_at, keys_of}
-use Rattle.ipc_engine.specs.Engine.{limits_of, state_of}
+use Rattle.ipc_base.specs.Limits.{ArePassed, longest_reply}
+use Rattle.ipc_base.specs.Table.{value_at, keys_of}
+
 use Rattle.ipc_hub.specs.declared.hub.Hub.{Hub}
 use Rattle.ipc_hub.specs.Clients.{Clients, client_at, feed}
 use Rattle.ipc_hub.specs.Orderly.{IsOrderly}
@@ -14,13 +14,14 @@ use Rattle.ipc_hub.specs.Hub.{numbers, rows}
 
 -- the code's hub stands for this one when so many events are confirmed
 pub record Stands (limits : Limits) (confirmed : ℕ) (hub : Hub) (h : Clients) : Type 0 where
-  pub keeps : limits_of hub.engine ≡ limits
-  pub state : state_of hub.engine ≡ h.state
+  pub keeps : hub.engine.limits ≡ limits
+  pub state : hub.engine.state ≡ h.state
   pub numbers : numbers hub ≡ keys_of h.clients
   pub clients : (conn : ℕ) → AreClient limits confirmed (value_at nat_eq (rows hub) conn) (client_at h conn)
   pub orderly : IsOrderly limits h
-  -- as `Limits::check` asks: a reply is not too long for its length field
-  pub range : limits.msgmnb ≤ standard_limits.msgmnb
+  -- a connection has room for the longest reply
+  pub range : ArePassed limits
+  pub room : hub.room ≡ longest_reply limits
   pub known : confirmed ≤ h.accepted
 
 -- a call takes whatever the hub stands for so far, with what is confirmed, to this

@@ -2,7 +2,7 @@
 
 ghost use Rattle.std.specs.Prelude.{◌≡◌, ◌<◌, ◌≤◌, ◌∷◌, [], None, true, false, IfOk, length, map, take, vec_len, vec_capacity};
 ghost use Rattle.std.specs.Bool.{OnTrue, OnFalse};
-ghost use Rattle.ipc_wire.specs.Request.{plain_call, plain_request};
+ghost use Rattle.ipc_wire.specs.Request.{plain_kind, plain_request};
 ghost use Rattle.ipc_wire.specs.Reply.{plain_reply};
 ghost use Rattle.ipc_engine.specs.View.{plain_outcome, reply_of};
 ghost use Rattle.ipc_hub.specs.Clients.{refusal as refusal_of, process_of};
@@ -13,7 +13,7 @@ ghost use Rattle.ipc_hub.specs.Outbox.{GainsFrame};
 use crate::outbox::Outbox;
 use ipc_base::{Cred, Errno, Moment, Pid};
 use ipc_engine::{Engine, Event, Outcome};
-use ipc_wire::{Body, Call, Frame, GREATEST_FRAME, Reply, Request, read_frame};
+use ipc_wire::{Body, Frame, GREATEST_FRAME, Reply, Request, RequestKind, read_frame};
 use std::alloc::{AllocError, Global};
 
 /// A connection. All its buffers are made with it.
@@ -139,7 +139,7 @@ fn serve(
     ensures misplaced { OnFalse result (IsMisplaced engine.old process.old outbox.old engine.new process.new outbox.new (plain_request request.now) moment.0) }
 {
     let serial = request.serial;
-    match (*process, hello_of(&request.call)) {
+    match (*process, hello_of(&request.kind)) {
         (None, Some(cred)) => {
             let hello = Event::Connect {
                 cred,
@@ -173,13 +173,13 @@ fn serve(
     }
 }
 
-/// Who says HELLO, if the call is one.
-fn hello_of(call: &Call<'_>) -> Option<Cred>
-    ensures { result ≡ said_by (plain_call call.now) }
+/// Who says HELLO, if the request is one.
+fn hello_of(kind: &RequestKind<'_>) -> Option<Cred>
+    ensures { result ≡ said_by (plain_kind kind.now) }
 {
-    match call {
-        Call::Hello(cred) => Some(*cred),
-        Call::Msgget { .. } | Call::Msgsnd { .. } | Call::Msgrcv { .. } => None,
+    match kind {
+        RequestKind::Hello(cred) => Some(*cred),
+        RequestKind::Call(_) => None,
     }
 }
 

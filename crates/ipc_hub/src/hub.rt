@@ -2,8 +2,6 @@
 
 ghost use Rattle.std.specs.Prelude.{◌≡◌, ◌==◌, ◌<◌, ◌≤◌, ◌↔◌, ℕ, get_or, length, drop, take, position, true, false, IfOk, IsErr, OnErr, OnOk, Err};
 ghost use Rattle.ipc_base.specs.declared.limits.Limits.{Limits};
-ghost use Rattle.ipc_base.specs.Limits.{standard_limits};
-ghost use Rattle.ipc_engine.specs.Engine.{limits_of, state_of as machine_state};
 ghost use Rattle.ipc_engine.specs.Step.{at_moment};
 ghost use Rattle.ipc_hub.specs.declared.connection.Connection.{Connection};
 ghost use Rattle.ipc_hub.specs.Hub.{Releases};
@@ -35,6 +33,8 @@ pub struct Hub {
     alloc: Global,
     engine: Engine,
     connections: Vec<Connection>,
+    /// The bytes of the longest reply.
+    room: usize,
 }
 
 impl Hub {
@@ -43,12 +43,14 @@ impl Hub {
 
     /// A hub without connections. It takes no memory.
     pub fn new(alloc: Global, engine: Engine) -> Hub
-        ensures { (limits_of engine).msgmnb ≤ standard_limits.msgmnb → Stands (limits_of engine) 0 result (no_clients (machine_state engine)) }
+        ensures { Stands engine.limits 0 result (no_clients engine.state) }
     {
+        let room = engine.limits().longest_reply();
         Hub {
             alloc,
             engine,
             connections: Vec::new(alloc),
+            room,
         }
     }
 
@@ -73,8 +75,7 @@ impl Hub {
         ensures ok { OnOk result (Takes self.old self.new (λ _ h. connect h conn)) }
         ensures err { OnErr result (parts self.new ≡ parts self.old) }
     {
-        let room = REPLY_HEAD + self.engine.limits().msgmnb as usize;
-        let connection = Connection::new(self.alloc, conn, room)?;
+        let connection = Connection::new(self.alloc, conn, self.room)?;
         self.connections.push(connection)?;
         Ok(())
     }
@@ -177,8 +178,8 @@ impl Hub {
 
 /// Time passes.
 fn pass(engine: &mut Engine, moment: Moment)
-    ensures limits { limits_of engine.new ≡ limits_of engine.old }
-    ensures state { machine_state engine.new ≡ at_moment (machine_state engine.old) moment.0 }
+    ensures limits { engine.new.limits ≡ engine.old.limits }
+    ensures state { engine.new.state ≡ at_moment (engine.old.state) moment.0 }
 {
     engine.step(Event::Tick { moment }).unwrap();
 }
@@ -192,6 +193,3 @@ fn release_all(connections: &mut [Connection])
         connection.outbox.release();
     }
 }
-
-/// The bytes of a reply round the text of a message: length, serial, error number, type.
-const REPLY_HEAD: usize = 18;

@@ -2,7 +2,7 @@
 use Rattle.std.proofs.Common.{◌≡◌, ℕ, ◌+◌, ◌≤◌, ◌<◌, List, ◌++◌, length, drop, ap, ◌∙◌, arith}
 use Rattle.ipc_wire.specs.Reply.{PlainReply, body_bytes, reply_bytes}
 use Rattle.ipc_wire.specs.Request.{PlainRequest}
-use Rattle.ipc_wire.specs.Stream.{PlainFrame, first, missing, begins_with, stream_of, continued}
+use Rattle.ipc_wire.specs.Stream.{PlainFrame, TakesBytes, first, missing, begins_with, stream_of, continued}
 use Rattle.ipc_wire.specs.Stream.PlainFrame.{More, Whole}
 use Rattle.ipc_wire.proofs.Frames as frames
 use Rattle.ipc_wire.proofs.Streams as streams
@@ -19,6 +19,14 @@ missing_some = frames.missing_some
 pub whole_last : (bytes more : List ℕ) (used : ℕ) (request : PlainRequest) → first bytes ≡ More → length more ≤ missing bytes
     → first (bytes ++ more) ≡ Whole used request → used ≡ length (bytes ++ more)
 whole_last = frames.whole_last
+
+-- a request takes at least nine bytes, and no more than there are
+pub first_takes : (bytes : List ℕ) → TakesBytes (first bytes) (length bytes)
+first_takes = frames.first_takes
+
+-- a stream is its first frame and the stream behind it
+pub stream_step : (bytes : List ℕ) → stream_of bytes ≡ begins_with (first bytes) bytes (λ used. stream_of (drop used bytes))
+stream_step = streams.stream_step
 
 -- a stream whose first frame is known
 pub stream_begun : (bytes : List ℕ) (f : PlainFrame) → first bytes ≡ f → stream_of bytes ≡ begins_with f bytes (λ used. stream_of (drop used bytes))

@@ -1,4 +1,6 @@
-use Rattle.std.proofs.Common.{refl, sym, ◌∙◌}
+use Rattle.std.proofs.Common.{refl, sym, ap, ◌∙◌}
+use Rattle.ipc_engine.specs.Engine.{Machine, takes_memory}
+use Rattle.ipc_engine.specs.Event.{Call}
 use Rattle.ipc_wire.specs.Request.{plain_request}
 use Rattle.ipc_hub.proofs.Serving.{done, failed, refused-takes, hello-served, hello-refused, call-served, call-not-served, always-connected}
 use Rattle.ipc_hub.proofs.connection.serve.Goals as goal
@@ -18,7 +20,7 @@ pub returns-else-is_ok-clause-served : goal.returns-else-is_ok-clause-served
 returns-else-is_ok-clause-served c =
     let failure = sym c.is_ok.ensures.value ∙ c.if-is_ok.false in
     hello-refused c.args.engine.now c.step.new.self c.args.process.now c.args.process.now c.args.outbox.now c.push.new.self (plain_request c.args.request.now) c.args.moment.0
-    c.step.ensures.limits c.in-None-Some.cred c.in-None-Some.is-0 refl (sym c.hello_of.ensures ∙ c.in-None-Some.is-1) (failed c.step.result _ failure c.step.ensures.err).0
+    c.step.ensures.limits c.in-None-Some.cred c.in-None-Some.is-0 refl (sym c.hello_of.ensures ∙ c.in-None-Some.is-1) (ap (λ (m : Machine). m.state) (failed c.step.result _ failure c.step.ensures.err))
     (rw c.refusal.ensures at c.push.ensures)
 
 pub returns-then-is_ok-2-clause-served : goal.returns-then-is_ok-2-clause-served
@@ -34,6 +36,6 @@ returns-else-is_ok-2-clause-served c =
     let said = sym c.hello_of.ensures ∙ c.in-Some-None.is-1 in
     call-not-served c.args.engine.now c.step-in-Some-None.new.self c.args.process.now c.args.process.now c.args.outbox.now c.push-else-is_ok-2.new.self (plain_request c.args.request.now) c.args.moment.0
     c.step-in-Some-None.ensures.limits c.in-Some-None.pid c.in-Some-None.is-0 refl said
-    (refused-takes (plain_request c.args.request.now).call c.step-in-Some-None.result said failure c.step-in-Some-None.ensures.memory)
-    (failed c.step-in-Some-None.result _ failure c.step-in-Some-None.ensures.err).0
+    (refused-takes (takes_memory (Call c.in-Some-None.pid.0 (plain_request c.args.request.now) c.args.moment.0)) c.step-in-Some-None.result failure c.step-in-Some-None.ensures.memory)
+    (ap (λ (m : Machine). m.state) (failed c.step-in-Some-None.result _ failure c.step-in-Some-None.ensures.err))
     (rw c.refusal-else-is_ok-2.ensures at c.push-else-is_ok-2.ensures)

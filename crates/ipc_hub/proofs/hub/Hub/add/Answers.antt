@@ -8,10 +8,10 @@ pub returns-clause-ok : goal.returns-clause-ok
 returns-clause-ok c limits confirmed h stands =
     let is = c.in_ok-connection.ensures in
     let pushed : c.push.new.self.items ≡ c.args.self.now.connections.items ++ c.in_ok-connection.connection ∷ [] = search rules in
-    connect-stands limits confirmed c.args.self.now _ h c.args.conn c.in_ok-connection.connection stands (nobody _ c.requires) refl pushed is.number
+    connect-stands limits confirmed c.args.self.now _ h c.args.conn c.in_ok-connection.connection stands refl (nobody _ c.requires) refl pushed is.number
     (record {
       process = ap pid_of is.process;
       input = is.input;
       ended = is.ended;
-      outbox = record { waiting = is.waiting; visible = is.visible; seen = omega arith; room = is.buffer ∙ ap (λ (l : Limits). 18 + l.msgmnb) (c.limits.ensures ∙ stands.keeps) };
+      outbox = record { waiting = is.waiting; visible = is.visible; seen = omega arith; room = is.buffer ∙ stands.room };
     })

@@ -1,6 +1,6 @@
 use Rattle.std.proofs.Common.{◌≡◌, true, false, refl, sym, ap, ◌∙◌}
 use Rattle.std.specs.Prelude.{is_some, nat_eq}
-use Rattle.ipc_engine.proofs.Tables.{is_some_value}
+use Rattle.ipc_base.proofs.CallerLemmas.{is_some_value}
 use Rattle.ipc_hub.specs.Hub.{row}
 use Rattle.ipc_hub.proofs.hub.Hub.connect.Goals as goal
 

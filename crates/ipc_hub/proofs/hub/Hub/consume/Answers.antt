@@ -1,11 +1,11 @@
 use Rattle.std.proofs.Common.{◌≤◌, map, length, drop, Option, refl, sym, ap, subst, ◌∙◌}
 use Rattle.std.specs.Prelude.{nat_eq, vec_len}
-use Rattle.ipc_engine.specs.Table.{value_at}
-use Rattle.ipc_engine.proofs.Tables.{value_at_place, value_nowhere, set_at_place}
+use Rattle.ipc_base.specs.Table.{value_at}
+use Rattle.ipc_base.proofs.CallerLemmas.{value_at_place, value_nowhere, set_at_place}
 use Rattle.ipc_hub.specs.declared.connection.Connection.{Connection}
 use Rattle.ipc_hub.specs.Hub.{row, visible_of}
 use Rattle.ipc_hub.proofs.Ranges.{drop_none}
-use Rattle.ipc_hub.proofs.Tables.{at-with}
+use Rattle.ipc_base.proofs.CallerLemmas.{at-with}
 use Rattle.ipc_hub.proofs.Calls.{consume-stands, consume-nowhere}
 use Rattle.ipc_hub.proofs.hub.Hub.consume.Goals as goal
 
@@ -21,7 +21,7 @@ returns-in-Some-clause-ok c limits confirmed h stands =
     let place = sym c.place_of.ensures ∙ c.in-Some.is in
     let found = value_at_place row nat_eq c.args.conn items c.in-Some.place was place c.index_mut-connection.ensures.value in
     let within = subst (λ (o : Option Connection). c.args.count ≤ length (visible_of o)) found c.requires in
-    consume-stands limits confirmed c.args.self.now _ h c.args.conn c.args.count was _ stands found refl (set_at_place row nat_eq c.args.conn items c.in-Some.place was _ place c.index_mut-connection.ensures.value refl)
+    consume-stands limits confirmed c.args.self.now _ h c.args.conn c.args.count was _ stands refl found refl (set_at_place row nat_eq c.args.conn items c.in-Some.place was _ place c.index_mut-connection.ensures.value refl)
     refl refl refl within c.consume.ensures.waiting c.consume.ensures.visible (ap vec_len c.consume.ensures.room)
 
 pub returns-in-Some-clause-output : goal.returns-in-Some-clause-output

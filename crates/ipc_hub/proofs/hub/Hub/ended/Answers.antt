@@ -1,6 +1,6 @@
 use Rattle.std.proofs.Common.{sym, ap, ◌∙◌}
 use Rattle.std.specs.Prelude.{nat_eq}
-use Rattle.ipc_engine.proofs.Tables.{value_at_place, value_nowhere}
+use Rattle.ipc_base.proofs.CallerLemmas.{value_at_place, value_nowhere}
 use Rattle.ipc_hub.specs.Hub.{row, ended_by}
 use Rattle.ipc_hub.proofs.Calls.{ended-stands}
 use Rattle.ipc_hub.proofs.hub.Hub.ended.Goals as goal

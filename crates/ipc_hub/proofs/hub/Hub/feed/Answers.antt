@@ -1,11 +1,11 @@
 use Rattle.std.proofs.Common.{◌≡◌, true, false, map, take, Option, refl, sym, ap, subst, ◌∙◌}
 use Rattle.std.specs.Prelude.{is_some, nat_eq, IfSome}
-use Rattle.ipc_engine.proofs.Tables.{is_some_value, value_at_place, set_at_place}
-use Rattle.ipc_engine.specs.Table.{value_at}
+use Rattle.ipc_base.proofs.CallerLemmas.{is_some_value, value_at_place, set_at_place}
+use Rattle.ipc_base.specs.Table.{value_at}
 use Rattle.ipc_hub.specs.declared.connection.Connection.{Connection}
 use Rattle.ipc_hub.specs.Outbox.{IsEmpty}
 use Rattle.ipc_hub.specs.Hub.{row}
-use Rattle.ipc_hub.proofs.Tables.{at-with}
+use Rattle.ipc_base.proofs.CallerLemmas.{at-with}
 use Rattle.ipc_hub.proofs.Calls.{feed-stands}
 use Rattle.ipc_hub.proofs.hub.Hub.feed.Goals as goal
 
@@ -25,7 +25,7 @@ returns-clause-ok c limits confirmed h stands =
     let was = c.index_mut-connection.result.now in
     let place = sym c.place_of.ensures ∙ c.in-Some.is in
     let found = value_at_place row nat_eq c.args.conn items c.in-Some.place was place c.index_mut-connection.ensures.value in
-    feed-stands limits confirmed c.args.self.now _ c.pass.new.engine h c.args.conn c.args.moment.0 (take c.feed.result c.args.piece.now) was c.feed.new.self stands found c.pass.ensures.limits c.pass.ensures.state
+    feed-stands limits confirmed c.args.self.now _ c.pass.new.engine h c.args.conn c.args.moment.0 (take c.feed.result c.args.piece.now) was c.feed.new.self stands refl found c.pass.ensures.limits c.pass.ensures.state
     c.feed.ensures.bytes (set_at_place row nat_eq c.args.conn items c.in-Some.place was c.feed.new.self place c.index_mut-connection.ensures.value c.feed.ensures.number)
 
 pub returns-clause-whole : goal.returns-clause-whole

@@ -1,6 +1,6 @@
 use Rattle.std.proofs.Common.{◌≡◌, true, false, map, refl, sym, ap, ◌∙◌}
 use Rattle.std.specs.Prelude.{is_some, nat_eq}
-use Rattle.ipc_engine.proofs.Tables.{is_some_value, value_at_place, remove_at_place}
+use Rattle.ipc_base.proofs.CallerLemmas.{is_some_value, value_at_place, remove_at_place}
 use Rattle.ipc_hub.specs.Hub.{row}
 use Rattle.ipc_hub.proofs.Calls.{hangup-stands}
 use Rattle.ipc_hub.proofs.hub.Hub.hangup.Goals as goal
@@ -21,5 +21,5 @@ returns-clause-ok c limits confirmed h stands =
     let was = c.remove-connection.result in
     let place = sym c.place_of.ensures ∙ c.in-Some.is in
     let found = value_at_place row nat_eq c.args.conn items c.in-Some.place was place c.remove-connection.ensures.value in
-    hangup-stands limits confirmed c.args.self.now _ c.pass.new.engine h c.args.conn c.args.moment.0 was c.leave.new.self stands found c.pass.ensures.limits c.pass.ensures.state
+    hangup-stands limits confirmed c.args.self.now _ c.pass.new.engine h c.args.conn c.args.moment.0 was c.leave.new.self stands refl found c.pass.ensures.limits c.pass.ensures.state
     c.leave.ensures (ap (map row) c.remove-connection.ensures.items ∙ remove_at_place row nat_eq c.args.conn items c.in-Some.place was place)

@@ -12,7 +12,7 @@ returns c limits confirmed h stands =
     let same = c.deref_mut.ensures.value in
     let count = c.release_all.ensures.count ∙ ap length same in
     let items = with_items_is old ys (count ∙ sym old.ok.0) in
-    release-stands limits confirmed c.args.self.now _ h stands refl (ap length items ∙ count)
+    release-stands limits confirmed c.args.self.now _ h stands refl refl (ap length items ∙ count)
     (λ k d within.
     subst (λ (zs : List Connection). Releases (get_or old.items k d) (get_or zs k d)) (sym items)
     (subst (λ (xs : List Connection). Releases (get_or xs k d) (get_or ys k d)) same (c.release_all.ensures.each k d (omega (arith, within, ap length same)))))

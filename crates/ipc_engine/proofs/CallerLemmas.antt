@@ -1,0 +1,24 @@
+-- What the crates above cite of a step.
+use Rattle.std.proofs.Common.{◌≡◌, ℕ}
+use Rattle.std.specs.Prelude.{All}
+use Rattle.ipc_base.specs.declared.limits.Limits.{Limits}
+use Rattle.ipc_wire.specs.Request.{PlainKind}
+use Rattle.ipc_engine.specs.Calls.{asked}
+use Rattle.ipc_engine.specs.Event.{PlainEvent, PlainOutcome}
+use Rattle.ipc_engine.specs.Sound.{IsSound, FitsBody}
+use Rattle.ipc_engine.specs.State.{State}
+use Rattle.ipc_engine.specs.Step.{step}
+use Rattle.ipc_engine.proofs.Processes as processes
+use Rattle.ipc_engine.proofs.Soundness as soundness
+
+-- a sound state stays sound
+pub step-sound : (limits : Limits) (s : State) (e : PlainEvent) → IsSound limits s → IsSound limits (step limits s e).state
+step-sound = soundness.step-sound
+
+-- no body of a reply is longer than the longest one
+pub step-fits : (limits : Limits) (s : State) (e : PlainEvent) → IsSound limits s → All (λ (o : PlainOutcome). FitsBody limits o.body) (step limits s e).outcomes
+step-fits = soundness.step-fits
+
+-- a request leaves the processes as they are
+pub asked-keeps : (limits : Limits) (s : State) (pid : ℕ) (kind : PlainKind) → (asked limits s pid kind).state.processes ≡ s.processes
+asked-keeps = processes.asked-keeps
