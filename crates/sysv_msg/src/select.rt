@@ -1,6 +1,7 @@
 //! Which message of a queue a receive takes.
 
-ghost use Rattle.std.specs.Prelude.{◌≡◌, ◌≤ℤ◌, pos, not, ◌&&◌, ◌||◌, length, int_le, if◌then◌else◌, IfNone, IfSome, position, map, All, Contains};
+ghost use Rattle.std.specs.Prelude.{◌≡◌, ◌≤ℤ◌, pos, not, ◌&&◌, ◌||◌, length, int_le, if◌then◌else◌};
+ghost use Rattle.std.specs.Prelude.{IfNone, IfSome, position, map, All, Contains};
 ghost use Rattle.std.specs.List.{list_all};
 ghost use Rattle.std.specs.Ordering.{int_eq};
 
