@@ -11,7 +11,8 @@ text_is_short m =
     omega arith
 
 -- of all texts and a further one
-pub bytes_fit : (ms : Vec Message Global) (n : ℕ) → n < 2 ^ 64 → sum_by (λ m. length m.text.items) ms.items + n < 2 ^ 128
+pub bytes_fit : (ms : Vec Message Global) (n : ℕ) → n < 2 ^ 64
+    → sum_by (λ m. length m.text.items) ms.items + n < 2 ^ 128
 bytes_fit ms n below =
     let most = sum_by-le (λ (m : Message). length m.text.items) (2 ^ 63) ms.items (λ k d h. text_is_short (get_or ms.items k d)) in
     let is = ms.ok.0 in

@@ -1,6 +1,6 @@
--- Message queues, after msgop(2). A queue is a list of messages, the oldest first. A send appends, a receive
--- removes the message that its type picks; a queue is full for a text with which it would hold more bytes, or
--- more messages, than its qbytes.
+-- Message queues, after msgop(2). A queue is a list of messages, the oldest first. A send appends, a
+-- receive removes the message that its type picks; a queue is full for a text with which it would hold
+-- more bytes, or more messages, than its qbytes.
 use Rattle.std.specs.Prelude.{◌≡◌, ℕ, suc, ◌+◌, nat_lt, ℤ, pos, negsuc, zero, int_le, Option, Some}
 use Rattle.std.specs.Prelude.{Bool, true, not, ◌&&◌, ◌||◌, if◌then◌else◌}
 use Rattle.std.specs.Prelude.{List, [], ◌∷◌, ◌++◌, length, remove, position, sum_by}
@@ -65,7 +65,8 @@ sent q m pid moment = record q { messages = q.messages ++ m ∷ []; lspid = pid;
 abbrev pub taken : Queue → ℕ → ℕ → ℕ → Queue
 taken q at pid moment = record q { messages = remove q.messages at; lrpid = pid; rtime = moment }
 
--- A queue, and the room reserved in it: with Some n a further message of n bytes takes no memory.
+-- A queue, and the room reserved in it: with Some n a further message of n bytes takes no memory. There
+-- is memory for these bytes and no more.
 pub record Kept : Type 0 where
   pub queue : Queue
   pub room : Option ℕ

@@ -2,8 +2,8 @@
 
 ghost use Rattle.std.specs.Prelude.{◌≡◌, length, vec_capacity};
 
-/// A message: its type, which msgsnd(2) wants above 0, and the bytes of its text. The text's buffer has room
-/// for these bytes and no more.
+/// A message: its type, which msgsnd(2) wants above 0, and the bytes of its text. The text's buffer has
+/// room for these bytes and no more.
 #[derive(Debug, Drop)]
 pub struct Message {
     pub mtype: i64,

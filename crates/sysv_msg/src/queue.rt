@@ -10,9 +10,9 @@ use std::alloc::{AllocError, Global};
 use std::marker::Model;
 use std::mem;
 
-/// A message queue: its messages, the oldest first, and what msgctl(2) tells of it. A contract sees it as a
-/// queue of plain messages and the room reserved for a further one. Its memory is bounded by its texts: the
-/// buffer of each has room for its bytes and no more.
+/// A message queue: its messages, the oldest first, and what msgctl(2) tells of it. A contract sees it
+/// as a queue of plain messages and the room reserved for a further one. The memory of its texts is
+/// their bytes: the buffer of each has room for these and no more.
 #[derive(Drop)]
 pub struct MsgQueue {
     messages: Vec<Message>,
@@ -77,9 +77,9 @@ impl MsgQueue {
         }
     }
 
-    /// Reserves room for one message of `len` bytes, so that `send` takes no memory. Room for one of another
-    /// length is given back. Refused for want of memory, and then the queue and its room are as before; never
-    /// refused where the room is there.
+    /// Reserves room for one message of `len` bytes, so that `send` takes no memory. Room for one of
+    /// another length is given back. Refused for want of memory, and then the queue and its room are as
+    /// before; never refused if the room is there.
     pub fn reserve(&mut self, len: usize) -> Result<(), AllocError>
         ensures queue { self.new.queue ≡ self.old.queue }
         ensures ok { OnOk result (HasRoom self.new len) }
@@ -95,8 +95,8 @@ impl MsgQueue {
         Ok(())
     }
 
-    /// Whether a text of `len` bytes may be sent: with it neither the bytes nor the messages are more than
-    /// `qbytes`.
+    /// Whether a text of `len` bytes may be sent: with it neither the bytes nor the messages are more
+    /// than `qbytes`.
     pub fn fits(&self, len: usize) -> bool
         ensures { result ≡ not (full self.now.queue len) }
     {
@@ -118,9 +118,10 @@ impl MsgQueue {
         self.stime = now;
     }
 
-    /// The position of the message that a receive of this type takes, counted from the oldest: with type 0
-    /// the oldest, with a type above 0 the oldest of the type (with `except`, of another type), with a type
-    /// below 0 the oldest of the least type, if that is at most the absolute value. See msgop(2).
+    /// The position of the message that a receive of this type takes, counted from the oldest: with
+    /// type 0 the oldest, with a type above 0 the oldest of the type (with `except`, of another type),
+    /// with a type below 0 the oldest of the least type, if that is at most the absolute value. See
+    /// msgop(2).
     pub fn select(&self, mtype: i64, except: bool) -> Option<usize>
         ensures picked { result ≡ pick self.now.queue.messages mtype except }
         ensures within { IfSome result (λ at. at < length self.now.queue.messages) }
@@ -141,7 +142,7 @@ impl MsgQueue {
     }
 
     /// Removes and gives the message at this position, and notes who received it and when. It takes no
-    /// memory, and reserved room stays. The buffer of the text has room for its bytes and no more.
+    /// memory, and reserved room stays. The text's buffer has room for its bytes and no more.
     pub fn take(&mut self, at: usize, pid: Pid, now: Moment) -> Message
         requires { at < length self.old.queue.messages }
         ensures message { slice_get self.old.queue.messages at ≡ Some (plain result) }

@@ -7,7 +7,8 @@ ghost use Rattle.std.specs.Ordering.{int_eq};
 
 use crate::message::Message;
 
-/// The position of the first message of the type, or with `except` of another one. Type 0 is any type.
+/// The position of the first message of the type, or with `except` of another one. Type 0 is any
+/// type.
 pub(crate) fn first_of_type(messages: &[Message], mtype: i64, except: bool) -> Option<usize>
     ensures { result
         ≡ position (λ m. int_eq mtype (pos 0)

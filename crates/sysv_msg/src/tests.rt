@@ -1,5 +1,5 @@
-//! Queues by hand: which message each type takes, when a queue is full, what stays, and how much room texts
-//! take.
+//! Queues by hand: which message each type takes, when a queue is full, what stays, and how much room
+//! texts take.
 
 use crate::{Message, MsgQueue};
 use ipc_base::{Moment, Pid};
