@@ -34,7 +34,7 @@ fail() {
 refuse() {
 	rm -f "$folder/mark"
 	status=0
-	timeout 20 env REFUSE_CALL=$call REFUSE_MARK="$folder/mark" LD_PRELOAD="$folder/refuse_malloc.so" \
+	timeout 20 env REFUSE_CALL="$call" REFUSE_MARK="$folder/mark" LD_PRELOAD="$folder/refuse_malloc.so" \
 		"$@" < "$folder/in" > "$folder/out" 2> "$folder/err" || status=$?
 	[ "$status" -ne 124 ] || fail "$* hangs"
 	[ "$status" -le 128 ] || fail "$* crashes, status $status"
@@ -66,10 +66,12 @@ check_replay() {
 	serial=$(printf '%s\n' "${frame#* }" | cut -c 9-16)
 	[ "$(sed -n "${at}p" "$folder/out")" = "$conn 00000006${serial}000c" ] || fail "line $at is no ENOMEM frame"
 	grep -v "^[0-9]* data $conn ........$serial" "$script" > "$folder/less" || true
-	"$ipcd" replay --small < "$folder/less" > "$folder/wanted"
+	"$ipcd" replay --small < "$folder/less" > "$folder/wanted" || fail "the script without line $at's request fails"
 	sed "${at}d" "$folder/out" | cmp -s - "$folder/wanted" || fail "more than one request is answered otherwise"
 }
 
+# A crash is to leave no core file.
+ulimit -c 0
 mkdir "$folder"
 trap 'rm -rf "$folder"' EXIT
 cc -shared -fPIC -o "$folder/refuse_malloc.so" "$(dirname "$0")/refuse_malloc.c"
@@ -87,7 +89,7 @@ for name in $("$tests" --list | sed -n 's/: test$//p'); do
 done
 of_tests=$runs
 
-"$ipcd" replay --small < "$script" > "$folder/ample"
+"$ipcd" replay --small < "$script" > "$folder/ample" || exit 1
 cp "$script" "$folder/in"
 call=1
 refuse "$ipcd" replay --small
