@@ -1,12 +1,13 @@
-# ipcd: the commands of this repository. They need the Rattle toolchain's `rt` on the path, and `bench`
-# needs awk too.
+# ipcd: the commands of this repository. They need the Rattle toolchain's `rt` on the path, `bench` needs awk too,
+# and `memory` awk and a C compiler: without that one it says so and refuses nothing.
 
 .PHONY: help run test memory program bench
 
 help:
 	@echo "make run    proves and builds what is needed, and runs examples/first_queue.script"
-	@echo "make test   want of memory in the engine, and then the gate: every proof from nothing, the edits"
-	@echo "            that must fail, the tests, the program"
+	@echo "make test   the gate: every proof from nothing, the edits that must fail, the tests, the program; and then"
+	@echo "            what 'make memory' runs, on what the gate has built"
+	@echo "make memory the engine's tests and the program, with each allocation refused in turn"
 	@echo "make bench  lines per second and peak memory of long scripts"
 
 run: program
@@ -18,16 +19,21 @@ program:
 	@cd crates/ipcd && rt run -- replay --small < /dev/null > out.log 2>&1 || { cat out.log; exit 1; }
 	@rm -f crates/ipcd/out.log
 
-# The engine's tests with the first allocation refused, then the second, and so on past the last. A test takes a
-# step again that was refused, and looks for the replies that it would have had.
-memory:
-	@cd crates/ipc_engine && for n in 1 2 3 4 5 6 7 8 9 10 11 12 13 14; do \
-		rt try --test --fail-alloc $$n > out.log 2>&1 || { cat out.log; exit 1; }; \
-	done
+# The engine's tests take a step again that was refused for memory, and look for the replies that it would have had.
+ENGINE_TESTS = crates/ipc_engine/out/ipc_engine_tests
+REFUSE_EACH = sh tests/refuse_each.sh $(ENGINE_TESTS) crates/ipcd/out/ipcd examples/first_queue.script
+
+memory: program $(ENGINE_TESTS)
+	@$(REFUSE_EACH)
+
+$(ENGINE_TESTS): $(wildcard crates/*/src/*.rt)
+	@echo "proving and building the tests of crates/ipc_engine"
+	@cd crates/ipc_engine && rt test > out.log 2>&1 || { cat out.log; exit 1; }
 	@rm -f crates/ipc_engine/out.log
 
-test: memory
+test:
 	rt ci
+	@$(REFUSE_EACH)
 
 # Scripts of 50,000 and of 100,000 sends, with as many receives, five runs of each. It needs awk.
 bench: program

@@ -14,14 +14,16 @@ position-map p f xs =
     ap (λ n. cond (nat_lt n (length (map f xs))) (Some n) None) (prefix_len-map (λ y. not (p y)) f xs)
     ∙ ap (λ m. cond (nat_lt (prefix_len (λ x. not (p (f x))) xs) m) (Some (prefix_len (λ x. not (p (f x))) xs)) None) (length-map xs f)
 
-prefix_len_same : {X : Type 0} (p q : X → Bool) (xs : List X) → ((k : ℕ) (d : X) → k < length xs → p (get_or xs k d) ≡ q (get_or xs k d)) → prefix_len p xs ≡ prefix_len q xs
+prefix_len_same : {X : Type 0} (p q : X → Bool) (xs : List X)
+    → ((k : ℕ) (d : X) → k < length xs → p (get_or xs k d) ≡ q (get_or xs k d)) → prefix_len p xs ≡ prefix_len q xs
 prefix_len_same p q [] same = refl
 prefix_len_same p q (x ∷ xs) same =
     ap (λ b. cond b (1 + prefix_len p xs) 0) (same 0 x (omega arith))
     ∙ ap (λ n. cond (q x) (1 + n) 0) (prefix_len_same p q xs (λ k d h. same (suc k) d (omega arith)))
 
 -- two tests that agree on each element pass at the same place first
-pub position_same : {X : Type 0} (p q : X → Bool) (xs : List X) → ((k : ℕ) (d : X) → k < length xs → p (get_or xs k d) ≡ q (get_or xs k d)) → position p xs ≡ position q xs
+pub position_same : {X : Type 0} (p q : X → Bool) (xs : List X)
+    → ((k : ℕ) (d : X) → k < length xs → p (get_or xs k d) ≡ q (get_or xs k d)) → position p xs ≡ position q xs
 position_same p q xs same =
     ap (λ n. cond (nat_lt n (length xs)) (Some n) None) (prefix_len_same (λ x. not (p x)) (λ x. not (q x)) xs (λ k d h. ap not (same k d h)))
 

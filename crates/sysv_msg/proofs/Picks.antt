@@ -1,5 +1,6 @@
 -- What a search for a type finds is the picked message.
-use Rattle.std.proofs.Common.{◌≡◌, ℕ, zero, suc, ◌<◌, ℤ, pos, negsuc, ◌≤ℤ◌, ◌<ℤ◌, int_lt, int_le, unsigned_abs, Bool, true, false, not, ◌&&◌, ◌||◌, if◌then◌else◌, List, length, get_or, map, All, Contains, None, ap, sym, ◌∙◌, subst, arith}
+use Rattle.std.proofs.Common.{◌≡◌, ℕ, zero, suc, ◌<◌, ℤ, pos, negsuc, ◌≤ℤ◌, ◌<ℤ◌, int_lt, int_le, unsigned_abs, Bool, true, false, not, ◌&&◌, ◌||◌}
+use Rattle.std.proofs.Common.{if◌then◌else◌, List, length, get_or, map, All, Contains, None, ap, sym, ◌∙◌, subst, arith}
 use Rattle.std.specs.List.{position, list_all}
 use Rattle.std.specs.Ordering.{int_eq}
 use Rattle.std.proofs.lemmas.Int.{ints, by_lt_z}
@@ -40,7 +41,8 @@ int_le_above x least limit h above = grind (arith, ints)
 not_zero : (n : ℕ) → int_eq (pos (suc n)) (pos 0) ≡ false
 not_zero n = grind (arith, ints)
 
-least_is_equal : (ms : List Message) (limit least : ℤ) (m : Message) → All (λ o. least ≤ℤ o.mtype) ms → int_le least limit ≡ true → m.mtype ≡ least → int_eq m.mtype least ≡ is_least ms limit m
+least_is_equal : (ms : List Message) (limit least : ℤ) (m : Message) → All (λ o. least ≤ℤ o.mtype) ms
+    → int_le least limit ≡ true → m.mtype ≡ least → int_eq m.mtype least ≡ is_least ms limit m
 least_is_equal ms limit least m lowest within same =
     let e : int_le least limit && list_all (λ o. int_le least o.mtype) ms ≡ true =
     ap (λ b. b && list_all (λ o. int_le least o.mtype) ms) within
@@ -49,7 +51,8 @@ least_is_equal ms limit least m lowest within same =
     let P : ℤ → Type 0 = λ t. int_eq t least ≡ int_le t limit && list_all (λ o. int_le t o.mtype) ms in
     subst P (sym same) (int_eq_refl least ∙ sym e)
 
-least_is_above : (ms : List Message) (limit least : ℤ) (m : Message) → Contains (map (λ o. o.mtype) ms) least → least <ℤ m.mtype → int_eq m.mtype least ≡ is_least ms limit m
+least_is_above : (ms : List Message) (limit least : ℤ) (m : Message) → Contains (map (λ o. o.mtype) ms) least
+    → least <ℤ m.mtype → int_eq m.mtype least ≡ is_least ms limit m
 least_is_above ms limit least m found above =
     let inside : found.0 < length ms = omega (arith, found.1, length-map ms (λ o. o.mtype)) in
     let there : (get_or ms found.0 m).mtype ≡ least = sym (get_or-map (λ o. o.mtype) ms found.0 m least inside) ∙ found.2 in
@@ -58,7 +61,9 @@ least_is_above ms limit least m found above =
     ∙ sym (and_right (int_le m.mtype limit) _ (list_all_at (λ o. int_le m.mtype o.mtype) ms found.0 m inside lower))
 
 -- where the least type is at most the limit, the messages of that type are the ones sought
-pub least_position : (ms : List Message) (limit least : ℤ) → All (λ o. least ≤ℤ o.mtype) ms → Contains (map (λ o. o.mtype) ms) least → int_le least limit ≡ true → position (λ m. int_eq m.mtype least) ms ≡ position (is_least ms limit) ms
+pub least_position : (ms : List Message) (limit least : ℤ) → All (λ o. least ≤ℤ o.mtype) ms
+    → Contains (map (λ o. o.mtype) ms) least → int_le least limit ≡ true
+    → position (λ m. int_eq m.mtype least) ms ≡ position (is_least ms limit) ms
 least_position ms limit least lowest found within =
     position_same (λ m. int_eq m.mtype least) (is_least ms limit) ms
     (λ k d h. let m = get_or ms k d in
@@ -72,7 +77,8 @@ least_none ms limit least lowest above =
 
 -- ---- what is picked
 
-pub pick-below_zero : (ms : List Message) (t : ℤ) (except : Bool) → int_lt t (pos 0) ≡ true → pick (map plain ms) t except ≡ position (is_least ms (pos (unsigned_abs t))) ms
+pub pick-below_zero : (ms : List Message) (t : ℤ) (except : Bool) → int_lt t (pos 0) ≡ true
+    → pick (map plain ms) t except ≡ position (is_least ms (pos (unsigned_abs t))) ms
 pick-below_zero ms (pos n) except h = absurd (grind (arith, nat_tests))
 pick-below_zero ms (negsuc n) except h =
     position-map (is_allowed (map plain ms) (negsuc n) except) plain ms

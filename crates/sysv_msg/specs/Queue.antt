@@ -1,7 +1,9 @@
--- Message queues, after msgop(2). A queue is a list of messages, the oldest first. A send appends, a receive
--- removes the message that its type picks; a queue is full for a text with which it would hold more bytes, or
--- more messages, than its qbytes.
-use Rattle.std.specs.Prelude.{ℕ, suc, ◌+◌, ◌≤◌, ℤ, pos, negsuc, zero, Bool, true, not, ◌&&◌, ◌||◌, if◌then◌else◌, nat_lt, int_le, List, [], ◌∷◌, ◌++◌, length, remove, position, sum_by, Option, IsSomeAnd}
+-- Message queues, after msgop(2). A queue is a list of messages, the oldest first. A send appends, a
+-- receive removes the message that its type picks; a queue is full for a text with which it would hold
+-- more bytes, or more messages, than its qbytes.
+use Rattle.std.specs.Prelude.{◌≡◌, ℕ, suc, ◌+◌, nat_lt, ℤ, pos, negsuc, zero, int_le, Option, Some}
+use Rattle.std.specs.Prelude.{Bool, true, not, ◌&&◌, ◌||◌, if◌then◌else◌}
+use Rattle.std.specs.Prelude.{List, [], ◌∷◌, ◌++◌, length, remove, position, sum_by}
 use Rattle.std.specs.List.{list_all}
 use Rattle.std.specs.Ordering.{int_eq}
 use Rattle.sysv_msg.specs.declared.message.Message.{Message}
@@ -63,11 +65,12 @@ sent q m pid moment = record q { messages = q.messages ++ m ∷ []; lspid = pid;
 abbrev pub taken : Queue → ℕ → ℕ → ℕ → Queue
 taken q at pid moment = record q { messages = remove q.messages at; lrpid = pid; rtime = moment }
 
--- A queue, and the room reserved in it: with Some n a further message of at most n bytes takes no memory.
+-- A queue, and the room reserved in it: with Some n a further message of n bytes takes no memory. There
+-- is memory for these bytes and no more.
 pub record Kept : Type 0 where
   pub queue : Queue
   pub room : Option ℕ
 
 -- a text of so many bytes has its room
 abbrev pub HasRoom : Kept → ℕ → Type 0
-HasRoom k bytes = IsSomeAnd k.room (λ most. bytes ≤ most)
+HasRoom k bytes = k.room ≡ Some bytes

@@ -3,8 +3,8 @@
 ghost use Rattle.std.specs.Prelude.{◌≡◌, ◌<◌, ◌≤◌, ℕ, ℤ, Bool, true, false, List, length, slice_index_or};
 ghost use Rattle.sysv_msg.specs.Queue.{PlainMessage, Queue, pick, is_allowed, full, byte_count, sent, taken};
 
-/// The picked message is one of the list, it is allowed, and none before it is; where none is picked, none is
-/// allowed.
+/// The picked message is one of the list, it is allowed, and none before it is; if none is picked, none
+/// is allowed.
 pub fn picked_is_first_allowed()
     ensures within { (messages : List PlainMessage) (type : ℤ) (except : Bool) (at : ℕ)
         → pick messages type except ≡ Some at → at < length messages }

@@ -1,8 +1,12 @@
 //! A message as a queue keeps it.
 
-/// A message: its type, which msgsnd(2) wants above 0, and the bytes of its text.
+ghost use Rattle.std.specs.Prelude.{◌≡◌, length, vec_capacity};
+
+/// A message: its type, which msgsnd(2) wants above 0, and the bytes of its text. The text's buffer has
+/// room for these bytes and no more.
 #[derive(Debug, Drop)]
 pub struct Message {
     pub mtype: i64,
     pub text: Vec<u8>,
+    ghost exact: { vec_capacity text ≡ length text.items },
 }

@@ -1,6 +1,7 @@
 //! A message queue.
 
-ghost use Rattle.std.specs.Prelude.{◌≡◌, ◌^◌, ◌-◌, ◌<◌, ◌↔◌, ℕ, Bool, not, min, length, slice_get, sum_by, IsTrue, IsOk, OnOk, OnErr, IfSome};
+ghost use Rattle.std.specs.Prelude.{◌≡◌, ◌+◌, ◌<◌, ◌≤◌, ◌↔◌, ◌++◌, ℕ, Bool, not, length, slice_get};
+ghost use Rattle.std.specs.Prelude.{IsTrue, IsOk, OnOk, OnErr, IfSome, vec_len, vec_capacity};
 
 use crate::message::Message;
 use crate::select::{first_of_least_type, first_of_type};
@@ -9,15 +10,16 @@ use std::alloc::{AllocError, Global};
 use std::marker::Model;
 use std::mem;
 
-/// A message queue: its messages, the oldest first, and what msgctl(2) tells of it. A contract sees it as a
-/// queue of plain messages and the room reserved for a further one.
+/// A message queue: its messages, the oldest first, and what msgctl(2) tells of it. A contract sees it
+/// as a queue of plain messages and the room reserved for a further one. The memory of its texts is
+/// their bytes: the buffer of each has room for these and no more.
 #[derive(Drop)]
 pub struct MsgQueue {
     messages: Vec<Message>,
     /// The buffer for the next text; it is empty.
     spare: Vec<u8>,
-    /// The bytes of all texts, or the greatest number where they are more.
-    bytes: u64,
+    /// The bytes of all texts. No memory holds so many that they are too many for it.
+    bytes: u128,
     qbytes: u32,
     stime: Moment,
     rtime: Moment,
@@ -28,7 +30,8 @@ pub struct MsgQueue {
 }
 
 impl Model for MsgQueue {
-    ghost use Rattle.std.specs.Prelude.{◌≡◌, ◌^◌, ◌-◌, min, map, [], length, sum_by, nat_lt, if◌then◌else◌, Option, Some, None, vec_len, vec_capacity};
+    ghost use Rattle.std.specs.Prelude.{◌≡◌, map, [], length, sum_by, nat_lt, if◌then◌else◌};
+    ghost use Rattle.std.specs.Prelude.{Option, Some, None, vec_len, vec_capacity};
     ghost use Rattle.sysv_msg.specs.Queue.{Kept, plain};
 
     ghost Value = { Kept };
@@ -43,10 +46,12 @@ impl Model for MsgQueue {
         lspid = q.lspid.0;
         lrpid = q.lrpid.0;
       };
-      room = if nat_lt (vec_len q.messages) (vec_capacity q.messages) then Some (vec_capacity q.spare) else None;
+      room = if nat_lt (vec_len q.messages) (vec_capacity q.messages)
+          then Some (vec_capacity q.spare)
+          else None;
     } };
 
-    ghost invariant = { λ q. (q.bytes ≡ min (sum_by (λ m. length m.text.items) q.messages.items) (2 ^ 64 - 1))
+    ghost invariant = { λ q. (q.bytes ≡ sum_by (λ m. length m.text.items) q.messages.items)
         × (q.spare.items ≡ []) };
 }
 
@@ -72,26 +77,30 @@ impl MsgQueue {
         }
     }
 
-    /// Reserves room for one message of at most `len` bytes, so that `send` takes no memory. Refused for want
-    /// of memory, and then the queue and its room are as before; never refused where the room is there.
+    /// Reserves room for one message of `len` bytes, so that `send` takes no memory. Room for one of
+    /// another length is given back. Refused for want of memory, and then the queue and its room are as
+    /// before; never refused if the room is there.
     pub fn reserve(&mut self, len: usize) -> Result<(), AllocError>
         ensures queue { self.new.queue ≡ self.old.queue }
         ensures ok { OnOk result (HasRoom self.new len) }
-        ensures kept { (n : ℕ) → HasRoom self.old n → HasRoom self.new n }
         ensures succeeds { HasRoom self.old len → IsOk result }
         ensures err { OnErr result (self.new ≡ self.old) }
     {
-        self.spare.reserve(len)?;
+        if self.spare.capacity() == len {
+            return self.messages.reserve(1);
+        }
+        let spare = Vec::with_capacity(self.alloc, len)?;
         self.messages.reserve(1)?;
+        self.spare = spare;
         Ok(())
     }
 
-    /// Whether a text of `len` bytes may be sent: with it neither the bytes nor the messages are more than
-    /// `qbytes`.
+    /// Whether a text of `len` bytes may be sent: with it neither the bytes nor the messages are more
+    /// than `qbytes`.
     pub fn fits(&self, len: usize) -> bool
         ensures { result ≡ not (full self.now.queue len) }
     {
-        self.bytes.saturating_add(len as u64) <= u64::from(self.qbytes)
+        self.bytes + len as u128 <= u128::from(self.qbytes)
             && (self.messages.len() as u64) < u64::from(self.qbytes)
     }
 
@@ -102,16 +111,17 @@ impl MsgQueue {
             ≡ sent self.old.queue (record { mtype = mtype; text = text.now }) pid.0 now.0 }
     {
         let mut kept = mem::replace(&mut self.spare, Vec::new(self.alloc));
-        kept.extend_from_slice(text).unwrap();
+        append(&mut kept, text);
         self.messages.push(Message { mtype, text: kept }).unwrap();
-        self.bytes = self.bytes.saturating_add(text.len() as u64);
+        self.bytes += text.len() as u128;
         self.lspid = pid;
         self.stime = now;
     }
 
-    /// The position of the message that a receive of this type takes, counted from the oldest: with type 0
-    /// the oldest, with a type above 0 the oldest of the type (with `except`, of another type), with a type
-    /// below 0 the oldest of the least type, if that is at most the absolute value. See msgop(2).
+    /// The position of the message that a receive of this type takes, counted from the oldest: with
+    /// type 0 the oldest, with a type above 0 the oldest of the type (with `except`, of another type),
+    /// with a type below 0 the oldest of the least type, if that is at most the absolute value. See
+    /// msgop(2).
     pub fn select(&self, mtype: i64, except: bool) -> Option<usize>
         ensures picked { result ≡ pick self.now.queue.messages mtype except }
         ensures within { IfSome result (λ at. at < length self.now.queue.messages) }
@@ -132,19 +142,16 @@ impl MsgQueue {
     }
 
     /// Removes and gives the message at this position, and notes who received it and when. It takes no
-    /// memory, and reserved room stays.
+    /// memory, and reserved room stays. The text's buffer has room for its bytes and no more.
     pub fn take(&mut self, at: usize, pid: Pid, now: Moment) -> Message
         requires { at < length self.old.queue.messages }
         ensures message { slice_get self.old.queue.messages at ≡ Some (plain result) }
+        ensures exact { vec_capacity result.text ≡ length result.text.items }
         ensures queue { self.new.queue ≡ taken self.old.queue at pid.0 now.0 }
         ensures room { (n : ℕ) → HasRoom self.old n → HasRoom self.new n }
     {
         let message = self.messages.remove(at);
-        self.bytes = if self.bytes < u64::MAX {
-            self.bytes - message.text.len() as u64
-        } else {
-            byte_count(&self.messages)
-        };
+        self.bytes -= message.text.len() as u128;
         self.lrpid = pid;
         self.rtime = now;
         message
@@ -165,13 +172,13 @@ impl MsgQueue {
     }
 }
 
-/// The bytes of all texts, or the greatest number where they are more.
-fn byte_count(messages: &[Message]) -> u64
-    ensures { result ≡ min (sum_by (λ m. length m.text.items) messages.now) (2 ^ 64 - 1) }
+/// Appends the bytes of the text to a buffer that has room for them, and leaves its room as it is.
+fn append(buffer: &mut Vec<u8>, text: &[u8])
+    requires { vec_len buffer.old + length text.now ≤ vec_capacity buffer.old }
+    ensures items { buffer.new.items ≡ buffer.old.items ++ text.now }
+    ensures capacity { vec_capacity buffer.new ≡ vec_capacity buffer.old }
 {
-    let mut bytes: u64 = 0;
-    for m in messages {
-        bytes = bytes.saturating_add(m.text.len() as u64);
+    for byte in text {
+        buffer.push_reserved(*byte);
     }
-    bytes
 }

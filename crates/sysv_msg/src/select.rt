@@ -1,12 +1,14 @@
 //! Which message of a queue a receive takes.
 
-ghost use Rattle.std.specs.Prelude.{◌≡◌, ◌≤ℤ◌, pos, not, ◌&&◌, ◌||◌, length, int_le, if◌then◌else◌, IfNone, IfSome, position, map, All, Contains};
+ghost use Rattle.std.specs.Prelude.{◌≡◌, ◌≤ℤ◌, pos, not, ◌&&◌, ◌||◌, length, int_le, if◌then◌else◌};
+ghost use Rattle.std.specs.Prelude.{IfNone, IfSome, position, map, All, Contains};
 ghost use Rattle.std.specs.List.{list_all};
 ghost use Rattle.std.specs.Ordering.{int_eq};
 
 use crate::message::Message;
 
-/// The position of the first message of the type, or with `except` of another one. Type 0 is any type.
+/// The position of the first message of the type, or with `except` of another one. Type 0 is any
+/// type.
 pub(crate) fn first_of_type(messages: &[Message], mtype: i64, except: bool) -> Option<usize>
     ensures { result
         ≡ position (λ m. int_eq mtype (pos 0)

@@ -1,4 +1,5 @@
-//! Queues by hand: which message each type takes, when a queue is full, and what stays.
+//! Queues by hand: which message each type takes, when a queue is full, what stays, and how much room
+//! texts take.
 
 use crate::{Message, MsgQueue};
 use ipc_base::{Moment, Pid};
@@ -66,5 +67,24 @@ fn fills_by_bytes_and_by_messages(rt: HostRuntime) -> Result<(), Fail> {
     narrow.reserve(0)?;
     narrow.send(1, b"", Pid(1), Moment(1));
     assert!(rt; !narrow.fits(0));
+    Ok(())
+}
+
+/// Each send follows one of a long text that was refused after its room was reserved.
+#[test]
+fn texts_have_room_for_their_bytes_alone(rt: HostRuntime) -> Result<(), Fail> {
+    let mut queue = MsgQueue::new(rt.alloc(), 950, Moment(0));
+    for _ in 0..950 {
+        queue.reserve(8427)?;
+        queue.reserve(1)?;
+        queue.send(1, b"a", Pid(1), Moment(1));
+    }
+    let mut room: usize = 0;
+    for _ in 0..950 {
+        let at = queue.select(0, false).ok_or("no message")?;
+        let taken = queue.take(at, Pid(1), Moment(2));
+        room = room.saturating_add(taken.text.capacity());
+    }
+    assert_eq!(rt; room, 950);
     Ok(())
 }
