@@ -68,10 +68,11 @@ impl Engine {
         })
     }
 
-    /// The limits that it keeps.
+    /// The limits that it keeps, which have passed their check; by them the state is sound.
     pub fn limits(&self) -> &Limits
         ensures limits { result.now ≡ self.now.limits }
         ensures passed { ArePassed result.now }
+        ensures sound { IsSound self.now.limits self.now.state }
     {
         &self.state.limits
     }

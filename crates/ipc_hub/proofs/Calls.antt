@@ -125,8 +125,8 @@ pub connect-stands : (limits : Limits) (confirmed : ℕ) (old new : Hub) (h : Cl
     → new.engine ≡ old.engine → new.connections.items ≡ old.connections.items ++ c ∷ [] → c.number ≡ conn → IsClient limits confirmed c start_client → Stands limits confirmed new (connect h conn)
 connect-stands limits confirmed old new h conn c stands kept none engine items number is =
     record {
-      keeps = ap (λ (m : Machine). m.limits) ∙ stands.keeps;
-      state = ap (λ (m : Machine). m.state) ∙ stands.state;
+      keeps = ap (λ (m : Machine). m.limits) engine ∙ stands.keeps;
+      state = ap (λ (m : Machine). m.state) engine ∙ stands.state;
       numbers = ap keys_of row_is ∙ map-append (λ (e : ℕ × Connection). e.0) (rows old) ((conn, c) ∷ []) ∙ ap (λ (ks : List ℕ). ks ++ conn ∷ []) stands.numbers
           ∙ sym (map-append (λ (e : ℕ × Client). e.0) h.clients ((conn, start_client) ∷ []));
       clients = λ j. elim (cases_eq j conn) [
@@ -334,8 +334,8 @@ pub release-stands : (limits : Limits) (confirmed : ℕ) (old new : Hub) (h : Cl
     → Stands limits h.accepted new h
 release-stands limits confirmed old new h stands kept engine count each =
     record {
-      keeps = ap (λ (m : Machine). m.limits) ∙ stands.keeps;
-      state = ap (λ (m : Machine). m.state) ∙ stands.state;
+      keeps = ap (λ (m : Machine). m.limits) engine ∙ stands.keeps;
+      state = ap (λ (m : Machine). m.state) engine ∙ stands.state;
       numbers = released-numbers old.connections.items new.connections.items count each ∙ stands.numbers;
       clients = λ conn. released-client limits confirmed h.accepted (connection_of old conn) (connection_of new conn) (client_at h conn)
           (released-at old.connections.items new.connections.items conn count each) (stands.clients conn) (stands.orderly.tidy conn);
@@ -404,7 +404,7 @@ consume-stands limits confirmed old new h conn n c c' stands kept found engine r
     (λ pid mine. (stands.orderly.connected conn pid (ap process_in here ∙ mine), λ j too. stands.orderly.own j conn pid too (ap process_in here ∙ mine)))
     (λ j pid apart other. stands.orderly.connected j pid other) in
     subst (λ (t : Clients). Stands limits confirmed new t) (sym to)
-    (stands-after limits confirmed old new h (with_client h conn d) conn c c' stands kept found spares (ap (λ (m : Machine). m.limits) ∙ stands.keeps) (ap (λ (m : Machine). m.state) ∙ stands.state) row_is
+    (stands-after limits confirmed old new h (with_client h conn d) conn c c' stands kept found spares (ap (λ (m : Machine). m.limits) engine ∙ stands.keeps) (ap (λ (m : Machine). m.state) engine ∙ stands.state) row_is
     (rw (at-with h.clients conn d cl here)
     (record {
       process = ap pid_of process ∙ is.process;

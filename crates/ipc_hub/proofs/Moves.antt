@@ -233,8 +233,8 @@ greet-moves limits h conn serial moment cred c range o here =
     let sound : IsSound limits (connect limits s cred serial).state = step-sound limits h.state (Connect cred serial moment) o.sound in
     choice_with (λ (now : Step). Moves limits conn h (greeted h conn c now)) (λ (now : Step). IsSound limits now.state) full
     (record { state = s; outcomes = none ∷ [] }) (record { state = more; outcomes = fresh ∷ [] }) sound
-    (λ known. greeted-moves limits h conn c s none o here known (frame-fits limits none range tt) (λ pid is. cc) (λ j pid apart is. o.connected j pid is))
-    (λ known. greeted-moves limits h conn c more fresh o here known (frame-fits limits fresh range tt)
+    (λ known. greeted-moves limits h conn c s none o here known (frame-fits limits none range (omega arith)) (λ pid is. cc) (λ j pid apart is. o.connected j pid is))
+    (λ known. greeted-moves limits h conn c more fresh o here known (frame-fits limits fresh range (omega arith))
     (λ pid is.
     let same : s.next_pid ≡ pid = given s.next_pid pid (nat_eq s.next_pid 0) is in (
       subst (λ (n : ℕ). is_process more n ≡ true) same (is_some-push nat_eq nat_eq_equiv s.processes s.next_pid cred),

@@ -130,7 +130,7 @@ module _ (limits : Limits) where
   requests-keep h conn moment (r ∷ rs) refused all =
       requests-keep (unless_ended h conn (λ c. on_request limits h conn c moment r (first_of refused))) conn moment rs (drop 1 refused)
       (unless-keeps h conn (λ c. on_request limits h conn c moment r (first_of refused)) (client_at h conn) all refl
-      (λ c is. request-keeps_by h conn moment c r (first_of refused) c.process r.call all (all c is)))
+      (λ c is. request-keeps_by h conn moment c r (first_of refused) c.process r.kind all (all c is)))
 
   -- ---- requests one after the other
 

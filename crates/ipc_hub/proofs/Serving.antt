@@ -169,7 +169,7 @@ module _ (limits : Limits) (confirmed : ℕ) (h : Clients) (conn : ℕ) (c : Cli
   refused-meets serial state gains =
       let o : PlainOutcome = refusal serial ENOMEM in
       let d : Client = with_frame c h.accepted o in
-      let has = frames-gain limits confirmed h.accepted h.accepted old new c o meets.runs.range meets.frames tidy meets.runs.later empty gains tt in
+      let has = frames-gain limits confirmed h.accepted h.accepted old new c o meets.runs.range meets.frames tidy meets.runs.later empty gains (omega arith) in
       let moved = refuse-moves limits h conn serial c meets.runs.range meets.runs.orderly meets.found in (
         d,
         (

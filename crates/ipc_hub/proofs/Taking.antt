@@ -7,7 +7,7 @@ use Rattle.ipc_wire.specs.Request.{PlainRequest}
 use Rattle.ipc_wire.specs.Stream.{PlainFrame, first, Stream, begins_with, stream_of}
 use Rattle.ipc_wire.specs.Stream.PlainFrame.{More, Whole, Fault}
 use Rattle.ipc_wire.specs.Stream.Ending.{Rest}
-use Rattle.ipc_wire.proofs.CallerLemmas.{first_short, whole_last}
+use Rattle.ipc_wire.proofs.CallerLemmas.{first_short, missing_some, whole_last}
 use Rattle.ipc_engine.specs.Engine.{Machine}
 
 use Rattle.ipc_engine.specs.State.{State, is_process}
@@ -58,7 +58,7 @@ breaks-off engine engine' c c' serial moment empty keeps state none input ended 
     let later = leave-later limits h cl.process moment in
     let moved = break_off-moves limits h conn serial moment cl meets.runs.range meets.runs.orderly meets.found in
     let tidy : IsTidy h.accepted cl = rw meets.found at (meets.runs.orderly.tidy conn) in
-    let has = frames-gain limits confirmed went.accepted h.accepted c.outbox c'.outbox cl (refusal serial EPROTO) meets.runs.range meets.frames tidy (omega (arith, later, meets.runs.later)) empty gains tt in
+    let has = frames-gain limits confirmed went.accepted h.accepted c.outbox c'.outbox cl (refusal serial EPROTO) meets.runs.range meets.frames tidy (omega (arith, later, meets.runs.later)) empty gains (omega arith) in
     let there = connected-in limits h conn (engine.state) (pid_of c.process) meets.runs.orderly meets.runs.state (ap process_in meets.found ∙ sym meets.same) in
     let found : client_at (break_off limits h conn cl serial moment) conn ≡ Some now = at-with went.clients conn now cl (left_at limits h conn moment cl.process ∙ meets.found) in
     record {
@@ -163,8 +163,9 @@ module _ (limits : Limits) (confirmed : ℕ) (engine : Machine) (c : Connection)
   -- nothing stands behind a frame that is whole with this byte
   nothing-behind : (used : ℕ) (request : PlainRequest) → first bytes ≡ Whole used request → drop used bytes ≡ []
   nothing-behind used request is =
-      let last : used ≡ length c.input.items + 1 = whole_last c.input.items byte used request waits is in
-      none (drop used bytes) (omega (arith, last, length-drop used bytes, length-append c.input.items (byte ∷ [])))
+      let some = missing_some c.input.items waits in
+      let last : used ≡ length bytes = whole_last c.input.items (byte ∷ []) used request waits (omega (arith, some.0)) is in
+      none (drop used bytes) (omega (arith, last, length-drop used bytes))
     where
       none : (xs : List ℕ) → length xs ≡ 0 → xs ≡ []
       none [] is = refl

@@ -3,7 +3,7 @@ use Rattle.ipc_wire.specs.Request.{plain_request}
 use Rattle.ipc_wire.specs.Stream.{plain_frame, first}
 use Rattle.ipc_hub.specs.declared.outbox.Outbox.{Outbox}
 use Rattle.ipc_hub.specs.Outbox.{IsEmpty}
-use Rattle.ipc_hub.proofs.Taking.{bare, e, meets-bare, same-meets, takes-more, takes-served, takes-misplaced, takes-fault}
+use Rattle.ipc_hub.proofs.Taking.{bare, e, meets-bare, same-meets, takes-more, takes-served, takes-misplaced, takes-nothing, takes-fault}
 use Rattle.ipc_hub.proofs.connection.Connection.take.Goals as goal
 
 pub invariant_of-self-clause-partial : goal.invariant_of-self-clause-partial
@@ -11,6 +11,10 @@ invariant_of-self-clause-partial c =
     let short : length c.deref.result.now < 8452 = c.read_frame.ensures.waiting (ap plain_frame c.in-More.is) in
     let same = ap length c.deref.ensures.value in
     search rules
+
+pub returns-then-self-clause-bytes : goal.returns-then-self-clause-bytes
+returns-then-self-clause-bytes c idle limits confirmed h conn serves =
+    ([], takes-nothing limits confirmed c.args.engine.now c.args.self.now h conn c.args.byte c.args.moment.0 serves c.if-self.true)
 
 pub returns-in-More-clause-bytes : goal.returns-in-More-clause-bytes
 returns-in-More-clause-bytes c idle limits confirmed h conn serves =

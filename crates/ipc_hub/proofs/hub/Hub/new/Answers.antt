@@ -1,8 +1,10 @@
-use Rattle.std.proofs.Common.{subst, sym}
+use Rattle.std.proofs.Common.{◌∙◌, subst, ap}
 use Rattle.ipc_base.specs.declared.limits.Limits.{Limits}
-use Rattle.ipc_base.specs.Limits.{ArePassed}
+use Rattle.ipc_base.specs.Limits.{ArePassed, longest_reply}
 use Rattle.ipc_hub.proofs.Calls.{new-stands}
 use Rattle.ipc_hub.proofs.hub.Hub.new.Goals as goal
 
 pub returns : goal.returns
-returns c = ?
+returns c =
+    new-stands _ c.new.ensures.items (subst ArePassed c.limits.ensures.limits c.limits.ensures.passed)
+    (c.longest_reply-room.ensures ∙ ap longest_reply c.limits.ensures.limits) c.limits.ensures.sound
