@@ -1,6 +1,6 @@
 //! The sixteen limits of a server.
 
-ghost use Rattle.std.specs.Prelude.{◌≡◌, IfErr, OnOk, position, not};
+ghost use Rattle.std.specs.Prelude.{◌≡◌, ◌≤◌, IfErr, OnOk, position, not};
 ghost use Rattle.ipc_base.specs.Limits.{
     tests, standard_limits, small_limits, ArePassed, longest_reply, is_within as passes_within,
 };
@@ -136,16 +136,17 @@ impl Limits {
     }
 
     /// The bytes of the longest reply under these limits, from 78 to 8210.
-    pub fn longest_reply(&self) -> usize
+    pub fn longest_reply(&self) -> u32
         requires { ArePassed self.now }
-        ensures { result ≡ longest_reply self.now }
+        ensures longest { result ≡ longest_reply self.now }
+        ensures bounded { result ≤ 8210 }
     {
         let body = 68
             .max(8 + self.msgmax)
             .max(2 * self.semmsl)
             .max(4 + self.msgsize)
             .max(self.call_bytes);
-        10 + body as usize
+        10 + body
     }
 }
 

@@ -383,7 +383,7 @@ consume-is h conn n cl here = rw here refl
 pub consume-stands : (limits : Limits) (confirmed : ℕ) (old new : Hub) (h : Clients) (conn n : ℕ) (c c' : Connection) → Stands limits confirmed old h → new.room ≡ old.room → connection_of old conn ≡ Some c
     → new.engine ≡ old.engine → rows new ≡ with_value nat_eq (rows old) conn c'
     → c'.process ≡ c.process → c'.input ≡ c.input → c'.ended ≡ c.ended → n ≤ length (visible c.outbox)
-    → waiting c'.outbox ≡ drop n (waiting c.outbox) → visible c'.outbox ≡ drop n (visible c.outbox) → vec_len c'.outbox.buffer ≡ vec_len c.outbox.buffer
+    → waiting c'.outbox ≡ drop n (waiting c.outbox) → visible c'.outbox ≡ drop n (visible c.outbox) → c'.outbox.reply ≡ c.outbox.reply
     → Stands limits confirmed new (consume h conn n)
 consume-stands limits confirmed old new h conn n c c' stands kept found engine row_is process input ended within waits sees room =
     let has = client-of limits confirmed c (client_at h conn) (present limits confirmed old h conn c stands found) in

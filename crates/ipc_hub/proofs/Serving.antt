@@ -26,7 +26,7 @@ use Rattle.ipc_base.proofs.CallerLemmas.{choice}
 use Rattle.ipc_hub.specs.declared.outbox.Outbox.{Outbox}
 use Rattle.ipc_hub.specs.Clients.{Frame, Client, Clients, all_bytes, confirmed_bytes, with_frame, accept, greet, refuse, break_off, refusal, hello_answered, process_of, answered, on_request}
 use Rattle.ipc_hub.specs.Orderly.{IsTidy}
-use Rattle.ipc_hub.specs.Outbox.{IsEmpty, GainsFrame, HasFrames}
+use Rattle.ipc_hub.specs.Outbox.{HasRoom, GainsFrame, HasFrames}
 use Rattle.ipc_hub.specs.Serving.{pid_of, said_by, Meets, IsServed, IsMisplaced}
 use Rattle.ipc_base.proofs.CallerLemmas.{at-with, longest_reply-bound}
 use Rattle.ipc_hub.proofs.Moves.{reply-spares, greet-moves, call-moves, refuse-moves}
@@ -43,16 +43,15 @@ not_yet confirmed [] f later =
     rw above refl
 not_yet confirmed (g ∷ gs) f later = ap (λ (bytes : List ℕ). if nat_le g.mark confirmed then g.bytes ++ bytes else []) (not_yet confirmed gs f later)
 
--- a reply that was put into an empty outbox is the client's next frame, and is not seen yet
+-- a reply that was put where it has room is the client's next frame, and is not seen yet
 pub frames-gain : (limits : Limits) (confirmed mark accepted : ℕ) (old new : Outbox) (c : Client) (o : PlainOutcome) → ArePassed limits
-    → HasFrames limits confirmed old c → IsTidy accepted c → confirmed < mark → IsEmpty old → GainsFrame old new (reply_of o) → FitsBody limits o.body
+    → HasFrames limits confirmed old c → IsTidy accepted c → confirmed < mark → HasRoom old → GainsFrame old new (reply_of o) → FitsBody limits o.body
     → HasFrames limits confirmed new (with_frame c mark o)
 frames-gain limits confirmed mark accepted old new c o range has tidy later empty gain fits =
     let bytes : List ℕ = reply_bytes (reply_of o) in
     let f : Frame = record { mark = mark; bytes = bytes } in
     let bound = longest_reply-bound limits range in
-    let start = old.fresh empty in
-    let room : old.end + length bytes ≤ vec_len old.buffer = omega (arith, start, has.room, reply-length (reply_of o), fits) in
+    let room : old.end + length bytes ≤ vec_len old.buffer = omega (arith, empty, has.room, reply-length (reply_of o), fits) in
     record {
       waiting = gain.waiting room (omega (arith, fits, bound))
           ∙ ap (λ (w : List ℕ). w ++ bytes) has.waiting
@@ -114,7 +113,7 @@ abbrev pub Answers : Outbox → Outbox → Option Pid → Step → Type 0
 Answers old new process now = (o : PlainOutcome) → now.outcomes ≡ o ∷ [] → GainsFrame old new (reply_of o) × (pid_of process ≡ process_of o)
 
 module _ (limits : Limits) (confirmed : ℕ) (h : Clients) (conn : ℕ) (c : Client) (engine engine' : Machine) (process : Option Pid) (old new : Outbox)
-    (meets : Meets limits confirmed engine process old h conn c) (empty : IsEmpty old) (keeps : engine'.limits ≡ engine.limits) where
+    (meets : Meets limits confirmed engine process old h conn c) (empty : HasRoom old) (keeps : engine'.limits ≡ engine.limits) where
   tidy : IsTidy h.accepted c
   tidy = rw meets.found at (meets.runs.orderly.tidy conn)
 

@@ -17,7 +17,7 @@ use Rattle.ipc_hub.specs.declared.outbox.Outbox.{Outbox}
 use Rattle.ipc_hub.specs.declared.connection.Connection.{Connection}
 use Rattle.ipc_hub.specs.Clients.{Client, Clients, client_at, with_client, refusal, leave, break_off, on_request, on_ending, take_in, fitted, arriving}
 use Rattle.ipc_hub.specs.Orderly.{IsTidy, IsOrderly}
-use Rattle.ipc_hub.specs.Outbox.{IsEmpty, GainsFrame, HasFrames}
+use Rattle.ipc_hub.specs.Outbox.{HasRoom, GainsFrame, HasFrames}
 use Rattle.ipc_hub.specs.Serving.{pid_of, Meets, IsServed}
 use Rattle.ipc_hub.specs.Serves.{IsClient, AreClient, Serves, TakesIn, BreaksOff, left, IsConnected}
 use Rattle.ipc_base.proofs.CallerLemmas.{at-with, own}
@@ -48,7 +48,7 @@ connected-in limits h conn s None o same is = tt
 connected-in limits h conn s (Some pid) o same is = ap (λ (t : State). is_process t pid) same ∙ o.connected conn pid is
 
 -- the server has ended the connection
-pub breaks-off : (engine engine' : Machine) (c c' : Connection) (serial moment : ℕ) → IsEmpty c.outbox → engine'.limits ≡ engine.limits
+pub breaks-off : (engine engine' : Machine) (c c' : Connection) (serial moment : ℕ) → HasRoom c.outbox → engine'.limits ≡ engine.limits
     → (IsConnected (engine.state) (pid_of c.process) → engine'.state ≡ left (engine.state) (pid_of c.process) moment)
     → c'.process ≡ None → c'.input ≡ c.input → c'.ended ≡ true → GainsFrame c.outbox c'.outbox (reply_of (refusal serial EPROTO))
     → BreaksOff engine c engine' c' serial moment
@@ -181,7 +181,7 @@ module _ (limits : Limits) (confirmed : ℕ) (engine : Machine) (c : Connection)
       ∙ ap (λ (t : Clients). on_ending limits t conn moment (Rest [])) (acts bare conn (λ x. on_request limits bare conn x moment request refused) e bare-found (sym same.ended ∙ live))
 
   -- a request that was answered
-  pub takes-served : (engine' : Machine) (c' : Connection) (used : ℕ) (request : PlainRequest) → c.ended ≡ false → IsEmpty c.outbox → first bytes ≡ Whole used request
+  pub takes-served : (engine' : Machine) (c' : Connection) (used : ℕ) (request : PlainRequest) → c.ended ≡ false → HasRoom c.outbox → first bytes ≡ Whole used request
       → IsServed engine c.process c.outbox engine' c'.process c'.outbox request moment → c'.input.items ≡ [] → c'.ended ≡ c.ended
       → (refused : List Bool) × Serves limits confirmed engine' c' (take_in limits h conn (byte ∷ []) moment refused) conn
   takes-served engine' c' used request live empty is served input ended =

@@ -55,4 +55,4 @@ pub record Releases (c released : Connection) : Type 0 where
   pub ended : released.ended ≡ c.ended
   pub visible : visible released.outbox ≡ waiting c.outbox
   pub waiting : waiting released.outbox ≡ waiting c.outbox
-  pub room : vec_len released.outbox.buffer ≡ vec_len c.outbox.buffer
+  pub room : released.outbox.reply ≡ c.outbox.reply

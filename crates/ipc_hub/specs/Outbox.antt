@@ -16,15 +16,19 @@ visible o = slice_range o.buffer.items o.consumed o.released
 abbrev pub IsEmpty : Outbox → Type 0
 IsEmpty o = o.consumed ≡ o.end
 
+-- the longest reply has room behind the bytes that wait
+abbrev pub HasRoom : Outbox → Type 0
+HasRoom o = o.end + o.reply ≤ vec_len o.buffer
+
 -- a reply was put behind the bytes that wait, where there is room for it and it is not too long for its length field
 pub record GainsFrame (old new : Outbox) (r : PlainReply) : Type 0 where
   pub waiting : old.end + length (reply_bytes r) ≤ vec_len old.buffer → 6 + length (body_bytes r.body) < 2 ^ 32 → waiting new ≡ waiting old ++ reply_bytes r
   pub visible : visible new ≡ visible old
-  pub room : vec_len new.buffer ≡ vec_len old.buffer
+  pub room : new.reply ≡ old.reply
 
 -- an outbox has the frames of a client, and shows those that are confirmed
 pub record HasFrames (limits : Limits) (confirmed : ℕ) (outbox : Outbox) (client : Client) : Type 0 where
   pub waiting : waiting outbox ≡ drop client.consumed (all_bytes client.frames)
   pub visible : visible outbox ≡ shown confirmed client
   pub seen : client.consumed ≤ length (confirmed_bytes confirmed client.frames)
-  pub room : vec_len outbox.buffer ≡ longest_reply limits
+  pub room : outbox.reply ≡ longest_reply limits

@@ -10,7 +10,7 @@ use Rattle.ipc_engine.specs.Engine.{Machine}
 use Rattle.ipc_hub.specs.declared.outbox.Outbox.{Outbox}
 use Rattle.ipc_hub.specs.Clients.{Client, Clients, client_at, on_request, break_off}
 use Rattle.ipc_hub.specs.Orderly.{IsOrderly}
-use Rattle.ipc_hub.specs.Outbox.{IsEmpty, HasFrames}
+use Rattle.ipc_hub.specs.Outbox.{HasRoom, HasFrames}
 
 abbrev pub pid_of : Option Pid → Option ℕ
 pid_of process = option_map (λ p. p.0) process
@@ -38,7 +38,7 @@ pub record Meets (limits : Limits) (confirmed : ℕ) (engine : Machine) (process
 -- the request was answered
 abbrev pub IsServed : Machine → Option Pid → Outbox → Machine → Option Pid → Outbox → PlainRequest → ℕ → Type 0
 IsServed engine process outbox engine' process' outbox' request moment =
-    (limits : Limits) (confirmed : ℕ) (h : Clients) (conn : ℕ) (c : Client) → Meets limits confirmed engine process outbox h conn c → IsEmpty outbox
+    (limits : Limits) (confirmed : ℕ) (h : Clients) (conn : ℕ) (c : Client) → Meets limits confirmed engine process outbox h conn c → HasRoom outbox
     → (refused : Bool) × ((d : Client) × (Meets limits confirmed engine' process' outbox' (on_request limits h conn c moment request refused) conn d × (d.ended ≡ c.ended)))
 
 -- the request has no place here, and nothing was done

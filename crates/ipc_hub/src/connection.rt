@@ -1,6 +1,6 @@
 //! One connection: its process, the bytes that are no whole frame yet, and the frames that wait.
 
-ghost use Rattle.std.specs.Prelude.{◌≡◌, ◌<◌, ◌≤◌, ◌∷◌, [], None, true, false, IfOk, length, map, take, vec_len, vec_capacity};
+ghost use Rattle.std.specs.Prelude.{◌≡◌, ◌<◌, ◌≤◌, ◌^◌, ◌∷◌, [], None, true, false, IfOk, length, map, take, vec_len, vec_capacity};
 ghost use Rattle.std.specs.Bool.{OnTrue, OnFalse};
 ghost use Rattle.ipc_wire.specs.Request.{plain_kind, plain_request};
 ghost use Rattle.ipc_wire.specs.Reply.{plain_reply};
@@ -32,30 +32,30 @@ pub(crate) struct Connection {
 }
 
 impl Connection {
-    ghost use Rattle.ipc_hub.specs.Outbox.{waiting, visible, IsEmpty};
+    ghost use Rattle.ipc_hub.specs.Outbox.{waiting, visible, IsEmpty, HasRoom};
     ghost use Rattle.ipc_hub.specs.Serves.{TakesIn, Leaves, BreaksOff};
 
-    /// A connection without a process; a frame of `room` bytes fits.
-    pub(crate) fn new(alloc: Global, number: u32, room: usize) -> Result<Connection, AllocError>
+    /// A connection without a process; the longest reply has `reply` bytes.
+    pub(crate) fn new(alloc: Global, number: u32, reply: u32) -> Result<Connection, AllocError>
         ensures number { IfOk result (λ c. c.number ≡ number) }
         ensures process { IfOk result (λ c. c.process ≡ None) }
         ensures input { IfOk result (λ c. c.input.items ≡ []) }
         ensures waiting { IfOk result (λ c. waiting c.outbox ≡ []) }
         ensures visible { IfOk result (λ c. visible c.outbox ≡ []) }
-        ensures buffer { IfOk result (λ c. vec_len c.outbox.buffer ≡ room) }
+        ensures room { IfOk result (λ c. c.outbox.reply ≡ reply) }
         ensures ended { IfOk result (λ c. c.ended ≡ false) }
     {
         Ok(Connection {
             number,
             process: None,
             input: Vec::with_capacity(alloc, GREATEST_FRAME)?,
-            outbox: Outbox::new(alloc, room)?,
+            outbox: Outbox::new(alloc, reply)?,
             ended: false,
         })
     }
 
-    /// Takes bytes of a piece until a frame waits, and answers each request that they complete; an ended
-    /// connection takes and drops all. Answers how many bytes it took.
+    /// Takes bytes of a piece while the longest reply has room, and answers each request that they complete;
+    /// an ended connection takes and drops all. Answers how many bytes it took.
     pub(crate) fn feed(&mut self, engine: &mut Engine, piece: &[u8], moment: Moment) -> usize
         ensures number { self.new.number ≡ self.old.number }
         ensures bytes { TakesIn engine.old self.old engine.new self.new (take result piece.now) moment.0 }
@@ -64,7 +64,7 @@ impl Connection {
         ensures starts { IsEmpty self.old.outbox → 0 < length piece.now → 0 < result }
     {
         for (taken, byte) in piece.iter().enumerate() {
-            if !self.ended && !self.outbox.is_empty() {
+            if !self.ended && !self.outbox.has_room() {
                 return taken;
             }
             self.take(engine, *byte, moment);
@@ -75,7 +75,7 @@ impl Connection {
     /// One byte more.
     fn take(&mut self, engine: &mut Engine, byte: u8, moment: Moment)
         ensures number { self.new.number ≡ self.old.number }
-        ensures bytes { (self.old.ended ≡ false → IsEmpty self.old.outbox) → TakesIn engine.old self.old engine.new self.new (byte ∷ []) moment.0 }
+        ensures bytes { (self.old.ended ≡ false → HasRoom self.old.outbox) → TakesIn engine.old self.old engine.new self.new (byte ∷ []) moment.0 }
     {
         if self.ended {
             return;
@@ -107,7 +107,7 @@ impl Connection {
     /// The process leaves, and an EPROTO frame is the last of the connection.
     fn break_off(&mut self, engine: &mut Engine, serial: u32, moment: Moment)
         ensures number { self.new.number ≡ self.old.number }
-        ensures ended { IsEmpty self.old.outbox → BreaksOff engine.old self.old engine.new self.new serial moment.0 }
+        ensures ended { HasRoom self.old.outbox → BreaksOff engine.old self.old engine.new self.new serial moment.0 }
     {
         self.leave(engine, moment);
         self.outbox.push(&refusal(serial, Errno::EPROTO));

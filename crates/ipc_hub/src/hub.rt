@@ -34,7 +34,7 @@ pub struct Hub {
     engine: Engine,
     connections: Vec<Connection>,
     /// The bytes of the longest reply.
-    room: usize,
+    room: u32,
 }
 
 impl Hub {

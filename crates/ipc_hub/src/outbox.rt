@@ -1,10 +1,14 @@
 //! The frames of a connection that the client has not consumed.
 
-ghost use Rattle.std.specs.Prelude.{◌≡◌, ◌≤◌, ◌↔◌, [], length, drop, vec_len, IfOk, IsTrue};
+ghost use Rattle.std.specs.Prelude.{◌≡◌, ◌≤◌, ◌<◌, ◌^◌, ◌↔◌, [], length, drop, vec_len, IfOk, IsTrue};
 ghost use Rattle.ipc_wire.specs.Reply.{plain_reply};
 
 use ipc_wire::{Reply, reply_len, write_reply};
 use std::alloc::{AllocError, Global};
+
+/// The bytes of frames that may wait before a request is left untaken: some 400 short replies, so that a client
+/// that sends ahead is served many requests at a time.
+const AHEAD: usize = 4096;
 
 /// A buffer of a fixed length with the frames that wait: from `consumed` to `released` those that the
 /// client may see, and behind them, to `end`, those that wait to be released.
@@ -14,34 +18,40 @@ pub(crate) struct Outbox {
     pub(crate) consumed: usize,
     pub(crate) released: usize,
     pub(crate) end: usize,
+    /// The bytes of the longest reply.
+    pub(crate) reply: usize,
     ghost in_order: { consumed ≤ released },
     ghost released_is_written: { released ≤ end },
     ghost within: { end ≤ vec_len buffer },
     ghost fresh: { consumed ≡ end → end ≡ 0 },
+    ghost enough: { reply ≤ vec_len buffer },
 }
 
 impl Outbox {
-    ghost use Rattle.ipc_hub.specs.Outbox.{waiting, visible, IsEmpty, GainsFrame};
+    ghost use Rattle.ipc_hub.specs.Outbox.{waiting, visible, IsEmpty, HasRoom, GainsFrame};
 
-    /// No frame waits, and there is room for frames of `room` bytes.
-    pub(crate) fn new(alloc: Global, room: usize) -> Result<Outbox, AllocError>
+    /// No frame waits, and there is room for a reply of `reply` bytes and some before it.
+    pub(crate) fn new(alloc: Global, reply: u32) -> Result<Outbox, AllocError>
         ensures waiting { IfOk result (λ outbox. waiting outbox ≡ []) }
         ensures visible { IfOk result (λ outbox. visible outbox ≡ []) }
-        ensures room { IfOk result (λ outbox. vec_len outbox.buffer ≡ room) }
+        ensures room { IfOk result (λ outbox. outbox.reply ≡ reply) }
     {
+        let reply = reply as usize;
         Ok(Outbox {
-            buffer: vec![in alloc; 0; room]?,
+            buffer: vec![in alloc; 0; AHEAD + reply]?,
             consumed: 0,
             released: 0,
             end: 0,
+            reply,
         })
     }
 
-    /// Whether no frame waits.
-    pub(crate) fn is_empty(&self) -> bool
-        ensures { IsTrue result ↔ IsEmpty self.now }
+    /// Whether the longest reply has room behind the frames that wait. If none waits, it has.
+    pub(crate) fn has_room(&self) -> bool
+        ensures room { IsTrue result ↔ HasRoom self.now }
+        ensures empty { IsEmpty self.now → IsTrue result }
     {
-        self.consumed == self.end
+        self.buffer.len() - self.end >= self.reply
     }
 
     /// The bytes that the client may see.
@@ -64,7 +74,7 @@ impl Outbox {
     pub(crate) fn release(&mut self)
         ensures waiting { waiting self.new ≡ waiting self.old }
         ensures visible { visible self.new ≡ waiting self.old }
-        ensures room { self.new.buffer ≡ self.old.buffer }
+        ensures room { self.new.reply ≡ self.old.reply }
     {
         self.released = self.end;
     }
@@ -74,7 +84,7 @@ impl Outbox {
         requires { count ≤ length (visible self.old) }
         ensures waiting { waiting self.new ≡ drop count (waiting self.old) }
         ensures visible { visible self.new ≡ drop count (visible self.old) }
-        ensures room { self.new.buffer ≡ self.old.buffer }
+        ensures room { self.new.reply ≡ self.old.reply }
     {
         self.consumed += count;
         if self.consumed == self.end {

@@ -1,3 +1,5 @@
+pub mod Fields
+pub mod Rows
 pub mod Frames
 pub mod Puts
 pub mod Read

@@ -1,49 +1,15 @@
--- The frame of a request is read as that request, and what is read is spelled so.
-use Rattle.std.proofs.Common.{◌≡◌, ℕ, ◌+◌, ◌≤◌, ◌<◌, ◌^◌, true, false, ltb, leb, eqb, List, ◌∷◌, ◌++◌, length, take, Some, refl, sym, ap, ◌∙◌, arith, ℤ, pos, negsuc, FitsSigned, to_z-of_z}
-use Rattle.std.specs.Int.{w32, w64, from_be_bytes, to_be_bytes, cast_signed, cast_unsigned}
-use Rattle.std.proofs.lemmas.Bool.{le-ltb, le-leb, cond-false, ne_eqb}
+-- The frame of a request is read as that request.
+use Rattle.std.proofs.Common.{◌≡◌, ℕ, ◌+◌, ◌≤◌, ◌<◌, ◌^◌, false, ltb, eqb, List, ◌∷◌, ◌++◌, length, take, Some, refl, sym, ap, ◌∙◌, arith}
+use Rattle.std.specs.Int.{w32, from_be_bytes, to_be_bytes}
+use Rattle.std.proofs.lemmas.Bool.{le-ltb, cond-false, ne_eqb}
 use Rattle.std.proofs.lemmas.List.{length-append, take_at}
-use Rattle.std.proofs.lemmas.Nat.{from_be_bytes-to_be_bytes_4, from_be_bytes-to_be_bytes_8}
-use Rattle.ipc_base.specs.Fields.{signed, signed_bytes}
+use Rattle.std.proofs.lemmas.Nat.{from_be_bytes-to_be_bytes_4}
 use Rattle.ipc_wire.specs.Request.{PlainKind, PlainRequest}
-use Rattle.ipc_wire.specs.Request.PlainCall.{Msgget, Msgsnd, Msgrcv}
-use Rattle.ipc_wire.specs.Request.PlainKind.{Hello, Calls}
-use Rattle.ipc_wire.specs.Stream.{part, u32_at, i32_at, i64_at, hello_of, msgget_of, msgsnd_of, msgrcv_of, kind_of, frame_of, first}
+use Rattle.ipc_wire.specs.Stream.{part, u32_at, kind_of, frame_of, first}
 use Rattle.ipc_wire.specs.Stream.PlainFrame.{Whole}
-use Rattle.ipc_wire.specs.Spelling.{opcode_of, fields_of, frame, FieldsFit, HasFrame}
+use Rattle.ipc_wire.specs.Spelling.{opcode_of, fields_of, frame, HasFrame}
 use Rattle.ipc_wire.proofs.Frames.{first_long, is_out_of_range, sized}
-
-bits32 : (z : ℤ) → FitsSigned w32 z → cast_unsigned w32 z < 2 ^ 32
-bits32 (pos n) fits = omega (arith, fits.sfits)
-bits32 (negsuc n) fits = omega (arith, fits.sfits)
-
-bits64 : (z : ℤ) → FitsSigned w64 z → cast_unsigned w64 z < 2 ^ 64
-bits64 (pos n) fits = omega (arith, fits.sfits)
-bits64 (negsuc n) fits = omega (arith, fits.sfits)
-
-again32 : (z : ℤ) → FitsSigned w32 z → signed w32 (signed_bytes w32 z) ≡ z
-again32 z fits = ap (cast_signed w32) (from_be_bytes-to_be_bytes_4 (cast_unsigned w32 z) (bits32 z fits)) ∙ to_z-of_z fits
-
-again64 : (z : ℤ) → FitsSigned w64 z → signed w64 (signed_bytes w64 z) ≡ z
-again64 z fits = ap (cast_signed w64) (from_be_bytes-to_be_bytes_8 (cast_unsigned w64 z) (bits64 z fits)) ∙ to_z-of_z fits
-
-call_again : (call : PlainKind) → FieldsFit call → kind_of (opcode_of call) (fields_of call) ≡ Some call
-unfolding kind_of hello_of msgget_of msgsnd_of msgrcv_of u32_at i32_at i64_at
-call_again (Hello cred) fits =
-    rw (from_be_bytes-to_be_bytes_4 cred.uid fits.0, from_be_bytes-to_be_bytes_4 cred.gid fits.1) refl
-call_again (Calls (Msgget key flags)) fits =
-    rw (again32 key fits.0, from_be_bytes-to_be_bytes_4 flags fits.1) refl
-call_again (Calls (Msgsnd id flags mtype text)) fits =
-    let long : leb 16 (length (fields_of (Calls (Msgsnd id flags mtype text)))) ≡ true = le-leb _ _ (omega arith) in
-    rw (long, from_be_bytes-to_be_bytes_4 id fits.0, from_be_bytes-to_be_bytes_4 flags fits.1, again64 mtype fits.2) refl
-call_again (Calls (Msgrcv id flags size mtype)) fits =
-    rw (from_be_bytes-to_be_bytes_4 id fits.0, from_be_bytes-to_be_bytes_4 flags fits.1, from_be_bytes-to_be_bytes_4 size fits.2, again64 mtype fits.3) refl
-
-fields_short : (call : PlainKind) → FieldsFit call → length (fields_of call) ≤ 8443
-fields_short (Hello cred) fits = omega arith
-fields_short (Calls (Msgget key flags)) fits = omega arith
-fields_short (Calls (Msgsnd id flags mtype text)) fits = omega (arith, fits.3)
-fields_short (Calls (Msgrcv id flags size mtype)) fits = omega arith
+use Rattle.ipc_wire.proofs.Rows.{kind_again}
 
 -- what stands behind the length
 abbrev pub text_of : ℕ → ℕ → List ℕ → List ℕ
@@ -81,10 +47,10 @@ pub request_again : (request : PlainRequest) (rest : List ℕ) → HasFrame requ
 unfolding frame
 request_again request rest has =
     let fields : List ℕ = fields_of request.kind in
-    let short : length fields ≤ 8443 = fields_short request.kind has.fields in
+    let short : length fields ≤ 8443 = has.short in
     let text : List ℕ = text_of request.serial (opcode_of request.kind) fields in
     let size : length text ≡ 5 + length fields = omega arith in
     let total : length (frame request) ≡ 9 + length fields = omega arith in
     framed_again text rest (5 + length fields) size (omega arith) (omega arith)
-    ∙ text_again request.serial (opcode_of request.kind) fields request.kind has.serial.0 has.serial.1 (call_again request.kind has.fields)
+    ∙ text_again request.serial (opcode_of request.kind) fields request.kind has.serial.0 has.serial.1 (kind_again request.kind has.fields)
     ∙ ap (λ (n : ℕ). Whole n request) (sym total)

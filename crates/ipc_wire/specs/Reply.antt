@@ -1,6 +1,6 @@
 -- Replies as plain values, and the bytes of one: the length of what follows (four bytes), the serial (four),
 -- the error number (two, 0 for success) and the body.
-use Rattle.std.specs.Prelude.{ℕ, ℤ, ◌+◌, List, [], ◌++◌, length, Option, Some, None}
+use Rattle.std.specs.Prelude.{ℕ, ◌+◌, List, [], ◌++◌, length, Option, Some, None}
 use Rattle.std.specs.Borrow.{Bor}
 use Rattle.std.specs.Int.{w16, w32, w64, to_be_bytes}
 use Rattle.ipc_base.specs.declared.errno.Errno.{Errno}

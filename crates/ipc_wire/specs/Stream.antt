@@ -1,14 +1,12 @@
 -- The requests of a stream of bytes. A frame is the length of what follows (four bytes, from 5 to 8448), a
--- serial of four bytes that is not 0, an opcode of one byte, and the fields of the call with that opcode.
--- Numbers have their most significant byte first; signed ones are in two's complement.
-use Rattle.std.specs.Prelude.{◌≤◌, ◌+◌, ◌-◌, ℕ, zero, suc, ℤ, List, [], ◌∷◌, ◌++◌, length, take, drop, slice_index, nat_lt, nat_le, ◌==◌, ◌||◌, if◌then◌else◌, Option, Some, None}
-use Rattle.std.specs.Int.{w32, w64, from_be_bytes}
-use Rattle.ipc_base.specs.Fields.{signed}
+-- serial of four bytes that is not 0, an opcode of one byte, and the fields of the opcode's row.
+use Rattle.std.specs.Prelude.{◌≤◌, ◌+◌, ◌-◌, ℕ, zero, suc, Bool, List, [], ◌∷◌, ◌++◌, length, take, drop, slice_index, nat_lt, nat_le, ◌==◌, ◌||◌, if◌then◌else◌, Option, Some, None}
+use Rattle.std.specs.Int.{w32, from_be_bytes}
 use Rattle.ipc_wire.specs.declared.request.Frame.{Frame}
 use Rattle.ipc_wire.specs.declared.request.Frame.TheVariants as frames
-use Rattle.ipc_wire.specs.Request.{PlainCall, PlainKind, PlainRequest, plain_request}
-use Rattle.ipc_wire.specs.Request.PlainCall.{Msgget, Msgsnd, Msgrcv}
-use Rattle.ipc_wire.specs.Request.PlainKind.{Hello, Calls}
+use Rattle.ipc_wire.specs.Fields.{total, values_of}
+use Rattle.ipc_wire.specs.Request.{PlainKind, PlainRequest, plain_request}
+use Rattle.ipc_wire.specs.Table.{Row, row_of}
 
 -- What stands at the front of a stream: no whole frame yet, a request and how many bytes its frame takes, or
 -- a fault, with the serial of the frame or 0.
@@ -22,46 +20,31 @@ plain_frame frames.More = More
 plain_frame (frames.Whole used request) = Whole used (plain_request request)
 plain_frame (frames.Fault serial) = Fault serial
 
--- ---- fields
-
 -- the n bytes from a place on
 abbrev pub part : ℕ → ℕ → List ℕ → List ℕ
 part at n bytes = take n (drop at bytes)
 
--- the number of four bytes at a place; signed ones of four and of eight
+-- the number of four bytes at a place
 unfoldable pub u32_at : ℕ → List ℕ → ℕ
 u32_at at bytes = from_be_bytes w32 (part at 4 bytes)
 
-unfoldable pub i32_at : ℕ → List ℕ → ℤ
-i32_at at bytes = signed w32 (part at 4 bytes)
+-- ---- what an opcode and its fields ask
 
-unfoldable pub i64_at : ℕ → List ℕ → ℤ
-i64_at at bytes = signed w64 (part at 8 bytes)
+-- whether the bytes have the size that a row wants
+abbrev pub fits_row : Row → List ℕ → Bool
+fits_row row bytes = if row.has_rest then nat_le (total row.fields) (length bytes) else length bytes == total row.fields
 
--- uid, gid
-unfoldable pub hello_of : List ℕ → Option PlainKind
-hello_of fields = if length fields == 8 then Some (Hello (record { uid = u32_at 0 fields; gid = u32_at 4 fields })) else None
+abbrev pub made_by : Row → List ℕ → Option PlainKind
+made_by row bytes =
+    if fits_row row bytes then Some (row.make (values_of row.fields bytes) (drop (total row.fields) bytes)) else None
 
--- key, flags
-unfoldable pub msgget_of : List ℕ → Option PlainKind
-msgget_of fields = if length fields == 8 then Some (Calls (Msgget (i32_at 0 fields) (u32_at 4 fields))) else None
+abbrev pub made_by_some : Option Row → List ℕ → Option PlainKind
+made_by_some None bytes = None
+made_by_some (Some row) bytes = made_by row bytes
 
--- id, flags, type, and the rest is the text
-unfoldable pub msgsnd_of : List ℕ → Option PlainKind
-msgsnd_of fields = if nat_le 16 (length fields) then Some (Calls (Msgsnd (u32_at 0 fields) (u32_at 4 fields) (i64_at 8 fields) (drop 16 fields))) else None
-
--- id, flags, size, type
-unfoldable pub msgrcv_of : List ℕ → Option PlainKind
-msgrcv_of fields = if length fields == 20 then Some (Calls (Msgrcv (u32_at 0 fields) (u32_at 4 fields) (u32_at 8 fields) (i64_at 12 fields))) else None
-
--- What a request with this opcode asks, or None where none has it or the fields have another size.
+-- What a request with this opcode asks, or None where no row has it or the fields have another size.
 unfoldable pub kind_of : ℕ → List ℕ → Option PlainKind
-kind_of opcode fields =
-    if opcode == 0x01 then hello_of fields
-    else if opcode == 0x0a then msgget_of fields
-    else if opcode == 0x0b then msgsnd_of fields
-    else if opcode == 0x0c then msgrcv_of fields
-    else None
+kind_of opcode bytes = made_by_some (row_of opcode) bytes
 
 -- ---- frames
 

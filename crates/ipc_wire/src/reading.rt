@@ -2,7 +2,16 @@
 
 ghost use Rattle.std.specs.Prelude.{◌≡◌, ◌<◌, ◌≤◌, ◌+◌, length, option_map};
 ghost use Rattle.ipc_wire.specs.Request.{plain_kind};
-ghost use Rattle.ipc_wire.specs.Stream.{plain_frame, TakesBytes, first, missing, frame_of, kind_of, hello_of, msgget_of, msgsnd_of, msgrcv_of};
+ghost use Rattle.ipc_wire.specs.Stream.{
+  plain_frame,
+  TakesBytes,
+  first,
+  missing,
+  frame_of,
+  kind_of,
+  made_by,
+};
+ghost use Rattle.ipc_wire.specs.Table.{hello, msgget, msgsnd, msgrcv};
 ghost use Rattle.ipc_wire.specs.Stream.PlainFrame.{More};
 
 use crate::request::{Call, Frame, Request, RequestKind};
@@ -104,9 +113,9 @@ fn read_kind(opcode: u8, fields: &[u8]) -> Option<RequestKind<'_>>
     }
 }
 
-#[tactic(auto, unfolding(crate::specs::Stream::hello_of, crate::specs::Stream::u32_at, crate::specs::Stream::i32_at, crate::specs::Stream::i64_at))]
+#[tactic(auto, unfolding(crate::specs::Fields::number_of))]
 fn read_hello(fields: &[u8]) -> Option<RequestKind<'_>>
-    ensures { option_map plain_kind result ≡ hello_of fields.now }
+    ensures { option_map plain_kind result ≡ made_by hello fields.now }
 {
     let mut cursor = Cursor::new(fields);
     let uid = cursor.u32()?;
@@ -117,9 +126,9 @@ fn read_hello(fields: &[u8]) -> Option<RequestKind<'_>>
     Some(RequestKind::Hello(Cred { uid, gid }))
 }
 
-#[tactic(auto, unfolding(crate::specs::Stream::msgget_of, crate::specs::Stream::u32_at, crate::specs::Stream::i32_at, crate::specs::Stream::i64_at))]
+#[tactic(auto, unfolding(crate::specs::Fields::number_of))]
 fn read_msgget(fields: &[u8]) -> Option<RequestKind<'_>>
-    ensures { option_map plain_kind result ≡ msgget_of fields.now }
+    ensures { option_map plain_kind result ≡ made_by msgget fields.now }
 {
     let mut cursor = Cursor::new(fields);
     let key = cursor.i32()?;
@@ -130,9 +139,9 @@ fn read_msgget(fields: &[u8]) -> Option<RequestKind<'_>>
     Some(RequestKind::Call(Call::Msgget { key, flags }))
 }
 
-#[tactic(auto, unfolding(crate::specs::Stream::msgsnd_of, crate::specs::Stream::u32_at, crate::specs::Stream::i32_at, crate::specs::Stream::i64_at))]
+#[tactic(auto, unfolding(crate::specs::Fields::number_of))]
 fn read_msgsnd(fields: &[u8]) -> Option<RequestKind<'_>>
-    ensures { option_map plain_kind result ≡ msgsnd_of fields.now }
+    ensures { option_map plain_kind result ≡ made_by msgsnd fields.now }
 {
     let mut cursor = Cursor::new(fields);
     let id = Id(cursor.u32()?);
@@ -147,9 +156,9 @@ fn read_msgsnd(fields: &[u8]) -> Option<RequestKind<'_>>
     }))
 }
 
-#[tactic(auto, unfolding(crate::specs::Stream::msgrcv_of, crate::specs::Stream::u32_at, crate::specs::Stream::i32_at, crate::specs::Stream::i64_at))]
+#[tactic(auto, unfolding(crate::specs::Fields::number_of))]
 fn read_msgrcv(fields: &[u8]) -> Option<RequestKind<'_>>
-    ensures { option_map plain_kind result ≡ msgrcv_of fields.now }
+    ensures { option_map plain_kind result ≡ made_by msgrcv fields.now }
 {
     let mut cursor = Cursor::new(fields);
     let id = Id(cursor.u32()?);

@@ -19,7 +19,7 @@ loop-connection-preserved c =
       done = λ k d within. elim (cases_eq k i) [
         | inl same ↦
             rw same (rw (get_or-set_same xs i _ d here) (rw (sym (held.rest i d (omega arith)) ∙ get_or_default xs i d was here)
-            (record { number = refl; process = refl; input = refl; ended = refl; visible = c.release.ensures.visible; waiting = c.release.ensures.waiting; room = ap vec_len c.release.ensures.room })))
+            (record { number = refl; process = refl; input = refl; ended = refl; visible = c.release.ensures.visible; waiting = c.release.ensures.waiting; room = c.release.ensures.room })))
         | inr apart ↦ rw (get_or-set_other xs i k _ d apart) (held.done k d (omega (arith, within, apart)))
       ];
       rest = λ k d past. get_or-set_other xs i k _ d (λ same. omega (arith, past, same)) ∙ held.rest k d (omega (arith, past));

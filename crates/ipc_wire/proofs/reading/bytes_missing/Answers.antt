@@ -1,4 +1,4 @@
-use Rattle.std.proofs.Common.{◌≡◌, ◌<◌, ◌≤◌, ◌+◌, ◌∙◌, length, take, sym, ap, arith}
+use Rattle.std.proofs.Common.{◌∙◌, length, take, sym, ap, arith}
 use Rattle.std.specs.Int.{w32, from_be_bytes}
 use Rattle.ipc_wire.proofs.Frames.{waiting_long}
 use Rattle.ipc_wire.proofs.reading.bytes_missing.Goals as goal

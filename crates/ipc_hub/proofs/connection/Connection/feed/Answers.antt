@@ -2,10 +2,10 @@ use Rattle.std.proofs.Common.{◌≡◌, ◌+◌, suc, ◌++◌, ◌∷◌, [], 
 use Rattle.std.proofs.Math.Seq.{take-suc}
 use Rattle.std.proofs.lemmas.Bool.{cases_lt}
 use Rattle.ipc_hub.specs.declared.outbox.Outbox.{Outbox}
-use Rattle.ipc_hub.specs.Outbox.{IsEmpty}
+use Rattle.ipc_hub.specs.Outbox.{IsEmpty, HasRoom}
 use Rattle.ipc_hub.specs.Serves.{TakesIn}
 use Rattle.ipc_hub.proofs.Taking.{takes-none, takes-then}
-use Rattle.ipc_hub.proofs.connection.Connection.feed.Goals.{else-not-self-via-then-not-self+else-not-is_empty, else-not-self-via-else-not-self}
+use Rattle.ipc_hub.proofs.connection.Connection.feed.Goals.{else-not-self-via-then-not-self+else-not-has_room, else-not-self-via-else-not-self}
 use Rattle.ipc_hub.proofs.connection.Connection.feed.Goals as goal
 
 pub loop-taken-init : goal.loop-taken-init
@@ -15,9 +15,9 @@ pub loop-taken-preserved : goal.loop-taken-preserved
 loop-taken-preserved c =
     let piece = c.args.piece.now in
     let i = c.loop-taken.taken in
-    let idle : c.loop-taken.self.ended ≡ false → IsEmpty c.loop-taken.self.outbox =
+    let idle : c.loop-taken.self.ended ≡ false → HasRoom c.loop-taken.self.outbox =
     elim c.else-not-self.branch [
-      | else-not-self-via-then-not-self+else-not-is_empty w ↦ λ _. w.is_empty.ensures.0 w.if-not-is_empty.false
+      | else-not-self-via-then-not-self+else-not-has_room w ↦ λ _. w.has_room.ensures.room.0 w.if-not-has_room.false
       | else-not-self-via-else-not-self w ↦ λ live. let never : true ≡ false = sym w.if-not-self.false ∙ live in cc
     ] in
     let next : i + 1 ≡ suc i = omega arith in
@@ -28,20 +28,20 @@ loop-taken-preserved c =
       λ none. absurd (omega (arith, none)),
     )
 
-pub returns-then-not-is_empty-clause-number : goal.returns-then-not-is_empty-clause-number
-returns-then-not-is_empty-clause-number c = c.loop-taken.invariant.0
+pub returns-then-not-has_room-clause-number : goal.returns-then-not-has_room-clause-number
+returns-then-not-has_room-clause-number c = c.loop-taken.invariant.0
 
-pub returns-then-not-is_empty-clause-bytes : goal.returns-then-not-is_empty-clause-bytes
-returns-then-not-is_empty-clause-bytes c = c.loop-taken.invariant.1
+pub returns-then-not-has_room-clause-bytes : goal.returns-then-not-has_room-clause-bytes
+returns-then-not-has_room-clause-bytes c = c.loop-taken.invariant.1
 
-pub returns-then-not-is_empty-clause-starts : goal.returns-then-not-is_empty-clause-starts
-returns-then-not-is_empty-clause-starts c empty some =
+pub returns-then-not-has_room-clause-starts : goal.returns-then-not-has_room-clause-starts
+returns-then-not-has_room-clause-starts c empty some =
     elim (cases_lt 0 c.loop-taken.taken) [
       | inl more ↦ more
       | inr none ↦
           let same = c.loop-taken.invariant.2 (omega (arith, none)) in
-          let is = c.is_empty.ensures.1 (subst (λ (o : Outbox). IsEmpty o) (sym same) empty) in
-          let never : true ≡ false = sym is ∙ c.if-not-is_empty.true in
+          let is = c.has_room.ensures.empty (subst (λ (o : Outbox). IsEmpty o) (sym same) empty) in
+          let never : true ≡ false = sym is ∙ c.if-not-has_room.true in
           cc
     ]
 

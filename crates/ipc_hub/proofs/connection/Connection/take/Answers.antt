@@ -2,7 +2,7 @@ use Rattle.std.proofs.Common.{◌≡◌, ◌<◌, ◌++◌, ◌∷◌, [], lengt
 use Rattle.ipc_wire.specs.Request.{plain_request}
 use Rattle.ipc_wire.specs.Stream.{plain_frame, first}
 use Rattle.ipc_hub.specs.declared.outbox.Outbox.{Outbox}
-use Rattle.ipc_hub.specs.Outbox.{IsEmpty}
+use Rattle.ipc_hub.specs.Outbox.{HasRoom}
 use Rattle.ipc_hub.proofs.Taking.{bare, e, meets-bare, same-meets, takes-more, takes-served, takes-misplaced, takes-nothing, takes-fault}
 use Rattle.ipc_hub.proofs.connection.Connection.take.Goals as goal
 
@@ -42,7 +42,7 @@ returns-then-not-served-clause-bytes c idle limits confirmed h conn serves =
     let cl = e limits confirmed c.args.engine.now was h conn c.args.byte c.args.moment.0 serves in
     let hub = bare limits confirmed c.args.engine.now was h conn c.args.byte c.args.moment.0 serves in
     let meets = meets-bare limits confirmed c.args.engine.now was h conn c.args.byte c.args.moment.0 serves in
-    let broke = c.break_off.ensures.ended (subst (λ (o : Outbox). IsEmpty o) (sym misplaced.2) (idle c.if-self.false)) limits confirmed hub conn cl
+    let broke = c.break_off.ensures.ended (subst (λ (o : Outbox). HasRoom o) (sym misplaced.2) (idle c.if-self.false)) limits confirmed hub conn cl
     (same-meets limits confirmed c.args.engine.now now.engine was.process now.process was.outbox now.outbox hub conn cl misplaced.0 misplaced.1 misplaced.2 meets) c.clear.ensures.items in
     takes-misplaced limits confirmed c.args.engine.now was h conn c.args.byte c.args.moment.0 serves c.break_off.new.engine c.break_off.new.self c.in-Whole.used (plain_request c.in-Whole.request)
     c.if-self.false frame (misplaced.3 limits confirmed hub conn cl meets) broke

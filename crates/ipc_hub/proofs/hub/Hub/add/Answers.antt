@@ -13,5 +13,5 @@ returns-clause-ok c limits confirmed h stands =
       process = ap pid_of is.process;
       input = is.input;
       ended = is.ended;
-      outbox = record { waiting = is.waiting; visible = is.visible; seen = omega arith; room = is.buffer ∙ stands.room };
+      outbox = record { waiting = is.waiting; visible = is.visible; seen = omega arith; room = is.room ∙ stands.room };
     })

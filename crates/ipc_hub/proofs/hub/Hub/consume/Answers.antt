@@ -22,7 +22,7 @@ returns-in-Some-clause-ok c limits confirmed h stands =
     let found = value_at_place row nat_eq c.args.conn items c.in-Some.place was place c.index_mut-connection.ensures.value in
     let within = subst (λ (o : Option Connection). c.args.count ≤ length (visible_of o)) found c.requires in
     consume-stands limits confirmed c.args.self.now _ h c.args.conn c.args.count was _ stands refl found refl (set_at_place row nat_eq c.args.conn items c.in-Some.place was _ place c.index_mut-connection.ensures.value refl)
-    refl refl refl within c.consume.ensures.waiting c.consume.ensures.visible (ap vec_len c.consume.ensures.room)
+    refl refl refl within c.consume.ensures.waiting c.consume.ensures.visible c.consume.ensures.room
 
 pub returns-in-Some-clause-output : goal.returns-in-Some-clause-output
 returns-in-Some-clause-output c =

@@ -7,4 +7,4 @@ use Rattle.ipc_hub.proofs.hub.Hub.new.Goals as goal
 pub returns : goal.returns
 returns c =
     new-stands _ c.new.ensures.items (subst ArePassed c.limits.ensures.limits c.limits.ensures.passed)
-    (c.longest_reply-room.ensures ∙ ap longest_reply c.limits.ensures.limits) c.limits.ensures.sound
+    (c.longest_reply-room.ensures.longest ∙ ap longest_reply c.limits.ensures.limits) c.limits.ensures.sound

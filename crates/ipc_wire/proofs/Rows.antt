@@ -1,0 +1,137 @@
+-- The table both ways: a request has the row of its opcode, and a row's request is taken apart into what made it.
+use Rattle.std.proofs.Common.{◌≡◌, ℕ, ◌+◌, ◌≤◌, Bool, true, false, cond, eqb, leb, List, [], ◌∷◌, ◌++◌, length, drop, Option, Some, None, refl, sym, ap, subst, ◌∙◌, arith}
+use Rattle.std.specs.Prelude.{◌==◌, if◌then◌else◌}
+use Rattle.std.proofs.lemmas.Bool.{eqb-true, leb-true, le-leb, eq-eqb}
+use Rattle.std.proofs.lemmas.List.{length-append, length-drop, drop_at}
+use Rattle.ipc_wire.specs.Fields.{Values, total, values_of, values_bytes, AreInRange}
+use Rattle.ipc_wire.specs.Request.{PlainKind, Hello, Calls, Msgget, Msgsnd, Msgrcv}
+use Rattle.ipc_wire.specs.Spelling.{opcode_of, fields_of}
+use Rattle.ipc_wire.specs.Stream.{fits_row, made_by, made_by_some, kind_of}
+use Rattle.ipc_wire.specs.Table.{Row, Parts, hello, msgget, msgsnd, msgrcv, row_of, parts_of}
+use Rattle.ipc_wire.proofs.Fields.{IsBytes, length_values, values_again, values_back, values_range}
+
+-- ---- the lines that join a request and its row
+
+record HasRow (kind : PlainKind) : Type 0 where
+  row : row_of (parts_of kind).opcode ≡ Some (parts_of kind).row
+  made : (parts_of kind).row.make (parts_of kind).values (parts_of kind).rest ≡ kind
+  none : (parts_of kind).row.has_rest ≡ false → (parts_of kind).rest ≡ []
+
+has_row : (kind : PlainKind) → HasRow kind
+has_row (Hello cred) = record { row = refl; made = refl; none = λ _. refl }
+has_row (Calls (Msgget key flags)) = record { row = refl; made = refl; none = λ _. refl }
+has_row (Calls (Msgsnd id flags mtype text)) = record { row = refl; made = refl; none = λ e. cc }
+has_row (Calls (Msgrcv id flags size mtype)) = record { row = refl; made = refl; none = λ _. refl }
+
+-- the row stands at the opcode: its requests are taken apart into what made them
+abbrev StandsAt : ℕ → Row → Type 0
+StandsAt opcode row =
+    (v : Values row.fields) (rest : List ℕ) → (row.has_rest ≡ false → rest ≡ [])
+    → parts_of (row.make v rest) ≡ record { opcode = opcode; row = row; values = v; rest = rest }
+
+abbrev parts : (opcode : ℕ) (row : Row) → Values row.fields → List ℕ → Parts
+parts opcode row v rest = record { opcode = opcode; row = row; values = v; rest = rest }
+
+at-hello : StandsAt 0x01 hello
+at-hello v rest none = ap (parts 0x01 hello v) (sym (none refl))
+
+at-msgget : StandsAt 0x0a msgget
+at-msgget v rest none = ap (parts 0x0a msgget v) (sym (none refl))
+
+at-msgsnd : StandsAt 0x0b msgsnd
+at-msgsnd v rest none = refl
+
+at-msgrcv : StandsAt 0x0c msgrcv
+at-msgrcv v rest none = ap (parts 0x0c msgrcv v) (sym (none refl))
+
+-- the row is this one, or one that follows
+or_row : (n : ℕ) (known : Row) → StandsAt n known → (opcode : ℕ) (next : Option Row) (row : Row) → (next ≡ Some row → StandsAt opcode row)
+    → (if opcode == n then Some known else next) ≡ Some row → StandsAt opcode row
+or_row n known stands opcode next row later = by_test (eqb opcode n) refl
+  where
+    by_test : (b : Bool) → eqb opcode n ≡ b → cond b (Some known) next ≡ Some row → StandsAt opcode row
+    by_test true is e =
+        let same : known ≡ row = cc in
+        subst (λ (r : Row). StandsAt opcode r) same (subst (λ (o : ℕ). StandsAt o known) (sym (eqb-true opcode n is)) stands)
+    by_test false is e = later e
+
+row_stands : (opcode : ℕ) (row : Row) → row_of opcode ≡ Some row → StandsAt opcode row
+row_stands opcode row =
+    or_row 0x01 hello at-hello opcode _ row
+    (or_row 0x0a msgget at-msgget opcode _ row
+    (or_row 0x0b msgsnd at-msgsnd opcode _ row
+    (or_row 0x0c msgrcv at-msgrcv opcode _ row (λ e. cc))))
+
+-- ---- what was spelled is read
+
+fits_again : (has_rest : Bool) (n len : ℕ) (rest : List ℕ) → len ≡ n + length rest → (has_rest ≡ false → rest ≡ [])
+    → (if has_rest then leb n len else eqb len n) ≡ true
+fits_again true n len rest is none = le-leb n len (omega arith)
+fits_again false n len rest is none = eq-eqb len n (omega (arith, ap length (none refl)))
+
+row_again : (row : Row) (v : Values row.fields) (rest : List ℕ) → AreInRange row.fields v → (row.has_rest ≡ false → rest ≡ [])
+    → made_by row (values_bytes row.fields v ++ rest) ≡ Some (row.make v rest)
+row_again row v rest fits none =
+    let bytes : List ℕ = values_bytes row.fields v ++ rest in
+    let size = length_values row.fields v in
+    let len : length bytes ≡ total row.fields + length rest = omega (arith, length-append (values_bytes row.fields v) rest, size) in
+    let sized : fits_row row bytes ≡ true = fits_again row.has_rest (total row.fields) (length bytes) rest len none in
+    ap (λ (b : Bool). if b then Some (row.make (values_of row.fields bytes) (drop (total row.fields) bytes)) else None) sized
+    ∙ ap (λ (x : Values row.fields). Some (row.make x (drop (total row.fields) bytes))) (values_again row.fields v rest fits)
+    ∙ ap (λ (x : List ℕ). Some (row.make v x)) (drop_at (values_bytes row.fields v) rest (total row.fields) size)
+
+pub kind_again : (kind : PlainKind) → AreInRange (parts_of kind).row.fields (parts_of kind).values → kind_of (opcode_of kind) (fields_of kind) ≡ Some kind
+unfolding kind_of
+kind_again kind fits =
+    let p : Parts = parts_of kind in
+    let has = has_row kind in
+    ap (λ (r : Option Row). made_by_some r (fields_of kind)) has.row
+    ∙ row_again p.row p.values p.rest fits has.none
+    ∙ ap (λ (k : PlainKind). Some k) has.made
+
+-- ---- what is read was spelled
+
+pub record Spelled (opcode : ℕ) (bytes : List ℕ) (kind : PlainKind) : Type 0 where
+  pub opcode_is : opcode_of kind ≡ opcode
+  pub fields_are : fields_of kind ≡ bytes
+  pub fit : AreInRange (parts_of kind).row.fields (parts_of kind).values
+
+guard_some : (b : Bool) (x y : PlainKind) → cond b (Some x) None ≡ Some y → (b ≡ true) × (x ≡ y)
+guard_some true x y e = (refl, cc)
+guard_some false x y e = absurd cc
+
+record Fitting (has_rest : Bool) (n : ℕ) (bytes : List ℕ) : Type 0 where
+  enough : n ≤ length bytes
+  none : has_rest ≡ false → drop n bytes ≡ []
+
+nothing : (xs : List ℕ) → length xs ≡ 0 → xs ≡ []
+nothing [] is = refl
+nothing (x ∷ xs) is = absurd (omega (arith, is))
+
+fitting : (has_rest : Bool) (n : ℕ) (bytes : List ℕ) → (if has_rest then leb n (length bytes) else eqb (length bytes) n) ≡ true → Fitting has_rest n bytes
+fitting true n bytes is = record { enough = leb-true _ _ is; none = λ e. cc }
+fitting false n bytes is =
+    let same = eqb-true (length bytes) n is in
+    record { enough = omega (arith, same); none = λ e. nothing (drop n bytes) (omega (arith, length-drop n bytes, same)) }
+
+row_back : (opcode : ℕ) (row : Row) (bytes : List ℕ) (kind : PlainKind) → IsBytes bytes → row_of opcode ≡ Some row → made_by row bytes ≡ Some kind → Spelled opcode bytes kind
+row_back opcode row bytes kind fits is e =
+    let v : Values row.fields = values_of row.fields bytes in
+    let rest : List ℕ = drop (total row.fields) bytes in
+    let g = guard_some (fits_row row bytes) (row.make v rest) kind e in
+    let size = fitting row.has_rest (total row.fields) bytes g.0 in
+    let apart = row_stands opcode row is v rest size.none in
+    subst (λ (k : PlainKind). Spelled opcode bytes k) g.1
+    (record {
+      opcode_is = ap (λ (p : Parts). p.opcode) apart;
+      fields_are = ap (λ (p : Parts). values_bytes p.row.fields p.values ++ p.rest) apart ∙ values_back row.fields bytes fits size.enough;
+      fit = subst (λ (p : Parts). AreInRange p.row.fields p.values) (sym apart) (values_range row.fields bytes fits);
+    })
+
+pub kind_back : (opcode : ℕ) (bytes : List ℕ) (kind : PlainKind) → IsBytes bytes → kind_of opcode bytes ≡ Some kind → Spelled opcode bytes kind
+unfolding kind_of
+kind_back opcode bytes kind fits e = by_row (row_of opcode) refl e
+  where
+    by_row : (r : Option Row) → row_of opcode ≡ r → made_by_some r bytes ≡ Some kind → Spelled opcode bytes kind
+    by_row None is e = cc
+    by_row (Some row) is e = row_back opcode row bytes kind fits is e
