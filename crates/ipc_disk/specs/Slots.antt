@@ -1,6 +1,6 @@
 -- The sectors of a disk in memory: of each the value at the last sync and the last value written.
 -- A crash leaves of each sector, by itself, one of the two.
-use Rattle.std.specs.Prelude.{◌≡◌, ◌⊎◌, ℕ, List, [], ◌∷◌, length, map, All, refl}
+use Rattle.std.specs.Prelude.{◌≡◌, ◌⊎◌, ℕ, List, [], ◌∷◌, length, map, All, Contains, slice_get, refl}
 use Rattle.std.proofs.Common.{inr, ⊎_elim, subst, sym, arith}
 use Rattle.std.specs.List.{AllByRecursion}
 use Rattle.std.proofs.lemmas.List.Elements.{All-from_recursion, recursion_from_All}
@@ -43,6 +43,11 @@ synced_slot sector = record { synced = sector; last = sector }
 -- after a sync
 abbrev pub settled : Slot → Slot
 settled slot = synced_slot slot.last
+
+-- a sector that is not listed reads as it did at the last sync
+abbrev pub ListsUnsynced : List ℕ → List Slot → Type 0
+ListsUnsynced listed slots = (i : ℕ) → ¬ (Contains listed i)
+    → slice_get (synced_values slots) i ≡ slice_get (last_values slots) i
 
 -- the last values are one of the images
 pub MayLeave-last_values : (slots : List Slot) → MayLeave slots (last_values slots)

@@ -1,10 +1,11 @@
-// A disk in memory, which never fails.
-ghost use Rattle.std.specs.Prelude.{◌≡◌, ◌<◌, ◌^◌, ℕ, length, map, All, Some, IfOk, IsOk, OnOk, OnErr, replicate, slice_get, slice_set};
+//! A disk in memory, which never fails.
+
+ghost use Rattle.std.specs.Prelude.{◌≡◌, ◌<◌, ◌≤◌, ◌^◌, ◌++◌, [], ◌∷◌, ℕ, length, map, All, Some, IfOk, IsOk, OnOk, OnErr, replicate, slice_get, slice_set, vec_capacity};
 ghost use Rattle.std.proofs.Common.{lit<};
 ghost use Rattle.ipc_disk.specs.Counts.{with_failure, with_write, with_sync};
 ghost use Rattle.ipc_disk.specs.Medium.{IsHonest, IsDurable, Stays, Writes};
 ghost use Rattle.ipc_disk.specs.Crash.{survivors, survivor, is_unsynced, is_kept as kept};
-ghost use Rattle.ipc_disk.specs.Slots.{IsWhole, settled, synced_slot};
+ghost use Rattle.ipc_disk.specs.Slots.{IsWhole, ListsUnsynced, settled, synced_slot};
 
 use crate::{DiskFault, SectorDisk};
 use std::alloc::{AllocError, Global};
@@ -26,10 +27,16 @@ const ZEROS: Slot = Slot {
 #[derive(Drop)]
 pub struct MemoryDisk {
     slots: Vec<Slot>,
+    // The sector of each write since the last sync, but of no more writes than there are sectors.
+    recent: Vec<u32>,
     writes: u64,
     syncs: u64,
     ghost whole: { All IsWhole slots.items },
     ghost few: { length slots.items < 2 ^ 32 },
+    ghost room: { length slots.items ≤ vec_capacity recent },
+    ghost places: { All (λ at. at < length slots.items) recent.items },
+    ghost listed: { length recent.items < length slots.items
+        → ListsUnsynced recent.items slots.items },
     ghost writes_fit: { writes < 2 ^ 64 },
     ghost syncs_fit: { syncs < 2 ^ 64 },
 }
@@ -48,8 +55,11 @@ impl MemoryDisk {
         ensures unused { IfOk result (λ disk. memory_counts disk
             ≡ record { failures = 0; writes = 0; syncs = 0 }) }
     {
+        let slots = zeros(alloc, sectors)?;
+        let recent = Vec::with_capacity(alloc, sectors as usize)?;
         Ok(MemoryDisk {
-            slots: zeros(alloc, sectors)?,
+            slots,
+            recent,
             writes: 0,
             syncs: 0,
         })
@@ -75,6 +85,7 @@ impl MemoryDisk {
     {
         let mut disk = self;
         choose(&mut disk.slots, keep);
+        disk.recent.clear();
         disk
     }
 
@@ -104,12 +115,56 @@ fn zeros(alloc: Global, sectors: u32) -> Result<Vec<Slot>, AllocError>
     Ok(slots)
 }
 
-// A sync: each sector's last value is its synced one.
-fn settle(slots: &mut [Slot])
+// Lists a write, where fewer are listed than there are sectors.
+fn list(recent: &mut Vec<u32>, at: u32, sectors: usize)
+    requires { sectors ≤ vec_capacity recent.old }
+    ensures listed { length recent.old.items < sectors
+        → recent.new.items ≡ recent.old.items ++ at ∷ [] }
+    ensures full { sectors ≤ length recent.old.items → recent.new.items ≡ recent.old.items }
+    ensures room { sectors ≤ vec_capacity recent.new }
+{
+    if recent.len() < sectors {
+        recent.push(at).unwrap();
+    }
+}
+
+// A sync of one sector: its last value is its synced one.
+fn settle_one(slot: &mut Slot)
+    ensures { slot.new ≡ settled slot.old }
+{
+    slot.synced = slot.last;
+}
+
+// A sync of all sectors.
+fn settle_all(slots: &mut [Slot])
     ensures { slots.new ≡ map settled slots.old }
 {
     for slot in slots.iter_mut() {
-        slot.synced = slot.last;
+        settle_one(slot);
+    }
+}
+
+// A sync where the unsynced sectors are listed: it goes over these alone.
+fn settle_listed(slots: &mut [Slot], listed: &[u32])
+    requires places { All (λ at. at < length slots.old) listed.now }
+    requires listed { ListsUnsynced listed.now slots.old }
+    ensures { slots.new ≡ map settled slots.old }
+{
+    for at in listed {
+        settle_one(&mut slots[*at as usize]);
+    }
+}
+
+// A sync, which goes over no more sectors than there were writes since the last one.
+fn settle(slots: &mut [Slot], recent: &[u32])
+    requires places { All (λ at. at < length slots.old) recent.now }
+    requires listed { length recent.now < length slots.old → ListsUnsynced recent.now slots.old }
+    ensures { slots.new ≡ map settled slots.old }
+{
+    if recent.len() < slots.len() {
+        settle_listed(slots, recent);
+    } else {
+        settle_all(slots);
     }
 }
 
@@ -130,7 +185,7 @@ fn choose_one(slot: &mut Slot, keep: u64, before: usize) -> bool
     if unsynced && !is_kept(keep, before) {
         slot.last = slot.synced;
     }
-    slot.synced = slot.last;
+    settle_one(slot);
     unsynced
 }
 
@@ -197,6 +252,7 @@ impl SectorDisk for MemoryDisk {
             ≡ with_failure (memory_counts self.old)) }
     {
         self.slots[at as usize].last = *from;
+        list(&mut self.recent, at, self.slots.len());
         self.writes = self.writes.saturating_add(1);
         Ok(())
     }
@@ -211,7 +267,8 @@ impl SectorDisk for MemoryDisk {
         ensures err { OnErr result (memory_counts self.new
             ≡ with_failure (memory_counts self.old)) }
     {
-        settle(&mut self.slots);
+        settle(&mut self.slots, &self.recent);
+        self.recent.clear();
         self.syncs = self.syncs.saturating_add(1);
         Ok(())
     }
