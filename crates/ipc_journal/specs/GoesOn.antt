@@ -4,7 +4,7 @@ use Rattle.std.proofs.Common.{inl, inr, sym, ◌∙◌, ap, subst, arith}
 use Rattle.std.specs.Option.{unwrap_or}
 use Rattle.std.proofs.lemmas.Option.{unwrap_or-slice_get}
 use Rattle.ipc_disk.specs.declared.range.Range.{Range}
-use Rattle.ipc_disk.specs.Medium.{Image, Medium, IsHonest, Stays}
+use Rattle.ipc_disk.specs.Medium.{Image, Medium, Stays}
 use Rattle.ipc_disk.specs.Range.{IsInside}
 use Rattle.ipc_disk.specs.Since.{EachImageSince, SameAt, LeavesAlone}
 use Rattle.ipc_disk.specs.GoesOn.{EachImageSince-now, LeavesAlone-keeps}
@@ -70,11 +70,11 @@ EachImageSince-alone places journal batches old new inside run at =
 
 -- and after them
 pub IsAt-alone : (places : ℕ → Type 0) (journal : Journal) (batches : List (List ℕ)) (old new : Medium) → ((i : ℕ) → IsInside (range_of journal) i → places i)
-    → LeavesAlone places old new → IsHonest new → IsAt journal batches old → IsAt journal batches new
-IsAt-alone places journal batches old new inside run honest at = record {
-  honest = honest;
+    → LeavesAlone places old new → IsAt journal batches old → IsAt journal batches new
+IsAt-alone places journal batches old new inside run at = record {
+  honest = run.honest;
   used = at.used;
-  images = EachImageSince-now old new (Holds (range_of journal) (epoch_of journal) batches) (EachImageSince-alone places journal batches old new inside run at) honest;
+  images = EachImageSince-now old new (Holds (range_of journal) (epoch_of journal) batches) (EachImageSince-alone places journal batches old new inside run at) run.honest;
 }
 
 -- under a later epoch each image has no batch
