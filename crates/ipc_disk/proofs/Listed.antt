@@ -1,5 +1,6 @@
 -- The list of recent writes: a sector that is not on it reads as it did at the last sync.
-use Rattle.std.proofs.Common.{◌≡◌, ◌≢◌, ◌⊎◌, inl, inr, ⊎_elim, ℕ, zero, suc, ◌+◌, ◌<◌, ◌≤◌, add-one, List, [], ◌∷◌, ◌++◌, length, map, drop, refl, sym, ◌∙◌, ap, subst, arith}
+use Rattle.std.proofs.Common.{◌≡◌, ◌≢◌, ◌⊎◌, inl, inr, ⊎_elim, ℕ, zero, suc, ◌+◌, ◌<◌, ◌≤◌, add-one, List, [], ◌∷◌, ◌++◌, length, map, drop, refl, sym}
+use Rattle.std.proofs.Common.{◌∙◌, ap, subst, arith}
 use Rattle.std.specs.Prelude.{All, Contains, Some, slice_get, slice_set, slice_index_or}
 use Rattle.std.proofs.Math.ListN.{length-set}
 use Rattle.std.proofs.Math.Seq.{drop-cons, map-set_same}
@@ -49,7 +50,8 @@ ListsUnsynced-settled listed n d slots slot lt last lists i unlisted =
     let at = slice_index_or listed n d in
     let new = slice_set slots at slot in
     ⊎_elim
-    (λ same. let P : ℕ → Type 0 = λ k. slice_get (synced_values new) k ≡ slice_get (last_values new) k in subst P (sym same.1) (settled_there slots at slot last))
+    (λ same. let P : ℕ → Type 0 = λ k. slice_get (synced_values new) k ≡ slice_get (last_values new) k in
+    subst P (sym same.1) (settled_there slots at slot last))
     (λ other. other_there (λ s. s.synced) slots at i slot other.1
     ∙ lists i (λ has. ⊎_elim
     (λ first. other.1 (sym first))
@@ -83,7 +85,8 @@ settled-all (s ∷ ss) same =
     ap (λ (a : List ℕ). record { synced = a; last = s.last } ∷ ss) first
     ∙ ap (λ (l : List Slot). settled s ∷ l) (settled-all ss (λ i. same (suc i)))
 
-pub settled-listed : (old new : List Slot) (listed : List ℕ) → listed ≡ [] → map settled new ≡ map settled old → ListsUnsynced listed new → new ≡ map settled old
+pub settled-listed : (old new : List Slot) (listed : List ℕ) → listed ≡ [] → map settled new ≡ map settled old → ListsUnsynced listed new
+    → new ≡ map settled old
 settled-listed old new listed none same lists =
     settled-all new (λ i. lists i (λ has. absurd (omega (arith, has.1, ap length none)))) ∙ same
 

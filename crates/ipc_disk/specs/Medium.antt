@@ -48,7 +48,8 @@ pub record Stays (old new : Medium) : Type 0 where
 
 -- an image of before, with this sector written or without
 abbrev pub SetOrNot : ℕ → List ℕ → Medium → Image → Type 0
-SetOrNot at bytes old image = (before : Image) × old.images_now before × ((image ≡ before) ⊎ (image ≡ slice_set before at bytes))
+SetOrNot at bytes old image = (before : Image) × old.images_now before
+    × ((image ≡ before) ⊎ (image ≡ slice_set before at bytes))
 
 -- a write that may have failed: what is read, and each image, has the sector as it was or as it was to be
 pub record Writes (at : ℕ) (bytes : List ℕ) (old new : Medium) : Type 0 where

@@ -64,7 +64,8 @@ length-MayLeave [] (x ∷ xs) left = absurd left
 length-MayLeave (s ∷ ss) [] left = absurd left
 length-MayLeave (s ∷ ss) (x ∷ xs) left = omega (arith, length-MayLeave ss xs left.1)
 
-sectors-MayLeave : (slots : List Slot) (image : Image) → AllByRecursion IsWhole slots → MayLeave slots image → AllByRecursion IsSector image
+sectors-MayLeave : (slots : List Slot) (image : Image) → AllByRecursion IsWhole slots → MayLeave slots image
+    → AllByRecursion IsSector image
 sectors-MayLeave [] [] whole left = tt
 sectors-MayLeave [] (x ∷ xs) whole left = absurd left
 sectors-MayLeave (s ∷ ss) [] whole left = absurd left
@@ -74,8 +75,10 @@ sectors-MayLeave (s ∷ ss) (x ∷ xs) whole left = (
 )
 
 -- each image has all the sectors
-pub IsShaped-MayLeave : (slots : List Slot) (image : Image) → All IsWhole slots → MayLeave slots image → IsShaped (length slots) image
+pub IsShaped-MayLeave : (slots : List Slot) (image : Image) → All IsWhole slots → MayLeave slots image
+    → IsShaped (length slots) image
 IsShaped-MayLeave slots image whole left = record {
   count = length-MayLeave slots image left;
-  sectors = All-from_recursion IsSector image (sectors-MayLeave slots image (recursion_from_All IsWhole slots whole) left);
+  sectors = All-from_recursion IsSector image (sectors-MayLeave slots image
+      (recursion_from_All IsWhole slots whole) left);
 }

@@ -1,6 +1,7 @@
 //! A disk in memory, which never fails.
 
-ghost use Rattle.std.specs.Prelude.{◌≡◌, ◌<◌, ◌≤◌, ◌^◌, ◌++◌, [], ◌∷◌, ℕ, length, map, All, Some, IfOk, IsOk, OnOk, OnErr, replicate, slice_get, slice_set, vec_capacity};
+ghost use Rattle.std.specs.Prelude.{◌≡◌, ◌<◌, ◌≤◌, ◌^◌, ◌++◌, [], ◌∷◌, ℕ, length, map, All, Some, IfOk, IsOk, OnOk};
+ghost use Rattle.std.specs.Prelude.{OnErr, replicate, slice_get, slice_set, vec_capacity};
 ghost use Rattle.std.proofs.Common.{lit<};
 ghost use Rattle.ipc_disk.specs.Counts.{with_failure, with_write, with_sync};
 ghost use Rattle.ipc_disk.specs.Medium.{IsHonest, IsDurable, Stays, Writes};
@@ -42,7 +43,8 @@ pub struct MemoryDisk {
 }
 
 impl MemoryDisk {
-    ghost use Rattle.ipc_disk.specs.Memory.{memory_size, memory_medium, memory_counts, synced_image, unsynced_count, chosen_image};
+    ghost use Rattle.ipc_disk.specs.Memory.{memory_size, memory_medium, memory_counts};
+    ghost use Rattle.ipc_disk.specs.Memory.{synced_image, unsynced_count, chosen_image};
 
     /// A disk of so many sectors. All the memory that it ever takes is taken here.
     pub fn new(alloc: Global, sectors: u32) -> Result<MemoryDisk, AllocError>
@@ -213,7 +215,11 @@ impl SectorDisk for MemoryDisk {
 
     ghost fits = { λ disk. disk.few };
 
-    ghost in_range = { λ disk. record { failures_fit = lit< tt; writes_fit = disk.writes_fit; syncs_fit = disk.syncs_fit } };
+    ghost in_range = { λ disk. record {
+      failures_fit = lit< tt;
+      writes_fit = disk.writes_fit;
+      syncs_fit = disk.syncs_fit;
+    } };
 
     ghost shaped = { λ disk image left. IsShaped-MayLeave disk.slots.items image disk.whole left };
 
@@ -225,8 +231,7 @@ impl SectorDisk for MemoryDisk {
 
     fn read(&mut self, at: u32, into: &mut [u8; 512]) -> Result<(), DiskFault>
         requires { at < memory_size self.old }
-        ensures never_fails { IsOk result }
-        ensures unchanged { self.new ≡ self.old }
+        // What the trait says.
         ensures bytes { OnOk result (IsHonest (memory_medium self.old)
             → slice_get (memory_medium self.old).contents at ≡ Some into.new) }
         ensures medium { Stays (memory_medium self.old) (memory_medium self.new) }
@@ -234,6 +239,9 @@ impl SectorDisk for MemoryDisk {
         ensures ok { OnOk result (memory_counts self.new ≡ memory_counts self.old) }
         ensures err { OnErr result (memory_counts self.new
             ≡ with_failure (memory_counts self.old)) }
+        // It never fails.
+        ensures never_fails { IsOk result }
+        ensures unchanged { self.new ≡ self.old }
     {
         *into = self.slots[at as usize].last;
         Ok(())
@@ -241,8 +249,7 @@ impl SectorDisk for MemoryDisk {
 
     fn write(&mut self, at: u32, from: &[u8; 512]) -> Result<(), DiskFault>
         requires { at < memory_size self.old }
-        ensures never_fails { IsOk result }
-        ensures synced { synced_image self.new ≡ synced_image self.old }
+        // What the trait says.
         ensures written { OnOk result (IsHonest (memory_medium self.old)
             → (memory_medium self.new).contents ≡ slice_set (memory_medium self.old).contents at from.now) }
         ensures medium { Writes at from.now (memory_medium self.old) (memory_medium self.new) }
@@ -250,6 +257,9 @@ impl SectorDisk for MemoryDisk {
         ensures ok { OnOk result (memory_counts self.new ≡ with_write (memory_counts self.old)) }
         ensures err { OnErr result (memory_counts self.new
             ≡ with_failure (memory_counts self.old)) }
+        // It never fails.
+        ensures never_fails { IsOk result }
+        ensures synced { synced_image self.new ≡ synced_image self.old }
     {
         self.slots[at as usize].last = *from;
         list(&mut self.recent, at, self.slots.len());
@@ -258,14 +268,16 @@ impl SectorDisk for MemoryDisk {
     }
 
     fn sync(&mut self) -> Result<(), DiskFault>
-        ensures never_fails { IsOk result }
-        ensures synced { synced_image self.new ≡ (memory_medium self.old).contents }
+        // What the trait says.
         ensures durable { OnOk result (IsDurable (memory_medium self.new)) }
         ensures medium { Stays (memory_medium self.old) (memory_medium self.new) }
         ensures size { memory_size self.new ≡ memory_size self.old }
         ensures ok { OnOk result (memory_counts self.new ≡ with_sync (memory_counts self.old)) }
         ensures err { OnErr result (memory_counts self.new
             ≡ with_failure (memory_counts self.old)) }
+        // It never fails.
+        ensures never_fails { IsOk result }
+        ensures synced { synced_image self.new ≡ (memory_medium self.old).contents }
     {
         settle(&mut self.slots, &self.recent);
         self.recent.clear();

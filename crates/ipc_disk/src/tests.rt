@@ -1,4 +1,5 @@
-// Each constructor once, the table of a crash, and a fuse that burns down.
+//! Each constructor once, the table of a crash, and a fuse that burns down.
+
 use crate::{DiskFault, FuseDisk, MemoryDisk, SectorDisk};
 use std::alloc::{AllocError, Global};
 use std::test::Fail;

@@ -31,8 +31,10 @@ module _ (journal : Journal) (batch : List ℕ) (fits : Fits journal (length bat
   pub others-body : (old mid : Medium) → LeavesAlone (IsOutside (run_of journal (length batch))) old mid → LeavesAlone (IsOutside journal.range) old mid
   others-body old mid run = LeavesAlone-fewer (IsOutside journal.range) (IsOutside (run_of journal (length batch))) old mid outside-run run
 
-  pub others-header : (old new : Medium) → LeavesAlone (IsOutside (record { first = journal.range.first; count = 1 })) old new → LeavesAlone (IsOutside journal.range) old new
-  others-header old new run = LeavesAlone-fewer (IsOutside journal.range) (IsOutside (record { first = journal.range.first; count = 1 })) old new (outside-first journal.range (omega (arith, fits))) run
+  pub others-header : (old new : Medium) → LeavesAlone (IsOutside (record { first = journal.range.first; count = 1 })) old new
+      → LeavesAlone (IsOutside journal.range) old new
+  others-header old new run = LeavesAlone-fewer (IsOutside journal.range) (IsOutside (record { first = journal.range.first; count = 1 })) old new
+      (outside-first journal.range (omega (arith, fits))) run
 
   module _ (batches : List (List ℕ)) (old : Medium) (at : IsAt journal batches old) where
     abbrev Before : Image → Type 0
@@ -71,16 +73,19 @@ module _ (journal : Journal) (batch : List ℕ) (fits : Fits journal (length bat
           subst (λ (n : ℕ). StandsAt (journal.range.first + 1 + n) batch kept.contents) at.used
           (subst (StandsAt (journal.range.first + 1 + journal.used) batch) (sym (call.contents run.honest))
           (StandsAt-written (journal.range.first + 1 + journal.used) batch mid.contents written)) in
-          Holds-push journal.range journal.epoch batches batch sector kept.contents long (omega (arith, fits, at.used)) is there e (omega (arith, u, at.used)) before
+          Holds-push journal.range journal.epoch batches batch sector kept.contents long (omega (arith, fits, at.used)) is there e
+          (omega (arith, u, at.used)) before
 
       header : (image : Image) → SetOrNot journal.range.first sector kept image → Both image
       header image from =
           let one : from.0 ≡ kept.contents = durable from.0 from.1 in
           ⊎_elim
           (λ same. inl (subst Before (sym (same ∙ one)) before))
-          (λ set. inr (subst (Holds journal.range journal.epoch (batches ++ batch ∷ [])) (sym (set ∙ ap (λ (c : Image). slice_set c journal.range.first sector) one)) pushed))
+          (λ set. inr (subst (Holds journal.range journal.epoch (batches ++ batch ∷ []))
+          (sym (set ∙ ap (λ (c : Image). slice_set c journal.range.first sector) one)) pushed))
           from.2
 
       pub moment-header : (new : Medium) → EachImageSince kept new (SetOrNot journal.range.first sector kept) → EachImageSince old new Both
       moment-header new last =
-          EachImageSince-join old kept new Both (moment-sync mid kept run call) (EachImageSince-weaken kept new (SetOrNot journal.range.first sector kept) Both last header)
+          EachImageSince-join old kept new Both (moment-sync mid kept run call)
+          (EachImageSince-weaken kept new (SetOrNot journal.range.first sector kept) Both last header)

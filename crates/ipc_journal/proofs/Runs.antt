@@ -21,7 +21,8 @@ sector_at-set_other image at i bytes other = get_or-set_other image at i bytes [
 -- fewer places are left alone too
 pub LeavesAlone-fewer : (fewer places : ℕ → Type 0) (old new : Medium) → ((i : ℕ) → fewer i → places i) → LeavesAlone places old new → LeavesAlone fewer old new
 LeavesAlone-fewer fewer places old new sub run = record {
-  images = EachImageSince-weaken old new (λ image. (before : Image) × old.images_now before × SameAt places before image) (λ image. (before : Image) × old.images_now before × SameAt fewer before image) run.images
+  images = EachImageSince-weaken old new (λ image. (before : Image) × old.images_now before × SameAt places before image)
+      (λ image. (before : Image) × old.images_now before × SameAt fewer before image) run.images
       (λ image from. (from.0, from.1, λ i here. from.2 i (sub i here)));
   contents = λ i here. run.contents i (sub i here);
   honest = run.honest;

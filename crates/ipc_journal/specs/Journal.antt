@@ -1,7 +1,8 @@
 -- What the sectors of a journal mean. The first sector of its range is the header: the epoch in 8 bytes, and in 4
 -- how many of the sectors behind it, the body, are used. There stand the batches, each from a sector of its own on.
 -- Numbers have their highest byte first.
-use Rattle.std.specs.Prelude.{◌≡◌, ◌⊎◌, ℕ, ◌+◌, ◌-◌, ◌*◌, ◌/◌, ◌≤◌, ◌<◌, List, [], ◌∷◌, ◌++◌, length, take, drop, replicate, slice_index_or}
+use Rattle.std.specs.Prelude.{◌≡◌, ◌⊎◌, ℕ, ◌+◌, ◌-◌, ◌*◌, ◌/◌, ◌≤◌, ◌<◌, List, [], ◌∷◌, ◌++◌, length}
+use Rattle.std.specs.Prelude.{take, drop, replicate, slice_index_or}
 use Rattle.byteorder.specs.Endian.{big_bytes, big_number}
 use Rattle.ipc_disk.specs.declared.range.Range.{Range}
 use Rattle.ipc_disk.specs.Medium.{Image}
@@ -70,7 +71,8 @@ IsWrittenAt at batch image = (i : ℕ) → i < sectors_for (length batch)
 abbrev pub Fill : Range → ℕ → ℕ → List (List ℕ) → Image → Type 0
 Fill range place end [] image = place ≡ end
 Fill range place end (batch ∷ batches) image =
-    IsBatch batch × StandsAt (range.first + 1 + place) batch image × Fill range (place + sectors_for (length batch)) end batches image
+    IsBatch batch × StandsAt (range.first + 1 + place) batch image
+    × Fill range (place + sectors_for (length batch)) end batches image
 
 -- the header is of an earlier epoch
 pub record IsOlder (range : Range) (epoch : ℕ) (image : Image) : Type 0 where

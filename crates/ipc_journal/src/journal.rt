@@ -1,6 +1,8 @@
 //! The journal: its value, and the calls on it.
 
-ghost use Rattle.std.specs.Prelude.{◌≡◌, ◌⊎◌, ◌↔◌, ◌+◌, ◌-◌, ◌<◌, ◌≤◌, ◌++◌, [], ◌∷◌, List, ℕ, length, take, drop, slice_set, Ok, Some, None, IsSome, IfNone, IfOk, IfErr, OnOk, OnErr, IsErrOf, IsTrue};
+ghost use Rattle.std.specs.Prelude.{◌≡◌, ◌⊎◌, ◌↔◌, ◌+◌, ◌-◌, ◌<◌, ◌≤◌, ◌++◌, [], ◌∷◌, List, ℕ, length, take, drop};
+ghost use Rattle.std.specs.Prelude.{slice_set, Ok, Some, None, IsSome, IfNone, IfOk, IfErr};
+ghost use Rattle.std.specs.Prelude.{OnOk, OnErr, IsErrOf, IsTrue};
 ghost use Rattle.ipc_disk.specs.Range.{IsWithin, IsOutside};
 
 use crate::JournalError;
@@ -28,7 +30,8 @@ impl Journal {
     ghost use Rattle.ipc_disk.specs.Counts.{counted, with_failure, with_calls};
     ghost use Rattle.ipc_disk.specs.Medium.{Image, Medium, IsHonest, IsDurable, SetOrNot, Stays};
     ghost use Rattle.ipc_disk.specs.Since.{EachImageSince, LeavesAlone};
-    ghost use Rattle.ipc_journal.specs.Journal.{Holds, header_epoch, header_used, sectors_for, sectors_of, sector_at, header_bytes, length_in, IsBatch, IsWrittenAt, StandsAt};
+    ghost use Rattle.ipc_journal.specs.Journal.{Holds, header_epoch, header_used, sectors_for, sectors_of, sector_at};
+    ghost use Rattle.ipc_journal.specs.Journal.{header_bytes, length_in, IsBatch, IsWrittenAt, StandsAt};
     ghost use Rattle.ipc_journal.specs.IsAt.{range_of, epoch_of, used_of, Fits, IsAt, HoldsOneMoreOrNot};
 
     /// Makes an empty journal of this epoch: writes its header and syncs.

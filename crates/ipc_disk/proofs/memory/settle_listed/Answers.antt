@@ -14,4 +14,5 @@ loop-at-preserved c =
     }
 
 pub returns : goal.returns
-returns c = settled-listed c.args.slots.now c.loop-at.slots _ (drop_all c.loop-at.at-index c.args.listed.now (omega arith)) c.loop-at.invariant.same c.loop-at.invariant.rest
+returns c = settled-listed c.args.slots.now c.loop-at.slots _ (drop_all c.loop-at.at-index c.args.listed.now (omega arith)) c.loop-at.invariant.same
+    c.loop-at.invariant.rest

@@ -29,7 +29,8 @@ loop-i-preserved g c =
           let long : length old.contents ≡ g.D.SectorDisk.size c.loop-i.disk = (g.met.D.SectorDisk.shaped c.loop-i.disk old.contents here.reads).count in
           let bytes : c.padded-sector.result ≡ batch_sector c.loop-i.i c.args.batch.now =
           c.padded-sector.ensures ∙ ap (λ (l : List ℕ). l ++ replicate (512 - length l) 0) c.piece_of.ensures in
-          let set : (g.D.SectorDisk.medium c.write.new.self).contents ≡ slice_set old.contents (c.args.first + c.loop-i.i) (batch_sector c.loop-i.i c.args.batch.now) =
+          let set : (g.D.SectorDisk.medium c.write.new.self).contents ≡ slice_set old.contents (c.args.first + c.loop-i.i)
+          (batch_sector c.loop-i.i c.args.batch.now) =
           c.in_ok-write.ensures.written here ∙ ap (λ (l : List ℕ). slice_set old.contents (c.args.first + c.loop-i.i) l) bytes in
           subst (WrittenBelow (c.loop-i.i + 1) c.args.first c.args.batch.now) (sym set)
           (written_more c.loop-i.i c.args.first c.args.batch.now old.contents (omega (arith, long, so_far.size)) (so_far.written honest));

@@ -12,7 +12,8 @@ use Rattle.ipc_journal.proofs.sectors.write_batch.Given as goal
 abbrev pub invariant-loop-i : goal.invariant-loop-i
 invariant-loop-i g l = record {
   written : IsHonest (g.D.SectorDisk.medium l.initial.disk) → WrittenBelow l.i l.first l.batch (g.D.SectorDisk.medium l.disk).contents;
-  others : IsHonest (g.D.SectorDisk.medium l.initial.disk) → LeavesAlone (IsOutside (record { first = l.first; count = sectors_for (length l.batch) })) (g.D.SectorDisk.medium l.initial.disk) (g.D.SectorDisk.medium l.disk);
+  others : IsHonest (g.D.SectorDisk.medium l.initial.disk) → LeavesAlone (IsOutside (record { first = l.first; count = sectors_for (length l.batch) }))
+      (g.D.SectorDisk.medium l.initial.disk) (g.D.SectorDisk.medium l.disk);
   size : g.D.SectorDisk.size l.disk ≡ g.D.SectorDisk.size l.initial.disk;
   failures : (g.D.SectorDisk.counts l.disk).failures ≡ (g.D.SectorDisk.counts l.initial.disk).failures;
   writes : (g.D.SectorDisk.counts l.disk).writes ≡ counted (g.D.SectorDisk.counts l.initial.disk).writes l.i;
