@@ -1,6 +1,9 @@
 //! Each constructor once, the table of a crash, and a fuse that burns down.
 
+mod remembering;
+
 use crate::{DiskFault, FuseDisk, MemoryDisk, SectorDisk};
+use remembering::RememberingDisk;
 use std::alloc::{AllocError, Global};
 use std::test::Fail;
 
@@ -143,6 +146,20 @@ fn a_fuse_burns_down(rt: HostRuntime) -> Result<(), Fail> {
     assert_eq!(rt;
         bytes(rt.alloc(), &mut disk, 2)?.as_slice(),
         [1, 0].as_slice()
+    );
+    Ok(())
+}
+
+// A disk that remembers meets the trait too.
+#[test]
+fn a_disk_may_remember(rt: HostRuntime) -> Result<(), Fail> {
+    let mut disk = RememberingDisk::new(rt.alloc(), 3)?;
+    fill(&mut disk, &[0, 2, 2], NEW)?;
+    disk.sync()?;
+    assert_eq!(rt; disk.images(), 3);
+    assert_eq!(rt;
+        bytes(rt.alloc(), &mut disk, 3)?.as_slice(),
+        [2, 0, 2].as_slice()
     );
     Ok(())
 }
