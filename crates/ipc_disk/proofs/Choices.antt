@@ -1,5 +1,6 @@
 -- How a crash goes through the sectors, one after another.
-use Rattle.std.proofs.Common.{◌≡◌, ◌⊎◌, inl, inr, ℕ, zero, suc, ◌+◌, ◌<◌, add-one, Bool, true, false, List, [], ◌∷◌, length, map, refl, sym, ◌∙◌, ap, subst, arith}
+use Rattle.std.proofs.Common.{◌≡◌, ◌⊎◌, inl, inr, ℕ, zero, suc, ◌+◌, ◌<◌, add-one, Bool, true, false, List, [], ◌∷◌, length, map, refl, sym}
+use Rattle.std.proofs.Common.{◌∙◌, ap, subst, arith}
 use Rattle.std.specs.Prelude.{slice_set, slice_index_or, if◌then◌else◌, ◌&&◌, not, All}
 use Rattle.std.proofs.lemmas.List.Elements.{All-map}
 use Rattle.ipc_disk.specs.declared.memory.Slot.{Slot}

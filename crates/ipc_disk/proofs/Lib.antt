@@ -1,3 +1,4 @@
 -- Lemmas on the disks in memory.
 mod Choices
+mod Listed
 mod SlotsLemmas

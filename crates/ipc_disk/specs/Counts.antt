@@ -16,6 +16,10 @@ pub record InRange (counts : Counts) : Type 0 where
 abbrev pub counted : ℕ → ℕ → ℕ
 counted n more = min (n + more) (2 ^ 64 - 1)
 
+-- so many more writes and syncs
+abbrev pub with_calls : ℕ → ℕ → Counts → Counts
+with_calls writes syncs n = record n { writes = counted n.writes writes; syncs = counted n.syncs syncs }
+
 -- one more failure
 abbrev pub with_failure : Counts → Counts
 with_failure n = record n { failures = counted n.failures 1 }

@@ -1,7 +1,7 @@
 -- How what holds of each image since goes on over the next call, and from one run of calls to the next.
-use Rattle.std.specs.Prelude.{◌≡◌, ◌≢◌, ◌⊎◌, ℕ, zero, suc, List, [], ◌∷◌, slice_get, slice_set, refl}
+use Rattle.std.specs.Prelude.{◌≡◌, ◌≢◌, ℕ, zero, suc, List, [], ◌∷◌, slice_get, slice_set, refl}
 use Rattle.std.proofs.Common.{inl, inr, ⊎_elim, sym, ◌∙◌, ap, subst, arith}
-use Rattle.ipc_disk.specs.Medium.{Image, Medium, IsHonest, Elapses, Stays, Writes}
+use Rattle.ipc_disk.specs.Medium.{Image, Medium, IsHonest, Elapses, SetOrNot, Stays, Writes}
 use Rattle.ipc_disk.specs.Since.{EachImageSince, SameAt, LeavesAlone}
 
 -- before the first call; the law is the trait's `only_now`
@@ -20,16 +20,19 @@ pub EachImageSince-step : (old mid new : Medium) (P : Image → Type 0) → Each
 EachImageSince-step old mid new P so_far time here = record {
   later = omega (arith, so_far.later, time.later);
   each = λ image left. ⊎_elim (so_far.each image) (here image) (time.nothing_else old.moment image so_far.later left);
-  earlier = λ t image le left. ⊎_elim (so_far.earlier t image le) (λ now. inr (here image now)) (time.nothing_else t image (omega (arith, le, so_far.later)) left);
+  earlier = λ t image le left. ⊎_elim (so_far.earlier t image le) (λ now. inr (here image now))
+      (time.nothing_else t image (omega (arith, le, so_far.later)) left);
 }
 
 -- a run of calls, and then another
-pub EachImageSince-join : (old mid new : Medium) (P : Image → Type 0) → EachImageSince old mid P → EachImageSince mid new P
+pub EachImageSince-join : (old mid new : Medium) (P : Image → Type 0) → EachImageSince old mid P
+    → EachImageSince mid new P
     → EachImageSince old new P
 EachImageSince-join old mid new P first next = record {
   later = omega (arith, first.later, next.later);
   each = λ image left. ⊎_elim (first.each image) (λ here. here) (next.earlier old.moment image first.later left);
-  earlier = λ t image le left. ⊎_elim (first.earlier t image le) inr (next.earlier t image (omega (arith, le, first.later)) left);
+  earlier = λ t image le left. ⊎_elim (first.earlier t image le) inr
+      (next.earlier t image (omega (arith, le, first.later)) left);
 }
 
 -- what follows from P holds too
@@ -47,7 +50,8 @@ pub EachImageSince-now : (old new : Medium) (P : Image → Type 0) → EachImage
 EachImageSince-now old new P run honest image now = run.each image (honest.since old.moment image run.later now)
 
 -- the other sectors stay
-pub slice_get-set_other : (image : Image) (at i : ℕ) (bytes : List ℕ) → i ≢ at → slice_get (slice_set image at bytes) i ≡ slice_get image i
+pub slice_get-set_other : (image : Image) (at i : ℕ) (bytes : List ℕ) → i ≢ at
+    → slice_get (slice_set image at bytes) i ≡ slice_get image i
 slice_get-set_other [] at i bytes other = refl
 slice_get-set_other (x ∷ xs) zero zero bytes other = absurd (other refl)
 slice_get-set_other (x ∷ xs) zero (suc i) bytes other = refl
@@ -62,42 +66,49 @@ SameAt-set places image at bytes elsewhere i here =
     sym (slice_get-set_other image at i bytes (λ same. elsewhere (subst places same here)))
 
 -- before the first call
-pub LeavesAlone-start : (places : ℕ → Type 0) (old : Medium)
+pub LeavesAlone-start : (places : ℕ → Type 0) (old : Medium) → IsHonest old
     → ((image : Image) → old.images_since old.moment image → old.images_now image) → LeavesAlone places old old
-LeavesAlone-start places old law = record {
-  images = EachImageSince-start old (λ image. (before : Image) × old.images_now before × SameAt places before image) law (λ image now. (image, now, λ i here. refl));
+LeavesAlone-start places old honest law = record {
+  images = EachImageSince-start old (λ image. (before : Image) × old.images_now before × SameAt places before image) law
+      (λ image now. (image, now, λ i here. refl));
   contents = λ i here. refl;
+  honest = honest;
 }
 
 -- a read or a sync more
-pub LeavesAlone-stays : (places : ℕ → Type 0) (old mid new : Medium) → IsHonest mid → LeavesAlone places old mid
-    → Stays mid new → LeavesAlone places old new
-LeavesAlone-stays places old mid new honest so_far call =
+pub LeavesAlone-stays : (places : ℕ → Type 0) (old mid new : Medium) → LeavesAlone places old mid → Stays mid new
+    → LeavesAlone places old new
+LeavesAlone-stays places old mid new so_far call =
     let P : Image → Type 0 = λ image. (before : Image) × old.images_now before × SameAt places before image in
     record {
       images = EachImageSince-step old mid new P so_far.images call.time
-          (λ image now. EachImageSince-now old mid P so_far.images honest image (call.images image now));
-      contents = λ i here. so_far.contents i here ∙ ap (λ (image : Image). slice_get image i) (sym (call.contents honest));
+          (λ image now. EachImageSince-now old mid P so_far.images so_far.honest image (call.images image now));
+      contents = λ i here. so_far.contents i here ∙ ap (λ (image : Image). slice_get image i)
+          (sym (call.contents so_far.honest));
+      honest = call.time.honest.0 so_far.honest;
     }
 
 -- a write of another sector more
-pub LeavesAlone-writes : (places : ℕ → Type 0) (old mid new : Medium) (at : ℕ) (bytes : List ℕ) → IsHonest mid
+pub LeavesAlone-writes : (places : ℕ → Type 0) (old mid new : Medium) (at : ℕ) (bytes : List ℕ)
     → LeavesAlone places old mid → (places at → ⊥) → Writes at bytes mid new → LeavesAlone places old new
-LeavesAlone-writes places old mid new at bytes honest so_far elsewhere call =
+LeavesAlone-writes places old mid new at bytes so_far elsewhere call =
     record {
-      images = EachImageSince-step old mid new P so_far.images call.time (λ image now. from_mid image (call.images image now));
+      images = EachImageSince-step old mid new P so_far.images call.time
+          (λ image now. from_mid image (call.images image now));
       contents = λ i here. so_far.contents i here ∙ ⊎_elim
           (λ same. ap (λ (image : Image). slice_get image i) (sym same))
-          (λ set. SameAt-set places mid.contents at bytes elsewhere i here ∙ ap (λ (image : Image). slice_get image i) (sym set))
-          (call.contents honest);
+          (λ set. SameAt-set places mid.contents at bytes elsewhere i here
+          ∙ ap (λ (image : Image). slice_get image i) (sym set))
+          (call.contents so_far.honest);
+      honest = call.time.honest.0 so_far.honest;
     }
   where
     P : Image → Type 0
     P image = (before : Image) × old.images_now before × SameAt places before image
 
-    from_mid : (image : Image) → (before : Image) × mid.images_now before × ((image ≡ before) ⊎ (image ≡ slice_set before at bytes)) → P image
+    from_mid : (image : Image) → SetOrNot at bytes mid image → P image
     from_mid image (before, now, change) =
-        let was = EachImageSince-now old mid P so_far.images honest before now in (
+        let was = EachImageSince-now old mid P so_far.images so_far.honest before now in (
           was.0,
           was.1,
           λ i here. was.2 i here ∙ ⊎_elim
@@ -107,12 +118,13 @@ LeavesAlone-writes places old mid new at bytes honest so_far elsewhere call =
         )
 
 -- a run of calls, and then another
-pub LeavesAlone-join : (places : ℕ → Type 0) (old mid new : Medium) → IsHonest mid → LeavesAlone places old mid
+pub LeavesAlone-join : (places : ℕ → Type 0) (old mid new : Medium) → LeavesAlone places old mid
     → LeavesAlone places mid new → LeavesAlone places old new
-LeavesAlone-join places old mid new honest first next =
+LeavesAlone-join places old mid new first next =
     record {
       images = EachImageSince-join old mid new P first.images (EachImageSince-weaken mid new Q P next.images back);
       contents = λ i here. first.contents i here ∙ next.contents i here;
+      honest = next.honest;
     }
   where
     P : Image → Type 0
@@ -123,7 +135,7 @@ LeavesAlone-join places old mid new honest first next =
 
     back : (image : Image) → Q image → P image
     back image (between, now, same) =
-        let was = EachImageSince-now old mid P first.images honest between now in
+        let was = EachImageSince-now old mid P first.images first.honest between now in
         (was.0, was.1, λ i here. was.2 i here ∙ same i here)
 
 -- what these places alone decide, and each image of then had, each image since has
@@ -131,5 +143,6 @@ pub LeavesAlone-keeps : (places : ℕ → Type 0) (old new : Medium) (P : Image 
     → ((image : Image) → old.images_now image → P image)
     → ((a b : Image) → SameAt places a b → P a → P b) → EachImageSince old new P
 LeavesAlone-keeps places old new P run here decides =
-    EachImageSince-weaken old new (λ image. (before : Image) × old.images_now before × SameAt places before image) P run.images
+    EachImageSince-weaken old new (λ image. (before : Image) × old.images_now before × SameAt places before image) P
+    run.images
     (λ image from. decides from.0 image from.2 (here from.0 from.1))

@@ -6,5 +6,6 @@ pub mod GoesOn
 pub mod Medium
 pub mod Memory
 pub mod Range
+pub mod Remembered
 pub mod Since
 pub mod Slots

@@ -46,11 +46,15 @@ pub record Stays (old new : Medium) : Type 0 where
   pub images : (image : Image) → new.images_now image → old.images_now image
   pub time : Elapses old new
 
+-- an image of before, with this sector written or without
+abbrev pub SetOrNot : ℕ → List ℕ → Medium → Image → Type 0
+SetOrNot at bytes old image = (before : Image) × old.images_now before
+    × ((image ≡ before) ⊎ (image ≡ slice_set before at bytes))
+
 -- a write that may have failed: what is read, and each image, has the sector as it was or as it was to be
 pub record Writes (at : ℕ) (bytes : List ℕ) (old new : Medium) : Type 0 where
   pub contents : IsHonest old → (new.contents ≡ old.contents) ⊎ (new.contents ≡ slice_set old.contents at bytes)
-  pub images : (image : Image) → new.images_now image
-      → (before : Image) × old.images_now before × ((image ≡ before) ⊎ (image ≡ slice_set before at bytes))
+  pub images : (image : Image) → new.images_now image → SetOrNot at bytes old image
   pub time : Elapses old new
 
 -- a crash now leaves what is read

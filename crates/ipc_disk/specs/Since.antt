@@ -1,6 +1,6 @@
 -- What holds of each image that a crash may leave during a run of calls, and how it goes on over the next call.
 use Rattle.std.specs.Prelude.{◌≡◌, ◌⊎◌, ℕ, ◌≤◌, slice_get}
-use Rattle.ipc_disk.specs.Medium.{Image, Medium}
+use Rattle.ipc_disk.specs.Medium.{Image, Medium, IsHonest}
 
 -- a crash at any call since old leaves an image with P
 pub record EachImageSince (old new : Medium) (P : Image → Type 0) : Type 0 where
@@ -13,7 +13,9 @@ pub record EachImageSince (old new : Medium) (P : Image → Type 0) : Type 0 whe
 abbrev pub SameAt : (ℕ → Type 0) → Image → Image → Type 0
 SameAt places a b = (i : ℕ) → places i → slice_get a i ≡ slice_get b i
 
--- each image since old has, at these places, the sectors of an image of then, and so has what is read
+-- each image since old has, at these places, the sectors of an image of then, and so has what is read; the disk is
+-- honest
 pub record LeavesAlone (places : ℕ → Type 0) (old new : Medium) : Type 0 where
   pub images : EachImageSince old new (λ image. (before : Image) × old.images_now before × SameAt places before image)
   pub contents : SameAt places old.contents new.contents
+  pub honest : IsHonest new

@@ -1,6 +1,6 @@
 -- The sectors of a disk in memory: of each the value at the last sync and the last value written.
 -- A crash leaves of each sector, by itself, one of the two.
-use Rattle.std.specs.Prelude.{◌≡◌, ◌⊎◌, ℕ, List, [], ◌∷◌, length, map, All, refl}
+use Rattle.std.specs.Prelude.{◌≡◌, ◌⊎◌, ℕ, List, [], ◌∷◌, length, map, All, Contains, slice_get, refl}
 use Rattle.std.proofs.Common.{inr, ⊎_elim, subst, sym, arith}
 use Rattle.std.specs.List.{AllByRecursion}
 use Rattle.std.proofs.lemmas.List.Elements.{All-from_recursion, recursion_from_All}
@@ -44,6 +44,11 @@ synced_slot sector = record { synced = sector; last = sector }
 abbrev pub settled : Slot → Slot
 settled slot = synced_slot slot.last
 
+-- a sector that is not listed reads as it did at the last sync
+abbrev pub ListsUnsynced : List ℕ → List Slot → Type 0
+ListsUnsynced listed slots = (i : ℕ) → ¬ (Contains listed i)
+    → slice_get (synced_values slots) i ≡ slice_get (last_values slots) i
+
 -- the last values are one of the images
 pub MayLeave-last_values : (slots : List Slot) → MayLeave slots (last_values slots)
 MayLeave-last_values [] = tt
@@ -59,7 +64,8 @@ length-MayLeave [] (x ∷ xs) left = absurd left
 length-MayLeave (s ∷ ss) [] left = absurd left
 length-MayLeave (s ∷ ss) (x ∷ xs) left = omega (arith, length-MayLeave ss xs left.1)
 
-sectors-MayLeave : (slots : List Slot) (image : Image) → AllByRecursion IsWhole slots → MayLeave slots image → AllByRecursion IsSector image
+sectors-MayLeave : (slots : List Slot) (image : Image) → AllByRecursion IsWhole slots → MayLeave slots image
+    → AllByRecursion IsSector image
 sectors-MayLeave [] [] whole left = tt
 sectors-MayLeave [] (x ∷ xs) whole left = absurd left
 sectors-MayLeave (s ∷ ss) [] whole left = absurd left
@@ -69,8 +75,10 @@ sectors-MayLeave (s ∷ ss) (x ∷ xs) whole left = (
 )
 
 -- each image has all the sectors
-pub IsShaped-MayLeave : (slots : List Slot) (image : Image) → All IsWhole slots → MayLeave slots image → IsShaped (length slots) image
+pub IsShaped-MayLeave : (slots : List Slot) (image : Image) → All IsWhole slots → MayLeave slots image
+    → IsShaped (length slots) image
 IsShaped-MayLeave slots image whole left = record {
   count = length-MayLeave slots image left;
-  sectors = All-from_recursion IsSector image (sectors-MayLeave slots image (recursion_from_All IsWhole slots whole) left);
+  sectors = All-from_recursion IsSector image (sectors-MayLeave slots image
+      (recursion_from_All IsWhole slots whole) left);
 }

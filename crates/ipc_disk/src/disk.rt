@@ -1,4 +1,5 @@
-// A disk of sectors: its four calls, and what they mean.
+//! A disk of sectors: its four calls, and what they mean.
+
 ghost use Rattle.std.specs.Prelude.{◌≡◌, ◌<◌, ◌^◌, ℕ, Some, OnOk, OnErr, slice_get, slice_set};
 ghost use Rattle.ipc_disk.specs.Counts.{Counts, InRange, with_failure, with_write, with_sync};
 ghost use Rattle.ipc_disk.specs.Medium.{Image, Medium, IsShaped, IsHonest, IsDurable, Stays, Writes};
@@ -10,8 +11,8 @@ use thiserror::Error;
 #[error("the disk has failed")]
 pub struct DiskFault;
 
-/// A disk of sectors of 512 bytes each, numbered from 0. What reads give is promised of a disk that is
-/// honest (`IsHonest`), the counts of every disk. An `Err` says that the disk failed at that call.
+/// A disk of sectors of 512 bytes each, numbered from 0. What reads give is promised of a disk that is honest
+/// (`IsHonest`), the counts of every disk. An `Err` says that the disk failed at that call.
 pub trait SectorDisk {
     /// How many sectors it has.
     ghost size: { Self → ℕ };
@@ -29,9 +30,12 @@ pub trait SectorDisk {
     /// Reads the sector `at`. After an `Err` the bytes in `into` are any.
     fn read(&mut self, at: u32, into: &mut [u8; 512]) -> Result<(), DiskFault>
         requires { at < size self.old }
+        // What is read.
         ensures bytes { OnOk result (IsHonest (medium self.old)
             → slice_get (medium self.old).contents at ≡ Some into.new) }
+        // A crash at any moment: the call makes no new image.
         ensures medium { Stays (medium self.old) (medium self.new) }
+        // Failures and counts.
         ensures size { size self.new ≡ size self.old }
         ensures ok { OnOk result (counts self.new ≡ counts self.old) }
         ensures err { OnErr result (counts self.new ≡ with_failure (counts self.old)) };
@@ -39,17 +43,23 @@ pub trait SectorDisk {
     /// Writes the sector `at`. Until a sync is Ok, a crash may leave the sector as it was.
     fn write(&mut self, at: u32, from: &[u8; 512]) -> Result<(), DiskFault>
         requires { at < size self.old }
+        // What is read from then on.
         ensures written { OnOk result (IsHonest (medium self.old)
             → (medium self.new).contents ≡ slice_set (medium self.old).contents at from.now) }
+        // A crash at any moment, also of a write that fails: the sector is as it was, or written.
         ensures medium { Writes at from.now (medium self.old) (medium self.new) }
+        // Failures and counts.
         ensures size { size self.new ≡ size self.old }
         ensures ok { OnOk result (counts self.new ≡ with_write (counts self.old)) }
         ensures err { OnErr result (counts self.new ≡ with_failure (counts self.old)) };
 
     /// Once it is Ok, a crash leaves what is read. After an `Err` a crash leaves what it could before.
     fn sync(&mut self) -> Result<(), DiskFault>
+        // What a crash leaves from then on.
         ensures durable { OnOk result (IsDurable (medium self.new)) }
+        // A crash at any moment: the call makes no new image.
         ensures medium { Stays (medium self.old) (medium self.new) }
+        // Failures and counts.
         ensures size { size self.new ≡ size self.old }
         ensures ok { OnOk result (counts self.new ≡ with_sync (counts self.old)) }
         ensures err { OnErr result (counts self.new ≡ with_failure (counts self.old)) };

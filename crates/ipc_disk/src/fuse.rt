@@ -1,8 +1,11 @@
-// A disk in memory that fails from some call on, and then crashes.
-ghost use Rattle.std.specs.Prelude.{◌≡◌, ◌<◌, ◌-◌, ◌^◌, ◌+◌, ◌↔◌, min, Some, IsOk, IsErr, OnOk, OnErr, slice_get, slice_set};
+//! A disk in memory that fails from some call on, and then crashes.
+
+ghost use Rattle.std.specs.Prelude.{◌≡◌, ◌<◌, ◌-◌, ◌^◌, ◌+◌, ◌↔◌, min, Some, IsOk, IsErr};
+ghost use Rattle.std.specs.Prelude.{OnOk, OnErr, slice_get, slice_set};
 ghost use Rattle.ipc_disk.specs.Counts.{counted, with_failure, with_write, with_sync};
 ghost use Rattle.ipc_disk.specs.Medium.{IsHonest, IsDurable, Stays, Writes};
-ghost use Rattle.ipc_disk.specs.Memory.{memory_size, memory_medium, memory_counts, synced_image, unsynced_count, chosen_image};
+ghost use Rattle.ipc_disk.specs.Memory.{memory_size, memory_medium, memory_counts};
+ghost use Rattle.ipc_disk.specs.Memory.{synced_image, unsynced_count, chosen_image};
 
 use crate::{DiskFault, MemoryDisk, SectorDisk};
 
@@ -93,7 +96,11 @@ impl SectorDisk for FuseDisk {
 
     ghost fits = { λ fuse. fuse.disk.few };
 
-    ghost in_range = { λ fuse. record { failures_fit = fuse.failures_fit; writes_fit = fuse.disk.writes_fit; syncs_fit = fuse.disk.syncs_fit } };
+    ghost in_range = { λ fuse. record {
+      failures_fit = fuse.failures_fit;
+      writes_fit = fuse.disk.writes_fit;
+      syncs_fit = fuse.disk.syncs_fit;
+    } };
 
     ghost shaped = { λ fuse image left. IsShaped-MayLeave fuse.disk.slots.items image fuse.disk.whole left };
 
@@ -105,16 +112,18 @@ impl SectorDisk for FuseDisk {
 
     fn read(&mut self, at: u32, into: &mut [u8; 512]) -> Result<(), DiskFault>
         requires { at < memory_size (disk_of self.old) }
-        ensures passes { IsOk result ↔ (0 < calls_left self.old) }
-        ensures spent { calls_left self.new ≡ calls_left self.old - 1 }
-        ensures keep { keep_of self.new ≡ keep_of self.old }
-        ensures unchanged { disk_of self.new ≡ disk_of self.old }
+        // What the trait says.
         ensures bytes { OnOk result (IsHonest (fuse_medium self.old)
             → slice_get (fuse_medium self.old).contents at ≡ Some into.new) }
         ensures medium { Stays (fuse_medium self.old) (fuse_medium self.new) }
         ensures size { memory_size (disk_of self.new) ≡ memory_size (disk_of self.old) }
         ensures ok { OnOk result (fuse_counts self.new ≡ fuse_counts self.old) }
         ensures err { OnErr result (fuse_counts self.new ≡ with_failure (fuse_counts self.old)) }
+        // The fuse, and what is synced.
+        ensures passes { IsOk result ↔ (0 < calls_left self.old) }
+        ensures spent { calls_left self.new ≡ calls_left self.old - 1 }
+        ensures keep { keep_of self.new ≡ keep_of self.old }
+        ensures unchanged { disk_of self.new ≡ disk_of self.old }
     {
         spend(&mut self.calls, &mut self.failures)?;
         self.disk.read(at, into)
@@ -122,34 +131,38 @@ impl SectorDisk for FuseDisk {
 
     fn write(&mut self, at: u32, from: &[u8; 512]) -> Result<(), DiskFault>
         requires { at < memory_size (disk_of self.old) }
-        ensures passes { IsOk result ↔ (0 < calls_left self.old) }
-        ensures spent { calls_left self.new ≡ calls_left self.old - 1 }
-        ensures keep { keep_of self.new ≡ keep_of self.old }
-        ensures unchanged { OnErr result (disk_of self.new ≡ disk_of self.old) }
-        ensures synced { synced_image (disk_of self.new) ≡ synced_image (disk_of self.old) }
+        // What the trait says.
         ensures written { OnOk result (IsHonest (fuse_medium self.old)
             → (fuse_medium self.new).contents ≡ slice_set (fuse_medium self.old).contents at from.now) }
         ensures medium { Writes at from.now (fuse_medium self.old) (fuse_medium self.new) }
         ensures size { memory_size (disk_of self.new) ≡ memory_size (disk_of self.old) }
         ensures ok { OnOk result (fuse_counts self.new ≡ with_write (fuse_counts self.old)) }
         ensures err { OnErr result (fuse_counts self.new ≡ with_failure (fuse_counts self.old)) }
+        // The fuse, and what is synced.
+        ensures passes { IsOk result ↔ (0 < calls_left self.old) }
+        ensures spent { calls_left self.new ≡ calls_left self.old - 1 }
+        ensures keep { keep_of self.new ≡ keep_of self.old }
+        ensures unchanged { OnErr result (disk_of self.new ≡ disk_of self.old) }
+        ensures synced { synced_image (disk_of self.new) ≡ synced_image (disk_of self.old) }
     {
         spend(&mut self.calls, &mut self.failures)?;
         self.disk.write(at, from)
     }
 
     fn sync(&mut self) -> Result<(), DiskFault>
+        // What the trait says.
+        ensures durable { OnOk result (IsDurable (fuse_medium self.new)) }
+        ensures medium { Stays (fuse_medium self.old) (fuse_medium self.new) }
+        ensures size { memory_size (disk_of self.new) ≡ memory_size (disk_of self.old) }
+        ensures ok { OnOk result (fuse_counts self.new ≡ with_sync (fuse_counts self.old)) }
+        ensures err { OnErr result (fuse_counts self.new ≡ with_failure (fuse_counts self.old)) }
+        // The fuse, and what is synced.
         ensures passes { IsOk result ↔ (0 < calls_left self.old) }
         ensures spent { calls_left self.new ≡ calls_left self.old - 1 }
         ensures keep { keep_of self.new ≡ keep_of self.old }
         ensures unchanged { OnErr result (disk_of self.new ≡ disk_of self.old) }
         ensures synced { OnOk result (synced_image (disk_of self.new)
             ≡ (fuse_medium self.old).contents) }
-        ensures durable { OnOk result (IsDurable (fuse_medium self.new)) }
-        ensures medium { Stays (fuse_medium self.old) (fuse_medium self.new) }
-        ensures size { memory_size (disk_of self.new) ≡ memory_size (disk_of self.old) }
-        ensures ok { OnOk result (fuse_counts self.new ≡ with_sync (fuse_counts self.old)) }
-        ensures err { OnErr result (fuse_counts self.new ≡ with_failure (fuse_counts self.old)) }
     {
         spend(&mut self.calls, &mut self.failures)?;
         self.disk.sync()

@@ -1,4 +1,5 @@
-// What holds of every disk in memory, whatever calls led to it.
+//! What holds of every disk in memory, whatever calls led to it.
+
 ghost use Rattle.ipc_disk.specs.Medium.{IsHonest};
 ghost use Rattle.ipc_disk.specs.Memory.{memory_medium};
 ghost use Rattle.ipc_disk.specs.Fuse.{fuse_medium};

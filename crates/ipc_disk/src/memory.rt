@@ -1,10 +1,12 @@
-// A disk in memory, which never fails.
-ghost use Rattle.std.specs.Prelude.{◌≡◌, ◌<◌, ◌^◌, ℕ, length, map, All, Some, IfOk, IsOk, OnOk, OnErr, replicate, slice_get, slice_set};
+//! A disk in memory, which never fails.
+
+ghost use Rattle.std.specs.Prelude.{◌≡◌, ◌<◌, ◌≤◌, ◌^◌, ◌++◌, [], ◌∷◌, ℕ, length, map, All, Some, IfOk, IsOk, OnOk};
+ghost use Rattle.std.specs.Prelude.{OnErr, replicate, slice_get, slice_set, vec_capacity};
 ghost use Rattle.std.proofs.Common.{lit<};
 ghost use Rattle.ipc_disk.specs.Counts.{with_failure, with_write, with_sync};
 ghost use Rattle.ipc_disk.specs.Medium.{IsHonest, IsDurable, Stays, Writes};
 ghost use Rattle.ipc_disk.specs.Crash.{survivors, survivor, is_unsynced, is_kept as kept};
-ghost use Rattle.ipc_disk.specs.Slots.{IsWhole, settled, synced_slot};
+ghost use Rattle.ipc_disk.specs.Slots.{IsWhole, ListsUnsynced, settled, synced_slot};
 
 use crate::{DiskFault, SectorDisk};
 use std::alloc::{AllocError, Global};
@@ -26,16 +28,23 @@ const ZEROS: Slot = Slot {
 #[derive(Drop)]
 pub struct MemoryDisk {
     slots: Vec<Slot>,
+    // The sector of each write since the last sync, but of no more writes than there are sectors.
+    recent: Vec<u32>,
     writes: u64,
     syncs: u64,
     ghost whole: { All IsWhole slots.items },
     ghost few: { length slots.items < 2 ^ 32 },
+    ghost room: { length slots.items ≤ vec_capacity recent },
+    ghost places: { All (λ at. at < length slots.items) recent.items },
+    ghost listed: { length recent.items < length slots.items
+        → ListsUnsynced recent.items slots.items },
     ghost writes_fit: { writes < 2 ^ 64 },
     ghost syncs_fit: { syncs < 2 ^ 64 },
 }
 
 impl MemoryDisk {
-    ghost use Rattle.ipc_disk.specs.Memory.{memory_size, memory_medium, memory_counts, synced_image, unsynced_count, chosen_image};
+    ghost use Rattle.ipc_disk.specs.Memory.{memory_size, memory_medium, memory_counts};
+    ghost use Rattle.ipc_disk.specs.Memory.{synced_image, unsynced_count, chosen_image};
 
     /// A disk of so many sectors. All the memory that it ever takes is taken here.
     pub fn new(alloc: Global, sectors: u32) -> Result<MemoryDisk, AllocError>
@@ -48,8 +57,11 @@ impl MemoryDisk {
         ensures unused { IfOk result (λ disk. memory_counts disk
             ≡ record { failures = 0; writes = 0; syncs = 0 }) }
     {
+        let slots = zeros(alloc, sectors)?;
+        let recent = Vec::with_capacity(alloc, sectors as usize)?;
         Ok(MemoryDisk {
-            slots: zeros(alloc, sectors)?,
+            slots,
+            recent,
             writes: 0,
             syncs: 0,
         })
@@ -75,6 +87,7 @@ impl MemoryDisk {
     {
         let mut disk = self;
         choose(&mut disk.slots, keep);
+        disk.recent.clear();
         disk
     }
 
@@ -104,12 +117,56 @@ fn zeros(alloc: Global, sectors: u32) -> Result<Vec<Slot>, AllocError>
     Ok(slots)
 }
 
-// A sync: each sector's last value is its synced one.
-fn settle(slots: &mut [Slot])
+// Lists a write, where fewer are listed than there are sectors.
+fn list(recent: &mut Vec<u32>, at: u32, sectors: usize)
+    requires { sectors ≤ vec_capacity recent.old }
+    ensures listed { length recent.old.items < sectors
+        → recent.new.items ≡ recent.old.items ++ at ∷ [] }
+    ensures full { sectors ≤ length recent.old.items → recent.new.items ≡ recent.old.items }
+    ensures room { sectors ≤ vec_capacity recent.new }
+{
+    if recent.len() < sectors {
+        recent.push(at).unwrap();
+    }
+}
+
+// A sync of one sector: its last value is its synced one.
+fn settle_one(slot: &mut Slot)
+    ensures { slot.new ≡ settled slot.old }
+{
+    slot.synced = slot.last;
+}
+
+// A sync of all sectors.
+fn settle_all(slots: &mut [Slot])
     ensures { slots.new ≡ map settled slots.old }
 {
     for slot in slots.iter_mut() {
-        slot.synced = slot.last;
+        settle_one(slot);
+    }
+}
+
+// A sync where the unsynced sectors are listed: it goes over these alone.
+fn settle_listed(slots: &mut [Slot], listed: &[u32])
+    requires places { All (λ at. at < length slots.old) listed.now }
+    requires listed { ListsUnsynced listed.now slots.old }
+    ensures { slots.new ≡ map settled slots.old }
+{
+    for at in listed {
+        settle_one(&mut slots[*at as usize]);
+    }
+}
+
+// A sync, which goes over no more sectors than there were writes since the last one.
+fn settle(slots: &mut [Slot], recent: &[u32])
+    requires places { All (λ at. at < length slots.old) recent.now }
+    requires listed { length recent.now < length slots.old → ListsUnsynced recent.now slots.old }
+    ensures { slots.new ≡ map settled slots.old }
+{
+    if recent.len() < slots.len() {
+        settle_listed(slots, recent);
+    } else {
+        settle_all(slots);
     }
 }
 
@@ -130,7 +187,7 @@ fn choose_one(slot: &mut Slot, keep: u64, before: usize) -> bool
     if unsynced && !is_kept(keep, before) {
         slot.last = slot.synced;
     }
-    slot.synced = slot.last;
+    settle_one(slot);
     unsynced
 }
 
@@ -158,7 +215,11 @@ impl SectorDisk for MemoryDisk {
 
     ghost fits = { λ disk. disk.few };
 
-    ghost in_range = { λ disk. record { failures_fit = lit< tt; writes_fit = disk.writes_fit; syncs_fit = disk.syncs_fit } };
+    ghost in_range = { λ disk. record {
+      failures_fit = lit< tt;
+      writes_fit = disk.writes_fit;
+      syncs_fit = disk.syncs_fit;
+    } };
 
     ghost shaped = { λ disk image left. IsShaped-MayLeave disk.slots.items image disk.whole left };
 
@@ -170,8 +231,7 @@ impl SectorDisk for MemoryDisk {
 
     fn read(&mut self, at: u32, into: &mut [u8; 512]) -> Result<(), DiskFault>
         requires { at < memory_size self.old }
-        ensures never_fails { IsOk result }
-        ensures unchanged { self.new ≡ self.old }
+        // What the trait says.
         ensures bytes { OnOk result (IsHonest (memory_medium self.old)
             → slice_get (memory_medium self.old).contents at ≡ Some into.new) }
         ensures medium { Stays (memory_medium self.old) (memory_medium self.new) }
@@ -179,6 +239,9 @@ impl SectorDisk for MemoryDisk {
         ensures ok { OnOk result (memory_counts self.new ≡ memory_counts self.old) }
         ensures err { OnErr result (memory_counts self.new
             ≡ with_failure (memory_counts self.old)) }
+        // It never fails.
+        ensures never_fails { IsOk result }
+        ensures unchanged { self.new ≡ self.old }
     {
         *into = self.slots[at as usize].last;
         Ok(())
@@ -186,8 +249,7 @@ impl SectorDisk for MemoryDisk {
 
     fn write(&mut self, at: u32, from: &[u8; 512]) -> Result<(), DiskFault>
         requires { at < memory_size self.old }
-        ensures never_fails { IsOk result }
-        ensures synced { synced_image self.new ≡ synced_image self.old }
+        // What the trait says.
         ensures written { OnOk result (IsHonest (memory_medium self.old)
             → (memory_medium self.new).contents ≡ slice_set (memory_medium self.old).contents at from.now) }
         ensures medium { Writes at from.now (memory_medium self.old) (memory_medium self.new) }
@@ -195,23 +257,30 @@ impl SectorDisk for MemoryDisk {
         ensures ok { OnOk result (memory_counts self.new ≡ with_write (memory_counts self.old)) }
         ensures err { OnErr result (memory_counts self.new
             ≡ with_failure (memory_counts self.old)) }
+        // It never fails.
+        ensures never_fails { IsOk result }
+        ensures synced { synced_image self.new ≡ synced_image self.old }
     {
         self.slots[at as usize].last = *from;
+        list(&mut self.recent, at, self.slots.len());
         self.writes = self.writes.saturating_add(1);
         Ok(())
     }
 
     fn sync(&mut self) -> Result<(), DiskFault>
-        ensures never_fails { IsOk result }
-        ensures synced { synced_image self.new ≡ (memory_medium self.old).contents }
+        // What the trait says.
         ensures durable { OnOk result (IsDurable (memory_medium self.new)) }
         ensures medium { Stays (memory_medium self.old) (memory_medium self.new) }
         ensures size { memory_size self.new ≡ memory_size self.old }
         ensures ok { OnOk result (memory_counts self.new ≡ with_sync (memory_counts self.old)) }
         ensures err { OnErr result (memory_counts self.new
             ≡ with_failure (memory_counts self.old)) }
+        // It never fails.
+        ensures never_fails { IsOk result }
+        ensures synced { synced_image self.new ≡ (memory_medium self.old).contents }
     {
-        settle(&mut self.slots);
+        settle(&mut self.slots, &self.recent);
+        self.recent.clear();
         self.syncs = self.syncs.saturating_add(1);
         Ok(())
     }

@@ -1,4 +1,4 @@
-// A run of sectors.
+//! A run of sectors.
 
 /// The sectors from `first` on, `count` of them, that belong to one user of a disk.
 #[derive(Clone, Copy, Debug, PartialEq, Eq)]

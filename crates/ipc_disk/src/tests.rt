@@ -1,5 +1,9 @@
-// Each constructor once, the table of a crash, and a fuse that burns down.
+//! Each constructor once, the table of a crash, and a fuse that burns down.
+
+mod remembering;
+
 use crate::{DiskFault, FuseDisk, MemoryDisk, SectorDisk};
+use remembering::RememberingDisk;
 use std::alloc::{AllocError, Global};
 use std::test::Fail;
 
@@ -57,6 +61,37 @@ fn a_new_disk_is_zeros(rt: HostRuntime) -> Result<(), Fail> {
     Ok(())
 }
 
+// The device of a server under its standard limits.
+#[test]
+fn a_device_of_45830_sectors_is_made(rt: HostRuntime) -> Result<(), Fail> {
+    let mut disk = MemoryDisk::new(rt.alloc(), 45830)?;
+    assert_eq!(rt; disk.sectors(), 45830);
+    fill(&mut disk, &[45829], NEW)?;
+    disk.sync()?;
+    let mut sector = [9; 512];
+    if disk.sectors() == 45830 {
+        disk.read(45829, &mut sector)?;
+    }
+    assert_eq!(rt; sector, [NEW; 512]);
+    Ok(())
+}
+
+// More writes than sectors since the last sync, and then fewer: after each sync a crash leaves what was read.
+#[test]
+fn a_sync_after_many_writes(rt: HostRuntime) -> Result<(), Fail> {
+    let mut disk = MemoryDisk::new(rt.alloc(), 3)?;
+    fill(&mut disk, &[0, 0, 0, 0, 2], OLD)?;
+    disk.sync()?;
+    fill(&mut disk, &[1], NEW)?;
+    disk.sync()?;
+    let mut disk = FuseDisk::new(disk, 0, 0).crash();
+    assert_eq!(rt;
+        bytes(rt.alloc(), &mut disk, 3)?.as_slice(),
+        [1, 2, 1].as_slice()
+    );
+    Ok(())
+}
+
 // The sectors 0, 1 and 3 are unsynced: bit 0 of `keep` chooses for 0, bit 1 for 1 and bit 2 for 3.
 const CRASHES: [(u64, [u8; 4]); 9] = [
     (0, [1, 1, 0, 0]),
@@ -111,6 +146,20 @@ fn a_fuse_burns_down(rt: HostRuntime) -> Result<(), Fail> {
     assert_eq!(rt;
         bytes(rt.alloc(), &mut disk, 2)?.as_slice(),
         [1, 0].as_slice()
+    );
+    Ok(())
+}
+
+// A disk that remembers meets the trait too.
+#[test]
+fn a_disk_may_remember(rt: HostRuntime) -> Result<(), Fail> {
+    let mut disk = RememberingDisk::new(rt.alloc(), 3)?;
+    fill(&mut disk, &[0, 2, 2], NEW)?;
+    disk.sync()?;
+    assert_eq!(rt; disk.images(), 3);
+    assert_eq!(rt;
+        bytes(rt.alloc(), &mut disk, 3)?.as_slice(),
+        [2, 0, 2].as_slice()
     );
     Ok(())
 }

@@ -1,25 +1,21 @@
 -- The images of an append: while the body is written, at the sync, and while the header is written.
-use Rattle.std.proofs.Common.{◌≡◌, ◌⊎◌, inl, inr, ⊎_elim, ℕ, ◌+◌, ◌<◌, List, [], ◌∷◌, ◌++◌, length, sym, ◌∙◌, ap, subst, arith}
+use Rattle.std.proofs.Common.{◌≡◌, inl, inr, ⊎_elim, ℕ, ◌+◌, ◌<◌, List, [], ◌∷◌, ◌++◌, length, sym, ◌∙◌, ap, subst, arith}
 use Rattle.std.specs.Prelude.{slice_set}
 use Rattle.ipc_disk.specs.declared.range.Range.{Range}
-use Rattle.ipc_disk.specs.Medium.{Image, Medium, IsHonest, IsDurable, Stays}
+use Rattle.ipc_disk.specs.Medium.{Image, Medium, IsHonest, IsDurable, SetOrNot, Stays}
 use Rattle.ipc_disk.specs.Range.{IsOutside}
 use Rattle.ipc_disk.specs.Since.{EachImageSince, LeavesAlone}
 use Rattle.ipc_disk.specs.GoesOn.{EachImageSince-step, EachImageSince-join, EachImageSince-weaken, EachImageSince-now, LeavesAlone-keeps}
 use Rattle.ipc_journal.specs.declared.journal.Journal.{Journal}
-use Rattle.ipc_journal.specs.Journal.{sectors_for, sectors_of, epoch_in, used_in, IsBatch, StandsAt, Holds}
+use Rattle.ipc_journal.specs.Journal.{sectors_for, sectors_of, epoch_in, used_in, IsBatch, IsWrittenAt, StandsAt, Holds}
 use Rattle.ipc_journal.specs.IsAt.{Fits, IsAt, HoldsOneMoreOrNot}
 use Rattle.ipc_journal.specs.GoesOn.{sector_at-same, Holds-same}
-use Rattle.ipc_journal.proofs.Runs.{LeavesAlone-fewer, outside-first}
+use Rattle.ipc_journal.proofs.Runs.{LeavesAlone-fewer, outside-first, StandsAt-written}
 use Rattle.ipc_journal.proofs.Images.{Holds-push}
 
 -- the free sectors that a batch of so many bytes is written to
 abbrev pub run_of : Journal → ℕ → Range
 run_of journal len = record { first = journal.range.first + 1 + journal.used; count = sectors_for len }
-
--- an image of before, or one with the sector written
-abbrev pub SetOrNot : Medium → ℕ → List ℕ → Image → Type 0
-SetOrNot old at sector image = (before : Image) × old.images_now before × ((image ≡ before) ⊎ (image ≡ slice_set before at sector))
 
 -- a sync goes on with what each image has
 pub synced : (old mid new : Medium) (P : Image → Type 0) → EachImageSince old mid P → IsHonest mid → Stays mid new → EachImageSince old new P
@@ -35,8 +31,10 @@ module _ (journal : Journal) (batch : List ℕ) (fits : Fits journal (length bat
   pub others-body : (old mid : Medium) → LeavesAlone (IsOutside (run_of journal (length batch))) old mid → LeavesAlone (IsOutside journal.range) old mid
   others-body old mid run = LeavesAlone-fewer (IsOutside journal.range) (IsOutside (run_of journal (length batch))) old mid outside-run run
 
-  pub others-header : (old new : Medium) → LeavesAlone (IsOutside (record { first = journal.range.first; count = 1 })) old new → LeavesAlone (IsOutside journal.range) old new
-  others-header old new run = LeavesAlone-fewer (IsOutside journal.range) (IsOutside (record { first = journal.range.first; count = 1 })) old new (outside-first journal.range (omega (arith, fits))) run
+  pub others-header : (old new : Medium) → LeavesAlone (IsOutside (record { first = journal.range.first; count = 1 })) old new
+      → LeavesAlone (IsOutside journal.range) old new
+  others-header old new run = LeavesAlone-fewer (IsOutside journal.range) (IsOutside (record { first = journal.range.first; count = 1 })) old new
+      (outside-first journal.range (omega (arith, fits))) run
 
   module _ (batches : List (List ℕ)) (old : Medium) (at : IsAt journal batches old) where
     abbrev Before : Image → Type 0
@@ -55,32 +53,39 @@ module _ (journal : Journal) (batch : List ℕ) (fits : Fits journal (length bat
     pub moment-body : (mid : Medium) → LeavesAlone (IsOutside (run_of journal (length batch))) old mid → EachImageSince old mid Both
     moment-body mid run = EachImageSince-weaken old mid Before Both (body mid run) (λ image holds. inl holds)
 
-    pub moment-sync : (mid new : Medium) → LeavesAlone (IsOutside (run_of journal (length batch))) old mid → IsHonest mid → Stays mid new → EachImageSince old new Both
-    moment-sync mid new run honest call = synced old mid new Both (moment-body mid run) honest call
+    pub moment-sync : (mid new : Medium) → LeavesAlone (IsOutside (run_of journal (length batch))) old mid → Stays mid new → EachImageSince old new Both
+    moment-sync mid new run call = synced old mid new Both (moment-body mid run) run.honest call
 
-    module _ (mid kept : Medium) (run : LeavesAlone (IsOutside (run_of journal (length batch))) old mid) (honest : IsHonest mid) (call : Stays mid kept)
-        (durable : IsDurable kept) (is : IsBatch batch) (stands : StandsAt (journal.range.first + 1 + journal.used) batch mid.contents)
+    module _ (mid kept : Medium) (run : LeavesAlone (IsOutside (run_of journal (length batch))) old mid) (call : Stays mid kept)
+        (durable : IsDurable kept) (is : IsBatch batch) (written : IsWrittenAt (journal.range.first + 1 + journal.used) batch mid.contents)
         (sector : List ℕ) (e : epoch_in sector ≡ journal.epoch) (u : used_in sector ≡ journal.used + sectors_for (length batch))
         (long : journal.range.first < length kept.contents) where
       -- after the sync there is one image, in which the batch stands already
+      honest : IsHonest kept
+      honest = call.time.honest.0 run.honest
+
       before : Before kept.contents
-      before = EachImageSince-now old kept Before (synced old mid kept Before (body mid run) honest call) (call.time.honest.0 honest) kept.contents (call.time.honest.0 honest).reads
+      before = EachImageSince-now old kept Before (synced old mid kept Before (body mid run) run.honest call) honest kept.contents honest.reads
 
       pub pushed : Holds journal.range journal.epoch (batches ++ batch ∷ []) (slice_set kept.contents journal.range.first sector)
       pushed =
           let there : StandsAt (journal.range.first + 1 + sectors_of batches) batch kept.contents =
           subst (λ (n : ℕ). StandsAt (journal.range.first + 1 + n) batch kept.contents) at.used
-          (subst (StandsAt (journal.range.first + 1 + journal.used) batch) (sym (call.contents honest)) stands) in
-          Holds-push journal.range journal.epoch batches batch sector kept.contents long (omega (arith, fits, at.used)) is there e (omega (arith, u, at.used)) before
+          (subst (StandsAt (journal.range.first + 1 + journal.used) batch) (sym (call.contents run.honest))
+          (StandsAt-written (journal.range.first + 1 + journal.used) batch mid.contents written)) in
+          Holds-push journal.range journal.epoch batches batch sector kept.contents long (omega (arith, fits, at.used)) is there e
+          (omega (arith, u, at.used)) before
 
-      header : (image : Image) → SetOrNot kept journal.range.first sector image → Both image
+      header : (image : Image) → SetOrNot journal.range.first sector kept image → Both image
       header image from =
           let one : from.0 ≡ kept.contents = durable from.0 from.1 in
           ⊎_elim
           (λ same. inl (subst Before (sym (same ∙ one)) before))
-          (λ set. inr (subst (Holds journal.range journal.epoch (batches ++ batch ∷ [])) (sym (set ∙ ap (λ (c : Image). slice_set c journal.range.first sector) one)) pushed))
+          (λ set. inr (subst (Holds journal.range journal.epoch (batches ++ batch ∷ []))
+          (sym (set ∙ ap (λ (c : Image). slice_set c journal.range.first sector) one)) pushed))
           from.2
 
-      pub moment-header : (new : Medium) → EachImageSince kept new (SetOrNot kept journal.range.first sector) → EachImageSince old new Both
+      pub moment-header : (new : Medium) → EachImageSince kept new (SetOrNot journal.range.first sector kept) → EachImageSince old new Both
       moment-header new last =
-          EachImageSince-join old kept new Both (moment-sync mid kept run honest call) (EachImageSince-weaken kept new (SetOrNot kept journal.range.first sector) Both last header)
+          EachImageSince-join old kept new Both (moment-sync mid kept run call)
+          (EachImageSince-weaken kept new (SetOrNot journal.range.first sector kept) Both last header)

@@ -1,6 +1,7 @@
 -- Lemmas on sectors of images, and on what a journal's images hold.
 mod Append
+mod Counted
 mod Headers
+mod Images
 mod Pieces
 mod Runs
-mod Images

@@ -1,5 +1,6 @@
 -- A batch as its pieces, and the calls that only read.
-use Rattle.std.proofs.Common.{◌≡◌, ◌⊎◌, inl, inr, ⊎_elim, ℕ, zero, suc, ◌+◌, ◌*◌, ◌<◌, ◌≤◌, List, [], ◌∷◌, ◌++◌, length, take, drop, refl, sym, ◌∙◌, ap, subst, arith, take-append-drop}
+use Rattle.std.proofs.Common.{◌≡◌, ◌⊎◌, inl, inr, ⊎_elim, ℕ, zero, suc, ◌+◌, ◌*◌, ◌<◌, ◌≤◌, List, [], ◌∷◌, ◌++◌, length, take, drop, refl, sym, ◌∙◌}
+use Rattle.std.proofs.Common.{ap, subst, arith, take-append-drop}
 use borrow.Rule.Slice.PartMut.{put_mid}
 use Rattle.std.proofs.lemmas.List.{take_all, take_at, drop_at, drop_all, append-nil, take-take, drop-take, length-take, length-take-le, length-drop}
 use borrow.Author.Count.{below_more}
@@ -49,7 +50,8 @@ pub pieces_more : (n at : ℕ) (old new sector : List ℕ) (image : Image) → t
 pieces_more n at old new sector image front here read below =
     let P : ℕ → Type 0 = λ i. take (length (piece i new)) (sector_at image (at + i)) ≡ piece i new in
     below_more P n
-    (λ i less. let S : List ℕ → Type 0 = λ p. take (length p) (sector_at image (at + i)) ≡ p in subst S (sym (piece-same i n new old less front)) (below i less))
+    (λ i less. let S : List ℕ → Type 0 = λ p. take (length p) (sector_at image (at + i)) ≡ p in
+    subst S (sym (piece-same i n new old less front)) (below i less))
     (ap (λ (s : List ℕ). take (length (piece n new)) s) read ∙ here)
 
 take_pieces : (n : ℕ) (xs : List ℕ) → take (512 * n + 512) xs ≡ take (512 * n) xs ++ piece n xs
@@ -93,7 +95,8 @@ length-there at batch image is stands =
     omega (arith, field, is.right)
 
 -- what is read of a length field
-pub read-length : (image : Image) (at : ℕ) (sector : List ℕ) (found : ℕ) → sector_at image at ≡ sector → found ≡ big_number 4 sector → length_in (sector_at image at) ≡ found
+pub read-length : (image : Image) (at : ℕ) (sector : List ℕ) (found : ℕ) → sector_at image at ≡ sector → found ≡ big_number 4 sector
+    → length_in (sector_at image at) ≡ found
 unfolding length_in
 read-length image at sector found read is = ap (λ (l : List ℕ). big_number 4 l) read ∙ sym is
 
@@ -125,7 +128,8 @@ next_is range place end batch found image there long stands =
     (sym long ∙ length-there (range.first + 1 + place) batch image there.is there.stands) stands there.stands
 
 -- a piece after its bytes were put in
-pub piece-put : (i k : ℕ) (xs ys sector : List ℕ) → 512 * i ≤ length xs → (k ≡ 512) ⊎ ((k < 512) × (length xs ≤ 512 * i + k)) → length ys ≡ k → ys ≡ take k sector
+pub piece-put : (i k : ℕ) (xs ys sector : List ℕ) → 512 * i ≤ length xs → (k ≡ 512) ⊎ ((k < 512) × (length xs ≤ 512 * i + k)) → length ys ≡ k
+    → ys ≡ take k sector
     → take (length (piece i (put_mid (512 * i) k xs ys))) sector ≡ piece i (put_mid (512 * i) k xs ys)
 piece-put i k xs ys sector le cases long is =
     let whole : piece i (put_mid (512 * i) k xs ys) ≡ take 512 (ys ++ drop k (drop (512 * i) xs)) =

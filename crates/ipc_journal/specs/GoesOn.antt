@@ -4,40 +4,46 @@ use Rattle.std.proofs.Common.{inl, inr, sym, ◌∙◌, ap, subst, arith}
 use Rattle.std.specs.Option.{unwrap_or}
 use Rattle.std.proofs.lemmas.Option.{unwrap_or-slice_get}
 use Rattle.ipc_disk.specs.declared.range.Range.{Range}
-use Rattle.ipc_disk.specs.Medium.{Image, Medium, IsHonest, Stays}
+use Rattle.ipc_disk.specs.Medium.{Image, Medium, Stays}
 use Rattle.ipc_disk.specs.Range.{IsInside}
 use Rattle.ipc_disk.specs.Since.{EachImageSince, SameAt, LeavesAlone}
 use Rattle.ipc_disk.specs.GoesOn.{EachImageSince-now, LeavesAlone-keeps}
 use Rattle.ipc_journal.specs.declared.journal.Journal.{Journal}
-use Rattle.ipc_journal.specs.Journal.{sectors_for, sectors_of, sector_at, epoch_in, used_in, header_used, piece, Fill, Holds}
+use Rattle.ipc_journal.specs.Journal.{sectors_for, sectors_of, sector_at, epoch_in, used_in}
+use Rattle.ipc_journal.specs.Journal.{header_used, piece, Fill, Holds}
 use Rattle.ipc_journal.specs.IsAt.{range_of, epoch_of, used_of, IsAt}
 
 -- a sector that two images share
-pub sector_at-same : (places : ℕ → Type 0) (a b : Image) (i : ℕ) → SameAt places a b → places i → sector_at a i ≡ sector_at b i
+pub sector_at-same : (places : ℕ → Type 0) (a b : Image) (i : ℕ) → SameAt places a b → places i
+    → sector_at a i ≡ sector_at b i
 sector_at-same places a b i same here =
     sym (unwrap_or-slice_get a i []) ∙ ap (λ o. unwrap_or o []) (same i here) ∙ unwrap_or-slice_get b i []
 
 module _ (range : Range) where
   -- where the batches end
-  pub Fill-end : (place end : ℕ) (batches : List (List ℕ)) (image : Image) → Fill range place end batches image → place + sectors_of batches ≡ end
+  pub Fill-end : (place end : ℕ) (batches : List (List ℕ)) (image : Image) → Fill range place end batches image
+      → place + sectors_of batches ≡ end
   Fill-end place end [] image fill = omega (arith, fill)
   Fill-end place end (batch ∷ batches) image fill =
       omega (arith, Fill-end (place + sectors_for (length batch)) end batches image fill.2)
 
   -- in the same sectors there are the same batches
   pub Fill-same : (place end : ℕ) (batches : List (List ℕ)) (a b : Image)
-      → ((j : ℕ) → range.first + 1 ≤ j → j < range.first + 1 + end → sector_at a j ≡ sector_at b j) → Fill range place end batches a → Fill range place end batches b
+      → ((j : ℕ) → range.first + 1 ≤ j → j < range.first + 1 + end → sector_at a j ≡ sector_at b j)
+      → Fill range place end batches a → Fill range place end batches b
   Fill-same place end [] a b same fill = fill
   Fill-same place end (batch ∷ batches) a b same fill =
       let total = Fill-end (place + sectors_for (length batch)) end batches a fill.2 in (
         fill.0,
-        λ i lt. ap (λ (s : List ℕ). take (length (piece i batch)) s) (sym (same (range.first + 1 + place + i) (omega arith) (omega (arith, total, lt)))) ∙ fill.1 i lt,
+        λ i lt. ap (λ (s : List ℕ). take (length (piece i batch)) s)
+            (sym (same (range.first + 1 + place + i) (omega arith) (omega (arith, total, lt)))) ∙ fill.1 i lt,
         Fill-same (place + sectors_for (length batch)) end batches a b same fill.2,
       )
 
 module _ (range : Range) (epoch : ℕ) (batches : List (List ℕ)) where
   -- the header and the batches' sectors decide it
-  pub Holds-same : (a b : Image) → ((j : ℕ) → range.first ≤ j → j < range.first + 1 + sectors_of batches → sector_at a j ≡ sector_at b j)
+  pub Holds-same : (a b : Image) → ((j : ℕ) → range.first ≤ j → j < range.first + 1 + sectors_of batches
+      → sector_at a j ≡ sector_at b j)
       → Holds range epoch batches a → Holds range epoch batches b
   Holds-same a b same (inl older) =
       let header = same range.first (omega arith) (omega arith) in
@@ -45,7 +51,8 @@ module _ (range : Range) (epoch : ℕ) (batches : List (List ℕ)) where
   Holds-same a b same (inr current) =
       let header = same range.first (omega arith) (omega arith) in
       let end = Fill-end range 0 (header_used range a) batches a current.filled in
-      let filled = Fill-same range 0 (header_used range a) batches a b (λ j low high. same j (omega (arith, low)) (omega (arith, end, high))) current.filled in
+      let filled = Fill-same range 0 (header_used range a) batches a b
+      (λ j low high. same j (omega (arith, low)) (omega (arith, end, high))) current.filled in
       inr (record {
         current = ap epoch_in (sym header) ∙ current.current;
         within = subst (λ (s : List ℕ). used_in s < range.count) header current.within;
@@ -53,7 +60,8 @@ module _ (range : Range) (epoch : ℕ) (batches : List (List ℕ)) where
       })
 
 -- a read or a sync of others
-pub IsAt-stays : (journal : Journal) (batches : List (List ℕ)) (old new : Medium) → Stays old new → IsAt journal batches old → IsAt journal batches new
+pub IsAt-stays : (journal : Journal) (batches : List (List ℕ)) (old new : Medium) → Stays old new
+    → IsAt journal batches old → IsAt journal batches new
 IsAt-stays journal batches old new call at = record {
   honest = call.time.honest.0 at.honest;
   used = at.used;
@@ -61,32 +69,41 @@ IsAt-stays journal batches old new call at = record {
 }
 
 -- calls that leave the journal's sectors alone, at each moment
-pub EachImageSince-alone : (places : ℕ → Type 0) (journal : Journal) (batches : List (List ℕ)) (old new : Medium) → ((i : ℕ) → IsInside (range_of journal) i → places i)
-    → LeavesAlone places old new → IsAt journal batches old → EachImageSince old new (Holds (range_of journal) (epoch_of journal) batches)
+pub EachImageSince-alone : (places : ℕ → Type 0) (journal : Journal) (batches : List (List ℕ)) (old new : Medium)
+    → ((i : ℕ) → IsInside (range_of journal) i → places i)
+    → LeavesAlone places old new → IsAt journal batches old
+    → EachImageSince old new (Holds (range_of journal) (epoch_of journal) batches)
 EachImageSince-alone places journal batches old new inside run at =
     LeavesAlone-keeps places old new (Holds (range_of journal) (epoch_of journal) batches) run at.images
     (λ a b same holds. Holds-same (range_of journal) (epoch_of journal) batches a b
     (λ j low high. sector_at-same places a b j same (inside j (low, omega (arith, high, at.used, journal.room)))) holds)
 
 -- and after them
-pub IsAt-alone : (places : ℕ → Type 0) (journal : Journal) (batches : List (List ℕ)) (old new : Medium) → ((i : ℕ) → IsInside (range_of journal) i → places i)
-    → LeavesAlone places old new → IsHonest new → IsAt journal batches old → IsAt journal batches new
-IsAt-alone places journal batches old new inside run honest at = record {
-  honest = honest;
+pub IsAt-alone : (places : ℕ → Type 0) (journal : Journal) (batches : List (List ℕ)) (old new : Medium)
+    → ((i : ℕ) → IsInside (range_of journal) i → places i)
+    → LeavesAlone places old new → IsAt journal batches old → IsAt journal batches new
+IsAt-alone places journal batches old new inside run at = record {
+  honest = run.honest;
   used = at.used;
-  images = EachImageSince-now old new (Holds (range_of journal) (epoch_of journal) batches) (EachImageSince-alone places journal batches old new inside run at) honest;
+  images = EachImageSince-now old new (Holds (range_of journal) (epoch_of journal) batches)
+      (EachImageSince-alone places journal batches old new inside run at) run.honest;
 }
 
 -- under a later epoch each image has no batch
-pub Holds-turned : (range : Range) (epoch later : ℕ) (batches : List (List ℕ)) (image : Image) → epoch < later → Holds range epoch batches image → Holds range later [] image
-Holds-turned range epoch later batches image lt (inl older) = inl (record { older = omega (arith, older.0.older) }, refl)
-Holds-turned range epoch later batches image lt (inr current) = inl (record { older = omega (arith, current.current) }, refl)
+pub Holds-turned : (range : Range) (epoch later : ℕ) (batches : List (List ℕ)) (image : Image) → epoch < later
+    → Holds range epoch batches image → Holds range later [] image
+Holds-turned range epoch later batches image lt (inl older) =
+    inl (record { older = omega (arith, older.0.older) }, refl)
+Holds-turned range epoch later batches image lt (inr current) =
+    inl (record { older = omega (arith, current.current) }, refl)
 
 -- a turn
-pub IsAt-turned : (old new : Journal) (batches : List (List ℕ)) (medium : Medium) → range_of new ≡ range_of old → epoch_of old < epoch_of new → used_of new ≡ 0
+pub IsAt-turned : (old new : Journal) (batches : List (List ℕ)) (medium : Medium) → range_of new ≡ range_of old
+    → epoch_of old < epoch_of new → used_of new ≡ 0
     → IsAt old batches medium → IsAt new [] medium
 IsAt-turned old new batches medium range lt used at = record {
   honest = at.honest;
   used = used;
-  images = λ image now. subst (λ (r : Range). Holds r (epoch_of new) [] image) (sym range) (Holds-turned (range_of old) (epoch_of old) (epoch_of new) batches image lt (at.images image now));
+  images = λ image now. subst (λ (r : Range). Holds r (epoch_of new) [] image) (sym range)
+      (Holds-turned (range_of old) (epoch_of old) (epoch_of new) batches image lt (at.images image now));
 }

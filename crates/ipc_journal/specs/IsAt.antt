@@ -30,4 +30,5 @@ pub record IsAt (journal : Journal) (batches : List (List ℕ)) (medium : Medium
 -- an image holds the batches, with one more or without it
 abbrev pub HoldsOneMoreOrNot : Journal → List (List ℕ) → List ℕ → Image → Type 0
 HoldsOneMoreOrNot journal batches batch image =
-    Holds (range_of journal) (epoch_of journal) batches image ⊎ Holds (range_of journal) (epoch_of journal) (batches ++ batch ∷ []) image
+    Holds (range_of journal) (epoch_of journal) batches image
+    ⊎ Holds (range_of journal) (epoch_of journal) (batches ++ batch ∷ []) image

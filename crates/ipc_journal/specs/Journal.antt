@@ -1,8 +1,9 @@
 -- What the sectors of a journal mean. The first sector of its range is the header: the epoch in 8 bytes, and in 4
 -- how many of the sectors behind it, the body, are used. There stand the batches, each from a sector of its own on.
 -- Numbers have their highest byte first.
-use Rattle.std.specs.Prelude.{◌≡◌, ◌⊎◌, ℕ, ◌+◌, ◌*◌, ◌/◌, ◌≤◌, ◌<◌, List, [], ◌∷◌, length, take, drop, slice_index_or}
-use Rattle.byteorder.specs.Endian.{big_number}
+use Rattle.std.specs.Prelude.{◌≡◌, ◌⊎◌, ℕ, ◌+◌, ◌-◌, ◌*◌, ◌/◌, ◌≤◌, ◌<◌, List, [], ◌∷◌, ◌++◌, length}
+use Rattle.std.specs.Prelude.{take, drop, replicate, slice_index_or}
+use Rattle.byteorder.specs.Endian.{big_bytes, big_number}
 use Rattle.ipc_disk.specs.declared.range.Range.{Range}
 use Rattle.ipc_disk.specs.Medium.{Image}
 
@@ -31,6 +32,10 @@ used_in sector = big_number 4 (drop 8 sector)
 unfoldable pub length_in : List ℕ → ℕ
 length_in bytes = big_number 4 bytes
 
+-- the bytes of a header: its epoch, its used sectors, and zeros
+unfoldable pub header_bytes : ℕ → ℕ → List ℕ
+header_bytes epoch used = big_bytes 8 epoch ++ (big_bytes 4 used ++ replicate 500 0)
+
 -- the epoch in an image's header
 abbrev pub header_epoch : Range → Image → ℕ
 header_epoch range image = epoch_in (sector_at image range.first)
@@ -53,11 +58,21 @@ abbrev pub StandsAt : ℕ → List ℕ → Image → Type 0
 StandsAt at batch image = (i : ℕ) → i < sectors_for (length batch)
     → take (length (piece i batch)) (sector_at image (at + i)) ≡ piece i batch
 
+-- the i-th of the sectors of a batch: the bytes that stand in it, and zeros
+abbrev pub batch_sector : ℕ → List ℕ → List ℕ
+batch_sector i batch = piece i batch ++ replicate (512 - length (piece i batch)) 0
+
+-- from this sector on stand the sectors of the batch, to the byte
+abbrev pub IsWrittenAt : ℕ → List ℕ → Image → Type 0
+IsWrittenAt at batch image = (i : ℕ) → i < sectors_for (length batch)
+    → sector_at image (at + i) ≡ batch_sector i batch
+
 -- the batches, one after another, fill the body's sectors from place to end
 abbrev pub Fill : Range → ℕ → ℕ → List (List ℕ) → Image → Type 0
 Fill range place end [] image = place ≡ end
 Fill range place end (batch ∷ batches) image =
-    IsBatch batch × StandsAt (range.first + 1 + place) batch image × Fill range (place + sectors_for (length batch)) end batches image
+    IsBatch batch × StandsAt (range.first + 1 + place) batch image
+    × Fill range (place + sectors_for (length batch)) end batches image
 
 -- the header is of an earlier epoch
 pub record IsOlder (range : Range) (epoch : ℕ) (image : Image) : Type 0 where

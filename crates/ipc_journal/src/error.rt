@@ -1,4 +1,5 @@
-// What can go wrong where a journal is read.
+//! What can go wrong where a journal is read.
+
 ghost use Rattle.std.specs.Prelude.{◌≡◌};
 ghost use Rattle.ipc_journal.specs.declared.error.JournalError.TheVariants.{Device};
 

@@ -1,5 +1,8 @@
-// The journal: its value, and the calls on it.
-ghost use Rattle.std.specs.Prelude.{◌≡◌, ◌⊎◌, ◌↔◌, ◌+◌, ◌-◌, ◌<◌, ◌≤◌, ◌++◌, [], ◌∷◌, List, ℕ, length, take, Ok, Some, None, IsSome, IfOk, IfErr, OnOk, OnErr, IsErrOf, IsTrue};
+//! The journal: its value, and the calls on it.
+
+ghost use Rattle.std.specs.Prelude.{◌≡◌, ◌⊎◌, ◌↔◌, ◌+◌, ◌-◌, ◌<◌, ◌≤◌, ◌++◌, [], ◌∷◌, List, ℕ, length, take, drop};
+ghost use Rattle.std.specs.Prelude.{slice_set, Ok, Some, None, IsSome, IfNone, IfOk, IfErr};
+ghost use Rattle.std.specs.Prelude.{OnOk, OnErr, IsErrOf, IsTrue};
 ghost use Rattle.ipc_disk.specs.Range.{IsWithin, IsOutside};
 
 use crate::JournalError;
@@ -24,10 +27,11 @@ pub struct Journal {
 }
 
 impl Journal {
-    ghost use Rattle.ipc_disk.specs.Counts.{counted};
-    ghost use Rattle.ipc_disk.specs.Medium.{Image, Medium, IsHonest, Stays};
+    ghost use Rattle.ipc_disk.specs.Counts.{counted, with_failure, with_calls};
+    ghost use Rattle.ipc_disk.specs.Medium.{Image, Medium, IsHonest, IsDurable, SetOrNot, Stays};
     ghost use Rattle.ipc_disk.specs.Since.{EachImageSince, LeavesAlone};
-    ghost use Rattle.ipc_journal.specs.Journal.{Holds, header_epoch, header_used, sectors_for, sectors_of, sector_at, length_in, IsBatch, StandsAt};
+    ghost use Rattle.ipc_journal.specs.Journal.{Holds, header_epoch, header_used, sectors_for, sectors_of, sector_at};
+    ghost use Rattle.ipc_journal.specs.Journal.{header_bytes, length_in, IsBatch, IsWrittenAt, StandsAt};
     ghost use Rattle.ipc_journal.specs.IsAt.{range_of, epoch_of, used_of, Fits, IsAt, HoldsOneMoreOrNot};
 
     /// Makes an empty journal of this epoch: writes its header and syncs.
@@ -38,26 +42,30 @@ impl Journal {
     ) -> Result<Journal, DiskFault>
         requires header { 0 < range.count }
         requires within { IsWithin range (D.size disk.old) }
+        // The journal that is made. The disk reads as before but for the header, and a crash leaves that.
         ensures range { IfOk result (λ journal. range_of journal ≡ range) }
         ensures epoch { IfOk result (λ journal. epoch_of journal ≡ epoch) }
         ensures unused { IfOk result (λ journal. used_of journal ≡ 0) }
         ensures empty { IfOk result (λ journal. IsHonest (D.medium disk.old)
             → IsAt journal [] (D.medium disk.new)) }
+        ensures header { OnOk result (IsHonest (D.medium disk.old)
+            → (D.medium disk.new).contents
+            ≡ slice_set (D.medium disk.old).contents range.first (header_bytes epoch 0)) }
+        ensures durable { OnOk result (IsDurable (D.medium disk.new)) }
+        // A crash at any moment of the call, also of one that fails.
         ensures any_moment { IsHonest (D.medium disk.old)
             → EachImageSince (D.medium disk.old) (D.medium disk.new)
             (λ image. (D.medium disk.old).images_now image ⊎ Holds range epoch [] image) }
+        ensures header_or_not { IsHonest (D.medium disk.old)
+            → EachImageSince (D.medium disk.old) (D.medium disk.new)
+            (SetOrNot range.first (header_bytes epoch 0) (D.medium disk.old)) }
         ensures others { IsHonest (D.medium disk.old)
             → LeavesAlone (IsOutside range) (D.medium disk.old) (D.medium disk.new) }
-        ensures honest { IsHonest (D.medium disk.old) → IsHonest (D.medium disk.new) }
+        // Failures and counts.
         ensures size { D.size disk.new ≡ D.size disk.old }
         ensures failure { OnErr result ((D.counts disk.new).failures
             ≡ counted (D.counts disk.old).failures 1) }
-        ensures no_failure { OnOk result ((D.counts disk.new).failures
-            ≡ (D.counts disk.old).failures) }
-        ensures writes { OnOk result ((D.counts disk.new).writes
-            ≡ counted (D.counts disk.old).writes 1) }
-        ensures syncs { OnOk result ((D.counts disk.new).syncs
-            ≡ counted (D.counts disk.old).syncs 1) }
+        ensures counts { OnOk result (D.counts disk.new ≡ with_calls 1 1 (D.counts disk.old)) }
     {
         settle_sector(disk, range.first, &header_sector(epoch, 0))?;
         Ok(Journal {
@@ -76,6 +84,7 @@ impl Journal {
     ) -> Result<Journal, JournalError>
         requires header { 0 < range.count }
         requires within { IsWithin range (D.size disk.old) }
+        // What is opened, and when it is damaged.
         ensures range { IfOk result (λ journal. range_of journal ≡ range) }
         ensures epoch { IfOk result (λ journal. epoch_of journal ≡ epoch) }
         ensures older { IfOk result (λ journal. IsHonest (D.medium disk.old)
@@ -96,11 +105,15 @@ impl Journal {
             × (range.count ≤ header_used range (D.medium disk.old).contents)) }
         ensures named { (sector : ℕ) → IsErrOf result (JournalError.Damaged sector)
             → sector ≡ range.first }
+        // A crash at any moment: the call only reads.
         ensures reads { Stays (D.medium disk.old) (D.medium disk.new) }
+        // Failures and counts: `Device` is one failure more, and each other answer none.
         ensures size { D.size disk.new ≡ D.size disk.old }
         ensures failure { IsErrOf result JournalError.Device
-            → (D.counts disk.new).failures ≡ counted (D.counts disk.old).failures 1 }
+            → D.counts disk.new ≡ with_failure (D.counts disk.old) }
         ensures no_failure { OnOk result (D.counts disk.new ≡ D.counts disk.old) }
+        ensures no_failure_seen { (sector : ℕ) → IsErrOf result (JournalError.Damaged sector)
+            → D.counts disk.new ≡ D.counts disk.old }
     {
         let mut sector = [0; 512];
         disk.read(range.first, &mut sector)?;
@@ -145,12 +158,13 @@ impl Journal {
     }
 
     /// Appends a batch, with its length field: its sectors and a sync, the header and a sync. A crash at any moment
-    /// leaves the batches of before, with this one or without; once it is Ok, with it. After an `Err` open the
-    /// journal again.
+    /// leaves the batches of before, with this one or without; once it is Ok, with it. After an `Err` this value is
+    /// as it was, and what stands on the disk may not be: open the journal again.
     pub fn append<D: SectorDisk>(&mut self, disk: &mut D, batch: &[u8]) -> Result<(), DiskFault>
         requires within { IsWithin (range_of self.old) (D.size disk.old) }
         requires fits { Fits self.old (length batch.now) }
         requires batch { IsBatch batch.now }
+        // The journal has one batch more, on the disk to the byte, or the value is as it was.
         ensures range { range_of self.new ≡ range_of self.old }
         ensures epoch { epoch_of self.new ≡ epoch_of self.old }
         ensures used { OnOk result (used_of self.new
@@ -158,6 +172,15 @@ impl Journal {
         ensures acknowledged { OnOk result ((batches : List (List ℕ))
             → IsAt self.old batches (D.medium disk.old)
             → IsAt self.new (batches ++ batch.now ∷ []) (D.medium disk.new)) }
+        ensures written { OnOk result (IsHonest (D.medium disk.old)
+            → IsWrittenAt ((range_of self.old).first + 1 + used_of self.old) batch.now
+            (D.medium disk.new).contents) }
+        ensures header { OnOk result (IsHonest (D.medium disk.old)
+            → sector_at (D.medium disk.new).contents (range_of self.old).first
+            ≡ header_bytes (epoch_of self.new) (used_of self.new)) }
+        ensures durable { OnOk result (IsDurable (D.medium disk.new)) }
+        ensures kept { OnErr result (self.new ≡ self.old) }
+        // A crash at any moment of the call, also of one that fails.
         ensures any_moment { (batches : List (List ℕ)) → IsAt self.old batches (D.medium disk.old)
             → EachImageSince (D.medium disk.old) (D.medium disk.new)
             (HoldsOneMoreOrNot self.old batches batch.now) }
@@ -167,16 +190,12 @@ impl Journal {
             → HoldsOneMoreOrNot self.old batches batch.now image }
         ensures others { IsHonest (D.medium disk.old)
             → LeavesAlone (IsOutside (range_of self.old)) (D.medium disk.old) (D.medium disk.new) }
-        ensures honest { IsHonest (D.medium disk.old) → IsHonest (D.medium disk.new) }
+        // Failures and counts.
         ensures size { D.size disk.new ≡ D.size disk.old }
         ensures failure { OnErr result ((D.counts disk.new).failures
             ≡ counted (D.counts disk.old).failures 1) }
-        ensures no_failure { OnOk result ((D.counts disk.new).failures
-            ≡ (D.counts disk.old).failures) }
-        ensures writes { OnOk result ((D.counts disk.new).writes
-            ≡ counted (D.counts disk.old).writes (sectors_for (length batch.now) + 1)) }
-        ensures syncs { OnOk result ((D.counts disk.new).syncs
-            ≡ counted (D.counts disk.old).syncs 2) }
+        ensures counts { OnOk result (D.counts disk.new
+            ≡ with_calls (sectors_for (length batch.now) + 1) 2 (D.counts disk.old)) }
     {
         let used = self.used + sectors_for_len(batch.len()) as u32;
         write_batch(disk, self.range.first + 1 + self.used, batch)?;
@@ -188,8 +207,9 @@ impl Journal {
     }
 
     /// The batch that begins at `place`, with its length field, into the front of `into`; its length, and `place`
-    /// behind it. `None` where no more sectors are used. `Damaged` names the first sector of a batch whose length
-    /// does not fit what is used, or `into`. After an `Err` the bytes in `into` are any, and `place` is as it was.
+    /// behind it. `None` if no more sectors are used. `Damaged` names the first sector of a batch whose length does
+    /// not fit what is used, or `into`. Behind a batch `into` is as it was; after `None` and `Damaged` all of it is,
+    /// and `place` too. After `Device` the bytes in `into` are any, and `place` is as it was.
     pub fn next_batch<D: SectorDisk>(
         &self,
         disk: &mut D,
@@ -197,6 +217,7 @@ impl Journal {
         into: &mut [u8],
     ) -> Result<Option<usize>, JournalError>
         requires { IsWithin (range_of self.now) (D.size disk.old) }
+        // The batches in order, then `None`.
         ensures in_order { (before : List (List ℕ)) (batch : List ℕ) (after : List (List ℕ))
             → IsAt self.now (before ++ batch ∷ after) (D.medium disk.old)
             → place.old.sector ≡ sectors_of before
@@ -204,8 +225,11 @@ impl Journal {
             × (take (length batch) into.new ≡ batch)
             × (place.new.sector ≡ sectors_of (before ++ batch ∷ []))) }
         ensures end { used_of self.now ≤ place.old.sector → result ≡ Ok None }
+        ensures none { IfOk result (λ found. IfNone found
+            ((place.new ≡ place.old) × (into.new ≡ into.old))) }
         ensures more { place.old.sector < used_of self.now
             → IfOk result (λ found. IsSome found) }
+        // What is found there, whatever stands on the disk.
         ensures stands { IfOk result (λ found. (len : ℕ) → found ≡ Some len
             → IsHonest (D.medium disk.old)
             → StandsAt ((range_of self.now).first + 1 + place.old.sector) (take len into.new)
@@ -215,11 +239,16 @@ impl Journal {
             → len ≡ length_in (sector_at (D.medium disk.old).contents
             ((range_of self.now).first + 1 + place.old.sector)) + 4) }
         ensures fits { IfOk result (λ found. (len : ℕ) → found ≡ Some len → len ≤ length into.old) }
+        ensures behind { IfOk result (λ found. (len : ℕ) → found ≡ Some len
+            → drop len into.new ≡ drop len into.old) }
         ensures passes { IfOk result (λ found. (len : ℕ) → found ≡ Some len
             → place.new.sector ≡ place.old.sector + sectors_for len) }
         ensures inside { IfOk result (λ found. (len : ℕ) → found ≡ Some len
             → place.new.sector ≤ used_of self.now) }
+        // When it is damaged.
         ensures kept { OnErr result (place.new ≡ place.old) }
+        ensures untouched { (sector : ℕ) → IsErrOf result (JournalError.Damaged sector)
+            → into.new ≡ into.old }
         ensures damaged { (sector : ℕ) → IsErrOf result (JournalError.Damaged sector)
             → IsHonest (D.medium disk.old)
             → (used_of self.now < place.old.sector
@@ -232,12 +261,16 @@ impl Journal {
             → length into.old < length batch }
         ensures named { (sector : ℕ) → IsErrOf result (JournalError.Damaged sector)
             → sector ≡ (range_of self.now).first + 1 + place.old.sector }
+        // A crash at any moment: the call only reads.
         ensures reads { IsHonest (D.medium disk.old)
             → Stays (D.medium disk.old) (D.medium disk.new) }
+        // Failures and counts: `Device` is one failure more, and each other answer none.
         ensures size { D.size disk.new ≡ D.size disk.old }
         ensures failure { IsErrOf result JournalError.Device
-            → (D.counts disk.new).failures ≡ counted (D.counts disk.old).failures 1 }
+            → D.counts disk.new ≡ with_failure (D.counts disk.old) }
         ensures no_failure { OnOk result (D.counts disk.new ≡ D.counts disk.old) }
+        ensures no_failure_seen { (sector : ℕ) → IsErrOf result (JournalError.Damaged sector)
+            → D.counts disk.new ≡ D.counts disk.old }
     {
         if place.sector >= self.used {
             return Ok(None);

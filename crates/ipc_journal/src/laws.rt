@@ -1,4 +1,5 @@
-// What follows from the definitions alone.
+//! What follows from the definitions alone.
+
 ghost use Rattle.std.specs.Prelude.{◌≡◌, ℕ, List};
 ghost use Rattle.ipc_disk.specs.declared.range.Range.{Range};
 ghost use Rattle.ipc_disk.specs.Medium.{Image};

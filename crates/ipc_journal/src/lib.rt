@@ -1,4 +1,5 @@
-//! A journal of batches of bytes in a range of sectors: after a crash at any moment an append is there whole or not at all.
+//! A journal of batches of bytes in a range of sectors: after a crash at any moment an append is there whole or
+//! not at all.
 #![tactic(auto)]
 
 mod error;

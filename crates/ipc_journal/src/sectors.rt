@@ -1,10 +1,12 @@
-// Sectors as bytes, and runs of them written to a disk.
-ghost use Rattle.std.specs.Prelude.{◌≡◌, ◌⊎◌, ◌+◌, ◌*◌, ◌-◌, ◌/◌, ◌<◌, ◌≤◌, ◌^◌, ◌++◌, ℕ, length, take, drop, replicate, Some, OnOk, OnErr, slice_get, slice_set};
-ghost use Rattle.ipc_disk.specs.Counts.{counted};
-ghost use Rattle.ipc_disk.specs.Medium.{Image, IsHonest, IsDurable, Stays};
+//! Sectors as bytes, and runs of them written to a disk.
+
+ghost use Rattle.std.specs.Prelude.{◌≡◌, ◌+◌, ◌*◌, ◌-◌, ◌<◌, ◌≤◌, ◌++◌, length, take, replicate, Some};
+ghost use Rattle.std.specs.Prelude.{OnOk, OnErr, slice_get, slice_set};
+ghost use Rattle.ipc_disk.specs.Counts.{counted, with_failure, with_calls};
+ghost use Rattle.ipc_disk.specs.Medium.{IsHonest, IsDurable, SetOrNot, Stays};
 ghost use Rattle.ipc_disk.specs.Range.{IsOutside};
 ghost use Rattle.ipc_disk.specs.Since.{EachImageSince, LeavesAlone};
-ghost use Rattle.ipc_journal.specs.Journal.{sectors_for, epoch_in, used_in, piece, StandsAt};
+ghost use Rattle.ipc_journal.specs.Journal.{sectors_for, epoch_in, used_in, header_bytes, piece, IsWrittenAt, StandsAt};
 
 use byteorder::{BigEndian, ByteOrder};
 use ipc_disk::{DiskFault, SectorDisk};
@@ -20,7 +22,7 @@ pub(crate) fn sectors_for_len(len: usize) -> usize
 pub(crate) fn header_sector(epoch: u64, used: u32) -> [u8; 512]
     ensures epoch { epoch_in result ≡ epoch }
     ensures used { used_in result ≡ used }
-    ensures zeros { drop 12 result ≡ replicate 500 0 }
+    ensures bytes { result ≡ header_bytes epoch used }
 {
     let mut sector = [0; 512];
     BigEndian::write_u64(&mut sector, epoch);
@@ -54,19 +56,16 @@ pub(crate) fn write_batch<D: SectorDisk>(
     batch: &[u8],
 ) -> Result<(), DiskFault>
     requires { first + sectors_for (length batch.now) ≤ D.size disk.old }
-    ensures stands { OnOk result (IsHonest (D.medium disk.old)
-        → StandsAt first batch.now (D.medium disk.new).contents) }
+    ensures written { OnOk result (IsHonest (D.medium disk.old)
+        → IsWrittenAt first batch.now (D.medium disk.new).contents) }
     ensures others { IsHonest (D.medium disk.old)
         → LeavesAlone (IsOutside (record { first = first; count = sectors_for (length batch.now) }))
         (D.medium disk.old) (D.medium disk.new) }
-    ensures honest { IsHonest (D.medium disk.old) → IsHonest (D.medium disk.new) }
     ensures size { D.size disk.new ≡ D.size disk.old }
     ensures failure { OnErr result ((D.counts disk.new).failures
         ≡ counted (D.counts disk.old).failures 1) }
-    ensures no_failure { OnOk result ((D.counts disk.new).failures ≡ (D.counts disk.old).failures) }
-    ensures writes { OnOk result ((D.counts disk.new).writes
-        ≡ counted (D.counts disk.old).writes (sectors_for (length batch.now))) }
-    ensures syncs { OnOk result ((D.counts disk.new).syncs ≡ (D.counts disk.old).syncs) }
+    ensures counts { OnOk result (D.counts disk.new
+        ≡ with_calls (sectors_for (length batch.now)) 0 (D.counts disk.old)) }
 {
     let count = sectors_for_len(batch.len());
     for i in 0..count {
@@ -87,21 +86,15 @@ pub(crate) fn settle_sector<D: SectorDisk>(
         → (D.medium disk.new).contents ≡ slice_set (D.medium disk.old).contents at sector.now) }
     ensures durable { OnOk result (IsDurable (D.medium disk.new)) }
     ensures any_moment { IsHonest (D.medium disk.old)
-        → EachImageSince (D.medium disk.old) (D.medium disk.new) (λ image. (before : Image)
-        × (D.medium disk.old).images_now before
-        × ((image ≡ before) ⊎ (image ≡ slice_set before at sector.now))) }
+        → EachImageSince (D.medium disk.old) (D.medium disk.new)
+        (SetOrNot at sector.now (D.medium disk.old)) }
     ensures others { IsHonest (D.medium disk.old)
         → LeavesAlone (IsOutside (record { first = at; count = 1 }))
         (D.medium disk.old) (D.medium disk.new) }
-    ensures honest { IsHonest (D.medium disk.old) → IsHonest (D.medium disk.new) }
     ensures size { D.size disk.new ≡ D.size disk.old }
     ensures failure { OnErr result ((D.counts disk.new).failures
         ≡ counted (D.counts disk.old).failures 1) }
-    ensures no_failure { OnOk result ((D.counts disk.new).failures ≡ (D.counts disk.old).failures) }
-    ensures writes { OnOk result ((D.counts disk.new).writes
-        ≡ counted (D.counts disk.old).writes 1) }
-    ensures syncs { OnOk result ((D.counts disk.new).syncs
-        ≡ counted (D.counts disk.old).syncs 1) }
+    ensures counts { OnOk result (D.counts disk.new ≡ with_calls 1 1 (D.counts disk.old)) }
 {
     disk.write(at, sector)?;
     disk.sync()
@@ -136,8 +129,7 @@ pub(crate) fn read_batch<D: SectorDisk>(
         → StandsAt at into.new (D.medium disk.old).contents) }
     ensures reads { IsHonest (D.medium disk.old) → Stays (D.medium disk.old) (D.medium disk.new) }
     ensures size { D.size disk.new ≡ D.size disk.old }
-    ensures failure { OnErr result ((D.counts disk.new).failures
-        ≡ counted (D.counts disk.old).failures 1) }
+    ensures failure { OnErr result (D.counts disk.new ≡ with_failure (D.counts disk.old)) }
     ensures no_failure { OnOk result (D.counts disk.new ≡ D.counts disk.old) }
 {
     put_piece(into, 0, first);

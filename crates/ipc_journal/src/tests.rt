@@ -1,4 +1,5 @@
-// The table of a crash in an append, a caller that is stopped at each call, and the numbers of writes and syncs.
+//! The table of a crash in an append, a caller that is stopped at each call, and the numbers of writes and syncs.
+
 ghost use Rattle.std.specs.Prelude.{◌≡◌, ◌+◌, ◌<◌, ◌≤◌, length, IfOk};
 ghost use Rattle.ipc_disk.specs.Range.{IsWithin};
 ghost use Rattle.ipc_disk.specs.Memory.{memory_size};

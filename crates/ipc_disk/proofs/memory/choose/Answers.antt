@@ -17,8 +17,10 @@ loop-slot-preserved c =
       | else-choose_one w ↦ omega (arith, so_far.few, w.before-is)
     ] in
     record {
-      chosen = chosen-step c.args.keep c.loop-slot.slot-index before c.args.slots.now c.loop-slot.slots _ _ c.loop-slot-test.true so_far.chosen so_far.place c.choose_one.ensures.left;
-      place = place-step c.args.keep c.loop-slot.slot-index before _ _ c.args.slots.now c.loop-slot.slots _ c.loop-slot-test.true so_far.chosen so_far.place c.choose_one.ensures.unsynced next;
+      chosen = chosen-step c.args.keep c.loop-slot.slot-index before c.args.slots.now c.loop-slot.slots _ _ c.loop-slot-test.true so_far.chosen so_far.place
+          c.choose_one.ensures.left;
+      place = place-step c.args.keep c.loop-slot.slot-index before _ _ c.args.slots.now c.loop-slot.slots _ c.loop-slot-test.true so_far.chosen so_far.place
+          c.choose_one.ensures.unsynced next;
       few = few;
     }
 

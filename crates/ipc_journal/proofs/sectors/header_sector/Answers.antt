@@ -1,6 +1,6 @@
 -- What a header says.
 use Rattle.std.proofs.Common.{arith}
-use Rattle.ipc_journal.proofs.Headers.{epoch-header, used-header, zeros-header}
+use Rattle.ipc_journal.proofs.Headers.{epoch-header, used-header, bytes-header}
 use Rattle.ipc_journal.proofs.sectors.header_sector.Goals as goal
 
 pub returns-clause-epoch : goal.returns-clause-epoch
@@ -9,5 +9,5 @@ returns-clause-epoch c = epoch-header c.args.epoch c.args.used _ _ c.write_u64.e
 pub returns-clause-used : goal.returns-clause-used
 returns-clause-used c = used-header c.args.epoch c.args.used _ _ c.write_u64.ensures c.write_u32.ensures (omega arith)
 
-pub returns-clause-zeros : goal.returns-clause-zeros
-returns-clause-zeros c = zeros-header c.args.epoch c.args.used _ _ c.write_u64.ensures c.write_u32.ensures
+pub returns-clause-bytes : goal.returns-clause-bytes
+returns-clause-bytes c = bytes-header c.args.epoch c.args.used _ _ c.write_u64.ensures c.write_u32.ensures

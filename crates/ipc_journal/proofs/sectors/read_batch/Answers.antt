@@ -29,7 +29,8 @@ loop-i-preserved g c =
       stands = λ honest first.
           let stays = so_far.reads honest in
           let read : slice_get old.contents (c.args.at + c.loop-i.i) ≡ Some c.read.new.into =
-          ap (λ (image : Image). slice_get image (c.args.at + c.loop-i.i)) (sym (stays.contents honest)) ∙ c.in_ok-read.ensures.bytes (stays.time.honest.0 honest) in
+          ap (λ (image : Image). slice_get image (c.args.at + c.loop-i.i)) (sym (stays.contents honest))
+          ∙ c.in_ok-read.ensures.bytes (stays.time.honest.0 honest) in
           pieces_more c.loop-i.i c.args.at c.loop-i.into c.put_piece-in-loop-i.new.into c.read.new.into old.contents
           c.put_piece-in-loop-i.ensures.before c.put_piece-in-loop-i.ensures.piece
           (get_or_from_slice_get old.contents (c.args.at + c.loop-i.i) c.read.new.into [] read) (so_far.stands honest first);

@@ -1,10 +1,11 @@
--- Each write adds a piece, and touches no other sector.
+-- Each write adds a sector, and touches no other.
 use Rattle.std.proofs.Common.{◌≡◌, ℕ, List, ◌++◌, ◌-◌, replicate, length, ◌+◌, ⊎_elim, ap, sym, ◌∙◌, subst, arith, length-take, drop, ◌*◌}
 use Rattle.std.specs.Prelude.{slice_set}
 use Rattle.ipc_disk.specs.Range.{IsOutside}
 use Rattle.ipc_disk.specs.GoesOn.{LeavesAlone-writes}
-use Rattle.ipc_journal.specs.Journal.{sectors_for, piece}
-use Rattle.ipc_journal.proofs.Runs.{StandsBelow, stands_more}
+use Rattle.ipc_journal.specs.Journal.{sectors_for, batch_sector}
+use Rattle.ipc_journal.proofs.Counted.{counts-calls}
+use Rattle.ipc_journal.proofs.Runs.{WrittenBelow, written_more}
 use Rattle.ipc_journal.proofs.sectors.write_batch.Goals as goal
 
 pub padded-sector-requires : goal.padded-sector-requires
@@ -13,9 +14,8 @@ padded-sector-requires g c =
 
 pub returns-in_err-write-clause-others : goal.returns-in_err-write-clause-others
 returns-in_err-write-clause-others g c = λ honest.
-    let so_far = c.loop-i.invariant in
-    LeavesAlone-writes (IsOutside (record { first = c.args.first; count = sectors_for (length c.args.batch.now) })) _ _ _ (c.args.first + c.loop-i.i) c.padded-sector.result
-    (so_far.honest honest) (so_far.others honest)
+    LeavesAlone-writes (IsOutside (record { first = c.args.first; count = sectors_for (length c.args.batch.now) })) _ _ _
+    (c.args.first + c.loop-i.i) c.padded-sector.result (c.loop-i.invariant.others honest)
     (λ out. ⊎_elim (λ low. absurd (omega (arith, low))) (λ high. absurd (omega (arith, high))) out)
     c.write.ensures.medium
 
@@ -23,24 +23,30 @@ pub loop-i-preserved : goal.loop-i-preserved
 loop-i-preserved g c =
     let so_far = c.loop-i.invariant in
     record {
-      stands = λ honest.
-          let here = so_far.honest honest in
+      written = λ honest.
+          let here = (so_far.others honest).honest in
           let old = g.D.SectorDisk.medium c.loop-i.disk in
           let long : length old.contents ≡ g.D.SectorDisk.size c.loop-i.disk = (g.met.D.SectorDisk.shaped c.loop-i.disk old.contents here.reads).count in
-          let bytes : c.padded-sector.result ≡ piece c.loop-i.i c.args.batch.now ++ replicate (512 - length c.piece_of.result.now) 0 =
-          c.padded-sector.ensures ∙ ap (λ (l : List ℕ). l ++ replicate (512 - length c.piece_of.result.now) 0) c.piece_of.ensures in
-          let set : (g.D.SectorDisk.medium c.write.new.self).contents ≡ slice_set old.contents (c.args.first + c.loop-i.i) (piece c.loop-i.i c.args.batch.now ++ replicate (512 - length c.piece_of.result.now) 0) =
+          let bytes : c.padded-sector.result ≡ batch_sector c.loop-i.i c.args.batch.now =
+          c.padded-sector.ensures ∙ ap (λ (l : List ℕ). l ++ replicate (512 - length l) 0) c.piece_of.ensures in
+          let set : (g.D.SectorDisk.medium c.write.new.self).contents ≡ slice_set old.contents (c.args.first + c.loop-i.i)
+          (batch_sector c.loop-i.i c.args.batch.now) =
           c.in_ok-write.ensures.written here ∙ ap (λ (l : List ℕ). slice_set old.contents (c.args.first + c.loop-i.i) l) bytes in
-          subst (StandsBelow (c.loop-i.i + 1) c.args.first c.args.batch.now) (sym set)
-          (stands_more c.loop-i.i c.args.first c.args.batch.now _ old.contents (omega (arith, long, so_far.size)) (so_far.stands honest));
+          subst (WrittenBelow (c.loop-i.i + 1) c.args.first c.args.batch.now) (sym set)
+          (written_more c.loop-i.i c.args.first c.args.batch.now old.contents (omega (arith, long, so_far.size)) (so_far.written honest));
       others = λ honest.
-          LeavesAlone-writes (IsOutside (record { first = c.args.first; count = sectors_for (length c.args.batch.now) })) _ _ _ (c.args.first + c.loop-i.i) c.padded-sector.result
-          (so_far.honest honest) (so_far.others honest)
+          LeavesAlone-writes (IsOutside (record { first = c.args.first; count = sectors_for (length c.args.batch.now) })) _ _ _
+          (c.args.first + c.loop-i.i) c.padded-sector.result (so_far.others honest)
           (λ out. ⊎_elim (λ low. absurd (omega (arith, low))) (λ high. absurd (omega (arith, high))) out)
           c.write.ensures.medium;
-      honest = λ honest. c.write.ensures.medium.time.honest.0 (so_far.honest honest);
       size = c.write.ensures.size ∙ so_far.size;
       failures = ap (λ n. n.failures) c.in_ok-write.ensures.ok ∙ so_far.failures;
       writes = omega (arith, ap (λ n. n.writes) c.in_ok-write.ensures.ok, so_far.writes);
       syncs = ap (λ n. n.syncs) c.in_ok-write.ensures.ok ∙ so_far.syncs;
     }
+
+pub returns-clause-counts : goal.returns-clause-counts
+returns-clause-counts g c =
+    let so_far = c.loop-i.invariant in
+    let fits = (g.met.D.SectorDisk.in_range c.args.disk.now).syncs_fit in
+    counts-calls _ _ _ 0 so_far.failures (omega (arith, so_far.writes, c.sectors_for_len-count.ensures)) (omega (arith, so_far.syncs, fits))

@@ -4,4 +4,7 @@ use Rattle.ipc_journal.specs.IsAt.{range_of}
 use Rattle.ipc_journal.proofs.tests.append_from.Given as goal
 
 abbrev pub invariant-loop-done : goal.invariant-loop-done
-invariant-loop-done g l = record { range : range_of l.journal ≡ range_of l.initial.journal; size : g.D.SectorDisk.size l.disk ≡ g.D.SectorDisk.size l.initial.disk }
+invariant-loop-done g l = record {
+  range : range_of l.journal ≡ range_of l.initial.journal;
+  size : g.D.SectorDisk.size l.disk ≡ g.D.SectorDisk.size l.initial.disk;
+}

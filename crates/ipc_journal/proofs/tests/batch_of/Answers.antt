@@ -12,5 +12,6 @@ field rest = big_number-reads_back 4 53 rest (omega arith)
 pub returns : goal.returns
 returns c = record {
   field = omega (arith, ap length c.write_u32.ensures);
-  right = ap (λ (l : List ℕ). length_in l + 4) c.write_u32.ensures ∙ ap (λ (n : ℕ). n + 4) (field (drop 4 (replicate 57 c.args.byte))) ∙ omega (arith, ap length c.write_u32.ensures);
+  right = ap (λ (l : List ℕ). length_in l + 4) c.write_u32.ensures ∙ ap (λ (n : ℕ). n + 4) (field (drop 4 (replicate 57 c.args.byte)))
+      ∙ omega (arith, ap length c.write_u32.ensures);
 }

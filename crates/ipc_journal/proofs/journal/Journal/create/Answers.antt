@@ -11,16 +11,19 @@ use Rattle.ipc_journal.proofs.journal.Journal.create.Goals as goal
 
 pub returns-in_err-settle_sector-clause-others : goal.returns-in_err-settle_sector-clause-others
 returns-in_err-settle_sector-clause-others g c = λ honest.
-    LeavesAlone-fewer (IsOutside c.args.range) (IsOutside (record { first = c.args.range.first; count = 1 })) _ _ (outside-first c.args.range c.requires.header) (c.settle_sector.ensures.others honest)
+    LeavesAlone-fewer (IsOutside c.args.range) (IsOutside (record { first = c.args.range.first; count = 1 })) _ _ (outside-first c.args.range c.requires.header)
+    (c.settle_sector.ensures.others honest)
 
 pub returns-clause-others : goal.returns-clause-others
 returns-clause-others g c = λ honest.
-    LeavesAlone-fewer (IsOutside c.args.range) (IsOutside (record { first = c.args.range.first; count = 1 })) _ _ (outside-first c.args.range c.requires.header) (c.settle_sector.ensures.others honest)
+    LeavesAlone-fewer (IsOutside c.args.range) (IsOutside (record { first = c.args.range.first; count = 1 })) _ _ (outside-first c.args.range c.requires.header)
+    (c.settle_sector.ensures.others honest)
 
 pub returns-in_err-settle_sector-clause-any_moment : goal.returns-in_err-settle_sector-clause-any_moment
 returns-in_err-settle_sector-clause-any_moment g c = λ honest.
     let old = g.D.SectorDisk.medium c.args.disk.now in
-    EachImageSince-weaken _ _ (λ image. (before : Image) × old.images_now before × ((image ≡ before) ⊎ (image ≡ slice_set before c.args.range.first c.header_sector.result)))
+    EachImageSince-weaken _ _ (λ image. (before : Image) × old.images_now before
+    × ((image ≡ before) ⊎ (image ≡ slice_set before c.args.range.first c.header_sector.result)))
     (λ image. old.images_now image ⊎ Holds c.args.range c.args.epoch [] image) (c.settle_sector.ensures.any_moment honest)
     (λ image from. ⊎_elim
     (λ same. inl (subst old.images_now (sym same) from.1))
@@ -33,7 +36,8 @@ returns-in_err-settle_sector-clause-any_moment g c = λ honest.
 pub returns-clause-any_moment : goal.returns-clause-any_moment
 returns-clause-any_moment g c = λ honest.
     let old = g.D.SectorDisk.medium c.args.disk.now in
-    EachImageSince-weaken _ _ (λ image. (before : Image) × old.images_now before × ((image ≡ before) ⊎ (image ≡ slice_set before c.args.range.first c.header_sector.result)))
+    EachImageSince-weaken _ _ (λ image. (before : Image) × old.images_now before
+    × ((image ≡ before) ⊎ (image ≡ slice_set before c.args.range.first c.header_sector.result)))
     (λ image. old.images_now image ⊎ Holds c.args.range c.args.epoch [] image) (c.settle_sector.ensures.any_moment honest)
     (λ image from. ⊎_elim
     (λ same. inl (subst old.images_now (sym same) from.1))

@@ -34,7 +34,8 @@ returns-then-taken-self-clause-damaged g c = λ sector is honest.
     let same : sector ≡ at = cc in
     let long : length_in (sector_at old.contents sector) ≡ c.read_u32.result =
     ap (λ (n : ℕ). length_in (sector_at old.contents n)) same
-    ∙ read-length old.contents at c.read.new.into c.read_u32.result (get_or_from_slice_get old.contents at c.read.new.into [] (c.in_ok-read.ensures.bytes honest)) c.read_u32.ensures in
+    ∙ read-length old.contents at c.read.new.into c.read_u32.result (get_or_from_slice_get old.contents at c.read.new.into []
+    (c.in_ok-read.ensures.bytes honest)) c.read_u32.ensures in
     elim c.then-taken-self.branch [
       | then-taken-self-via-then-taken-self w ↦ inl (omega (arith, long, c.sectors_for_len-taken.ensures, w.if-taken-self.true))
       | then-taken-self-via-else-taken-self+then-len-into w ↦ inr (omega (arith, long, w.if-len-into.true))
@@ -45,7 +46,8 @@ returns-then-taken-self-clause-too_short g c = λ before batch after sector at i
     let old = g.D.SectorDisk.medium c.args.disk.now in
     let from = c.args.self.now.range.first + 1 + c.args.place.now.sector in
     let there = there_at c.args.self.now before batch after _ _ at is in
-    let long = read-length old.contents from c.read.new.into c.read_u32.result (get_or_from_slice_get old.contents from c.read.new.into [] (c.in_ok-read.ensures.bytes at.honest)) c.read_u32.ensures in
+    let long = read-length old.contents from c.read.new.into c.read_u32.result
+    (get_or_from_slice_get old.contents from c.read.new.into [] (c.in_ok-read.ensures.bytes at.honest)) c.read_u32.ensures in
     let size : c.read_u32.result + 4 ≡ length batch = omega (arith, long, length-there from batch old.contents there.is there.stands) in
     elim c.then-taken-self.branch [
       | then-taken-self-via-then-taken-self w ↦ absurd (omega (arith, size, there.inside, c.sectors_for_len-taken.ensures, w.if-taken-self.true))
@@ -56,7 +58,8 @@ pub returns-clause-batch : goal.returns-clause-batch
 returns-clause-batch g c = λ len is honest.
     let old = g.D.SectorDisk.medium c.args.disk.now in
     let from = c.args.self.now.range.first + 1 + c.args.place.now.sector in
-    let long = read-length old.contents from c.read.new.into c.read_u32.result (get_or_from_slice_get old.contents from c.read.new.into [] (c.in_ok-read.ensures.bytes honest)) c.read_u32.ensures in
+    let long = read-length old.contents from c.read.new.into c.read_u32.result
+    (get_or_from_slice_get old.contents from c.read.new.into [] (c.in_ok-read.ensures.bytes honest)) c.read_u32.ensures in
     sym (same_Some _ _ is) ∙ ap (λ (n : ℕ). n + 4) (sym long)
 
 pub returns-clause-stands : goal.returns-clause-stands
@@ -65,8 +68,10 @@ returns-clause-stands g c = λ len is honest.
     let from = c.args.self.now.range.first + 1 + c.args.place.now.sector in
     let same = c.read.ensures.medium.contents honest in
     let stands = subst (StandsAt from c.read_batch.new.into) same
-    (c.in_ok-read_batch.ensures.stands (c.read.ensures.medium.time.honest.0 honest) (ap (λ (image : Image). slice_get image from) same ∙ c.in_ok-read.ensures.bytes honest)) in
-    let kept : length c.read_batch.new.into ≡ c.read_u32.result + 4 = omega (arith, c.read_batch.auto.into, length-take-le (c.read_u32.result + 4) c.args.into.now (omega arith)) in
+    (c.in_ok-read_batch.ensures.stands (c.read.ensures.medium.time.honest.0 honest)
+    (ap (λ (image : Image). slice_get image from) same ∙ c.in_ok-read.ensures.bytes honest)) in
+    let kept : length c.read_batch.new.into ≡ c.read_u32.result + 4 = omega
+    (arith, c.read_batch.auto.into, length-take-le (c.read_u32.result + 4) c.args.into.now (omega arith)) in
     let front : take len (c.read_batch.new.into ++ drop (c.read_u32.result + 4) c.args.into.now) ≡ c.read_batch.new.into =
     take_at c.read_batch.new.into (drop (c.read_u32.result + 4) c.args.into.now) len (kept ∙ same_Some _ _ is) in
     subst (λ (l : List ℕ). StandsAt from l old.contents) (sym front) stands
@@ -76,13 +81,17 @@ returns-clause-in_order g c = λ before batch after at is.
     let old = g.D.SectorDisk.medium c.args.disk.now in
     let from = c.args.self.now.range.first + 1 + c.args.place.now.sector in
     let there = there_at c.args.self.now before batch after _ _ at is in
-    let long = read-length old.contents from c.read.new.into c.read_u32.result (get_or_from_slice_get old.contents from c.read.new.into [] (c.in_ok-read.ensures.bytes at.honest)) c.read_u32.ensures in
+    let long = read-length old.contents from c.read.new.into c.read_u32.result
+    (get_or_from_slice_get old.contents from c.read.new.into [] (c.in_ok-read.ensures.bytes at.honest)) c.read_u32.ensures in
     let size : c.read_u32.result + 4 ≡ length batch = omega (arith, long, length-there from batch old.contents there.is there.stands) in
     let same = c.read.ensures.medium.contents at.honest in
     let stands = subst (StandsAt from c.read_batch.new.into) same
-    (c.in_ok-read_batch.ensures.stands (c.read.ensures.medium.time.honest.0 at.honest) (ap (λ (image : Image). slice_get image from) same ∙ c.in_ok-read.ensures.bytes at.honest)) in
-    let kept : length c.read_batch.new.into ≡ c.read_u32.result + 4 = omega (arith, c.read_batch.auto.into, length-take-le (c.read_u32.result + 4) c.args.into.now (omega arith)) in
-    let found : c.read_batch.new.into ≡ batch = next_is c.args.self.now.range c.args.place.now.sector c.args.self.now.used batch c.read_batch.new.into old.contents there (omega (arith, long, kept)) stands in (
+    (c.in_ok-read_batch.ensures.stands (c.read.ensures.medium.time.honest.0 at.honest)
+    (ap (λ (image : Image). slice_get image from) same ∙ c.in_ok-read.ensures.bytes at.honest)) in
+    let kept : length c.read_batch.new.into ≡ c.read_u32.result + 4 = omega
+    (arith, c.read_batch.auto.into, length-take-le (c.read_u32.result + 4) c.args.into.now (omega arith)) in
+    let found : c.read_batch.new.into ≡ batch = next_is c.args.self.now.range c.args.place.now.sector c.args.self.now.used batch c.read_batch.new.into
+    old.contents there (omega (arith, long, kept)) stands in (
       ap (λ (n : ℕ). Some n) size,
       take_at c.read_batch.new.into (drop (c.read_u32.result + 4) c.args.into.now) (length batch) (ap length found) ∙ found,
       omega (arith, is, size, c.sectors_for_len-taken.ensures, sectors_of-push before batch),
