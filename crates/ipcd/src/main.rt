@@ -2,25 +2,14 @@
 #![tactic(auto)]
 
 mod command;
-mod digits;
-mod fault;
-mod input;
-mod line;
-mod report;
-mod script;
 
 use command::{Request, request_of};
-use fault::ScriptFault;
 use ipc_base::Limits;
 use ipc_engine::Engine;
-use script::run_script;
+use ipc_script::{ScriptFault, run_script};
 use std::io;
 use std::process::ExitCode;
 
-#[cfg(test)]
-mod cuts;
-#[cfg(test)]
-mod rows;
 #[cfg(test)]
 mod tests;
 

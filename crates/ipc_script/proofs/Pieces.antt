@@ -1,0 +1,147 @@
+-- The pieces of a line, fed one after the other.
+use Rattle.std.proofs.Common.{◌≡◌, ℕ, ◌-◌, ◌<◌, Bool, true, false, List, [], ◌∷◌, ◌++◌, length, take, drop, Option, Some, None, refl, sym, ap, ◌∙◌, subst, arith, append_assoc, append-nil, inl, inr}
+use Rattle.std.specs.Prelude.{is_some, option_map, Err}
+use Rattle.std.specs.Io.KnownBytes.{Appends}
+use Rattle.std.proofs.KnownBytes.{Appends-nil, Appends-trans}
+use Rattle.std.proofs.lemmas.List.{take_rest, length-drop, take-append-drop}
+use Rattle.ipc_base.specs.declared.limits.Limits.{Limits}
+use Rattle.ipc_hub.specs.declared.hub.Hub.{Hub}
+use Rattle.ipc_hub.specs.Clients.{Client, Clients, client_at, feed}
+use Rattle.ipc_hub.specs.Hub.{is_connected, HasNoFrame}
+use Rattle.ipc_hub.specs.Stands.{Stands, TakesBytes}
+use Rattle.ipc_script.specs.declared.report.Opened.{Opened}
+use Rattle.ipc_script.specs.declared.fault.ScriptFault.{ScriptFault}
+use Rattle.ipc_script.specs.declared.fault.ScriptFault.TheVariants.{Unknown}
+use Rattle.ipc_script.specs.Line.PlainLine.{Data}
+use Rattle.ipc_script.specs.Script.{Run, Progress, Piece, Cut, is_open, fed, fed_in_pieces, report, reported, emptied, line_done}
+use Rattle.ipc_script.specs.Runs.{IsIn, IsBehind, FeedsSome, Refused}
+use Rattle.ipc_script.proofs.Tables.{test, value_mapped}
+use Rattle.ipc_script.proofs.Faults.{refused_both}
+use Rattle.ipc_script.proofs.Hubs.{connected, no_frame}
+use Rattle.ipc_script.proofs.Steady.{heads, heads_feed, steady, same_open}
+
+-- after a text, what comes
+abbrev pub behind : List ℕ → Progress → Progress
+behind text p = record { text = text ++ p.text; run = p.run }
+
+-- some pieces are fed, and some bytes are left
+pub record PartlyFed (limits : Limits) (r : Run) (moment conn : ℕ) (bytes : List ℕ) (hub : Hub) (opened : List Opened) (rest : List ℕ) (before after : Option (List ℕ)) : Type 0 where
+  pub now : Run
+  pub pieces : List Piece
+  pub text : List ℕ
+  pub at : IsBehind limits hub opened now
+  pub there : is_open now conn ≡ is_open r conn
+  pub shut : is_open r conn ≡ false → text ≡ []
+  pub written : Appends before after text
+  pub runs : (more : List Piece) (last : List Bool) → fed_in_pieces limits r moment conn bytes (pieces ++ more) last ≡ behind text (fed_in_pieces limits now moment conn rest more last)
+
+module _ (limits : Limits) (r : Run) (moment conn : ℕ) (bytes : List ℕ) where
+  pub fed_begun : (hub : Hub) (opened : List Opened) (w : Option (List ℕ)) → IsBehind limits hub opened r → PartlyFed limits r moment conn bytes hub opened bytes w w
+  fed_begun hub opened w b =
+      record { now = r; pieces = []; text = []; at = b; there = refl; shut = λ _. refl; written = Appends-nil w; runs = λ more last. refl }
+
+  module _ (hub : Hub) (opened : List Opened) (rest : List ℕ) (w0 w1 : Option (List ℕ)) (p : PartlyFed limits r moment conn bytes hub opened rest w0 w1)
+      (taken : ℕ) (next : Hub) (changed : List Opened) (w2 : Option (List ℕ)) (s : FeedsSome limits p.now moment conn rest taken next changed w1 w2) where
+    abbrev step : Progress
+    step = fed limits p.now moment conn (take taken rest) s.refused
+
+    abbrev piece : Piece
+    piece = record { taken = taken; refused = s.refused }
+
+    open_all : is_open r conn ≡ true
+    open_all = sym p.there ∙ s.was
+
+    runs_on : (more : List Piece) (last : List Bool) → fed_in_pieces limits r moment conn bytes ((p.pieces ++ piece ∷ []) ++ more) last
+        ≡ behind (p.text ++ step.text) (fed_in_pieces limits step.run moment conn (drop taken rest) more last)
+    runs_on more last =
+        let then : Progress = fed_in_pieces limits step.run moment conn (drop taken rest) more last in
+        ap (λ (ps : List Piece). fed_in_pieces limits r moment conn bytes ps last) (append_assoc p.pieces (piece ∷ []) more)
+        ∙ (p.runs (piece ∷ more) last ∙ ap (λ (t : List ℕ). record { text = t; run = then.run }) (sym (append_assoc p.text step.text then.text)))
+
+    -- one piece more
+    pub fed_more : PartlyFed limits r moment conn bytes next changed (take (length rest - taken) (drop taken rest)) w0 w2
+    fed_more =
+        record {
+          now = step.run;
+          pieces = p.pieces ++ piece ∷ [];
+          text = p.text ++ step.text;
+          at = s.behind;
+          there = s.is ∙ sym open_all;
+          shut = λ f. (let bad : true ≡ false = sym open_all ∙ f in cc);
+          written = Appends-trans w0 w1 w2 p.text step.text p.written s.text;
+          runs = λ more last. runs_on more last ∙ ap (λ (bs : List ℕ). behind (p.text ++ step.text) (fed_in_pieces limits step.run moment conn bs more last)) (sym (take_rest rest taken));
+        }
+
+    -- the last piece
+    pub fed_all : take taken rest ≡ rest → (cut : Cut) × (q : Progress) × (fed_in_pieces limits r moment conn bytes cut.pieces cut.last ≡ q) × IsBehind limits next changed q.run × Appends w0 w2 q.text
+    fed_all whole = (
+      record { pieces = p.pieces; last = s.refused },
+      behind p.text step,
+      ap (λ (ps : List Piece). fed_in_pieces limits r moment conn bytes ps s.refused) (sym (append-nil p.pieces))
+          ∙ (p.runs [] s.refused ∙ ap (λ (bs : List ℕ). behind p.text (fed limits p.now moment conn bs s.refused)) (sym whole)),
+      s.behind,
+      Appends-trans w0 w1 w2 p.text step.text p.written s.text,
+    )
+
+-- ---- one piece
+
+some_emptied : (o : Option Client) → is_some (option_map emptied o) ≡ is_some o
+some_emptied None = refl
+some_emptied (Some c) = refl
+
+-- a report leaves a connection open
+pub open_reported : (r : Run) (conn : ℕ) → is_open (reported r) conn ≡ is_open r conn
+open_reported r conn = ap is_some (value_mapped emptied r.hub.clients conn) ∙ some_emptied (client_at r.hub conn)
+
+-- a hub that knows a number stands for one in which it is open
+pub open_here : (limits : Limits) (hub : Hub) (opened : List Opened) (r : Run) (conn : ℕ) → IsIn limits hub opened r → (is_connected hub conn ≡ false → ⊥) → is_open r conn ≡ true
+open_here limits hub opened r conn i known =
+    let same = connected limits i.confirmed hub r.hub conn i.stands in
+    elim (test (is_open r conn)) [ inl t ↦ t | inr f ↦ absurd (known (same ∙ f)) ]
+
+pub feeds_some : (limits : Limits) (r : Run) (moment conn : ℕ) (bytes : List ℕ) (taken : ℕ) (hub mid next : Hub) (opened changed : List Opened) (w0 w2 : Option (List ℕ))
+    → IsBehind limits hub opened r → TakesBytes hub mid conn (take taken bytes) moment → (HasNoFrame hub conn → 0 < length bytes → 0 < taken)
+    → (is_connected hub conn ≡ false → ⊥)
+    → ((limits : Limits) (r : Run) → IsIn limits mid opened r → IsBehind limits next changed (report r).run × Appends w0 w2 (report r).text)
+    → FeedsSome limits r moment conn bytes taken next changed w0 w2
+feeds_some limits r moment conn bytes taken hub mid next opened changed w0 w2 b takes starts known reports =
+    let i : IsIn limits hub opened r = b.line in
+    let f : (refused : List Bool) × Stands limits i.confirmed mid (feed limits r.hub conn (take taken bytes) moment refused) = takes limits i.confirmed r.hub i.stands in
+    let now : Clients = feed limits r.hub conn (take taken bytes) moment f.0 in
+    let like : heads now.clients ≡ heads r.hub.clients = heads_feed limits conn moment r.hub (take taken bytes) f.0 in
+    let e = reports limits (record r { hub = now }) (steady limits i.confirmed hub mid opened r now i like f.1) in
+    let was : is_open r conn ≡ true = open_here limits hub opened r conn i known in
+    record {
+      refused = f.0;
+      behind = e.0;
+      text = e.1;
+      some = starts (no_frame limits i.confirmed hub r.hub conn i.stands (i.untouched conn) (b.quiet conn));
+      was = was;
+      is = open_reported (record r { hub = now }) conn ∙ (same_open r.hub.clients now.clients like conn ∙ was);
+    }
+
+-- ---- what is left, and what is refused
+
+pub rest_length : (rest : List ℕ) (n : ℕ) → length (take (length rest - n) (drop n rest)) ≡ length rest - n
+rest_length rest n = ap length (take_rest rest n) ∙ length-drop n rest
+
+no_length : (xs : List ℕ) → length xs ≡ 0 → xs ≡ []
+no_length [] e = refl
+no_length (x ∷ xs) e = absurd (omega arith)
+
+pub all_taken : (rest : List ℕ) (n : ℕ) → length (take (length rest - n) (drop n rest)) ≡ 0 → take n rest ≡ rest
+all_taken rest n e =
+    let none : drop n rest ≡ [] = no_length (drop n rest) (ap length (sym (take_rest rest n)) ∙ e) in
+    sym (append-nil (take n rest)) ∙ (ap (λ (xs : List ℕ). take n rest ++ xs) (sym none) ∙ take-append-drop n rest)
+
+pub fed_refused : (limits : Limits) (number : ℕ) (r : Run) (moment conn : ℕ) (bytes : List ℕ) (hub : Hub) (opened : List Opened) (rest : List ℕ) (w0 w1 w2 : Option (List ℕ)) (e : ScriptFault)
+    → PartlyFed limits r moment conn bytes hub opened rest w0 w1
+    → Refused e ((e ≡ Unknown number) × Appends w1 w2 []) → Refused e ((limits : Limits) (r : Run) → IsBehind limits hub opened r → is_open r conn ≡ false)
+    → Refused e (((cut : Cut) → line_done limits number r (Data moment conn bytes) cut ≡ Err e) × Appends w0 w2 [])
+fed_refused limits number r moment conn bytes hub opened rest w0 w1 w2 e p err unknown =
+    refused_both ((e ≡ Unknown number) × Appends w1 w2 []) ((limits : Limits) (r : Run) → IsBehind limits hub opened r → is_open r conn ≡ false)
+    (((cut : Cut) → line_done limits number r (Data moment conn bytes) cut ≡ Err e) × Appends w0 w2 []) e (λ a u.
+    let shut : is_open r conn ≡ false = sym p.there ∙ u limits p.now p.at in (
+      λ cut. rw shut (ap (λ (f : ScriptFault). Err f) (sym a.0)),
+      Appends-trans w0 w1 w2 [] [] (subst (Appends w0 w1) (p.shut shut) p.written) a.1,
+    )) err unknown
