@@ -1,3 +1,4 @@
+pub mod Fault
 pub mod Input
 pub mod Line
 pub mod LineView

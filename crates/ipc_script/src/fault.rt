@@ -1,45 +1,48 @@
 //! Why a script stopped.
 
 use std::alloc::{AllocError, AllocFailed};
-use thiserror::Error;
+use std::error::Error;
+use std::fmt;
 
-/// Why a script stopped. What the lines before it did stands.
-#[derive(Clone, Copy, Debug, PartialEq, Eq, Error)]
+/// Why a script stopped. What the lines before it did stands. Its `Display` is the text for the user.
+#[derive(Clone, Copy, Debug, PartialEq, Eq)]
 pub enum ScriptFault {
-    #[error("no memory")]
+    /// Memory was refused.
     NoMemory,
     /// A read failed.
-    #[error("input fault")]
     Input,
     /// A write failed, or took nothing.
-    #[error("output fault")]
     Output,
     /// The script has more than 16777216 bytes. Nothing of it was done.
-    #[error("script too long")]
     TooLong,
     /// The line has none of the forms. Lines count from 1.
-    #[error("line {0}: bad line")]
     BadLine(u64),
     /// The line opens a connection that is open.
-    #[error("line {0}: connection in use")]
     InUse(u64),
     /// The line names a connection that is not open.
-    #[error("line {0}: no such connection")]
     Unknown(u64),
 }
 
-impl ScriptFault {
-    /// The exit status of the program: 1 where the world failed, 2 where the script is wrong.
-    pub fn status(self) -> u8 {
+impl fmt::Display for ScriptFault {
+    ghost use Rattle.std.specs.Prelude.{Some};
+    ghost use Rattle.ipc_script.specs.Fault.{fault_text};
+
+    ghost output = { λ fault. Some (fault_text fault) };
+
+    fn fmt<W: fmt::Write>(&self, f: &mut fmt::Formatter<W>) -> fmt::Result {
         match self {
-            ScriptFault::NoMemory | ScriptFault::Input | ScriptFault::Output => 1,
-            ScriptFault::TooLong
-            | ScriptFault::BadLine(_)
-            | ScriptFault::InUse(_)
-            | ScriptFault::Unknown(_) => 2,
+            ScriptFault::NoMemory => write!(f, "no memory"),
+            ScriptFault::Input => write!(f, "input fault"),
+            ScriptFault::Output => write!(f, "output fault"),
+            ScriptFault::TooLong => write!(f, "script too long"),
+            ScriptFault::BadLine(number) => write!(f, "line {number}: bad line"),
+            ScriptFault::InUse(number) => write!(f, "line {number}: connection in use"),
+            ScriptFault::Unknown(number) => write!(f, "line {number}: no such connection"),
         }
     }
 }
+
+impl Error for ScriptFault {}
 
 impl From<AllocError> for ScriptFault {
     ghost use Rattle.std.specs.Prelude.{◌≡◌};

@@ -1,6 +1,6 @@
 //! The command line.
 
-use crate::command::{Request, parse};
+use crate::command::{Refusal, Request, parse};
 use ipc_base::Limits;
 
 #[test]
@@ -12,11 +12,18 @@ fn command_lines(rt: HostRuntime) {
     assert!(rt;
         matches!(parse(alloc, &["ipcd", "replay", "--small"]), Ok(Request::Replay { limits }) if limits == Limits::small())
     );
-    let refused: [&[&str]; 3] = [&["ipcd"], &["ipcd", "replay", "--big"], &["ipcd", "serve"]];
-    for words in refused {
+    let refused: [(&[&str], u8); 6] = [
+        (&["ipcd"], 2),
+        (&["ipcd", "replay", "--big"], 2),
+        (&["ipcd", "serve"], 2),
+        (&["ipcd", "--help"], 0),
+        (&["ipcd", "replay", "--help"], 0),
+        (&["ipcd", "--version"], 0),
+    ];
+    for (words, status) in refused {
         match parse(alloc, words) {
             Ok(_) => assert!(rt; false, "{words:?} is taken"),
-            Err(error) => assert_eq!(rt; error.exit_code(), 2),
+            Err(error) => assert_eq!(rt; Refusal::Parser(error).status(), status, "{words:?}"),
         }
     }
 }
