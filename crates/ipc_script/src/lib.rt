@@ -16,4 +16,6 @@ mod cuts;
 #[cfg(test)]
 mod rows;
 #[cfg(test)]
+mod standard;
+#[cfg(test)]
 mod tests;

@@ -60,7 +60,6 @@ fn faults_of_a_script(rt: HostRuntime) -> Result<(), Fail> {
             Err(fault) => {
                 let said = fault.to_string(rt.alloc())?;
                 assert_eq!(rt; said.as_str(), text, "{script:?}");
-                assert_eq!(rt; fault.status(), 2, "{script:?}");
             }
         }
         assert_eq!(rt; output.len(), 0, "{script:?}");
@@ -129,7 +128,6 @@ fn readers_and_writers_that_fail(rt: HostRuntime) {
         run(alloc, &mut script, &mut Broken),
         Err(ScriptFault::Output)
     );
-    assert_eq!(rt; ScriptFault::Output.status(), 1);
 }
 
 /// Gives, and takes, one byte a call.
@@ -173,5 +171,81 @@ fn readers_and_writers_that_are_slow(rt: HostRuntime) {
             "{}",
             row.name
         );
+    }
+}
+
+/// Gives, and takes, one byte a call; the call of this number fails, and no other.
+#[derive(Drop)]
+struct Faulty<S> {
+    stream: S,
+    calls: u64,
+    fails_at: u64,
+}
+
+impl<S> Faulty<S> {
+    fn fails(&mut self) -> bool {
+        self.calls = self.calls.saturating_add(1);
+        self.calls == self.fails_at
+    }
+}
+
+impl<S: Read> Read for Faulty<S> {
+    fn read(&mut self, into: &mut [u8]) -> io::Result<usize> {
+        if self.fails() {
+            return Err(io::Error::from(io::ErrorKind::Interrupted));
+        }
+        let count = into.len().min(1);
+        self.stream.read(&mut into[..count])
+    }
+}
+
+impl<S: Write> Write for Faulty<S> {
+    fn write(&mut self, from: &[u8]) -> io::Result<usize> {
+        if self.fails() {
+            return Err(io::Error::from(io::ErrorKind::Interrupted));
+        }
+        let count = from.len().min(1);
+        self.stream.write(&from[..count])
+    }
+
+    fn flush(&mut self) -> io::Result<()> {
+        self.stream.flush()
+    }
+}
+
+/// A read that fails ends all; nothing is read after it, and nothing written.
+#[test]
+fn a_read_that_fails_is_not_tried_again(rt: HostRuntime) {
+    let row = &ROWS[0];
+    // A last read finds the end.
+    for fails_at in 1..=row.script.len() as u64 + 1 {
+        let mut script = Faulty {
+            stream: row.script.as_bytes(),
+            calls: 0,
+            fails_at,
+        };
+        let mut output: Vec<u8> = Vec::new(rt.alloc());
+        let outcome = run(rt.alloc(), &mut script, &mut output);
+        assert_eq!(rt; outcome, Err(ScriptFault::Input), "read {fails_at}");
+        assert_eq!(rt; script.calls, fails_at);
+        assert_eq!(rt; output.len(), 0);
+    }
+}
+
+/// A write that fails ends all; nothing is written after it.
+#[test]
+fn a_write_that_fails_is_not_tried_again(rt: HostRuntime) {
+    let row = &ROWS[0];
+    for written in 0..row.output.len() {
+        let mut script = row.script.as_bytes();
+        let mut output = Faulty {
+            stream: Vec::<u8>::new(rt.alloc()),
+            calls: 0,
+            fails_at: written as u64 + 1,
+        };
+        let outcome = run(rt.alloc(), &mut script, &mut output);
+        assert_eq!(rt; outcome, Err(ScriptFault::Output), "write {written}");
+        assert_eq!(rt; output.calls, output.fails_at);
+        assert_eq!(rt; output.stream.as_slice(), &row.output.as_bytes()[..written]);
     }
 }
