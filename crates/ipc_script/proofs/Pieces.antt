@@ -1,8 +1,9 @@
 -- The pieces of a line, fed one after the other.
-use Rattle.std.proofs.Common.{◌≡◌, ℕ, ◌-◌, ◌<◌, Bool, true, false, List, [], ◌∷◌, ◌++◌, length, take, drop, Option, Some, None, refl, sym, ap, ◌∙◌, subst, arith, append_assoc, append-nil, inl, inr}
-use Rattle.std.specs.Prelude.{is_some, option_map, Err}
+use Rattle.std.proofs.Common.{◌≡◌, ℕ, ◌+◌, ◌-◌, ◌<◌, Bool, true, false, List, [], ◌∷◌, ◌++◌, length, take, drop, Option, Some, None, refl, sym, ap, ◌∙◌, subst, arith, append_assoc, append-nil, inl, inr}
+use Rattle.std.specs.Prelude.{is_some, option_map, nat_lt, Err}
 use Rattle.std.specs.Io.KnownBytes.{Appends}
 use Rattle.std.proofs.KnownBytes.{Appends-nil, Appends-trans}
+use Rattle.std.proofs.lemmas.Bool.Decides.{nat_tests}
 use Rattle.std.proofs.lemmas.List.{take_rest, length-drop, take-append-drop}
 use Rattle.ipc_base.specs.declared.limits.Limits.{Limits}
 use Rattle.ipc_hub.specs.declared.hub.Hub.{Hub}
@@ -13,7 +14,7 @@ use Rattle.ipc_script.specs.declared.report.Opened.{Opened}
 use Rattle.ipc_script.specs.declared.fault.ScriptFault.{ScriptFault}
 use Rattle.ipc_script.specs.declared.fault.ScriptFault.TheVariants.{Unknown}
 use Rattle.ipc_script.specs.Line.PlainLine.{Data}
-use Rattle.ipc_script.specs.Script.{Run, Progress, Piece, Cut, is_open, fed, fed_in_pieces, report, reported, emptied, line_done}
+use Rattle.ipc_script.specs.Script.{Run, Progress, Piece, Cut, followed, is_open, fed, fed_in_pieces, report, reported, emptied, line_done}
 use Rattle.ipc_script.specs.Runs.{IsIn, IsBehind, FeedsSome, Refused}
 use Rattle.ipc_script.proofs.Tables.{test, value_mapped}
 use Rattle.ipc_script.proofs.Faults.{refused_both}
@@ -33,12 +34,26 @@ pub record PartlyFed (limits : Limits) (r : Run) (moment conn : ℕ) (bytes : Li
   pub there : is_open now conn ≡ is_open r conn
   pub shut : is_open r conn ≡ false → text ≡ []
   pub written : Appends before after text
-  pub runs : (more : List Piece) (last : List Bool) → fed_in_pieces limits r moment conn bytes (pieces ++ more) last ≡ behind text (fed_in_pieces limits now moment conn rest more last)
+  pub runs : (more : Cut) → fed_in_pieces limits r moment conn bytes (pieces ++ more) ≡ behind text (fed_in_pieces limits now moment conn rest more)
+
+-- the first piece of a cut, by how many bytes it takes
+module _ (limits : Limits) (r : Run) (moment conn : ℕ) (bytes : List ℕ) (refused : List Bool) where
+  first_piece : (more taken : ℕ) → more + 1 ≡ taken → taken < length bytes → (cut : Cut)
+      → fed_in_pieces limits r moment conn bytes (record { more = more; refused = refused } ∷ cut)
+      ≡ followed (fed limits r moment conn (take taken bytes) refused) (λ now. fed_in_pieces limits now moment conn (drop taken bytes) cut)
+  first_piece more taken e below cut =
+      let inside : nat_lt taken (length bytes) ≡ true = grind (arith, nat_tests) in
+      rw e (rw inside refl)
+
+  last_piece : fed_in_pieces limits r moment conn bytes (record { more = length bytes; refused = refused } ∷ []) ≡ fed limits r moment conn bytes refused
+  last_piece =
+      let past : nat_lt (length bytes + 1) (length bytes) ≡ false = grind (arith, nat_tests) in
+      rw past refl
 
 module _ (limits : Limits) (r : Run) (moment conn : ℕ) (bytes : List ℕ) where
   pub fed_begun : (hub : Hub) (opened : List Opened) (w : Option (List ℕ)) → IsBehind limits hub opened r → PartlyFed limits r moment conn bytes hub opened bytes w w
   fed_begun hub opened w b =
-      record { now = r; pieces = []; text = []; at = b; there = refl; shut = λ _. refl; written = Appends-nil w; runs = λ more last. refl }
+      record { now = r; pieces = []; text = []; at = b; there = refl; shut = λ _. refl; written = Appends-nil w; runs = λ more. refl }
 
   module _ (hub : Hub) (opened : List Opened) (rest : List ℕ) (w0 w1 : Option (List ℕ)) (p : PartlyFed limits r moment conn bytes hub opened rest w0 w1)
       (taken : ℕ) (next : Hub) (changed : List Opened) (w2 : Option (List ℕ)) (s : FeedsSome limits p.now moment conn rest taken next changed w1 w2) where
@@ -46,21 +61,24 @@ module _ (limits : Limits) (r : Run) (moment conn : ℕ) (bytes : List ℕ) wher
     step = fed limits p.now moment conn (take taken rest) s.refused
 
     abbrev piece : Piece
-    piece = record { taken = taken; refused = s.refused }
+    piece = record { more = taken - 1; refused = s.refused }
 
     open_all : is_open r conn ≡ true
     open_all = sym p.there ∙ s.was
 
-    runs_on : (more : List Piece) (last : List Bool) → fed_in_pieces limits r moment conn bytes ((p.pieces ++ piece ∷ []) ++ more) last
-        ≡ behind (p.text ++ step.text) (fed_in_pieces limits step.run moment conn (drop taken rest) more last)
-    runs_on more last =
-        let then : Progress = fed_in_pieces limits step.run moment conn (drop taken rest) more last in
-        ap (λ (ps : List Piece). fed_in_pieces limits r moment conn bytes ps last) (append_assoc p.pieces (piece ∷ []) more)
-        ∙ (p.runs (piece ∷ more) last ∙ ap (λ (t : List ℕ). record { text = t; run = then.run }) (sym (append_assoc p.text step.text then.text)))
+    runs_on : 0 < length rest → taken < length rest → (more : Cut) → fed_in_pieces limits r moment conn bytes ((p.pieces ++ piece ∷ []) ++ more)
+        ≡ behind (p.text ++ step.text) (fed_in_pieces limits step.run moment conn (drop taken rest) more)
+    runs_on some below more =
+        let then : Progress = fed_in_pieces limits step.run moment conn (drop taken rest) more in
+        let took : taken - 1 + 1 ≡ taken = omega (arith, s.some some) in
+        ap (fed_in_pieces limits r moment conn bytes) (append_assoc p.pieces (piece ∷ []) more)
+        ∙ (p.runs (piece ∷ more)
+        ∙ (ap (behind p.text) (first_piece limits p.now moment conn rest s.refused (taken - 1) taken took below more)
+        ∙ ap (λ (t : List ℕ). record { text = t; run = then.run }) (sym (append_assoc p.text step.text then.text))))
 
     -- one piece more
-    pub fed_more : PartlyFed limits r moment conn bytes next changed (take (length rest - taken) (drop taken rest)) w0 w2
-    fed_more =
+    pub fed_more : 0 < length rest → taken < length rest → PartlyFed limits r moment conn bytes next changed (take (length rest - taken) (drop taken rest)) w0 w2
+    fed_more some below =
         record {
           now = step.run;
           pieces = p.pieces ++ piece ∷ [];
@@ -69,19 +87,22 @@ module _ (limits : Limits) (r : Run) (moment conn : ℕ) (bytes : List ℕ) wher
           there = s.is ∙ sym open_all;
           shut = λ f. (let bad : true ≡ false = sym open_all ∙ f in cc);
           written = Appends-trans w0 w1 w2 p.text step.text p.written s.text;
-          runs = λ more last. runs_on more last ∙ ap (λ (bs : List ℕ). behind (p.text ++ step.text) (fed_in_pieces limits step.run moment conn bs more last)) (sym (take_rest rest taken));
+          runs = λ more. runs_on some below more
+              ∙ ap (λ (bs : List ℕ). behind (p.text ++ step.text) (fed_in_pieces limits step.run moment conn bs more)) (sym (take_rest rest taken));
         }
 
     -- the last piece
-    pub fed_all : take taken rest ≡ rest → (cut : Cut) × (q : Progress) × (fed_in_pieces limits r moment conn bytes cut.pieces cut.last ≡ q) × IsBehind limits next changed q.run × Appends w0 w2 q.text
-    fed_all whole = (
-      record { pieces = p.pieces; last = s.refused },
-      behind p.text step,
-      ap (λ (ps : List Piece). fed_in_pieces limits r moment conn bytes ps s.refused) (sym (append-nil p.pieces))
-          ∙ (p.runs [] s.refused ∙ ap (λ (bs : List ℕ). behind p.text (fed limits p.now moment conn bs s.refused)) (sym whole)),
-      s.behind,
-      Appends-trans w0 w1 w2 p.text step.text p.written s.text,
-    )
+    pub fed_all : take taken rest ≡ rest → (cut : Cut) × (q : Progress) × (fed_in_pieces limits r moment conn bytes cut ≡ q) × IsBehind limits next changed q.run × Appends w0 w2 q.text
+    fed_all whole =
+        let last : Piece = record { more = length rest; refused = s.refused } in (
+          p.pieces ++ last ∷ [],
+          behind p.text step,
+          p.runs (last ∷ [])
+              ∙ (ap (behind p.text) (last_piece limits p.now moment conn rest s.refused)
+              ∙ ap (λ (bs : List ℕ). behind p.text (fed limits p.now moment conn bs s.refused)) (sym whole)),
+          s.behind,
+          Appends-trans w0 w1 w2 p.text step.text p.written s.text,
+        )
 
 -- ---- one piece
 

@@ -1,8 +1,9 @@
 -- The lines of a script, run one after the other.
-use Rattle.std.proofs.Common.{◌≡◌, ℕ, ◌+◌, ◌≤◌, Bool, true, false, drop, List, [], ◌∷◌, ◌++◌, length, Option, Some, None, refl, sym, ap, ◌∙◌, subst, append_assoc, append-nil, arith}
+use Rattle.std.proofs.Common.{◌≡◌, ℕ, ◌+◌, ◌<◌, ◌≤◌, Bool, true, false, drop, List, [], ◌∷◌, ◌++◌, length, Option, Some, None, refl, sym, ap, ◌∙◌, subst, append_assoc, append-nil, arith}
 use Rattle.std.specs.Prelude.{Ok, Err, Result, ⊤, IfSome, if◌then◌else◌}
 use Rattle.std.specs.Io.KnownBytes.{Appends}
 use Rattle.std.proofs.KnownBytes.{Appends-nil, Appends-trans}
+use Rattle.std.proofs.lemmas.List.{length-append}
 use Rattle.ipc_base.specs.declared.limits.Limits.{Limits}
 use Rattle.ipc_engine.specs.State.{State}
 use Rattle.ipc_hub.specs.declared.hub.Hub.{Hub}
@@ -13,6 +14,7 @@ use Rattle.ipc_script.specs.declared.report.Opened.{Opened}
 use Rattle.ipc_script.specs.declared.fault.ScriptFault.TheVariants.{NoMemory, Input, Output, TooLong, BadLine, InUse, Unknown}
 use Rattle.ipc_script.specs.Line.{longest_script, PlainLine, Open, Data, End, Tick, line_of, lines_of}
 use Rattle.ipc_script.specs.Script.{Run, Cut, Progress, Outcome, start_run, text_done, first_cut, goes_on, run_lines, is_open, opened, report, fed_in_pieces, EndsAs, Runs}
+use Rattle.ipc_script.specs.Input.{IsReadFault, ReadsTooMuch}
 use Rattle.ipc_script.specs.Runs.{IsBehind, LinesRun}
 
 -- after a text, what comes
@@ -96,7 +98,7 @@ never_text : (limits : Limits) (number : ℕ) (r : Run) (line : Option PlainLine
 never_text limits number r None cut is = cc
 never_text limits number r (Some (Open conn)) cut is = never_if (is_open r conn) (Err (InUse number)) (Ok (report (opened r conn))) (λ e. cc) (λ e. cc) is
 never_text limits number r (Some (Data moment conn bytes)) cut is =
-    never_if (is_open r conn) (Ok (fed_in_pieces limits r moment conn bytes cut.pieces cut.last)) (Err (Unknown number)) (λ e. cc) (λ e. cc) is
+    never_if (is_open r conn) (Ok (fed_in_pieces limits r moment conn bytes cut)) (Err (Unknown number)) (λ e. cc) (λ e. cc) is
 never_text limits number r (Some (End moment conn)) cut is =
     never_if (is_open r conn) (Ok (report (record r { hub = hangup limits r.hub conn moment }))) (Err (Unknown number)) (λ e. cc) (λ e. cc) is
 never_text limits number r (Some (Tick moment)) cut is = cc
@@ -123,10 +125,34 @@ all_lines limits s script before after (Err (BadLine number)) short ran = (short
 all_lines limits s script before after (Err (InUse number)) short ran = (short, ran)
 all_lines limits s script before after (Err (Unknown number)) short ran = (short, ran)
 
--- a script that was read whole and run is the run of all that there was to read
+-- a script that was read whole is run
 pub script_ends : (limits : Limits) (s : State) (seen items : List ℕ) (remaining before after : Option (List ℕ)) (result : Result ⊤ ScriptFault) → seen ≡ items
     → length items ≤ longest_script → IfSome remaining (λ input. items ≡ input) → LinesRun limits s seen before after result
-    → IfSome remaining (λ script. Runs limits s script before after result)
-script_ends limits s seen items None before after result same short whole ran = tt
-script_ends limits s seen items (Some input) before after result same short whole ran =
-    subst (λ (text : List ℕ). Runs limits s text before after result) (same ∙ whole) (all_lines limits s seen before after result (omega (arith, short, ap length same)) ran)
+    → (script : List ℕ) × IfSome remaining (λ input. script ≡ input) × Runs limits s script before after result
+script_ends limits s seen items remaining before after result same short whole ran =
+    (items, whole, subst (λ (text : List ℕ). Runs limits s text before after result) same (all_lines limits s seen before after result (omega (arith, short, ap length same)) ran))
+
+-- all that there is to read, if the reader tells it
+abbrev input_of : Option (List ℕ) → List ℕ
+input_of None = []
+input_of (Some input) = input
+
+is_input : (remaining : Option (List ℕ)) → IfSome remaining (λ input. input_of remaining ≡ input)
+is_input None = tt
+is_input (Some input) = refl
+
+long_input : (remaining left : Option (List ℕ)) → ReadsTooMuch remaining left → (script : List ℕ) × IfSome remaining (λ input. script ≡ input) × (longest_script < length script)
+long_input None left long = (long.0, tt, long.2)
+long_input (Some input) None long = absurd long.1
+long_input (Some input) (Some rest) long = (input, refl, omega (arith, ap length long.1, length-append long.0 rest, long.2))
+
+-- a script that was not read whole
+pub not_read : (limits : Limits) (s : State) (remaining left w : Option (List ℕ)) (e : ScriptFault) → IsReadFault e → (e ≡ TooLong → ReadsTooMuch remaining left)
+    → (script : List ℕ) × IfSome remaining (λ input. script ≡ input) × Runs limits s script w w (Err e)
+not_read limits s remaining left w NoMemory f long = (input_of remaining, is_input remaining, tt)
+not_read limits s remaining left w Input f long = (input_of remaining, is_input remaining, tt)
+not_read limits s remaining left w Output f long = absurd f
+not_read limits s remaining left w TooLong f long = let l = long_input remaining left (long refl) in (l.0, l.1, (l.2, Appends-nil w))
+not_read limits s remaining left w (BadLine number) f long = absurd f
+not_read limits s remaining left w (InUse number) f long = absurd f
+not_read limits s remaining left w (Unknown number) f long = absurd f

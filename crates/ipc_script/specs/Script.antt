@@ -80,30 +80,34 @@ is_open r conn = is_some (client_at r.hub conn)
 abbrev pub opened : Run → ℕ → Run
 opened r conn = record { hub = connect r.hub conn; told = λ other. not (nat_eq other conn) && r.told other }
 
--- some bytes, and of which of the requests in them memory was refused
+-- some bytes, at least one, and of which of the requests in them memory was refused
 pub record Piece : Type 0 where
-  pub taken : ℕ
+  -- how many bytes besides the first
+  pub more : ℕ
   pub refused : List Bool
 
--- how the bytes of a line are fed: some pieces, and then all that is left
-pub record Cut : Type 0 where
-  pub pieces : List Piece
-  pub last : List Bool
+-- how the bytes of a line are fed: in these pieces, and then all that is left with nothing refused
+abbrev pub Cut : Type 0
+Cut = List Piece
 
 -- bytes are fed, and what they let out is written
 abbrev pub fed : Limits → Run → ℕ → ℕ → List ℕ → List Bool → Progress
 fed limits r moment conn bytes refused = report (record r { hub = feed limits r.hub conn bytes moment refused })
 
-abbrev pub fed_in_pieces : Limits → Run → ℕ → ℕ → List ℕ → List Piece → List Bool → Progress
-fed_in_pieces limits r moment conn bytes [] last = fed limits r moment conn bytes last
-fed_in_pieces limits r moment conn bytes (p ∷ ps) last =
-    followed (fed limits r moment conn (take p.taken bytes) p.refused) (λ now. fed_in_pieces limits now moment conn (drop p.taken bytes) ps last)
+-- Bytes are fed in pieces. A piece that reaches their end is the last.
+abbrev pub fed_in_pieces : Limits → Run → ℕ → ℕ → List ℕ → Cut → Progress
+fed_in_pieces limits r moment conn bytes [] = fed limits r moment conn bytes []
+fed_in_pieces limits r moment conn bytes (p ∷ ps) =
+    if nat_lt (p.more + 1) (length bytes)
+    then followed (fed limits r moment conn (take (p.more + 1) bytes) p.refused)
+        (λ now. fed_in_pieces limits now moment conn (drop (p.more + 1) bytes) ps)
+    else fed limits r moment conn bytes p.refused
 
 -- The line of this number: `open` of a connection that is open is refused, and so is another line for one that is not.
 abbrev pub line_done : Limits → ℕ → Run → PlainLine → Cut → Result Progress ScriptFault
 line_done limits number r (Open conn) cut = if is_open r conn then Err (InUse number) else Ok (report (opened r conn))
 line_done limits number r (Data moment conn bytes) cut =
-    if is_open r conn then Ok (fed_in_pieces limits r moment conn bytes cut.pieces cut.last) else Err (Unknown number)
+    if is_open r conn then Ok (fed_in_pieces limits r moment conn bytes cut) else Err (Unknown number)
 line_done limits number r (End moment conn) cut =
     if is_open r conn then Ok (report (record r { hub = hangup limits r.hub conn moment })) else Err (Unknown number)
 line_done limits number r (Tick moment) cut = Ok (report (record r { hub = tick limits r.hub moment }))
@@ -125,9 +129,9 @@ abbrev pub goes_on : Result Progress ScriptFault → (Run → Outcome) → Outco
 goes_on (Err e) next = record { text = []; fault = Some e }
 goes_on (Ok p) next = let more = next p.run in record { text = p.text ++ more.text; fault = more.fault }
 
--- the first of the cuts; where there is none, all in one piece and nothing refused
+-- the first of the cuts; if there is none, all in one piece and nothing refused
 abbrev pub first_cut : List Cut → Cut
-first_cut [] = record { pieces = []; last = [] }
+first_cut [] = []
 first_cut (cut ∷ cuts) = cut
 
 -- lines from this number on, with a cut for each

@@ -24,15 +24,17 @@ use std::alloc::Global;
 use std::io::{Read, Write};
 
 /// Reads a script to its end, and runs it line by line. After each line the frames that it let out are
-/// written. The run stops at the first line that is refused; what the lines before it did stands.
+/// written. The run stops at the first line that is refused; what the lines before it did stands. The script
+/// is all that the reader gives; of a reader that does not tell its bytes the clause says that there is one.
 pub fn run_script<R: Read, W: Write>(
     alloc: Global,
     engine: Engine,
     reader: &mut R,
     writer: &mut W,
 ) -> Result<(), ScriptFault>
-    ensures { (limits_of engine).msgmnb ≤ standard_limits.msgmnb → IfSome (R.remaining reader.old) (λ script.
-        Runs (limits_of engine) (machine_state engine) script (W.contents writer.old) (W.contents writer.new) result) }
+    ensures { (limits_of engine).msgmnb ≤ standard_limits.msgmnb →
+        (script : List ℕ) × IfSome (R.remaining reader.old) (λ input. script ≡ input)
+        × Runs (limits_of engine) (machine_state engine) script (W.contents writer.old) (W.contents writer.new) result }
 {
     let script = read_script(alloc, reader)?;
     run_lines(alloc, engine, &script, writer)

@@ -31,7 +31,8 @@ pieces-preserved g c = λ limits r b.
     let some = s.some p.1 in
     let left = rest_length c.pieces.rest.now c.in_ok-taken.taken in
     let more : 0 < length (take (length c.pieces.rest.now - c.in_ok-taken.taken) (drop c.in_ok-taken.taken c.pieces.rest.now)) = grind (arith, nat_tests, c.if-is_empty.ensures) in
-    (omega (arith, p.0, some, left, more), more, fed_more limits r c.args.moment.0 c.args.conn c.args.bytes.now c.pieces.hub c.pieces.opened c.pieces.rest.now _ _ p.2 c.in_ok-taken.taken c.feed_some.new.hub c.feed_some.new.opened _ s)
+    (omega (arith, p.0, some, left, more), more, fed_more limits r c.args.moment.0 c.args.conn c.args.bytes.now c.pieces.hub c.pieces.opened c.pieces.rest.now _ _ p.2 c.in_ok-taken.taken c.feed_some.new.hub c.feed_some.new.opened _ s
+    p.1 (omega (arith, left, more)))
 
 pub returns : goal.returns
 returns g c = λ limits r b.
