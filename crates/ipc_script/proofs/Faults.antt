@@ -1,23 +1,18 @@
--- What holds of a fault that is not the world's.
+-- What holds of a fault, by whether the world failed or the script is wrong.
+use Rattle.std.specs.Prelude.{⊤}
 use Rattle.ipc_script.specs.declared.fault.ScriptFault.{ScriptFault}
 use Rattle.ipc_script.specs.declared.fault.ScriptFault.TheVariants.{NoMemory, Input, Output, TooLong, BadLine, InUse, Unknown}
-use Rattle.ipc_script.specs.Runs.{Refused, IsOfWorld}
+use Rattle.ipc_script.specs.Runs.{ByFault, Refused, WorldFailed}
 
-pub refused_both : (P Q R : Type 0) (e : ScriptFault) → (P → Q → R) → Refused e P → Refused e Q → Refused e R
-refused_both P Q R NoMemory f p q = tt
-refused_both P Q R Input f p q = tt
-refused_both P Q R Output f p q = tt
-refused_both P Q R TooLong f p q = f p q
-refused_both P Q R (BadLine number) f p q = f p q
-refused_both P Q R (InUse number) f p q = f p q
-refused_both P Q R (Unknown number) f p q = f p q
-
-pub refused_weaker : (P Q : Type 0) (e : ScriptFault) → (P → Q) → Refused e P → Refused e Q
-refused_weaker P Q e f p = refused_both P P Q e (λ x _. f x) p p
-
--- of a fault of the world anything holds
-pub world_refused : (P : Type 0) (e : ScriptFault) → IsOfWorld e → Refused e P
-world_refused P e w = refused_weaker ⊥ P e (λ b. absurd b) w
+-- two facts of a fault make a third
+pub by_fault_both : (W V P Q R : Type 0) (e : ScriptFault) → (W → V) → (P → Q → R) → ByFault e W P → Refused e Q → ByFault e V R
+by_fault_both W V P Q R NoMemory f g x q = f x
+by_fault_both W V P Q R Input f g x q = f x
+by_fault_both W V P Q R Output f g x q = f x
+by_fault_both W V P Q R TooLong f g x q = g x q
+by_fault_both W V P Q R (BadLine number) f g x q = g x q
+by_fault_both W V P Q R (InUse number) f g x q = g x q
+by_fault_both W V P Q R (Unknown number) f g x q = g x q
 
 pub refused_of : (P : Type 0) (e : ScriptFault) → P → Refused e P
 refused_of P NoMemory p = tt
@@ -27,3 +22,11 @@ refused_of P TooLong p = p
 refused_of P (BadLine number) p = p
 refused_of P (InUse number) p = p
 refused_of P (Unknown number) p = p
+
+-- one fact makes another
+pub by_fault : (W V P Q : Type 0) (e : ScriptFault) → (W → V) → (P → Q) → ByFault e W P → ByFault e V Q
+by_fault W V P Q e f g x = by_fault_both W V P ⊤ Q e f (λ p _. g p) x (refused_of ⊤ e tt)
+
+-- if the world failed, anything holds of a wrong script
+pub world_failed : (W V P : Type 0) (e : ScriptFault) → (W → V) → WorldFailed e W → ByFault e V P
+world_failed W V P e f x = by_fault W V ⊥ P e f (λ b. absurd b) x

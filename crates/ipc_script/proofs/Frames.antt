@@ -14,10 +14,11 @@ use Rattle.ipc_hub.specs.declared.hub.Hub.{Hub}
 use Rattle.ipc_hub.specs.Clients.{Frame, Client, Clients, client_at, with_client, consume, consumed_from, confirmed_bytes, shown, shown_at}
 use Rattle.ipc_hub.specs.Orderly.{IsFrame, IsTidy}
 use Rattle.ipc_hub.specs.Stands.{Stands, Takes}
-use Rattle.ipc_script.specs.Script.{emptied, frame_line}
+use Rattle.ipc_script.specs.Script.{emptied, frame_line, WritesPart}
 use Rattle.ipc_script.specs.Runs.{IsUntouched, taken_from, frames_text}
 use Rattle.ipc_script.proofs.FirstFrame.{frame_length}
 use Rattle.ipc_script.proofs.Tables.{value_here, put_same, put_twice}
+use Rattle.ipc_script.proofs.Written.{part_after, part_more}
 
 -- some frames are written and taken: what is behind them now, and the text so far
 pub record Partly (limits : Limits) (h : Clients) (conn : ℕ) (hub : Hub) (before after : Option (List ℕ)) : Type 0 where
@@ -99,45 +100,77 @@ module _ (limits : Limits) (h : Clients) (conn : ℕ) (hub : Hub) (w0 w1 : Optio
       let marks = subst (All (λ (f : Frame). f.mark ≤ h.accepted)) is (tidy c e).marks in
       shows c e ∙ seen h.accepted c f fs is (whole c e) (All-head (λ (f : Frame). f.mark ≤ h.accepted) f fs marks)
 
-  module _ (next : Hub) (w2 : Option (List ℕ)) (line : List ℕ) (count : ℕ) (some : 0 < length out)
-      (first : (frame rest : List ℕ) → IsFrame frame → out ≡ frame ++ rest → count ≡ length frame)
-      (spelled : line ≡ frame_line conn (take count out)) (wrote : Appends w1 w2 line) (takes : Takes hub next (λ _ h. consume h conn count)) where
-    one_more : (c : Client) → client_at p.now conn ≡ Some c → (fs : List Frame) → c.frames ≡ fs → Partly limits h conn next w0 w2
-    one_more c e [] is =
-        let nothing : out ≡ [] = shows c e ∙ unseen h.accepted c is (whole c e) in
-        absurd (omega (arith, ap length nothing))
-    one_more c e (f ∷ fs) is =
-        let frames = frames_of c e f fs is in
-        let sees = first_seen c e f fs is in
-        let len : count ≡ length f.bytes = first f.bytes (confirmed_bytes h.accepted fs) (All-head (λ (f : Frame). IsFrame f.bytes) f fs frames) sees in
-        let rest : Client = record c { frames = fs; consumed = 0 } in
-        let now : Clients = with_client p.now conn rest in
-        let taken : consume p.now conn count ≡ now = consume_frame p.now conn count c f fs e is (whole c e) (All-tail (λ (f : Frame). IsFrame f.bytes) f fs frames) len in
-        let there : client_at now conn ≡ Some rest = value_here p.now.clients conn rest c e in
-        let left : taken_from now conn ≡ taken_from p.now conn =
-        rw there (rw e (ap (λ (t : List (ℕ × Client)). record p.now { clients = t }) (put_twice p.now.clients conn rest (emptied c)))) in
-        let bytes : take count out ≡ f.bytes = ap (λ (n : ℕ). take n out) len ∙ (ap (take (length f.bytes)) sees ∙ take-append_seam f.bytes (confirmed_bytes h.accepted fs)) in
-        let is_line : line ≡ frame_line conn f.bytes = spelled ∙ ap (frame_line conn) bytes in
-        let before : frames_text p.now conn ≡ line ++ frames_text now conn =
-        rw e (rw there (ap (flat_map (λ (f : Frame). frame_line conn f.bytes)) is ∙ ap (λ (l : List ℕ). l ++ flat_map (λ (f : Frame). frame_line conn f.bytes) fs) (sym is_line))) in
-        record {
-          now = now;
-          text = p.text ++ line;
-          stands = subst (Stands limits h.accepted next) taken (takes limits h.accepted p.now p.stands);
-          accepted = p.accepted;
-          untouched = subst (λ (o : Option Client). IfSome o IsUntouched) (sym there) refl;
-          left = left ∙ p.left;
-          said = append_assoc p.text line (frames_text now conn) ∙ (ap (λ (l : List ℕ). p.text ++ l) (sym before) ∙ p.said);
-          written = Appends-trans w0 w1 w2 p.text line p.written wrote;
-        }
+  -- nothing more is written
+  pub partly_none : WritesPart w0 w1 (frames_text h conn)
+  partly_none = (p.text, frames_text p.now conn, sym p.said, p.written)
 
-    more_at : (o : Option Client) → client_at p.now conn ≡ o → Partly limits h conn next w0 w2
-    more_at None e = let s = see limits h.accepted p.now p.stands in let nothing : out ≡ [] = rw e at s in absurd (omega (arith, ap length nothing))
-    more_at (Some c) e = one_more c e c.frames refl
+  module _ (line : List ℕ) (count : ℕ) (some : 0 < length out) (first : (frame rest : List ℕ) → IsFrame frame → out ≡ frame ++ rest → count ≡ length frame)
+      (spelled : line ≡ frame_line conn (take count out)) where
+    first_length : (c : Client) → client_at p.now conn ≡ Some c → (f : Frame) (fs : List Frame) → c.frames ≡ f ∷ fs → count ≡ length f.bytes
+    first_length c e f fs is = first f.bytes (confirmed_bytes h.accepted fs) (All-head (λ (f : Frame). IsFrame f.bytes) f fs (frames_of c e f fs is)) (first_seen c e f fs is)
 
-    -- one frame more: it is the first of the output, and its line is written
-    pub partly_more : Partly limits h conn next w0 w2
-    partly_more = more_at (client_at p.now conn) refl
+    is_line : (c : Client) → client_at p.now conn ≡ Some c → (f : Frame) (fs : List Frame) → c.frames ≡ f ∷ fs → line ≡ frame_line conn f.bytes
+    is_line c e f fs is =
+        let bytes : take count out ≡ f.bytes =
+        ap (λ (n : ℕ). take n out) (first_length c e f fs is) ∙ (ap (take (length f.bytes)) (first_seen c e f fs is) ∙ take-append_seam f.bytes (confirmed_bytes h.accepted fs)) in
+        spelled ∙ ap (frame_line conn) bytes
+
+    line_first : (c : Client) → client_at p.now conn ≡ Some c → (f : Frame) (fs : List Frame) → c.frames ≡ f ∷ fs
+        → frames_text p.now conn ≡ line ++ flat_map (λ f. frame_line conn f.bytes) fs
+    line_first c e f fs is =
+        rw e (ap (flat_map (λ (f : Frame). frame_line conn f.bytes)) is ∙ ap (λ (l : List ℕ). l ++ flat_map (λ (f : Frame). frame_line conn f.bytes) fs) (sym (is_line c e f fs is)))
+
+    no_client : client_at p.now conn ≡ None → ⊥
+    no_client e = let s = see limits h.accepted p.now p.stands in let nothing : out ≡ [] = rw e at s in absurd (omega (arith, ap length nothing))
+
+    no_first : (c : Client) → client_at p.now conn ≡ Some c → c.frames ≡ [] → ⊥
+    no_first c e is = let nothing : out ≡ [] = shows c e ∙ unseen h.accepted c is (whole c e) in absurd (omega (arith, ap length nothing))
+
+    part_of : (w2 : Option (List ℕ)) → WritesPart w1 w2 line → (c : Client) → client_at p.now conn ≡ Some c → (fs : List Frame) → c.frames ≡ fs → WritesPart w0 w2 (frames_text h conn)
+    part_of w2 part c e [] is = absurd (no_first c e is)
+    part_of w2 part c e (f ∷ fs) is =
+        subst (WritesPart w0 w2) p.said
+        (part_after w0 w1 w2 p.text (frames_text p.now conn) p.written (subst (WritesPart w1 w2) (sym (line_first c e f fs is)) (part_more w1 w2 line _ part)))
+
+    part_at : (w2 : Option (List ℕ)) → WritesPart w1 w2 line → (o : Option Client) → client_at p.now conn ≡ o → WritesPart w0 w2 (frames_text h conn)
+    part_at w2 part None e = absurd (no_client e)
+    part_at w2 part (Some c) e = part_of w2 part c e c.frames refl
+
+    -- a beginning of the first line is written
+    pub partly_part : (w2 : Option (List ℕ)) → WritesPart w1 w2 line → WritesPart w0 w2 (frames_text h conn)
+    partly_part w2 part = part_at w2 part (client_at p.now conn) refl
+
+    module _ (next : Hub) (w2 : Option (List ℕ)) (wrote : Appends w1 w2 line) (takes : Takes hub next (λ _ h. consume h conn count)) where
+      one_more : (c : Client) → client_at p.now conn ≡ Some c → (fs : List Frame) → c.frames ≡ fs → Partly limits h conn next w0 w2
+      one_more c e [] is = absurd (no_first c e is)
+      one_more c e (f ∷ fs) is =
+          let frames = frames_of c e f fs is in
+          let rest : Client = record c { frames = fs; consumed = 0 } in
+          let now : Clients = with_client p.now conn rest in
+          let taken : consume p.now conn count ≡ now =
+          consume_frame p.now conn count c f fs e is (whole c e) (All-tail (λ (f : Frame). IsFrame f.bytes) f fs frames) (first_length c e f fs is) in
+          let there : client_at now conn ≡ Some rest = value_here p.now.clients conn rest c e in
+          let left : taken_from now conn ≡ taken_from p.now conn =
+          rw there (rw e (ap (λ (t : List (ℕ × Client)). record p.now { clients = t }) (put_twice p.now.clients conn rest (emptied c)))) in
+          let before : frames_text p.now conn ≡ line ++ frames_text now conn = line_first c e f fs is ∙ rw there refl in
+          record {
+            now = now;
+            text = p.text ++ line;
+            stands = subst (Stands limits h.accepted next) taken (takes limits h.accepted p.now p.stands);
+            accepted = p.accepted;
+            untouched = subst (λ (o : Option Client). IfSome o IsUntouched) (sym there) refl;
+            left = left ∙ p.left;
+            said = append_assoc p.text line (frames_text now conn) ∙ (ap (λ (l : List ℕ). p.text ++ l) (sym before) ∙ p.said);
+            written = Appends-trans w0 w1 w2 p.text line p.written wrote;
+          }
+
+      more_at : (o : Option Client) → client_at p.now conn ≡ o → Partly limits h conn next w0 w2
+      more_at None e = absurd (no_client e)
+      more_at (Some c) e = one_more c e c.frames refl
+
+      -- one frame more: it is the first of the output, and its line is written
+      pub partly_more : Partly limits h conn next w0 w2
+      partly_more = more_at (client_at p.now conn) refl
 
   abbrev Done : Type 0
   Done = Stands limits h.accepted hub (taken_from h conn) × Appends w0 w1 (frames_text h conn)

@@ -15,10 +15,11 @@ use Rattle.ipc_hub.specs.declared.hub.Hub.{Hub}
 use Rattle.ipc_hub.specs.Clients.{Client, Clients, client_at, ended_at}
 use Rattle.ipc_hub.specs.Stands.{Stands}
 use Rattle.ipc_script.specs.declared.report.Opened.{Opened}
-use Rattle.ipc_script.specs.Script.{Run, emptied, rising, conn_text, reported, report}
+use Rattle.ipc_script.specs.Script.{Run, emptied, rising, conn_text, reported, report, WritesPart}
 use Rattle.ipc_script.specs.Runs.{IsBehind, IsUntouched, taken_from, opened_of, ReportsConnection}
 use Rattle.ipc_script.proofs.Tables.{test, flipped, same_number, distinct_tail, value_here, value_elsewhere, keys_put, same_table, value_mapped, keys_mapped, no_value}
 use Rattle.ipc_script.proofs.Rising.{distinct_rising, any_rising}
+use Rattle.ipc_script.proofs.Written.{part_after, part_more}
 
 -- ---- the hub of which one connection's frames are taken
 
@@ -113,72 +114,115 @@ module _ (limits : Limits) (r : Run) (hub : Hub) (opened : List Opened) (index :
       ∙ (ap (λ (n : ℕ). n + length (map (opened_of r.told) p.left)) (length-map p.done (opened_of (reported r).told) ∙ p.place)
       ∙ ap (λ (n : ℕ). index + n) (length-map p.left (opened_of r.told))))
 
-  module _ (untouched : (conn : ℕ) → IfSome (client_at r.hub conn) IsUntouched) (next : Hub) (w2 : Option (List ℕ)) (item d item' : Opened)
-      (inside : index < length opened) (is_item : item ≡ get_or opened index d)
-      (call : (s : Run) → Stands limits s.hub.accepted hub s.hub → IfSome (client_at s.hub item.conn) IsUntouched → item ≡ opened_of s.told item.conn
-      → ReportsConnection limits s next item.conn item' w1 w2) where
-    one_reported : (left : List ℕ) → p.left ≡ left → PartlyReported limits r next (set opened index item') (index + 1) w0 w2
-    one_reported [] e = absurd (omega (arith, count, ap length e))
-    one_reported (n ∷ rest) e =
-        let told = opened_of (reported r).told in
-        let kept : opened ≡ map told p.done ++ opened_of r.told n ∷ map (opened_of r.told) rest =
-        p.kept ∙ ap (λ (l : List ℕ). map told p.done ++ map (opened_of r.told) l) e in
-        let place : length (map told p.done) ≡ index = length-map p.done told ∙ p.place in
-        let item_is : item ≡ opened_of r.told n =
-        is_item ∙ (ap (λ (xs : List Opened). get_or xs index d) kept
-        ∙ (ap (λ (i : ℕ). get_or (map told p.done ++ opened_of r.told n ∷ map (opened_of r.told) rest) i d) (sym place)
-        ∙ get_or-append_seam (map told p.done) (opened_of r.told n) (map (opened_of r.told) rest) d)) in
-        let conn_is : item.conn ≡ n = ap (λ (o : Opened). o.conn) item_is in
-        let apart : IsDistinct nat_eq (n ∷ rest) = subst (IsDistinct nat_eq) e p.apart in
-        let values : (m : ℕ) → client_at p.now m ≡ left_of r.hub (n ∷ rest) m = λ m. subst (λ (l : List ℕ). client_at p.now m ≡ left_of r.hub l m) e (p.clients m) in
-        let self : nat_eq n n ≡ true = same_number n in
-        let here : client_at p.now n ≡ client_at r.hub n = values n ∙ rw self refl in
-        let now : Run = record { hub = p.now; told = r.told } in
-        let stands : Stands limits p.now.accepted hub p.now = subst (λ (k : ℕ). Stands limits k hub p.now) (sym p.like.accepted) p.stands in
-        let whole : IfSome (client_at p.now item.conn) IsUntouched =
-        subst (λ (k : ℕ). IfSome (client_at p.now k) IsUntouched) (sym conn_is) (same_untouched r.hub p.now n here (untouched n)) in
-        let one : ReportsConnection limits now next n item' w1 w2 =
-        subst (λ (k : ℕ). ReportsConnection limits now next k item' w1 w2) conn_is (call now stands whole (item_is ∙ ap (opened_of r.told) (sym conn_is))) in
-        let item_now : item' ≡ told n = one.kept ∙ ap (λ (b : Bool). record { conn = n; told = r.told n || b }) (same_end r.hub p.now n here) in
-        let text : conn_text now n ≡ conn_text r n = same_text r p.now n here in
-        let more = taken_like p.now n in
-        record {
-          now = taken_from p.now n;
-          text = p.text ++ conn_text now n;
-          done = p.done ++ n ∷ [];
-          left = rest;
-          all = append_assoc p.done (n ∷ []) rest ∙ (ap (λ (l : List ℕ). p.done ++ l) (sym e) ∙ p.all);
-          place = length-append p.done (n ∷ []) ∙ ap (λ (k : ℕ). k + 1) p.place;
-          apart = IsDistinct-tail nat_eq n rest apart;
-          stands = subst (λ (k : ℕ). Stands limits k next (taken_from p.now n)) p.like.accepted one.stands;
-          like = record { state = more.state ∙ p.like.state; accepted = more.accepted ∙ p.like.accepted; keys = more.keys ∙ p.like.keys };
-          clients = λ m. (elim (test (nat_eq m n)) [
-            | inl t ↦
-                let same : m ≡ n = eqb-true m n t in
-                let gone : list_any (nat_eq n) rest ≡ false = distinct_tail n rest (IsDistinct-head nat_eq n rest apart) n self in
-                let taken : client_at (taken_from p.now n) n ≡ left_of r.hub rest n = taken_here p.now n ∙ (ap (option_map emptied) here ∙ rw gone refl) in
-                subst (λ (k : ℕ). client_at (taken_from p.now n) k ≡ left_of r.hub rest k) (sym same) taken
-            | inr f ↦
-                let was : client_at p.now m ≡ left_of r.hub rest m = values m ∙ rw f refl in
-                taken_elsewhere p.now n m (flipped n m ∙ f) ∙ was
-          ]);
-          kept =
-              ap (λ (xs : List Opened). set xs index item') kept
-              ∙ (ap (λ (i : ℕ). set (map told p.done ++ opened_of r.told n ∷ map (opened_of r.told) rest) i item') (sym place)
-              ∙ (set-append_seam (map told p.done) (opened_of r.told n) (map (opened_of r.told) rest) item'
-              ∙ (ap (λ (o : Opened). map told p.done ++ o ∷ map (opened_of r.told) rest) item_now
-              ∙ (sym (append_assoc (map told p.done) (told n ∷ []) (map (opened_of r.told) rest))
-              ∙ ap (λ (xs : List Opened). xs ++ map (opened_of r.told) rest) (sym (map-append told p.done (n ∷ [])))))));
-          said =
-              append_assoc p.text (conn_text now n) (flat_map (conn_text r) rest)
-              ∙ (ap (λ (l : List ℕ). p.text ++ (l ++ flat_map (conn_text r) rest)) text
-              ∙ (ap (λ (l : List ℕ). p.text ++ flat_map (conn_text r) l) (sym e) ∙ p.said));
-          written = Appends-trans w0 w1 w2 p.text (conn_text now n) p.written one.text;
-        }
+  abbrev now_run : Run
+  now_run = record { hub = p.now; told = r.told }
 
-    -- one connection more
-    pub reported_more : PartlyReported limits r next (set opened index item') (index + 1) w0 w2
-    reported_more = one_reported p.left refl
+  module _ (untouched : (conn : ℕ) → IfSome (client_at r.hub conn) IsUntouched) (item d : Opened) (inside : index < length opened) (is_item : item ≡ get_or opened index d) where
+    -- there is one that is left
+    no_rest : p.left ≡ [] → ⊥
+    no_rest e = absurd (omega (arith, count, ap length e))
+
+    -- the item is the first that is left
+    module _ (n : ℕ) (rest : List ℕ) (e : p.left ≡ n ∷ rest) where
+      abbrev told_of : ℕ → Opened
+      told_of = opened_of (reported r).told
+
+      places : opened ≡ map told_of p.done ++ opened_of r.told n ∷ map (opened_of r.told) rest
+      places = p.kept ∙ ap (λ (l : List ℕ). map told_of p.done ++ map (opened_of r.told) l) e
+
+      seam : length (map told_of p.done) ≡ index
+      seam = length-map p.done told_of ∙ p.place
+
+      item_is : item ≡ opened_of r.told n
+      item_is =
+          is_item ∙ (ap (λ (xs : List Opened). get_or xs index d) places
+          ∙ (ap (λ (i : ℕ). get_or (map told_of p.done ++ opened_of r.told n ∷ map (opened_of r.told) rest) i d) (sym seam)
+          ∙ get_or-append_seam (map told_of p.done) (opened_of r.told n) (map (opened_of r.told) rest) d))
+
+      values : (m : ℕ) → client_at p.now m ≡ left_of r.hub (n ∷ rest) m
+      values m = subst (λ (l : List ℕ). client_at p.now m ≡ left_of r.hub l m) e (p.clients m)
+
+      here : client_at p.now n ≡ client_at r.hub n
+      here = values n ∙ rw (same_number n) refl
+
+      -- what is done with the item is done with its connection
+      done_here : (C : Run → ℕ → Type 0)
+          → ((s : Run) → Stands limits s.hub.accepted hub s.hub → IfSome (client_at s.hub item.conn) IsUntouched → item ≡ opened_of s.told item.conn → C s item.conn) → C now_run n
+      done_here C call =
+          let conn_is : item.conn ≡ n = ap (λ (o : Opened). o.conn) item_is in
+          let stands : Stands limits p.now.accepted hub p.now = subst (λ (k : ℕ). Stands limits k hub p.now) (sym p.like.accepted) p.stands in
+          let whole : IfSome (client_at p.now item.conn) IsUntouched =
+          subst (λ (k : ℕ). IfSome (client_at p.now k) IsUntouched) (sym conn_is) (same_untouched r.hub p.now n here (untouched n)) in
+          subst (C now_run) conn_is (call now_run stands whole (item_is ∙ ap (opened_of r.told) (sym conn_is)))
+
+    module _ (w2 : Option (List ℕ)) (call : (s : Run) → Stands limits s.hub.accepted hub s.hub → IfSome (client_at s.hub item.conn) IsUntouched → item ≡ opened_of s.told item.conn
+        → WritesPart w1 w2 (conn_text s item.conn)) where
+      part_left : (left : List ℕ) → p.left ≡ left → WritesPart w0 w2 (report r).text
+      part_left [] e = absurd (no_rest e)
+      part_left (n ∷ rest) e =
+          let said : p.text ++ (conn_text r n ++ flat_map (conn_text r) rest) ≡ (report r).text = ap (λ (l : List ℕ). p.text ++ flat_map (conn_text r) l) (sym e) ∙ p.said in
+          let part : WritesPart w1 w2 (conn_text now_run n) = done_here n rest e (λ s k. WritesPart w1 w2 (conn_text s k)) call in
+          subst (WritesPart w0 w2) said (part_after w0 w1 w2 p.text _ p.written
+          (part_more w1 w2 (conn_text r n) _ (subst (WritesPart w1 w2) (same_text r p.now n (here n rest e)) part)))
+
+      -- a beginning of what is said of one connection is written
+      pub reported_part : WritesPart w0 w2 (report r).text
+      reported_part = part_left p.left refl
+
+    module _ (next : Hub) (w2 : Option (List ℕ)) (item' : Opened)
+        (call : (s : Run) → Stands limits s.hub.accepted hub s.hub → IfSome (client_at s.hub item.conn) IsUntouched → item ≡ opened_of s.told item.conn
+        → ReportsConnection limits s next item.conn item' w1 w2) where
+      one_reported : (left : List ℕ) → p.left ≡ left → PartlyReported limits r next (set opened index item') (index + 1) w0 w2
+      one_reported [] e = absurd (no_rest e)
+      one_reported (n ∷ rest) e =
+          let told = opened_of (reported r).told in
+          let kept = places n rest e in
+          let place : length (map told p.done) ≡ index = seam n rest e in
+          let apart : IsDistinct nat_eq (n ∷ rest) = subst (IsDistinct nat_eq) e p.apart in
+          let self : nat_eq n n ≡ true = same_number n in
+          let at : client_at p.now n ≡ client_at r.hub n = here n rest e in
+          let now : Run = now_run in
+          let one : ReportsConnection limits now next n item' w1 w2 = done_here n rest e (λ s k. ReportsConnection limits s next k item' w1 w2) call in
+          let item_now : item' ≡ told n = one.kept ∙ ap (λ (b : Bool). record { conn = n; told = r.told n || b }) (same_end r.hub p.now n at) in
+          let text : conn_text now n ≡ conn_text r n = same_text r p.now n at in
+          let more = taken_like p.now n in
+          record {
+            now = taken_from p.now n;
+            text = p.text ++ conn_text now n;
+            done = p.done ++ n ∷ [];
+            left = rest;
+            all = append_assoc p.done (n ∷ []) rest ∙ (ap (λ (l : List ℕ). p.done ++ l) (sym e) ∙ p.all);
+            place = length-append p.done (n ∷ []) ∙ ap (λ (k : ℕ). k + 1) p.place;
+            apart = IsDistinct-tail nat_eq n rest apart;
+            stands = subst (λ (k : ℕ). Stands limits k next (taken_from p.now n)) p.like.accepted one.stands;
+            like = record { state = more.state ∙ p.like.state; accepted = more.accepted ∙ p.like.accepted; keys = more.keys ∙ p.like.keys };
+            clients = λ m. (elim (test (nat_eq m n)) [
+              | inl t ↦
+                  let same : m ≡ n = eqb-true m n t in
+                  let gone : list_any (nat_eq n) rest ≡ false = distinct_tail n rest (IsDistinct-head nat_eq n rest apart) n self in
+                  let taken : client_at (taken_from p.now n) n ≡ left_of r.hub rest n = taken_here p.now n ∙ (ap (option_map emptied) at ∙ rw gone refl) in
+                  subst (λ (k : ℕ). client_at (taken_from p.now n) k ≡ left_of r.hub rest k) (sym same) taken
+              | inr f ↦
+                  let was : client_at p.now m ≡ left_of r.hub rest m = values n rest e m ∙ rw f refl in
+                  taken_elsewhere p.now n m (flipped n m ∙ f) ∙ was
+            ]);
+            kept =
+                ap (λ (xs : List Opened). set xs index item') kept
+                ∙ (ap (λ (i : ℕ). set (map told p.done ++ opened_of r.told n ∷ map (opened_of r.told) rest) i item') (sym place)
+                ∙ (set-append_seam (map told p.done) (opened_of r.told n) (map (opened_of r.told) rest) item'
+                ∙ (ap (λ (o : Opened). map told p.done ++ o ∷ map (opened_of r.told) rest) item_now
+                ∙ (sym (append_assoc (map told p.done) (told n ∷ []) (map (opened_of r.told) rest))
+                ∙ ap (λ (xs : List Opened). xs ++ map (opened_of r.told) rest) (sym (map-append told p.done (n ∷ [])))))));
+            said =
+                append_assoc p.text (conn_text now n) (flat_map (conn_text r) rest)
+                ∙ (ap (λ (l : List ℕ). p.text ++ (l ++ flat_map (conn_text r) rest)) text
+                ∙ (ap (λ (l : List ℕ). p.text ++ flat_map (conn_text r) l) (sym e) ∙ p.said));
+            written = Appends-trans w0 w1 w2 p.text (conn_text now n) p.written one.text;
+          }
+
+      -- one connection more
+      pub reported_more : PartlyReported limits r next (set opened index item') (index + 1) w0 w2
+      reported_more = one_reported p.left refl
 
   nothing_left : (left : List ℕ) → p.left ≡ left → length opened ≤ index → left ≡ []
   nothing_left [] e most = refl

@@ -13,9 +13,10 @@ use Rattle.ipc_script.specs.declared.fault.ScriptFault.{ScriptFault}
 use Rattle.ipc_script.specs.declared.report.Opened.{Opened}
 use Rattle.ipc_script.specs.declared.fault.ScriptFault.TheVariants.{NoMemory, Input, Output, TooLong, BadLine, InUse, Unknown}
 use Rattle.ipc_script.specs.Line.{longest_script, PlainLine, Open, Data, End, Tick, line_of, lines_of}
-use Rattle.ipc_script.specs.Script.{Run, Cut, Progress, Outcome, start_run, text_done, first_cut, goes_on, run_lines, is_open, opened, report, fed_in_pieces, EndsAs, Runs}
+use Rattle.ipc_script.specs.Script.{Run, Cut, Progress, Outcome, start_run, text_done, first_cut, goes_on, run_lines, is_open, opened, report, fed_in_pieces, script_run, WritesPart, EndsAs, BreaksOff, Runs}
 use Rattle.ipc_script.specs.Input.{IsReadFault, ReadsTooMuch}
-use Rattle.ipc_script.specs.Runs.{IsBehind, LinesRun}
+use Rattle.ipc_script.specs.Runs.{IsBehind, LinesRun, text_of}
+use Rattle.ipc_script.proofs.Written.{part_none, part_after, part_more}
 
 -- after a text, what comes
 abbrev pub later : List ℕ → Outcome → Outcome
@@ -29,6 +30,11 @@ pub record PartlyRun (limits : Limits) (s : State) (script : List ℕ) (number :
   pub at : IsBehind limits hub opened now
   pub written : Appends before after text
   pub runs : (more : List Cut) → run_lines limits 1 (start_run s) (lines_of script) (done ++ more) ≡ later text (run_lines limits number now (lines_of rest) more)
+
+-- a beginning of what a line writes begins what it and the next lines write
+goes_part : (a b : Option (List ℕ)) (result : Result Progress ScriptFault) (next : Run → Outcome) → WritesPart a b (text_of result) → WritesPart a b (goes_on result next).text
+goes_part a b (Err e) next part = part
+goes_part a b (Ok p) next part = part_more a b p.text (next p.run).text part
 
 module _ (limits : Limits) (s : State) (script : List ℕ) where
   pub run_begun : (hub : Hub) (w : Option (List ℕ)) → Stands limits 0 hub (no_clients s) → PartlyRun limits s script 1 hub [] script w w
@@ -73,6 +79,16 @@ module _ (limits : Limits) (s : State) (script : List ℕ) where
         ∙ (ap (λ (ls : List (List ℕ)). later p.text (run_lines limits number p.now ls [])) lines
         ∙ ap (λ r. later p.text (goes_on r (λ now. run_lines limits (number + 1) now (lines_of behind) []))) (is (first_cut [])))) in
         (p.done, (subst (Appends w0 w2) (sym (ap (λ (o : Outcome). o.text) ends)) (Appends-trans w0 w1 w2 p.text [] p.written wrote), ap (λ (o : Outcome). o.fault) ends))
+
+    -- a line of which a beginning is written
+    pub run_broken : (line behind : List ℕ) → lines_of rest ≡ line ∷ lines_of behind → (cut : Cut) → (w2 : Option (List ℕ))
+        → WritesPart w1 w2 (text_of (text_done limits number p.now (line_of line) cut)) → BreaksOff limits s script w0 w2
+    run_broken line behind lines cut w2 part =
+        let next : Run → Outcome = λ now. run_lines limits (number + 1) now (lines_of behind) [] in
+        let done : Result Progress ScriptFault = text_done limits number p.now (line_of line) cut in
+        let ends : run_lines limits 1 (start_run s) (lines_of script) (p.done ++ cut ∷ []) ≡ later p.text (goes_on done next) =
+        p.runs (cut ∷ []) ∙ ap (λ (ls : List (List ℕ)). later p.text (run_lines limits number p.now ls (cut ∷ []))) lines in
+        (p.done ++ cut ∷ [], subst (WritesPart w0 w2) (sym (ap (λ (o : Outcome). o.text) ends)) (part_after w0 w1 w2 p.text (goes_on done next).text p.written (goes_part w1 w2 done next part)))
 
     -- no line more
     pub run_ended : lines_of rest ≡ [] → EndsAs limits s script w0 w1 None
@@ -146,11 +162,15 @@ long_input None left long = (long.0, tt, long.2)
 long_input (Some input) None long = absurd long.1
 long_input (Some input) (Some rest) long = (input, refl, omega (arith, ap length long.1, length-append long.0 rest, long.2))
 
+-- nothing of a script is written
+unwritten : (limits : Limits) (s : State) (script : List ℕ) (w : Option (List ℕ)) → BreaksOff limits s script w w
+unwritten limits s script w = ([], part_none w (script_run limits s script []).text)
+
 -- a script that was not read whole
 pub not_read : (limits : Limits) (s : State) (remaining left w : Option (List ℕ)) (e : ScriptFault) → IsReadFault e → (e ≡ TooLong → ReadsTooMuch remaining left)
     → (script : List ℕ) × IfSome remaining (λ input. script ≡ input) × Runs limits s script w w (Err e)
-not_read limits s remaining left w NoMemory f long = (input_of remaining, is_input remaining, tt)
-not_read limits s remaining left w Input f long = (input_of remaining, is_input remaining, tt)
+not_read limits s remaining left w NoMemory f long = (input_of remaining, is_input remaining, unwritten limits s (input_of remaining) w)
+not_read limits s remaining left w Input f long = (input_of remaining, is_input remaining, unwritten limits s (input_of remaining) w)
 not_read limits s remaining left w Output f long = absurd f
 not_read limits s remaining left w TooLong f long = let l = long_input remaining left (long refl) in (l.0, l.1, (l.2, Appends-nil w))
 not_read limits s remaining left w (BadLine number) f long = absurd f

@@ -12,7 +12,7 @@ use Rattle.ipc_script.specs.declared.fault.ScriptFault.{ScriptFault}
 use Rattle.ipc_script.specs.declared.fault.ScriptFault.TheVariants.{NoMemory, Input, Output, TooLong, BadLine, InUse, Unknown}
 use Rattle.ipc_script.specs.declared.report.Opened.{Opened}
 use Rattle.ipc_script.specs.Line.{PlainLine}
-use Rattle.ipc_script.specs.Script.{Run, Progress, Cut, rising, emptied, frame_line, conn_text, reported, is_open, fed, line_done, EndsAs}
+use Rattle.ipc_script.specs.Script.{Run, Progress, Cut, rising, emptied, frame_line, conn_text, reported, is_open, fed, line_done, WritesPart, EndsAs, BreaksOff}
 
 -- ---- what the program keeps
 
@@ -71,30 +71,51 @@ pub record FeedsSome (limits : Limits) (r : Run) (moment conn : ℕ) (bytes : Li
   pub was : is_open r conn ≡ true
   pub is : is_open (fed limits r moment conn (take taken bytes) refused).run conn ≡ true
 
+-- bytes are fed, and a beginning of what they let out is written
+pub record FeedsPart (limits : Limits) (r : Run) (moment conn : ℕ) (bytes : List ℕ) (before after : Option (List ℕ)) : Type 0 where
+  pub taken : ℕ
+  pub refused : List Bool
+  pub text : WritesPart before after (fed limits r moment conn (take taken bytes) refused).text
+  pub some : 0 < length bytes → 0 < taken
+  -- the connection is open
+  pub was : is_open r conn ≡ true
+
 -- ---- results
 
--- what holds of a fault that is not the world's
+-- what holds of a fault: one thing if the world failed, another if the script is wrong
+abbrev pub ByFault : ScriptFault → Type 0 → Type 0 → Type 0
+ByFault NoMemory W P = W
+ByFault Input W P = W
+ByFault Output W P = W
+ByFault TooLong W P = P
+ByFault (BadLine number) W P = P
+ByFault (InUse number) W P = P
+ByFault (Unknown number) W P = P
+
+-- the script is wrong, and this holds; or the world failed
 abbrev pub Refused : ScriptFault → Type 0 → Type 0
-Refused NoMemory P = ⊤
-Refused Input P = ⊤
-Refused Output P = ⊤
-Refused TooLong P = P
-Refused (BadLine number) P = P
-Refused (InUse number) P = P
-Refused (Unknown number) P = P
+Refused e P = ByFault e ⊤ P
 
--- the world has failed, and nothing is said of the run
-abbrev pub IsOfWorld : ScriptFault → Type 0
-IsOfWorld e = Refused e ⊥
+-- the world failed, and this holds
+abbrev pub WorldFailed : ScriptFault → Type 0 → Type 0
+WorldFailed e W = ByFault e W ⊥
 
--- a line was run for some cut of it, or is refused however it is cut
+-- what a line writes if it is run
+abbrev pub text_of : Result Progress ScriptFault → List ℕ
+text_of (Ok p) = p.text
+text_of (Err e) = []
+
+-- A line was run for some cut of it, or is refused however it is cut; or the world failed, and a beginning of its text
+-- is written.
 abbrev pub LineRuns : Limits → ℕ → Run → PlainLine → Hub → List Opened → Option (List ℕ) → Option (List ℕ) → Result ⊤ ScriptFault → Type 0
 LineRuns limits number r line hub opened before after (Ok _) =
     (cut : Cut) × (p : Progress) × (line_done limits number r line cut ≡ Ok p) × IsBehind limits hub opened p.run × Appends before after p.text
 LineRuns limits number r line hub opened before after (Err e) =
-    Refused e (((cut : Cut) → line_done limits number r line cut ≡ Err e) × Appends before after [])
+    ByFault e ((cut : Cut) × WritesPart before after (text_of (line_done limits number r line cut)))
+    (((cut : Cut) → line_done limits number r line cut ≡ Err e) × Appends before after [])
 
 -- the same of all lines of a script
 abbrev pub LinesRun : Limits → State → List ℕ → Option (List ℕ) → Option (List ℕ) → Result ⊤ ScriptFault → Type 0
 LinesRun limits s script before after (Ok _) = EndsAs limits s script before after None
-LinesRun limits s script before after (Err e) = Refused e (EndsAs limits s script before after (Some e))
+LinesRun limits s script before after (Err e) =
+    ByFault e (BreaksOff limits s script before after) (EndsAs limits s script before after (Some e))

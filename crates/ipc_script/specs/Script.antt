@@ -100,7 +100,7 @@ fed_in_pieces limits r moment conn bytes [] = fed limits r moment conn bytes []
 fed_in_pieces limits r moment conn bytes (p ∷ ps) =
     if nat_lt (p.more + 1) (length bytes)
     then followed (fed limits r moment conn (take (p.more + 1) bytes) p.refused)
-        (λ now. fed_in_pieces limits now moment conn (drop (p.more + 1) bytes) ps)
+    (λ now. fed_in_pieces limits now moment conn (drop (p.more + 1) bytes) ps)
     else fed limits r moment conn bytes p.refused
 
 -- The line of this number: `open` of a connection that is open is refused, and so is another line for one that is not.
@@ -150,21 +150,30 @@ script_run limits s script cuts = run_lines limits 1 (start_run s) (lines_of scr
 
 -- ---- what is promised of a run
 
+-- a beginning of a text is written
+abbrev pub WritesPart : Option (List ℕ) → Option (List ℕ) → List ℕ → Type 0
+WritesPart before after text = (part : List ℕ) × (rest : List ℕ) × (text ≡ part ++ rest) × Appends before after part
+
 -- for some cut of each line what is written is the run's text, and the fault is the run's
 abbrev pub EndsAs : Limits → State → List ℕ → Option (List ℕ) → Option (List ℕ) → Option ScriptFault → Type 0
 EndsAs limits s script before after fault =
     (cuts : List Cut) × (let outcome = script_run limits s script cuts in Appends before after outcome.text × (outcome.fault ≡ fault))
 
+-- for some cut of each line what is written is a beginning of the run's text
+abbrev pub BreaksOff : Limits → State → List ℕ → Option (List ℕ) → Option (List ℕ) → Type 0
+BreaksOff limits s script before after = (cuts : List Cut) × WritesPart before after (script_run limits s script cuts).text
+
 -- a script that is not too long has run
 abbrev pub HasRun : Limits → State → List ℕ → Option (List ℕ) → Option (List ℕ) → Option ScriptFault → Type 0
 HasRun limits s script before after fault = (length script ≤ longest_script) × EndsAs limits s script before after fault
 
--- What holds of a script when its run has ended, where the world did not fail. A script that is too long is not begun.
+-- What holds of a script when its run has ended. If the world failed, the run broke off. A script that is too long is
+-- not begun.
 abbrev pub Runs : Limits → State → List ℕ → Option (List ℕ) → Option (List ℕ) → Result ⊤ ScriptFault → Type 0
 Runs limits s script before after (Ok _) = HasRun limits s script before after None
-Runs limits s script before after (Err NoMemory) = ⊤
-Runs limits s script before after (Err Input) = ⊤
-Runs limits s script before after (Err Output) = ⊤
+Runs limits s script before after (Err NoMemory) = BreaksOff limits s script before after
+Runs limits s script before after (Err Input) = BreaksOff limits s script before after
+Runs limits s script before after (Err Output) = BreaksOff limits s script before after
 Runs limits s script before after (Err TooLong) = (longest_script < length script) × Appends before after []
 Runs limits s script before after (Err (BadLine number)) = HasRun limits s script before after (Some (BadLine number))
 Runs limits s script before after (Err (InUse number)) = HasRun limits s script before after (Some (InUse number))

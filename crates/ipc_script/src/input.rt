@@ -16,8 +16,7 @@ pub const LONGEST_SCRIPT: usize = 16777216;
 
 /// All that the reader gives. A read that fails, an interrupted one too, is a fault.
 pub fn read_script<R: Read>(alloc: Global, reader: &mut R) -> Result<Vec<u8>, ScriptFault>
-    ensures whole {
-        IfOk result (λ script. IfSome (R.remaining reader.old) (λ input. script.items ≡ input)) }
+    ensures whole { IfOk result (λ script. IfSome (R.remaining reader.old) (λ input. script.items ≡ input)) }
     ensures end { OnOk result (IsAtEnd (R.remaining reader.new)) }
     ensures bounded { IfOk result (λ script. length script.items ≤ longest_script) }
     ensures faults { IfErr result IsReadFault }

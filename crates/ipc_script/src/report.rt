@@ -1,13 +1,13 @@
 //! What a script's run writes: a line for each frame, and one where the server has ended a connection.
 
-ghost use Rattle.std.specs.Prelude.{◌≡◌, ◌<◌, ◌≤◌, ℕ, List, ◌++◌, length, IfOk, IfErr, IfSome, OnOk, string_bytes};
+ghost use Rattle.std.specs.Prelude.{◌≡◌, ⊤, ◌<◌, ◌≤◌, ℕ, List, ◌++◌, length, IfOk, IfErr, IfSome, OnOk, string_bytes};
 ghost use Rattle.std.specs.Io.KnownBytes.{Appends};
 ghost use Rattle.ipc_base.specs.declared.limits.Limits.{Limits};
 ghost use Rattle.ipc_hub.specs.Clients.{Clients, client_at};
 ghost use Rattle.ipc_hub.specs.Orderly.{IsFrame};
 ghost use Rattle.ipc_hub.specs.Stands.{Stands};
-ghost use Rattle.ipc_script.specs.Script.{Run, report as report_of, frame_line as frame_text, end_line as end_text};
-ghost use Rattle.ipc_script.specs.Runs.{IsIn, IsBehind, IsUntouched, IsOfWorld, opened_of, taken_from, frames_text, ReportsConnection};
+ghost use Rattle.ipc_script.specs.Script.{Run, WritesPart, conn_text, report as report_of, frame_line as frame_text, end_line as end_text};
+ghost use Rattle.ipc_script.specs.Runs.{IsIn, IsBehind, IsUntouched, WorldFailed, opened_of, taken_from, frames_text, ReportsConnection};
 
 use crate::fault::ScriptFault;
 use ipc_hub::Hub;
@@ -31,8 +31,10 @@ pub fn report<W: Write>(
     writer: &mut W,
 ) -> Result<(), ScriptFault>
     ensures ok { OnOk result ((limits : Limits) (r : Run) → IsIn limits hub.old opened.old r →
-        IsBehind limits hub.new opened.new (report_of r).run × Appends (W.contents writer.old) (W.contents writer.new) (report_of r).text) }
-    ensures err { IfErr result IsOfWorld }
+        IsBehind limits hub.new opened.new (report_of r).run
+        × Appends (W.contents writer.old) (W.contents writer.new) (report_of r).text) }
+    ensures err { IfErr result (λ e. WorldFailed e ((limits : Limits) (r : Run) → IsIn limits hub.old opened.old r →
+        WritesPart (W.contents writer.old) (W.contents writer.new) (report_of r).text)) }
 {
     hub.release();
     for connection in opened.iter_mut() {
@@ -48,9 +50,12 @@ fn report_connection<W: Write>(
     connection: &mut Opened,
     writer: &mut W,
 ) -> Result<(), ScriptFault>
-    ensures ok { OnOk result ((limits : Limits) (r : Run) → Stands limits r.hub.accepted hub.old r.hub → IfSome (client_at r.hub connection.old.conn) IsUntouched →
-        connection.old ≡ opened_of r.told connection.old.conn → ReportsConnection limits r hub.new connection.old.conn connection.new (W.contents writer.old) (W.contents writer.new)) }
-    ensures err { IfErr result IsOfWorld }
+    ensures ok { OnOk result ((limits : Limits) (r : Run) → Stands limits r.hub.accepted hub.old r.hub →
+        IfSome (client_at r.hub connection.old.conn) IsUntouched → connection.old ≡ opened_of r.told connection.old.conn →
+        ReportsConnection limits r hub.new connection.old.conn connection.new (W.contents writer.old) (W.contents writer.new)) }
+    ensures err { IfErr result (λ e. WorldFailed e ((limits : Limits) (r : Run) → Stands limits r.hub.accepted hub.old r.hub →
+        IfSome (client_at r.hub connection.old.conn) IsUntouched → connection.old ≡ opened_of r.told connection.old.conn →
+        WritesPart (W.contents writer.old) (W.contents writer.new) (conn_text r connection.old.conn))) }
 {
     report_frames(alloc, hub, connection.conn, writer)?;
     if !connection.told && hub.ended(connection.conn) {
@@ -68,9 +73,11 @@ fn report_frames<W: Write>(
     conn: u32,
     writer: &mut W,
 ) -> Result<(), ScriptFault>
-    ensures ok { OnOk result ((limits : Limits) (h : Clients) → Stands limits h.accepted hub.old h → IfSome (client_at h conn) IsUntouched →
-        Stands limits h.accepted hub.new (taken_from h conn) × Appends (W.contents writer.old) (W.contents writer.new) (frames_text h conn)) }
-    ensures err { IfErr result IsOfWorld }
+    ensures ok { OnOk result ((limits : Limits) (h : Clients) → Stands limits h.accepted hub.old h →
+        IfSome (client_at h conn) IsUntouched → Stands limits h.accepted hub.new (taken_from h conn)
+        × Appends (W.contents writer.old) (W.contents writer.new) (frames_text h conn)) }
+    ensures err { IfErr result (λ e. WorldFailed e ((limits : Limits) (h : Clients) → Stands limits h.accepted hub.old h →
+        IfSome (client_at h conn) IsUntouched → WritesPart (W.contents writer.old) (W.contents writer.new) (frames_text h conn))) }
 {
     'frames: while !hub.output(conn).is_empty() {
         let output = hub.output(conn);
@@ -98,7 +105,7 @@ fn first_frame(output: &[u8]) -> usize
 /// The line of a frame.
 fn frame_line(alloc: Global, conn: u32, frame: &[u8]) -> Result<String, ScriptFault>
     ensures ok { IfOk result (λ line. string_bytes line ≡ frame_text conn frame.now) }
-    ensures err { IfErr result IsOfWorld }
+    ensures err { IfErr result (λ e. WorldFailed e ⊤) }
 {
     let digits = hex::encode(alloc, frame)?;
     Ok(format!(in alloc; "{conn} {digits}\n")?)
@@ -107,7 +114,7 @@ fn frame_line(alloc: Global, conn: u32, frame: &[u8]) -> Result<String, ScriptFa
 /// The line that says that a connection has ended.
 fn end_line(alloc: Global, conn: u32) -> Result<String, ScriptFault>
     ensures ok { IfOk result (λ line. string_bytes line ≡ end_text conn) }
-    ensures err { IfErr result IsOfWorld }
+    ensures err { IfErr result (λ e. WorldFailed e ⊤) }
 {
     Ok(format!(in alloc; "{conn} end\n")?)
 }
@@ -115,14 +122,17 @@ fn end_line(alloc: Global, conn: u32) -> Result<String, ScriptFault>
 /// A write that fails or takes nothing is a fault.
 fn write_all<W: Write>(writer: &mut W, bytes: &[u8]) -> Result<(), ScriptFault>
     ensures ok { OnOk result (Appends (W.contents writer.old) (W.contents writer.new) bytes.now) }
-    ensures err { IfErr result IsOfWorld }
+    ensures err { IfErr result (λ e. WorldFailed e (WritesPart (W.contents writer.old) (W.contents writer.new) bytes.now)) }
 {
     let mut rest = bytes;
     'pieces: while !rest.is_empty() {
-        match writer.write(rest) {
-            Ok(taken) if taken > 0 => rest = &rest[taken..],
-            _ => return Err(ScriptFault::Output),
+        let Ok(taken) = writer.write(rest) else {
+            return Err(ScriptFault::Output);
+        };
+        if taken == 0 {
+            return Err(ScriptFault::Output);
         }
+        rest = &rest[taken..];
     }
     Ok(())
 }

@@ -11,7 +11,7 @@ ghost use Rattle.ipc_script.specs.Line.{longest_script};
 ghost use Rattle.ipc_script.specs.Line.PlainLine.{Data};
 ghost use Rattle.ipc_script.specs.LineView.{plain_line};
 ghost use Rattle.ipc_script.specs.Script.{Run, Runs, is_open, opened as opened_run};
-ghost use Rattle.ipc_script.specs.Runs.{IsIn, IsBehind, IsOfWorld, FeedsSome, Refused, LineRuns, LinesRun};
+ghost use Rattle.ipc_script.specs.Runs.{IsIn, IsBehind, FeedsSome, FeedsPart, ByFault, Refused, LineRuns, LinesRun};
 
 use crate::fault::ScriptFault;
 use crate::input::read_script;
@@ -24,8 +24,9 @@ use std::alloc::Global;
 use std::io::{Read, Write};
 
 /// Reads a script to its end, and runs it line by line. After each line the frames that it let out are
-/// written. The run stops at the first line that is refused; what the lines before it did stands. The script
-/// is all that the reader gives; of a reader that does not tell its bytes the clause says that there is one.
+/// written. The run stops at the first line that is refused; what the lines before it did stands. If memory, a
+/// read or a write failed, what was written is a beginning of the run's text. The script is all that the reader
+/// gives; of a reader that does not tell its bytes the clause says that there is one.
 pub fn run_script<R: Read, W: Write>(
     alloc: Global,
     engine: Engine,
@@ -197,7 +198,9 @@ fn feed_some<W: Write>(
     ensures ok { IfOk result (λ taken. (limits : Limits) (r : Run) → IsBehind limits hub.old opened.old r →
         FeedsSome limits r moment.0 conn bytes.now taken hub.new opened.new (W.contents writer.old) (W.contents writer.new)) }
     ensures within { IfOk result (λ taken. taken ≤ length bytes.now) }
-    ensures err { IfErr result (λ e. Refused e ((e ≡ ScriptFault.Unknown number) × Appends (W.contents writer.old) (W.contents writer.new) [])) }
+    ensures err { IfErr result (λ e. ByFault e ((limits : Limits) (r : Run) → IsBehind limits hub.old opened.old r →
+        FeedsPart limits r moment.0 conn bytes.now (W.contents writer.old) (W.contents writer.new))
+        ((e ≡ ScriptFault.Unknown number) × Appends (W.contents writer.old) (W.contents writer.new) [])) }
     ensures unknown { IfErr result (λ e. Refused e ((limits : Limits) (r : Run) → IsBehind limits hub.old opened.old r → is_open r conn ≡ false)) }
 {
     let Ok(taken) = hub.feed(conn, bytes, moment) else {

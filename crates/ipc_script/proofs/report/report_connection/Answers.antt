@@ -1,11 +1,39 @@
 use Rattle.std.proofs.Common.{◌≡◌, true, false, Bool, refl, sym, ap, ◌∙◌}
 use Rattle.std.proofs.KnownBytes.{Appends-nil}
+use Rattle.std.proofs.lemmas.Result.{err_from_is_err_and}
 use Rattle.ipc_hub.specs.Clients.{ended_at}
 use Rattle.ipc_script.specs.Runs.{taken_from}
 use Rattle.ipc_script.specs.declared.report.Opened.{Opened}
-use Rattle.ipc_script.proofs.Told.{reports, reports_told}
+use Rattle.ipc_script.proofs.Told.{frames_part, reports_part, reports, reports_told}
+use Rattle.ipc_script.proofs.Faults.{world_failed}
+use Rattle.ipc_script.proofs.Written.{part_none}
 use Rattle.ipc_script.proofs.report.report_connection.Goals.{else-not-connection-via-then-not-connection+else-ended, else-not-connection-via-else-not-connection}
 use Rattle.ipc_script.proofs.report.report_connection.Goals as goal
+
+pub returns-in_err-report_frames-clause-err : goal.returns-in_err-report_frames-clause-err
+returns-in_err-report_frames-clause-err g c =
+    let q = err_from_is_err_and c.from_residual.result c.from_residual.ensures.1 in
+    rw (q.1, q.2) (world_failed _ _ _ c.in_err-report_frames.field-0.0
+    (λ part limits r s u kept. frames_part r c.args.connection.now.conn _ _ (part limits r.hub s u)) c.in_err-report_frames.ensures.err)
+
+pub returns-in_err-line-clause-err : goal.returns-in_err-line-clause-err
+returns-in_err-line-clause-err g c =
+    let q = err_from_is_err_and c.from_residual-in_err-line.result c.from_residual-in_err-line.ensures.1 in
+    rw (q.1, q.2) (world_failed _ _ _ c.in_err-line.field-0.0 (λ _ limits r s u kept.
+    let frames = c.in_ok-report_frames.ensures.ok limits r.hub s u in
+    let told : false ≡ r.told c.args.connection.now.conn = sym c.if-not-connection.true ∙ ap (λ (o : Opened). o.told) kept in
+    let ended : true ≡ ended_at (taken_from r.hub c.args.connection.now.conn) c.args.connection.now.conn = sym c.if-ended.true ∙ c.ended.ensures.server limits r.hub.accepted _ frames.0 in
+    reports_part limits r c.args.connection.now.conn c.report_frames.new.hub _ _ _ false true frames.0 frames.1 told ended (part_none _ _)) c.in_err-line.ensures.err)
+
+pub returns-in_err-write_all-clause-err : goal.returns-in_err-write_all-clause-err
+returns-in_err-write_all-clause-err g c =
+    let q = err_from_is_err_and c.from_residual-in_err-write_all.result c.from_residual-in_err-write_all.ensures.1 in
+    rw (q.1, q.2) (world_failed _ _ _ c.in_err-write_all.field-0.0 (λ part limits r s u kept.
+    let frames = c.in_ok-report_frames.ensures.ok limits r.hub s u in
+    let told : false ≡ r.told c.args.connection.now.conn = sym c.if-not-connection.true ∙ ap (λ (o : Opened). o.told) kept in
+    let ended : true ≡ ended_at (taken_from r.hub c.args.connection.now.conn) c.args.connection.now.conn = sym c.if-ended.true ∙ c.ended.ensures.server limits r.hub.accepted _ frames.0 in
+    let line = c.as_bytes.ensures.value ∙ c.in_ok-line.ensures.ok in
+    reports_part limits r c.args.connection.now.conn c.report_frames.new.hub _ _ _ false true frames.0 frames.1 told ended (rw line at part)) c.in_err-write_all.ensures.err)
 
 pub returns-in_ok-write_all-clause-ok : goal.returns-in_ok-write_all-clause-ok
 returns-in_ok-write_all-clause-ok g c = λ limits r s u kept.

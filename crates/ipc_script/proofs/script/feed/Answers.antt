@@ -13,7 +13,8 @@ pub returns-in_err-taken : goal.returns-in_err-taken
 returns-in_err-taken g c = λ limits r b.
     let q = err_from_is_err_and c.from_residual.result c.from_residual.ensures.1 in
     let p = c.pieces.invariant limits r b in
-    rw (q.1, q.2) (fed_refused limits c.args.number r c.args.moment.0 c.args.conn c.args.bytes.now c.pieces.hub c.pieces.opened c.pieces.rest.now _ _ _ c.in_err-taken.field-0.0 p.2 c.in_err-taken.ensures.err c.in_err-taken.ensures.unknown)
+    rw (q.1, q.2) (fed_refused limits c.args.number r c.args.moment.0 c.args.conn c.args.bytes.now c.pieces.hub c.pieces.opened c.pieces.rest.now _ _ _ p.2 p.1
+    c.in_err-taken.field-0.0 c.in_err-taken.ensures.err c.in_err-taken.ensures.unknown)
 
 pub returns-then-is_empty : goal.returns-then-is_empty
 returns-then-is_empty g c = λ limits r b.
@@ -30,9 +31,12 @@ pieces-preserved g c = λ limits r b.
     let s = c.in_ok-taken.ensures.ok limits p.2.now p.2.at in
     let some = s.some p.1 in
     let left = rest_length c.pieces.rest.now c.in_ok-taken.taken in
-    let more : 0 < length (take (length c.pieces.rest.now - c.in_ok-taken.taken) (drop c.in_ok-taken.taken c.pieces.rest.now)) = grind (arith, nat_tests, c.if-is_empty.ensures) in
-    (omega (arith, p.0, some, left, more), more, fed_more limits r c.args.moment.0 c.args.conn c.args.bytes.now c.pieces.hub c.pieces.opened c.pieces.rest.now _ _ p.2 c.in_ok-taken.taken c.feed_some.new.hub c.feed_some.new.opened _ s
-    p.1 (omega (arith, left, more)))
+    let more : 0 < length (take (length c.pieces.rest.now - c.in_ok-taken.taken) (drop c.in_ok-taken.taken c.pieces.rest.now)) = grind (arith, nat_tests, c.if-is_empty.ensures) in (
+      omega (arith, p.0, some, left, more),
+      more,
+      fed_more limits r c.args.moment.0 c.args.conn c.args.bytes.now c.pieces.hub c.pieces.opened c.pieces.rest.now _ _ p.2 c.in_ok-taken.taken c.feed_some.new.hub c.feed_some.new.opened _ s
+          p.1 (omega (arith, left, more)),
+    )
 
 pub returns : goal.returns
 returns g c = λ limits r b.

@@ -2,7 +2,7 @@ use Rattle.std.proofs.Common.{◌≡◌, true, false, List, length, refl, ap, �
 use Rattle.std.proofs.lemmas.Result.{err_from_is_err_and}
 use Rattle.ipc_hub.specs.Clients.{tick}
 use Rattle.ipc_script.specs.declared.report.Opened.{Opened}
-use Rattle.ipc_script.specs.LineView.{hex_bytes}
+use Rattle.ipc_script.specs.LineView.{hex_bytes, plain_line}
 use Rattle.ipc_script.specs.Line.{Open, End, Tick}
 use Rattle.ipc_base.specs.declared.limits.Limits.{Limits}
 use Rattle.ipc_script.specs.declared.fault.ScriptFault.TheVariants.{InUse, Unknown}
@@ -11,7 +11,7 @@ use Rattle.ipc_script.specs.Runs.{IsIn, IsBehind}
 use Rattle.ipc_script.proofs.Steady.{heads_tick, steady}
 use Rattle.ipc_script.proofs.Faults.{refused_of}
 use Rattle.ipc_script.proofs.Hexes.{hex_nonempty}
-use Rattle.ipc_script.proofs.Lines.{written_back, line_reported, line_refused, open_done, open_refused, end_done, end_refused}
+use Rattle.ipc_script.proofs.Lines.{written_back, line_unwritten, line_reported, line_refused, open_done, open_refused, end_done, end_refused}
 use Rattle.ipc_script.proofs.script.run_line.Goals.{in-Open+in_ok-open-in-Open, in-End+in_ok-close-in-End, in-Tick}
 use Rattle.ipc_script.proofs.script.run_line.Goals as goal
 
@@ -21,6 +21,11 @@ returns-in_err-open-in-Open g c = λ limits r b.
     rw (q.1, q.2, c.in-Open.is) (line_refused limits c.args.number r c.open.new.hub c.open.new.hub c.open.new.hub _ (g.W.Write.contents c.args.writer.now) (Open c.in-Open.conn) c.in_err-open-in-Open.field-0.0 (InUse c.args.number)
     ((limits : Limits) (r : Run) → IsBehind limits c.args.hub.now c.args.opened.now.items r → is_open r c.in-Open.conn ≡ true)
     c.in_err-open-in-Open.ensures.err c.in_err-open-in-Open.ensures.in_use (λ u. open_refused limits c.args.number r c.in-Open.conn (u limits r b)))
+
+pub returns-in_err-bytes-in-Data : goal.returns-in_err-bytes-in-Data
+returns-in_err-bytes-in-Data g c = λ limits r b.
+    let q = err_from_is_err_and c.from_residual-in_err-bytes-in-Data.result c.from_residual-in_err-bytes-in-Data.ensures.1 in
+    rw (q.1, q.2) (line_unwritten limits c.args.number r (plain_line c.args.line) (g.W.Write.contents c.args.writer.now))
 
 pub feed-requires : goal.feed-requires
 feed-requires g c =
