@@ -13,7 +13,8 @@ reply_head : (r : PlainReply) (rest : List ℕ) → take 4 (reply_bytes r ++ res
 unfolding reply_bytes
 reply_head r rest = refl
 
-pub frame_length : (frame rest output : List ℕ) → IsFrame frame → output ≡ frame ++ rest → (4 ≤ length frame) × (from_be_bytes w32 (take 4 output) + 4 ≡ length frame)
+pub frame_length : (frame rest output : List ℕ) → IsFrame frame → output ≡ frame ++ rest → (4 ≤ length frame)
+    × (from_be_bytes w32 (take 4 output) + 4 ≡ length frame)
 frame_length frame rest output f e =
     let r = f.0 in
     let is : frame ≡ reply_bytes r = f.1.0 in

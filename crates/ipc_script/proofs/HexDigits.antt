@@ -1,5 +1,6 @@
 -- Which texts are the digits of bytes.
-use Rattle.std.proofs.Common.{◌≡◌, ℕ, ◌<◌, ◌%◌, ◌==◌, Bool, true, false, if◌then◌else◌, List, [], length, Option, Some, None, Result, Ok, Err, IsSome, unwrap_or, inl, inr, refl, sym, ◌∙◌, arith}
+use Rattle.std.proofs.Common.{◌≡◌, ℕ, ◌<◌, ◌%◌, ◌==◌, Bool, true, false, if◌then◌else◌, List, [], length, Option, Some, None, Result, Ok, Err, IsSome}
+use Rattle.std.proofs.Common.{unwrap_or, inl, inr, refl, sym, ◌∙◌, arith}
 use Rattle.std.proofs.lemmas.Bool.{cases_lt}
 use Rattle.std.proofs.lemmas.Bool.Decides.{nat_tests}
 use Rattle.std.proofs.lemmas.List.Elements.{All-weaker}
@@ -23,7 +24,8 @@ bytes_from_ok s bytes some h = let e : (length s == 0) ≡ false = grind (arith,
 
 pub has_bytes : (s : List ℕ) → 0 < length s → length s % 2 ≡ 0 → list_all is_ascii_hexdigit s ≡ true → IsSome (bytes_of_hex s)
 has_bytes s some even digits =
-    let all : AllPass is_hex_digit s = All-weaker (λ c. is_ascii_hexdigit c ≡ true) (λ c. is_hex_digit c ≡ true) (λ c h. same_digit c ∙ h) s (AllPass-from_list_all is_ascii_hexdigit s digits) in
+    let all : AllPass is_hex_digit s =
+    All-weaker (λ c. is_ascii_hexdigit c ≡ true) (λ c. is_hex_digit c ≡ true) (λ c h. same_digit c ∙ h) s (AllPass-from_list_all is_ascii_hexdigit s digits) in
     let r = decode_of-digits s even all in
     let e = bytes_from_ok s r.0 some r.1 in
     rw e refl
@@ -41,7 +43,9 @@ not_decoded : (s : List ℕ) (r : Result (List ℕ) FromHexError) → decode_of 
 not_decoded s (Err e) h other = refl
 not_decoded s (Ok bytes) h other =
     let all = (decode_of-ok s bytes h).1 in
-    let digits = list_all-from_AllPass is_ascii_hexdigit s (All-weaker (λ c. is_hex_digit c ≡ true) (λ c. is_ascii_hexdigit c ≡ true) (λ c d. sym (same_digit c) ∙ d) s all) in
+    let digits =
+    list_all-from_AllPass is_ascii_hexdigit s (All-weaker (λ c. is_hex_digit c ≡ true) (λ c. is_ascii_hexdigit c ≡ true) (λ c d. sym (same_digit c)
+    ∙ d) s all) in
     cc (sym other ∙ digits)
 
 none_either : (b : Bool) (o : Option (List ℕ)) → o ≡ None → (if b then None else o) ≡ None

@@ -1,5 +1,6 @@
 -- What the program keeps of a script's run, and what a run promises to its caller.
-use Rattle.std.specs.Prelude.{◌≡◌, ◌<◌, ℕ, Bool, true, List, [], length, take, map, Option, None, Some, IfSome, Result, Ok, Err, ⊤}
+use Rattle.std.specs.Prelude.{◌≡◌, ◌<◌, ℕ, Bool, true, List, [], length, take, map, Option, None, Some}
+use Rattle.std.specs.Prelude.{IfSome, Result, Ok, Err, ⊤}
 use Rattle.std.specs.List.{flat_map}
 use Rattle.std.specs.Io.KnownBytes.{Appends}
 use Rattle.ipc_base.specs.declared.limits.Limits.{Limits}
@@ -9,10 +10,12 @@ use Rattle.ipc_hub.specs.declared.hub.Hub.{Hub}
 use Rattle.ipc_hub.specs.Clients.{Client, Clients, client_at, with_client}
 use Rattle.ipc_hub.specs.Stands.{Stands}
 use Rattle.ipc_script.specs.declared.fault.ScriptFault.{ScriptFault}
-use Rattle.ipc_script.specs.declared.fault.ScriptFault.TheVariants.{NoMemory, Input, Output, TooLong, BadLine, InUse, Unknown}
+use Rattle.ipc_script.specs.declared.fault.ScriptFault.TheVariants.{NoMemory, Input, Output, TooLong, BadLine}
+use Rattle.ipc_script.specs.declared.fault.ScriptFault.TheVariants.{InUse, Unknown}
 use Rattle.ipc_script.specs.declared.report.Opened.{Opened}
 use Rattle.ipc_script.specs.Line.{PlainLine}
-use Rattle.ipc_script.specs.Script.{Run, Progress, Cut, rising, emptied, frame_line, conn_text, reported, is_open, fed, line_done, WritesPart, EndsAs, BreaksOff}
+use Rattle.ipc_script.specs.Script.{Run, Progress, Cut, rising, emptied, frame_line, conn_text, reported}
+use Rattle.ipc_script.specs.Script.{is_open, fed, line_done, WritesPart, EndsAs, BreaksOff}
 
 -- ---- what the program keeps
 
@@ -56,13 +59,15 @@ frames_text h conn = of_client (client_at h conn)
     of_client (Some c) = flat_map (λ f. frame_line conn f.bytes) c.frames
 
 -- a connection is written, its frames are taken, and it is kept whether its end was told
-pub record ReportsConnection (limits : Limits) (r : Run) (hub : Hub) (conn : ℕ) (opened : Opened) (before after : Option (List ℕ)) : Type 0 where
+pub record ReportsConnection (limits : Limits) (r : Run) (hub : Hub) (conn : ℕ) (opened : Opened)
+    (before after : Option (List ℕ)) : Type 0 where
   pub stands : Stands limits r.hub.accepted hub (taken_from r.hub conn)
   pub kept : opened ≡ opened_of (reported r).told conn
   pub text : Appends before after (conn_text r conn)
 
 -- some of these bytes are fed, and what they let out is written
-pub record FeedsSome (limits : Limits) (r : Run) (moment conn : ℕ) (bytes : List ℕ) (taken : ℕ) (hub : Hub) (opened : List Opened) (before after : Option (List ℕ)) : Type 0 where
+pub record FeedsSome (limits : Limits) (r : Run) (moment conn : ℕ) (bytes : List ℕ) (taken : ℕ) (hub : Hub)
+    (opened : List Opened) (before after : Option (List ℕ)) : Type 0 where
   pub refused : List Bool
   pub behind : IsBehind limits hub opened (fed limits r moment conn (take taken bytes) refused).run
   pub text : Appends before after (fed limits r moment conn (take taken bytes) refused).text
@@ -72,7 +77,8 @@ pub record FeedsSome (limits : Limits) (r : Run) (moment conn : ℕ) (bytes : Li
   pub is : is_open (fed limits r moment conn (take taken bytes) refused).run conn ≡ true
 
 -- bytes are fed, and a beginning of what they let out is written
-pub record FeedsPart (limits : Limits) (r : Run) (moment conn : ℕ) (bytes : List ℕ) (before after : Option (List ℕ)) : Type 0 where
+pub record FeedsPart (limits : Limits) (r : Run) (moment conn : ℕ) (bytes : List ℕ)
+    (before after : Option (List ℕ)) : Type 0 where
   pub taken : ℕ
   pub refused : List Bool
   pub text : WritesPart before after (fed limits r moment conn (take taken bytes) refused).text
@@ -107,9 +113,11 @@ text_of (Err e) = []
 
 -- A line was run for some cut of it, or is refused however it is cut; or the world failed, and a beginning of its text
 -- is written.
-abbrev pub LineRuns : Limits → ℕ → Run → PlainLine → Hub → List Opened → Option (List ℕ) → Option (List ℕ) → Result ⊤ ScriptFault → Type 0
+abbrev pub LineRuns : Limits → ℕ → Run → PlainLine → Hub → List Opened → Option (List ℕ) → Option (List ℕ)
+    → Result ⊤ ScriptFault → Type 0
 LineRuns limits number r line hub opened before after (Ok _) =
-    (cut : Cut) × (p : Progress) × (line_done limits number r line cut ≡ Ok p) × IsBehind limits hub opened p.run × Appends before after p.text
+    (cut : Cut) × (p : Progress) × (line_done limits number r line cut ≡ Ok p) × IsBehind limits hub opened p.run
+    × Appends before after p.text
 LineRuns limits number r line hub opened before after (Err e) =
     ByFault e ((cut : Cut) × WritesPart before after (text_of (line_done limits number r line cut)))
     (((cut : Cut) → line_done limits number r line cut ≡ Err e) × Appends before after [])

@@ -1,6 +1,8 @@
 -- The run of a script: what its lines do to the server and its clients, and what is written. After each line all
 -- that was accepted is confirmed, so that each frame that waits is written and taken.
-use Rattle.std.specs.Prelude.{◌≡◌, ◌<◌, ◌≤◌, ⊤, length, ℕ, ◌+◌, Bool, false, ◌&&◌, ◌||◌, not, nat_eq, nat_lt, if◌then◌else◌, List, [], ◌∷◌, ◌++◌, map, take, drop, codes, Option, Some, None, is_some, Result, Ok, Err}
+use Rattle.std.specs.Prelude.{◌≡◌, ◌<◌, ◌≤◌, ⊤, length, ℕ, ◌+◌, Bool, false, ◌&&◌, ◌||◌, not, nat_eq, nat_lt}
+use Rattle.std.specs.Prelude.{if◌then◌else◌, List, [], ◌∷◌, ◌++◌, map, take, drop, codes, Option, Some, None}
+use Rattle.std.specs.Prelude.{is_some, Result, Ok, Err}
 use Rattle.std.specs.List.{flat_map}
 use Rattle.std.specs.Fmt.{decimal}
 use Rattle.std.specs.Io.KnownBytes.{Appends}
@@ -10,7 +12,8 @@ use Rattle.ipc_engine.specs.State.{State}
 use Rattle.ipc_engine.specs.Table.{keys_of}
 use Rattle.ipc_hub.specs.Clients.{Client, Clients, no_clients, client_at, ended_at, connect, feed, hangup, tick}
 use Rattle.ipc_script.specs.declared.fault.ScriptFault.{ScriptFault}
-use Rattle.ipc_script.specs.declared.fault.ScriptFault.TheVariants.{NoMemory, Input, Output, TooLong, BadLine, InUse, Unknown}
+use Rattle.ipc_script.specs.declared.fault.ScriptFault.TheVariants.{NoMemory, Input, Output, TooLong, BadLine}
+use Rattle.ipc_script.specs.declared.fault.ScriptFault.TheVariants.{InUse, Unknown}
 use Rattle.ipc_script.specs.Line.{PlainLine, Open, Data, End, Tick, line_of, lines_of, longest_script}
 
 -- what a run has: the clients, and of which connections the end was told
@@ -38,7 +41,8 @@ end_line conn = decimal conn ++ codes " end\n"
 
 -- of a client: its frames, and then, once, that the server has ended it
 abbrev pub client_text : ℕ → Bool → Client → List ℕ
-client_text conn told c = flat_map (λ f. frame_line conn f.bytes) c.frames ++ (if c.ended && not told then end_line conn else [])
+client_text conn told c =
+    flat_map (λ f. frame_line conn f.bytes) c.frames ++ (if c.ended && not told then end_line conn else [])
 
 abbrev pub conn_text : Run → ℕ → List ℕ
 conn_text r conn = of_client (client_at r.hub conn)
@@ -138,7 +142,8 @@ first_cut (cut ∷ cuts) = cut
 abbrev pub run_lines : Limits → ℕ → Run → List (List ℕ) → List Cut → Outcome
 run_lines limits number r [] cuts = record { text = []; fault = None }
 run_lines limits number r (line ∷ lines) cuts =
-    goes_on (text_done limits number r (line_of line) (first_cut cuts)) (λ now. run_lines limits (number + 1) now lines (drop 1 cuts))
+    goes_on (text_done limits number r (line_of line) (first_cut cuts))
+    (λ now. run_lines limits (number + 1) now lines (drop 1 cuts))
 
 -- no connection, over a state that is there
 abbrev pub start_run : State → Run
@@ -157,11 +162,13 @@ WritesPart before after text = (part : List ℕ) × (rest : List ℕ) × (text �
 -- for some cut of each line what is written is the run's text, and the fault is the run's
 abbrev pub EndsAs : Limits → State → List ℕ → Option (List ℕ) → Option (List ℕ) → Option ScriptFault → Type 0
 EndsAs limits s script before after fault =
-    (cuts : List Cut) × (let outcome = script_run limits s script cuts in Appends before after outcome.text × (outcome.fault ≡ fault))
+    (cuts : List Cut)
+    × (let outcome = script_run limits s script cuts in Appends before after outcome.text × (outcome.fault ≡ fault))
 
 -- for some cut of each line what is written is a beginning of the run's text
 abbrev pub BreaksOff : Limits → State → List ℕ → Option (List ℕ) → Option (List ℕ) → Type 0
-BreaksOff limits s script before after = (cuts : List Cut) × WritesPart before after (script_run limits s script cuts).text
+BreaksOff limits s script before after =
+    (cuts : List Cut) × WritesPart before after (script_run limits s script cuts).text
 
 -- a script that is not too long has run
 abbrev pub HasRun : Limits → State → List ℕ → Option (List ℕ) → Option (List ℕ) → Option ScriptFault → Type 0

@@ -6,8 +6,10 @@ ghost use Rattle.ipc_base.specs.declared.limits.Limits.{Limits};
 ghost use Rattle.ipc_hub.specs.Clients.{Clients, client_at};
 ghost use Rattle.ipc_hub.specs.Orderly.{IsFrame};
 ghost use Rattle.ipc_hub.specs.Stands.{Stands};
-ghost use Rattle.ipc_script.specs.Script.{Run, WritesPart, conn_text, report as report_of, frame_line as frame_text, end_line as end_text};
-ghost use Rattle.ipc_script.specs.Runs.{IsIn, IsBehind, IsUntouched, WorldFailed, opened_of, taken_from, frames_text, ReportsConnection};
+ghost use Rattle.ipc_script.specs.Script.{Run, WritesPart, conn_text, report as report_of};
+ghost use Rattle.ipc_script.specs.Script.{frame_line as frame_text, end_line as end_text};
+ghost use Rattle.ipc_script.specs.Runs.{IsIn, IsBehind, IsUntouched, WorldFailed, opened_of, taken_from};
+ghost use Rattle.ipc_script.specs.Runs.{frames_text, ReportsConnection};
 
 use crate::fault::ScriptFault;
 use ipc_hub::Hub;
@@ -51,10 +53,14 @@ fn report_connection<W: Write>(
     writer: &mut W,
 ) -> Result<(), ScriptFault>
     ensures ok { OnOk result ((limits : Limits) (r : Run) → Stands limits r.hub.accepted hub.old r.hub →
-        IfSome (client_at r.hub connection.old.conn) IsUntouched → connection.old ≡ opened_of r.told connection.old.conn →
-        ReportsConnection limits r hub.new connection.old.conn connection.new (W.contents writer.old) (W.contents writer.new)) }
-    ensures err { IfErr result (λ e. WorldFailed e ((limits : Limits) (r : Run) → Stands limits r.hub.accepted hub.old r.hub →
-        IfSome (client_at r.hub connection.old.conn) IsUntouched → connection.old ≡ opened_of r.told connection.old.conn →
+        IfSome (client_at r.hub connection.old.conn) IsUntouched →
+        connection.old ≡ opened_of r.told connection.old.conn →
+        ReportsConnection limits r hub.new connection.old.conn connection.new
+        (W.contents writer.old) (W.contents writer.new)) }
+    ensures err { IfErr result (λ e. WorldFailed e ((limits : Limits) (r : Run) →
+        Stands limits r.hub.accepted hub.old r.hub →
+        IfSome (client_at r.hub connection.old.conn) IsUntouched →
+        connection.old ≡ opened_of r.told connection.old.conn →
         WritesPart (W.contents writer.old) (W.contents writer.new) (conn_text r connection.old.conn))) }
 {
     report_frames(alloc, hub, connection.conn, writer)?;
@@ -76,8 +82,9 @@ fn report_frames<W: Write>(
     ensures ok { OnOk result ((limits : Limits) (h : Clients) → Stands limits h.accepted hub.old h →
         IfSome (client_at h conn) IsUntouched → Stands limits h.accepted hub.new (taken_from h conn)
         × Appends (W.contents writer.old) (W.contents writer.new) (frames_text h conn)) }
-    ensures err { IfErr result (λ e. WorldFailed e ((limits : Limits) (h : Clients) → Stands limits h.accepted hub.old h →
-        IfSome (client_at h conn) IsUntouched → WritesPart (W.contents writer.old) (W.contents writer.new) (frames_text h conn))) }
+    ensures err { IfErr result (λ e. WorldFailed e ((limits : Limits) (h : Clients) →
+        Stands limits h.accepted hub.old h → IfSome (client_at h conn) IsUntouched →
+        WritesPart (W.contents writer.old) (W.contents writer.new) (frames_text h conn))) }
 {
     'frames: while !hub.output(conn).is_empty() {
         let output = hub.output(conn);
@@ -122,7 +129,8 @@ fn end_line(alloc: Global, conn: u32) -> Result<String, ScriptFault>
 /// A write that fails or takes nothing is a fault.
 fn write_all<W: Write>(writer: &mut W, bytes: &[u8]) -> Result<(), ScriptFault>
     ensures ok { OnOk result (Appends (W.contents writer.old) (W.contents writer.new) bytes.now) }
-    ensures err { IfErr result (λ e. WorldFailed e (WritesPart (W.contents writer.old) (W.contents writer.new) bytes.now)) }
+    ensures err { IfErr result (λ e.
+        WorldFailed e (WritesPart (W.contents writer.old) (W.contents writer.new) bytes.now)) }
 {
     let mut rest = bytes;
     'pieces: while !rest.is_empty() {

@@ -1,6 +1,7 @@
 //! A script: lines of what connections do and when, run on a hub.
 
-ghost use Rattle.std.specs.Prelude.{◌≡◌, [], ◌<◌, ◌≤◌, ◌||◌, ℕ, Bool, true, false, List, length, map, nat_eq, nat_lt, position, IfOk, IfErr, IfSome, OnOk, MatchResult, Err};
+ghost use Rattle.std.specs.Prelude.{◌≡◌, [], ◌<◌, ◌≤◌, ◌||◌, ℕ, Bool, true, false, List, length, map, nat_eq};
+ghost use Rattle.std.specs.Prelude.{nat_lt, position, IfOk, IfErr, IfSome, OnOk, MatchResult, Err};
 ghost use Rattle.std.specs.List.{prefix_len};
 ghost use Rattle.std.specs.Io.KnownBytes.{Appends};
 ghost use Rattle.ipc_base.specs.declared.limits.Limits.{Limits};
@@ -35,7 +36,8 @@ pub fn run_script<R: Read, W: Write>(
 ) -> Result<(), ScriptFault>
     ensures { (limits_of engine).msgmnb ≤ standard_limits.msgmnb →
         (script : List ℕ) × IfSome (R.remaining reader.old) (λ input. script ≡ input)
-        × Runs (limits_of engine) (machine_state engine) script (W.contents writer.old) (W.contents writer.new) result }
+        × Runs (limits_of engine) (machine_state engine) script
+        (W.contents writer.old) (W.contents writer.new) result }
 {
     let script = read_script(alloc, reader)?;
     run_lines(alloc, engine, &script, writer)
@@ -50,7 +52,8 @@ fn run_lines<W: Write>(
 ) -> Result<(), ScriptFault>
     requires { length script.now ≤ longest_script }
     ensures { (limits_of engine).msgmnb ≤ standard_limits.msgmnb →
-        LinesRun (limits_of engine) (machine_state engine) script.now (W.contents writer.old) (W.contents writer.new) result }
+        LinesRun (limits_of engine) (machine_state engine) script.now
+        (W.contents writer.old) (W.contents writer.new) result }
 {
     let mut hub = Hub::new(alloc, engine);
     let mut opened = Vec::new(alloc);
@@ -78,7 +81,8 @@ fn run_line<W: Write>(
     writer: &mut W,
 ) -> Result<(), ScriptFault>
     ensures { (limits : Limits) (r : Run) → IsBehind limits hub.old opened.old.items r →
-        LineRuns limits number r (plain_line line.entry) hub.new opened.new.items (W.contents writer.old) (W.contents writer.new) result }
+        LineRuns limits number r (plain_line line.entry) hub.new opened.new.items
+        (W.contents writer.old) (W.contents writer.new) result }
 {
     match line {
         Line::Open { conn } => open(hub, opened, conn, number)?,
@@ -106,7 +110,8 @@ fn open(hub: &mut Hub, opened: &mut Vec<Opened>, conn: u32, number: u64) -> Resu
     ensures ok { OnOk result ((limits : Limits) (r : Run) → IsBehind limits hub.old opened.old.items r →
         (is_open r conn ≡ false) × IsIn limits hub.new opened.new.items (opened_run r conn)) }
     ensures err { IfErr result (λ e. Refused e (e ≡ ScriptFault.InUse number)) }
-    ensures in_use { IfErr result (λ e. Refused e ((limits : Limits) (r : Run) → IsBehind limits hub.old opened.old.items r → is_open r conn ≡ true)) }
+    ensures in_use { IfErr result (λ e. Refused e ((limits : Limits) (r : Run) →
+        IsBehind limits hub.old opened.old.items r → is_open r conn ≡ true)) }
 {
     opened.reserve(1)?;
     match hub.connect(conn) {
@@ -136,9 +141,11 @@ fn close(
     number: u64,
 ) -> Result<(), ScriptFault>
     ensures ok { OnOk result ((limits : Limits) (r : Run) → IsBehind limits hub.old opened.old.items r →
-        (is_open r conn ≡ true) × IsIn limits hub.new opened.new.items (record r { hub = hangup limits r.hub conn moment.0 })) }
+        (is_open r conn ≡ true)
+        × IsIn limits hub.new opened.new.items (record r { hub = hangup limits r.hub conn moment.0 })) }
     ensures err { IfErr result (λ e. e ≡ ScriptFault.Unknown number) }
-    ensures unknown { IfErr result (λ e. (limits : Limits) (r : Run) → IsBehind limits hub.old opened.old.items r → is_open r conn ≡ false) }
+    ensures unknown { IfErr result (λ e. (limits : Limits) (r : Run) →
+        IsBehind limits hub.old opened.old.items r → is_open r conn ≡ false) }
 {
     let Ok(()) = hub.hangup(conn, moment) else {
         return Err(ScriptFault::Unknown(number));
@@ -170,7 +177,8 @@ fn feed<W: Write>(
 ) -> Result<(), ScriptFault>
     requires { 0 < length bytes.now }
     ensures { (limits : Limits) (r : Run) → IsBehind limits hub.old opened.old r →
-        LineRuns limits number r (Data moment.0 conn bytes.now) hub.new opened.new (W.contents writer.old) (W.contents writer.new) result }
+        LineRuns limits number r (Data moment.0 conn bytes.now) hub.new opened.new
+        (W.contents writer.old) (W.contents writer.new) result }
 {
     let mut rest = bytes;
     // A round takes at least one byte, since no frame waits as it begins.
@@ -196,12 +204,14 @@ fn feed_some<W: Write>(
     writer: &mut W,
 ) -> Result<usize, ScriptFault>
     ensures ok { IfOk result (λ taken. (limits : Limits) (r : Run) → IsBehind limits hub.old opened.old r →
-        FeedsSome limits r moment.0 conn bytes.now taken hub.new opened.new (W.contents writer.old) (W.contents writer.new)) }
+        FeedsSome limits r moment.0 conn bytes.now taken hub.new opened.new
+        (W.contents writer.old) (W.contents writer.new)) }
     ensures within { IfOk result (λ taken. taken ≤ length bytes.now) }
     ensures err { IfErr result (λ e. ByFault e ((limits : Limits) (r : Run) → IsBehind limits hub.old opened.old r →
         FeedsPart limits r moment.0 conn bytes.now (W.contents writer.old) (W.contents writer.new))
         ((e ≡ ScriptFault.Unknown number) × Appends (W.contents writer.old) (W.contents writer.new) [])) }
-    ensures unknown { IfErr result (λ e. Refused e ((limits : Limits) (r : Run) → IsBehind limits hub.old opened.old r → is_open r conn ≡ false)) }
+    ensures unknown { IfErr result (λ e. Refused e ((limits : Limits) (r : Run) →
+        IsBehind limits hub.old opened.old r → is_open r conn ≡ false)) }
 {
     let Ok(taken) = hub.feed(conn, bytes, moment) else {
         return Err(ScriptFault::Unknown(number));

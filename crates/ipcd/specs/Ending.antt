@@ -1,7 +1,8 @@
 -- How a run ends: the exit status, and what standard error says of a fault.
 use Rattle.std.specs.Prelude.{ℕ, ⊤, List, ◌++◌, codes, Result, Ok, Err}
 use Rattle.ipc_script.specs.declared.fault.ScriptFault.{ScriptFault}
-use Rattle.ipc_script.specs.declared.fault.ScriptFault.TheVariants.{NoMemory, Input, Output, TooLong, BadLine, InUse, Unknown}
+use Rattle.ipc_script.specs.declared.fault.ScriptFault.TheVariants.{NoMemory, Input, Output, TooLong, BadLine}
+use Rattle.ipc_script.specs.declared.fault.ScriptFault.TheVariants.{InUse, Unknown}
 use Rattle.ipc_script.specs.Fault.{fault_text}
 use Rattle.ipcd.specs.declared.ending.Complaint.{Complaint}
 

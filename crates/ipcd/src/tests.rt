@@ -6,12 +6,16 @@ use ipc_base::Limits;
 #[test]
 fn command_lines(rt: HostRuntime) {
     let alloc = rt.alloc();
-    assert!(rt;
-        matches!(parse(alloc, &["ipcd", "replay"]), Ok(Request::Replay { limits }) if limits == Limits::standard())
-    );
-    assert!(rt;
-        matches!(parse(alloc, &["ipcd", "replay", "--small"]), Ok(Request::Replay { limits }) if limits == Limits::small())
-    );
+    let taken: [(&[&str], Limits); 2] = [
+        (&["ipcd", "replay"], Limits::standard()),
+        (&["ipcd", "replay", "--small"], Limits::small()),
+    ];
+    for (words, wanted) in taken {
+        match parse(alloc, words) {
+            Ok(Request::Replay { limits }) => assert_eq!(rt; limits, wanted, "{words:?}"),
+            Err(_) => assert!(rt; false, "{words:?} is refused"),
+        }
+    }
     let refused: [(&[&str], u8); 6] = [
         (&["ipcd"], 2),
         (&["ipcd", "replay", "--big"], 2),

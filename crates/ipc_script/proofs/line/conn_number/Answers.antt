@@ -1,6 +1,6 @@
 use Rattle.std.proofs.Common.{◌^◌, ap, sym, ◌∙◌}
 use Rattle.ipc_script.specs.Line.{limited}
-use Rattle.ipc_script.proofs.Numbers.{conn_from_moment, narrowed}
+use Rattle.ipc_script.proofs.DecimalNumbers.{conn_from_moment, narrowed}
 use Rattle.ipc_script.proofs.line.conn_number.Goals as goal
 
 pub returns-in_err-number : goal.returns-in_err-number

@@ -1,5 +1,5 @@
 use Rattle.std.proofs.Common.{sym}
-use Rattle.ipc_script.proofs.Parts.{first_line, only_line}
+use Rattle.ipc_script.proofs.LinesAndWords.{first_line, only_line}
 use Rattle.ipc_script.proofs.line.first_line.Goals as goal
 
 pub returns-in-Some-clause-lines : goal.returns-in-Some-clause-lines

@@ -1,5 +1,5 @@
 use Rattle.std.proofs.Common.{sym}
-use Rattle.ipc_script.proofs.Parts.{first_word, only_word}
+use Rattle.ipc_script.proofs.LinesAndWords.{first_word, only_word}
 use Rattle.ipc_script.proofs.line.word.Goals as goal
 
 pub returns-in-Some : goal.returns-in-Some

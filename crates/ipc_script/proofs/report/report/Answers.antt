@@ -1,11 +1,12 @@
 use Rattle.std.proofs.Common.{◌<◌, length, get_or, refl, arith}
 use Rattle.std.proofs.lemmas.Result.{err_from_is_err_and}
-use Rattle.ipc_script.proofs.Faults.{world_failed}
-use Rattle.ipc_script.proofs.Reported.{reported_begun, reported_more, reported_part, reported_all}
+use Rattle.ipc_script.proofs.FaultCases.{world_failed}
+use Rattle.ipc_script.proofs.ReportText.{reported_begun, reported_more, reported_part, reported_all}
 use Rattle.ipc_script.proofs.report.report.Goals as goal
 
 pub loop-connection-init : goal.loop-connection-init
-loop-connection-init g c = λ limits r i. reported_begun limits r c.release.new.self c.args.opened.now _ (c.release.ensures limits i.confirmed r.hub i.stands) i.kept
+loop-connection-init g c =
+    λ limits r i. reported_begun limits r c.release.new.self c.args.opened.now _ (c.release.ensures limits i.confirmed r.hub i.stands) i.kept
 
 pub loop-connection-preserved : goal.loop-connection-preserved
 loop-connection-preserved g c = λ limits r i.
@@ -23,4 +24,6 @@ returns-in_err-report_connection-clause-err g c =
     i.untouched (get_or c.loop-connection.opened c.loop-connection.connection-index _) _ inside refl _ (part limits)) c.in_err-report_connection.ensures.err)
 
 pub returns-clause-ok : goal.returns-clause-ok
-returns-clause-ok g c = λ limits r i. reported_all limits r c.loop-connection.hub c.loop-connection.opened c.loop-connection.connection-index _ _ (c.loop-connection.invariant limits r i) (omega arith)
+returns-clause-ok g c =
+    λ limits r i. reported_all limits r c.loop-connection.hub c.loop-connection.opened c.loop-connection.connection-index _ _
+    (c.loop-connection.invariant limits r i) (omega arith)

@@ -1,7 +1,7 @@
 use Rattle.ipc_base.specs.declared.limits.Limits.{Limits}
 use Rattle.ipc_script.specs.Script.{Run}
 use Rattle.ipc_script.specs.Runs.{IsIn}
-use Rattle.ipc_script.proofs.Reported.{PartlyReported}
+use Rattle.ipc_script.proofs.ReportText.{PartlyReported}
 use Rattle.ipc_script.proofs.report.report.Given as goal
 
 abbrev pub invariant-loop-connection : goal.invariant-loop-connection

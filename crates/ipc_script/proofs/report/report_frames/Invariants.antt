@@ -4,7 +4,7 @@ use Rattle.ipc_hub.specs.Clients.{Clients, client_at}
 use Rattle.ipc_hub.specs.Hub.{output_of}
 use Rattle.ipc_hub.specs.Stands.{Stands}
 use Rattle.ipc_script.specs.Runs.{IsUntouched}
-use Rattle.ipc_script.proofs.Frames.{Partly}
+use Rattle.ipc_script.proofs.FrameLines.{Partly}
 use Rattle.ipc_script.proofs.report.report_frames.Given as goal
 
 abbrev pub invariant-frames : goal.invariant-frames

@@ -1,4 +1,4 @@
-use Rattle.ipc_script.proofs.Written.{wrote_more}
+use Rattle.ipc_script.proofs.WrittenText.{wrote_more}
 use Rattle.ipc_script.proofs.report.write_all.Goals as goal
 
 pub pieces-preserved : goal.pieces-preserved

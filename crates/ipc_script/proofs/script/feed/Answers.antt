@@ -3,7 +3,7 @@ use Rattle.std.proofs.lemmas.Bool.Decides.{nat_tests}
 use Rattle.std.proofs.lemmas.Result.{err_from_is_err_and}
 use Rattle.std.specs.Prelude.{Ok}
 use Rattle.ipc_script.specs.Script.{Progress, is_open}
-use Rattle.ipc_script.proofs.Pieces.{fed_begun, fed_more, fed_all, fed_refused, all_taken, rest_length}
+use Rattle.ipc_script.proofs.FedPieces.{fed_begun, fed_more, fed_all, fed_refused, all_taken, rest_length}
 use Rattle.ipc_script.proofs.script.feed.Goals as goal
 
 pub pieces-init : goal.pieces-init
@@ -20,8 +20,10 @@ pub returns-then-is_empty : goal.returns-then-is_empty
 returns-then-is_empty g c = λ limits r b.
     let p = c.pieces.invariant limits r b in
     let s = c.in_ok-taken.ensures.ok limits p.2.now p.2.at in
-    let none : length (take (length c.pieces.rest.now - c.in_ok-taken.taken) (drop c.in_ok-taken.taken c.pieces.rest.now)) ≡ 0 = grind (arith, nat_tests, c.if-is_empty.ensures) in
-    let all = fed_all limits r c.args.moment.0 c.args.conn c.args.bytes.now c.pieces.hub c.pieces.opened c.pieces.rest.now _ _ p.2 c.in_ok-taken.taken c.feed_some.new.hub c.feed_some.new.opened _ s (all_taken c.pieces.rest.now c.in_ok-taken.taken none) in
+    let none : length (take (length c.pieces.rest.now - c.in_ok-taken.taken) (drop c.in_ok-taken.taken c.pieces.rest.now)) ≡ 0 =
+    grind (arith, nat_tests, c.if-is_empty.ensures) in
+    let all = fed_all limits r c.args.moment.0 c.args.conn c.args.bytes.now c.pieces.hub c.pieces.opened c.pieces.rest.now _ _ p.2 c.in_ok-taken.taken
+    c.feed_some.new.hub c.feed_some.new.opened _ s (all_taken c.pieces.rest.now c.in_ok-taken.taken none) in
     let was : is_open r c.args.conn ≡ true = sym p.2.there ∙ s.was in
     (all.0, all.1, rw was (ap (λ (q : Progress). Ok q) all.2), all.3, all.4)
 
@@ -31,10 +33,12 @@ pieces-preserved g c = λ limits r b.
     let s = c.in_ok-taken.ensures.ok limits p.2.now p.2.at in
     let some = s.some p.1 in
     let left = rest_length c.pieces.rest.now c.in_ok-taken.taken in
-    let more : 0 < length (take (length c.pieces.rest.now - c.in_ok-taken.taken) (drop c.in_ok-taken.taken c.pieces.rest.now)) = grind (arith, nat_tests, c.if-is_empty.ensures) in (
+    let more : 0 < length (take (length c.pieces.rest.now - c.in_ok-taken.taken) (drop c.in_ok-taken.taken c.pieces.rest.now)) =
+    grind (arith, nat_tests, c.if-is_empty.ensures) in (
       omega (arith, p.0, some, left, more),
       more,
-      fed_more limits r c.args.moment.0 c.args.conn c.args.bytes.now c.pieces.hub c.pieces.opened c.pieces.rest.now _ _ p.2 c.in_ok-taken.taken c.feed_some.new.hub c.feed_some.new.opened _ s
+      fed_more limits r c.args.moment.0 c.args.conn c.args.bytes.now c.pieces.hub c.pieces.opened c.pieces.rest.now _ _ p.2 c.in_ok-taken.taken
+          c.feed_some.new.hub c.feed_some.new.opened _ s
           p.1 (omega (arith, left, more)),
     )
 

@@ -2,7 +2,7 @@ use Rattle.std.proofs.Common.{◌≤◌, ◌<◌, ◌+◌, length}
 use Rattle.ipc_base.specs.declared.limits.Limits.{Limits}
 use Rattle.ipc_script.specs.Script.{Run}
 use Rattle.ipc_script.specs.Runs.{IsBehind}
-use Rattle.ipc_script.proofs.Pieces.{PartlyFed}
+use Rattle.ipc_script.proofs.FedPieces.{PartlyFed}
 use Rattle.ipc_script.proofs.script.feed.Given as goal
 
 -- some pieces are fed, each of at least one byte, and some bytes are left

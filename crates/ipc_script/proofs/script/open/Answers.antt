@@ -5,8 +5,8 @@ use Rattle.ipc_hub.specs.Hub.{is_connected}
 use Rattle.ipc_script.specs.declared.report.Opened.{Opened}
 use Rattle.ipc_script.specs.Script.{opened}
 use Rattle.ipc_script.specs.Runs.{IsIn}
-use Rattle.ipc_script.proofs.Tables.{test}
-use Rattle.ipc_script.proofs.Opened.{open_in}
+use Rattle.ipc_script.proofs.ClientTables.{test}
+use Rattle.ipc_script.proofs.OpenConnections.{open_in}
 use Rattle.ipc_script.proofs.script.open.Goals as goal
 
 pub returns-clause-ok : goal.returns-clause-ok
@@ -17,7 +17,8 @@ returns-clause-ok c limits r b =
     elim (test (is_connected c.args.hub.now c.args.conn)) [ inl t ↦ let bad = c.in-Ok.ensures.in_use.1 t in cc | inr f ↦ f ] in
     let kept : c.reserve.new.self.items ≡ os = c.reserve.ensures.items in
     let seen : c.deref.result.now ≡ os = c.deref.ensures.value ∙ kept in
-    let place : c.place_for-place.result ≡ prefix_len (λ o. nat_lt o.conn c.args.conn) os = c.place_for-place.ensures.ok ∙ ap (prefix_len (λ (o : Opened). nat_lt o.conn c.args.conn)) seen in
+    let place : c.place_for-place.result ≡ prefix_len (λ o. nat_lt o.conn c.args.conn) os = c.place_for-place.ensures.ok
+    ∙ ap (prefix_len (λ (o : Opened). nat_lt o.conn c.args.conn)) seen in
     let put : c.insert.new.self.items ≡ insert c.reserve.new.self.items c.place_for-place.result one = search rules in
     let items : c.insert.new.self.items ≡ insert os (prefix_len (λ o. nat_lt o.conn c.args.conn) os) one =
     put ∙ ap (λ (xs : List Opened). insert xs c.place_for-place.result one) kept ∙ ap (λ (k : ℕ). insert os k one) place in

@@ -11,13 +11,16 @@ use Rattle.ipc_script.specs.Line.{PlainLine, line_of}
 use Rattle.ipc_script.specs.LineView.{plain_line}
 use Rattle.ipc_script.specs.Script.{Cut, Progress, WritesPart, line_done, text_done, EndsAs, BreaksOff}
 use Rattle.ipc_script.specs.Runs.{text_of}
-use Rattle.ipc_script.proofs.Faults.{by_fault}
-use Rattle.ipc_script.proofs.Scripts.{run_begun, run_more, run_refused, run_broken, run_ended, no_lines}
+use Rattle.ipc_script.proofs.FaultCases.{by_fault}
+use Rattle.ipc_script.proofs.ScriptLines.{run_begun, run_more, run_refused, run_broken, run_ended, no_lines}
 use Rattle.ipc_script.proofs.script.run_lines.Goals as goal
 
 pub lines-init : goal.lines-init
-lines-init g c =
-    (omega arith, λ range. rw c.new-opened.ensures.items (run_begun (limits_of c.args.engine) (state_of c.args.engine) c.args.script.now c.new-hub.result _ (c.new-hub.ensures range)))
+lines-init g c = (
+  omega arith,
+  λ range. rw c.new-opened.ensures.items
+      (run_begun (limits_of c.args.engine) (state_of c.args.engine) c.args.script.now c.new-hub.result _ (c.new-hub.ensures range)),
+)
 
 pub returns-in_default : goal.returns-in_default
 returns-in_default g c = λ range.
@@ -25,7 +28,8 @@ returns-in_default g c = λ range.
     let p = c.lines.invariant.1 range in
     run_refused limits (state_of c.args.engine) c.args.script.now (c.lines.number + 1) c.lines.hub c.lines.opened.items c.lines.rest.now _ _ p
     c.first_line.result.0.now c.first_line.result.1.now c.first_line.ensures.lines (BadLine (c.lines.number + 1))
-    (λ cut. ap (λ (o : Option PlainLine). text_done limits (c.lines.number + 1) p.now o cut) (sym c.line_of.ensures ∙ ap (option_map plain_line) c.in_default.is)) _ (Appends-nil _)
+    (λ cut. ap (λ (o : Option PlainLine). text_done limits (c.lines.number + 1) p.now o cut) (sym c.line_of.ensures
+    ∙ ap (option_map plain_line) c.in_default.is)) _ (Appends-nil _)
 
 pub returns-in_err-run_line : goal.returns-in_err-run_line
 returns-in_err-run_line g c = λ range.
@@ -68,4 +72,5 @@ lines-preserved g c = (
 pub returns : goal.returns
 returns g c = λ range.
     let none : length c.lines.rest.now ≡ 0 = grind (arith, nat_tests, c.lines-test.ensures) in
-    run_ended (limits_of c.args.engine) (state_of c.args.engine) c.args.script.now (c.lines.number + 1) c.lines.hub c.lines.opened.items c.lines.rest.now _ _ (c.lines.invariant.1 range) (no_lines c.lines.rest.now none)
+    run_ended (limits_of c.args.engine) (state_of c.args.engine) c.args.script.now (c.lines.number + 1) c.lines.hub c.lines.opened.items c.lines.rest.now
+    _ _ (c.lines.invariant.1 range) (no_lines c.lines.rest.now none)

@@ -2,7 +2,8 @@ use Rattle.std.proofs.Common.{◌≡◌, ◌<◌, ◌%◌, length, sym, arith}
 use Rattle.std.proofs.lemmas.Bool.Decides.{nat_tests}
 use Rattle.ipc_script.proofs.HexDigits.{has_bytes, no_bytes_empty, no_bytes_odd, no_bytes_other}
 use Rattle.ipc_script.proofs.digits.Hex.new.Goals as goal
-use Rattle.ipc_script.proofs.digits.Hex.new.Goals.{then-is_empty-via-then-is_empty, then-is_empty-via-else-is_empty+then-digits-eq1, then-is_empty-via-else-is_empty+else-digits-eq1+then-not-are_digits}
+use Rattle.ipc_script.proofs.digits.Hex.new.Goals.{then-is_empty-via-then-is_empty, then-is_empty-via-else-is_empty+then-digits-eq1}
+use Rattle.ipc_script.proofs.digits.Hex.new.Goals.{then-is_empty-via-else-is_empty+else-digits-eq1+then-not-are_digits}
 
 pub returns-then-is_empty : goal.returns-then-is_empty
 returns-then-is_empty c =

@@ -1,5 +1,6 @@
 -- The number that digits spell, and its limit.
-use Rattle.std.proofs.Common.{◌≡◌, ℕ, ◌+◌, ◌-◌, ◌*◌, ◌^◌, ◌<◌, ◌≤◌, ◌&&◌, Bool, true, false, cond, ltb, List, length, get_or, take, Option, Some, None, Result, Ok, Err, refl, sym, ap, ◌∙◌, arith, rules}
+use Rattle.std.proofs.Common.{◌≡◌, ℕ, ◌+◌, ◌-◌, ◌*◌, ◌^◌, ◌<◌, ◌≤◌, ◌&&◌, Bool, true, false, cond, ltb, List, length, get_or, take, Option, Some}
+use Rattle.std.proofs.Common.{None, Result, Ok, Err, refl, sym, ap, ◌∙◌, arith, rules}
 use Rattle.std.proofs.lemmas.Bool.{and_parts, lt-ltb, le-ltb, ltb-true, ltb-false, both_ways}
 use Rattle.std.proofs.lemmas.Bool.Decides.{nat_tests}
 use Rattle.std.proofs.lemmas.Int.Digits.{digits_value_more, digits_more}
@@ -21,7 +22,8 @@ digit_is : (c : ℕ) → is_ascii_digit c ≡ true → (digit_value c ≡ c - 48
 digit_is c h = grind (arith, nat_tests)
 
 -- one digit more
-pub more_digits : (bs : List ℕ) (i n : ℕ) → i < length bs → is_ascii_digit (get_or bs i 0) ≡ true → AllDigits 10 (take i bs) → n ≡ digits_value 10 (take i bs) → AllDigits 10 (take (i + 1) bs) × (n * 10 + (get_or bs i 0 - 48) ≡ digits_value 10 (take (i + 1) bs))
+pub more_digits : (bs : List ℕ) (i n : ℕ) → i < length bs → is_ascii_digit (get_or bs i 0) ≡ true → AllDigits 10 (take i bs)
+    → n ≡ digits_value 10 (take i bs) → AllDigits 10 (take (i + 1) bs) × (n * 10 + (get_or bs i 0 - 48) ≡ digits_value 10 (take (i + 1) bs))
 more_digits bs i n lt h all e =
     let d = digit_is (get_or bs i 0) h in
     let v = digits_value_more 10 bs i lt in
@@ -44,10 +46,12 @@ pub no_moment_empty : (word : List ℕ) → length word ≡ 0 → None ≡ momen
 no_moment_empty word e = no_moment word (λ some h. absurd (omega arith))
 
 pub no_moment_other : (word : List ℕ) (i : ℕ) → i < length word → is_ascii_digit (get_or word i 0) ≡ false → None ≡ moment_of word
-no_moment_other word i lt other = no_moment word (λ some h. absurd (both_ways (all_ascii_digits word) (and_fails_at all_ascii_digits is_ascii_digit refl (λ _ _. refl) word i 0 lt other) h))
+no_moment_other word i lt other =
+    no_moment word (λ some h. absurd (both_ways (all_ascii_digits word) (and_fails_at all_ascii_digits is_ascii_digit refl (λ _ _. refl) word i 0 lt other) h))
 
 -- too large already at some digit
-pub no_moment_large : (word : List ℕ) (i n : ℕ) → i < length word → n ≡ digits_value 10 (take i word) → is_ascii_digit (get_or word i 0) ≡ true → 2 ^ 64 ≤ n * 10 + (get_or word i 0 - 48) → None ≡ moment_of word
+pub no_moment_large : (word : List ℕ) (i n : ℕ) → i < length word → n ≡ digits_value 10 (take i word) → is_ascii_digit (get_or word i 0) ≡ true
+    → 2 ^ 64 ≤ n * 10 + (get_or word i 0 - 48) → None ≡ moment_of word
 no_moment_large word i n lt e digit large = no_moment word (λ some h.
     let d = digit_is (get_or word i 0) digit in
     let v = digits_value_more 10 word i lt in
@@ -67,7 +71,8 @@ a_moment word n some all e small =
     rw (t0, t1, v, t2) refl
 
 -- the digits up to the last are all
-pub all_digits : (word : List ℕ) (i n : ℕ) → 0 < length word → length word ≤ i → AllDigits 10 (take i word) → n ≡ digits_value 10 (take i word) → n < 2 ^ 64 → Some n ≡ moment_of word
+pub all_digits : (word : List ℕ) (i n : ℕ) → 0 < length word → length word ≤ i → AllDigits 10 (take i word) → n ≡ digits_value 10 (take i word)
+    → n < 2 ^ 64 → Some n ≡ moment_of word
 all_digits word i n some end all e small =
     let whole = take_all i word end in
     a_moment word n some (rw whole at all) (rw whole at e) small

@@ -9,13 +9,14 @@ use Rattle.ipc_wire.specs.Stream.Ending.{Rest, Broken}
 use Rattle.ipc_engine.specs.Table.{value_at, with_value, keys_of}
 use Rattle.ipc_engine.specs.Event.{PlainEvent, PlainOutcome, Connect, Call, Tick, Exit}
 use Rattle.ipc_engine.specs.Step.{step}
-use Rattle.ipc_hub.specs.Clients.{Frame, Client, Clients, client_at, with_client, with_frame, deliver, deliver_all, accept, hello_answered, greet, leave, break_off, refuse, on_request, unless_ended, first_of, on_requests, on_ending, take_in, feed, tick, is_for}
+use Rattle.ipc_hub.specs.Clients.{Frame, Client, Clients, client_at, with_client, with_frame, deliver, deliver_all, accept, hello_answered, greet}
+use Rattle.ipc_hub.specs.Clients.{leave, break_off, refuse, on_request, unless_ended, first_of, on_requests, on_ending, take_in, feed, tick, is_for}
 use Rattle.ipc_hub.specs.declared.hub.Hub.{Hub}
 use Rattle.ipc_hub.specs.Stands.{Stands}
 use Rattle.ipc_script.specs.declared.report.Opened.{Opened}
 use Rattle.ipc_script.specs.Script.{Run, rising}
 use Rattle.ipc_script.specs.Runs.{IsIn, IsUntouched, opened_of}
-use Rattle.ipc_script.proofs.Tables.{put_same, value_mapped, keys_mapped}
+use Rattle.ipc_script.proofs.ClientTables.{put_same, value_mapped, keys_mapped}
 
 -- the numbers, each with how much of the first frame is consumed
 abbrev pub heads : List (ℕ × Client) → List (ℕ × ℕ)
@@ -24,7 +25,8 @@ heads t = map (λ e. (e.0, e.1.consumed)) t
 heads_put : (t : List (ℕ × Client)) (n : ℕ) (c : Client) → heads (with_value nat_eq t n c) ≡ with_value nat_eq (heads t) n c.consumed
 heads_put [] n c = refl
 heads_put (e ∷ es) n c =
-    elim (nat_eq e.0 n) as (λ b. heads (cond b ((e.0, c) ∷ es) (e ∷ with_value nat_eq es n c)) ≡ cond b ((e.0, c.consumed) ∷ heads es) ((e.0, e.1.consumed) ∷ with_value nat_eq (heads es) n c.consumed)) [
+    elim (nat_eq e.0 n) as (λ b. heads (cond b ((e.0, c) ∷ es) (e ∷ with_value nat_eq es n c)) ≡ cond b ((e.0, c.consumed) ∷ heads es)
+    ((e.0, e.1.consumed) ∷ with_value nat_eq (heads es) n c.consumed)) [
       | true ↦ refl
       | false ↦ ap (λ (hs : List (ℕ × ℕ)). (e.0, e.1.consumed) ∷ hs) (heads_put es n c)
     ]
@@ -86,7 +88,8 @@ module _ (limits : Limits) (conn moment : ℕ) where
     client process = record { process = process; input = input; frames = frames; consumed = consumed; ended = ended }
 
     accepted_or_refused : (pid : ℕ) (call : PlainCall) (b : Bool) → client_at h conn ≡ Some (client (Some pid))
-        → heads (if b then refuse h conn (client (Some pid)) serial else accept limits h (Call pid (record { serial = serial; call = call }) moment)).clients ≡ heads h.clients
+        → heads (if b then refuse h conn (client (Some pid)) serial else accept limits h
+        (Call pid (record { serial = serial; call = call }) moment)).clients ≡ heads h.clients
     accepted_or_refused pid call b at =
         heads_choice h (refuse h conn (client (Some pid)) serial) (accept limits h (Call pid (record { serial = serial; call = call }) moment)) b
         (heads_refuse h (client (Some pid)) at serial) (heads_accept limits h (Call pid (record { serial = serial; call = call }) moment))
@@ -145,7 +148,8 @@ some_head None (Some d) e = cc
 some_head (Some c) None e = cc
 some_head (Some c) (Some d) e = refl
 
-untouched_head : (a b : Option Client) → option_map (λ (c : Client). c.consumed) b ≡ option_map (λ (c : Client). c.consumed) a → IfSome a IsUntouched → IfSome b IsUntouched
+untouched_head : (a b : Option Client) → option_map (λ (c : Client). c.consumed) b ≡ option_map (λ (c : Client). c.consumed) a → IfSome a IsUntouched
+    → IfSome b IsUntouched
 untouched_head a None e u = tt
 untouched_head None (Some d) e u = cc
 untouched_head (Some c) (Some d) e u = let same : d.consumed ≡ c.consumed = cc in same ∙ u
@@ -156,7 +160,8 @@ module _ (t u : List (ℕ × Client)) (like : heads u ≡ heads t) where
 
   same_heads : (n : ℕ) → option_map (λ (c : Client). c.consumed) (value_at nat_eq u n) ≡ option_map (λ (c : Client). c.consumed) (value_at nat_eq t n)
   same_heads n =
-      sym (value_mapped (λ (c : Client). c.consumed) u n) ∙ (ap (λ (hs : List (ℕ × ℕ)). value_at nat_eq hs n) like ∙ value_mapped (λ (c : Client). c.consumed) t n)
+      sym (value_mapped (λ (c : Client). c.consumed) u n)
+      ∙ (ap (λ (hs : List (ℕ × ℕ)). value_at nat_eq hs n) like ∙ value_mapped (λ (c : Client). c.consumed) t n)
 
   pub same_open : (n : ℕ) → is_some (value_at nat_eq u n) ≡ is_some (value_at nat_eq t n)
   same_open n = some_head (value_at nat_eq u n) (value_at nat_eq t n) (same_heads n)

@@ -1,5 +1,6 @@
 -- The frames of one connection, written and taken one after the other.
-use Rattle.std.proofs.Common.{◌≡◌, ℕ, ◌+◌, ◌-◌, ◌<◌, ◌≤◌, true, false, List, [], ◌∷◌, ◌++◌, length, take, drop, Option, Some, None, IfSome, refl, sym, ap, ◌∙◌, subst, arith, append_assoc, append-nil}
+use Rattle.std.proofs.Common.{◌≡◌, ℕ, ◌+◌, ◌-◌, ◌<◌, ◌≤◌, true, false, List, [], ◌∷◌, ◌++◌, length, take, drop, Option, Some, None, IfSome, refl, sym}
+use Rattle.std.proofs.Common.{ap, ◌∙◌, subst, arith, append_assoc, append-nil}
 use Rattle.std.specs.Prelude.{nat_eq, nat_le, All}
 use Rattle.std.specs.List.{flat_map}
 use Rattle.std.specs.Io.KnownBytes.{Appends}
@@ -17,8 +18,8 @@ use Rattle.ipc_hub.specs.Stands.{Stands, Takes}
 use Rattle.ipc_script.specs.Script.{emptied, frame_line, WritesPart}
 use Rattle.ipc_script.specs.Runs.{IsUntouched, taken_from, frames_text}
 use Rattle.ipc_script.proofs.FirstFrame.{frame_length}
-use Rattle.ipc_script.proofs.Tables.{value_here, put_same, put_twice}
-use Rattle.ipc_script.proofs.Written.{part_after, part_more}
+use Rattle.ipc_script.proofs.ClientTables.{value_here, put_same, put_twice}
+use Rattle.ipc_script.proofs.WrittenText.{part_after, part_more}
 
 -- some frames are written and taken: what is behind them now, and the text so far
 pub record Partly (limits : Limits) (h : Clients) (conn : ℕ) (hub : Hub) (before after : Option (List ℕ)) : Type 0 where
@@ -31,7 +32,8 @@ pub record Partly (limits : Limits) (h : Clients) (conn : ℕ) (hub : Hub) (befo
   pub said : text ++ frames_text now conn ≡ frames_text h conn
   pub written : Appends before after text
 
-pub partly_begun : (limits : Limits) (h : Clients) (conn : ℕ) (hub : Hub) (w : Option (List ℕ)) → Stands limits h.accepted hub h → IfSome (client_at h conn) IsUntouched → Partly limits h conn hub w w
+pub partly_begun : (limits : Limits) (h : Clients) (conn : ℕ) (hub : Hub) (w : Option (List ℕ)) → Stands limits h.accepted hub h
+    → IfSome (client_at h conn) IsUntouched → Partly limits h conn hub w w
 partly_begun limits h conn hub w s u =
     record { now = h; text = []; stands = s; accepted = refl; untouched = u; left = refl; said = refl; written = Appends-nil w }
 
@@ -107,18 +109,21 @@ module _ (limits : Limits) (h : Clients) (conn : ℕ) (hub : Hub) (w0 w1 : Optio
   module _ (line : List ℕ) (count : ℕ) (some : 0 < length out) (first : (frame rest : List ℕ) → IsFrame frame → out ≡ frame ++ rest → count ≡ length frame)
       (spelled : line ≡ frame_line conn (take count out)) where
     first_length : (c : Client) → client_at p.now conn ≡ Some c → (f : Frame) (fs : List Frame) → c.frames ≡ f ∷ fs → count ≡ length f.bytes
-    first_length c e f fs is = first f.bytes (confirmed_bytes h.accepted fs) (All-head (λ (f : Frame). IsFrame f.bytes) f fs (frames_of c e f fs is)) (first_seen c e f fs is)
+    first_length c e f fs is =
+        first f.bytes (confirmed_bytes h.accepted fs) (All-head (λ (f : Frame). IsFrame f.bytes) f fs (frames_of c e f fs is)) (first_seen c e f fs is)
 
     is_line : (c : Client) → client_at p.now conn ≡ Some c → (f : Frame) (fs : List Frame) → c.frames ≡ f ∷ fs → line ≡ frame_line conn f.bytes
     is_line c e f fs is =
         let bytes : take count out ≡ f.bytes =
-        ap (λ (n : ℕ). take n out) (first_length c e f fs is) ∙ (ap (take (length f.bytes)) (first_seen c e f fs is) ∙ take-append_seam f.bytes (confirmed_bytes h.accepted fs)) in
+        ap (λ (n : ℕ). take n out) (first_length c e f fs is)
+        ∙ (ap (take (length f.bytes)) (first_seen c e f fs is) ∙ take-append_seam f.bytes (confirmed_bytes h.accepted fs)) in
         spelled ∙ ap (frame_line conn) bytes
 
     line_first : (c : Client) → client_at p.now conn ≡ Some c → (f : Frame) (fs : List Frame) → c.frames ≡ f ∷ fs
         → frames_text p.now conn ≡ line ++ flat_map (λ f. frame_line conn f.bytes) fs
     line_first c e f fs is =
-        rw e (ap (flat_map (λ (f : Frame). frame_line conn f.bytes)) is ∙ ap (λ (l : List ℕ). l ++ flat_map (λ (f : Frame). frame_line conn f.bytes) fs) (sym (is_line c e f fs is)))
+        rw e (ap (flat_map (λ (f : Frame). frame_line conn f.bytes)) is
+        ∙ ap (λ (l : List ℕ). l ++ flat_map (λ (f : Frame). frame_line conn f.bytes) fs) (sym (is_line c e f fs is)))
 
     no_client : client_at p.now conn ≡ None → ⊥
     no_client e = let s = see limits h.accepted p.now p.stands in let nothing : out ≡ [] = rw e at s in absurd (omega (arith, ap length nothing))
@@ -126,7 +131,8 @@ module _ (limits : Limits) (h : Clients) (conn : ℕ) (hub : Hub) (w0 w1 : Optio
     no_first : (c : Client) → client_at p.now conn ≡ Some c → c.frames ≡ [] → ⊥
     no_first c e is = let nothing : out ≡ [] = shows c e ∙ unseen h.accepted c is (whole c e) in absurd (omega (arith, ap length nothing))
 
-    part_of : (w2 : Option (List ℕ)) → WritesPart w1 w2 line → (c : Client) → client_at p.now conn ≡ Some c → (fs : List Frame) → c.frames ≡ fs → WritesPart w0 w2 (frames_text h conn)
+    part_of : (w2 : Option (List ℕ)) → WritesPart w1 w2 line → (c : Client) → client_at p.now conn ≡ Some c → (fs : List Frame) → c.frames ≡ fs
+        → WritesPart w0 w2 (frames_text h conn)
     part_of w2 part c e [] is = absurd (no_first c e is)
     part_of w2 part c e (f ∷ fs) is =
         subst (WritesPart w0 w2) p.said

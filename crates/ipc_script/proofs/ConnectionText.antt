@@ -10,8 +10,8 @@ use Rattle.ipc_hub.specs.Stands.{Stands}
 use Rattle.ipc_script.specs.declared.report.Opened.{Opened}
 use Rattle.ipc_script.specs.Script.{Run, emptied, end_line, conn_text, WritesPart}
 use Rattle.ipc_script.specs.Runs.{taken_from, frames_text, ReportsConnection}
-use Rattle.ipc_script.proofs.Tables.{value_here}
-use Rattle.ipc_script.proofs.Written.{part_after, part_more}
+use Rattle.ipc_script.proofs.ClientTables.{value_here}
+use Rattle.ipc_script.proofs.WrittenText.{part_after, part_more}
 
 -- the server's ends stay
 ended_taken : (h : Clients) (conn : ℕ) → ended_at (taken_from h conn) conn ≡ ended_at h conn

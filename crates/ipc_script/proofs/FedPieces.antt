@@ -1,5 +1,6 @@
 -- The pieces of a line, fed one after the other.
-use Rattle.std.proofs.Common.{◌≡◌, ℕ, ◌+◌, ◌-◌, ◌<◌, ◌≤◌, Bool, true, false, List, [], ◌∷◌, ◌++◌, length, take, drop, Option, Some, None, refl, sym, ap, ◌∙◌, subst, arith, append_assoc, append-nil, inl, inr}
+use Rattle.std.proofs.Common.{◌≡◌, ℕ, ◌+◌, ◌-◌, ◌<◌, ◌≤◌, Bool, true, false, List, [], ◌∷◌, ◌++◌, length, take, drop, Option, Some, None, refl, sym}
+use Rattle.std.proofs.Common.{ap, ◌∙◌, subst, arith, append_assoc, append-nil, inl, inr}
 use Rattle.std.specs.Prelude.{is_some, option_map, nat_lt, Err}
 use Rattle.std.specs.Io.KnownBytes.{Appends}
 use Rattle.std.proofs.KnownBytes.{Appends-nil, Appends-trans}
@@ -16,18 +17,19 @@ use Rattle.ipc_script.specs.declared.fault.ScriptFault.TheVariants.{Unknown}
 use Rattle.ipc_script.specs.Line.PlainLine.{Data}
 use Rattle.ipc_script.specs.Script.{Run, Progress, Piece, Cut, followed, is_open, fed, fed_in_pieces, report, reported, emptied, line_done, WritesPart}
 use Rattle.ipc_script.specs.Runs.{IsIn, IsBehind, FeedsSome, FeedsPart, ByFault, Refused, text_of}
-use Rattle.ipc_script.proofs.Tables.{test, value_mapped}
-use Rattle.ipc_script.proofs.Faults.{by_fault_both}
-use Rattle.ipc_script.proofs.Written.{part_after, part_more}
-use Rattle.ipc_script.proofs.Hubs.{connected, no_frame}
-use Rattle.ipc_script.proofs.Steady.{heads, heads_feed, steady, same_open}
+use Rattle.ipc_script.proofs.ClientTables.{test, value_mapped}
+use Rattle.ipc_script.proofs.FaultCases.{by_fault_both}
+use Rattle.ipc_script.proofs.WrittenText.{part_after, part_more}
+use Rattle.ipc_script.proofs.HubAndClients.{connected, no_frame}
+use Rattle.ipc_script.proofs.UnchangedHeads.{heads, heads_feed, steady, same_open}
 
 -- after a text, what comes
 abbrev pub behind : List ℕ → Progress → Progress
 behind text p = record { text = text ++ p.text; run = p.run }
 
 -- some pieces are fed, and some bytes are left
-pub record PartlyFed (limits : Limits) (r : Run) (moment conn : ℕ) (bytes : List ℕ) (hub : Hub) (opened : List Opened) (rest : List ℕ) (before after : Option (List ℕ)) : Type 0 where
+pub record PartlyFed (limits : Limits) (r : Run) (moment conn : ℕ) (bytes : List ℕ) (hub : Hub) (opened : List Opened) (rest : List ℕ)
+    (before after : Option (List ℕ)) : Type 0 where
   pub now : Run
   pub pieces : List Piece
   pub text : List ℕ
@@ -52,7 +54,8 @@ module _ (limits : Limits) (r : Run) (moment conn : ℕ) (bytes : List ℕ) (ref
       rw past refl
 
 module _ (limits : Limits) (r : Run) (moment conn : ℕ) (bytes : List ℕ) where
-  pub fed_begun : (hub : Hub) (opened : List Opened) (w : Option (List ℕ)) → IsBehind limits hub opened r → PartlyFed limits r moment conn bytes hub opened bytes w w
+  pub fed_begun : (hub : Hub) (opened : List Opened) (w : Option (List ℕ)) → IsBehind limits hub opened r
+      → PartlyFed limits r moment conn bytes hub opened bytes w w
   fed_begun hub opened w b =
       record { now = r; pieces = []; text = []; at = b; there = refl; shut = λ _. refl; written = Appends-nil w; runs = λ more. refl }
 
@@ -78,7 +81,8 @@ module _ (limits : Limits) (r : Run) (moment conn : ℕ) (bytes : List ℕ) wher
         ∙ ap (λ (t : List ℕ). record { text = t; run = then.run }) (sym (append_assoc p.text step.text then.text))))
 
     -- one piece more
-    pub fed_more : 0 < length rest → taken < length rest → PartlyFed limits r moment conn bytes next changed (take (length rest - taken) (drop taken rest)) w0 w2
+    pub fed_more : 0 < length rest → taken < length rest
+        → PartlyFed limits r moment conn bytes next changed (take (length rest - taken) (drop taken rest)) w0 w2
     fed_more some below =
         record {
           now = step.run;
@@ -93,7 +97,8 @@ module _ (limits : Limits) (r : Run) (moment conn : ℕ) (bytes : List ℕ) wher
         }
 
     -- the last piece
-    pub fed_all : take taken rest ≡ rest → (cut : Cut) × (q : Progress) × (fed_in_pieces limits r moment conn bytes cut ≡ q) × IsBehind limits next changed q.run × Appends w0 w2 q.text
+    pub fed_all : take taken rest ≡ rest → (cut : Cut) × (q : Progress) × (fed_in_pieces limits r moment conn bytes cut ≡ q)
+        × IsBehind limits next changed q.run × Appends w0 w2 q.text
     fed_all whole =
         let last : Piece = record { more = length rest; refused = s.refused } in (
           p.pieces ++ last ∷ [],
@@ -116,12 +121,14 @@ pub open_reported : (r : Run) (conn : ℕ) → is_open (reported r) conn ≡ is_
 open_reported r conn = ap is_some (value_mapped emptied r.hub.clients conn) ∙ some_emptied (client_at r.hub conn)
 
 -- a hub that knows a number stands for one in which it is open
-pub open_here : (limits : Limits) (hub : Hub) (opened : List Opened) (r : Run) (conn : ℕ) → IsIn limits hub opened r → (is_connected hub conn ≡ false → ⊥) → is_open r conn ≡ true
+pub open_here : (limits : Limits) (hub : Hub) (opened : List Opened) (r : Run) (conn : ℕ) → IsIn limits hub opened r → (is_connected hub conn ≡ false → ⊥)
+    → is_open r conn ≡ true
 open_here limits hub opened r conn i known =
     let same = connected limits i.confirmed hub r.hub conn i.stands in
     elim (test (is_open r conn)) [ inl t ↦ t | inr f ↦ absurd (known (same ∙ f)) ]
 
-module _ (limits : Limits) (r : Run) (moment conn : ℕ) (bytes : List ℕ) (taken : ℕ) (hub mid next : Hub) (opened changed : List Opened) (w0 w2 : Option (List ℕ))
+module _ (limits : Limits) (r : Run) (moment conn : ℕ) (bytes : List ℕ) (taken : ℕ) (hub mid next : Hub) (opened changed : List Opened)
+    (w0 w2 : Option (List ℕ))
     (b : IsBehind limits hub opened r) (takes : TakesBytes hub mid conn (take taken bytes) moment) (starts : HasNoFrame hub conn → 0 < length bytes → 0 < taken)
     (known : is_connected hub conn ≡ false → ⊥) where
   taken_in : (refused : List Bool) × Stands limits b.line.confirmed mid (feed limits r.hub conn (take taken bytes) moment refused)
@@ -173,7 +180,8 @@ all_taken rest n e =
     let none : drop n rest ≡ [] = no_length (drop n rest) (ap length (sym (take_rest rest n)) ∙ e) in
     sym (append-nil (take n rest)) ∙ (ap (λ (xs : List ℕ). take n rest ++ xs) (sym none) ∙ take-append-drop n rest)
 
-module _ (limits : Limits) (number : ℕ) (r : Run) (moment conn : ℕ) (bytes : List ℕ) (hub : Hub) (opened : List Opened) (rest : List ℕ) (w0 w1 w2 : Option (List ℕ))
+module _ (limits : Limits) (number : ℕ) (r : Run) (moment conn : ℕ) (bytes : List ℕ) (hub : Hub) (opened : List Opened) (rest : List ℕ)
+    (w0 w1 w2 : Option (List ℕ))
     (p : PartlyFed limits r moment conn bytes hub opened rest w0 w1) (more : 0 < length rest) where
   -- a beginning of what a piece lets out is written
   module _ (q : FeedsPart limits p.now moment conn rest w1 w2) where
@@ -183,7 +191,8 @@ module _ (limits : Limits) (number : ℕ) (r : Run) (moment conn : ℕ) (bytes :
     open_now : is_open r conn ≡ true
     open_now = sym p.there ∙ q.was
 
-    cut_at : (cut : Cut) (t : List ℕ) → (then_fed cut).text ≡ p.text ++ t → WritesPart w1 w2 t → (cut : Cut) × WritesPart w0 w2 (text_of (line_done limits number r (Data moment conn bytes) cut))
+    cut_at : (cut : Cut) (t : List ℕ) → (then_fed cut).text ≡ p.text ++ t → WritesPart w1 w2 t → (cut : Cut)
+        × WritesPart w0 w2 (text_of (line_done limits number r (Data moment conn bytes) cut))
     cut_at cut t e part = (cut, rw open_now (subst (WritesPart w0 w2) (sym e) (part_after w0 w1 w2 p.text t p.written part)))
 
     pub fed_part : (cut : Cut) × WritesPart w0 w2 (text_of (line_done limits number r (Data moment conn bytes) cut))
@@ -196,7 +205,8 @@ module _ (limits : Limits) (number : ℕ) (r : Run) (moment conn : ℕ) (bytes :
               let piece : Piece = record { more = q.taken - 1; refused = q.refused } in
               let then : Progress = fed_in_pieces limits (fed limits p.now moment conn (take q.taken rest) q.refused).run moment conn (drop q.taken rest) [] in
               cut_at (p.pieces ++ piece ∷ []) (let_out ++ then.text)
-              (ap (λ (x : Progress). x.text) (p.runs (piece ∷ []) ∙ ap (behind p.text) (first_piece limits p.now moment conn rest q.refused (q.taken - 1) q.taken took below [])))
+              (ap (λ (x : Progress). x.text) (p.runs (piece ∷ [])
+              ∙ ap (behind p.text) (first_piece limits p.now moment conn rest q.refused (q.taken - 1) q.taken took below [])))
               (part_more w1 w2 let_out then.text q.text)
           | inr f ↦
               let past : length rest ≤ q.taken = grind (arith, nat_tests) in
@@ -208,7 +218,9 @@ module _ (limits : Limits) (number : ℕ) (r : Run) (moment conn : ℕ) (bytes :
               q.text
         ]
 
-  pub fed_refused : (e : ScriptFault) → ByFault e ((limits : Limits) (r : Run) → IsBehind limits hub opened r → FeedsPart limits r moment conn rest w1 w2) ((e ≡ Unknown number) × Appends w1 w2 [])
+  pub fed_refused : (e : ScriptFault)
+      → ByFault e ((limits : Limits) (r : Run) → IsBehind limits hub opened r → FeedsPart limits r moment conn rest w1 w2) ((e ≡ Unknown number)
+      × Appends w1 w2 [])
       → Refused e ((limits : Limits) (r : Run) → IsBehind limits hub opened r → is_open r conn ≡ false)
       → ByFault e ((cut : Cut) × WritesPart w0 w2 (text_of (line_done limits number r (Data moment conn bytes) cut)))
       (((cut : Cut) → line_done limits number r (Data moment conn bytes) cut ≡ Err e) × Appends w0 w2 [])

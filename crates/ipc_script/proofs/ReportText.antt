@@ -1,5 +1,6 @@
 -- The connections, reported one after the other.
-use Rattle.std.proofs.Common.{◌≡◌, ℕ, ◌+◌, ◌<◌, ◌≤◌, Bool, true, false, cond, ◌||◌, List, [], ◌∷◌, ◌++◌, length, map, get_or, set, Option, Some, None, IfSome, refl, sym, ap, ◌∙◌, subst, inl, inr, arith, append_assoc, append-nil}
+use Rattle.std.proofs.Common.{◌≡◌, ℕ, ◌+◌, ◌<◌, ◌≤◌, Bool, true, false, cond, ◌||◌, List, [], ◌∷◌, ◌++◌, length, map, get_or, set, Option, Some, None}
+use Rattle.std.proofs.Common.{IfSome, refl, sym, ap, ◌∙◌, subst, inl, inr, arith, append_assoc, append-nil}
 use Rattle.std.specs.Prelude.{nat_eq, option_map}
 use Rattle.std.specs.List.{flat_map, list_any, IsDistinct}
 use Rattle.std.specs.Io.KnownBytes.{Appends}
@@ -17,9 +18,10 @@ use Rattle.ipc_hub.specs.Stands.{Stands}
 use Rattle.ipc_script.specs.declared.report.Opened.{Opened}
 use Rattle.ipc_script.specs.Script.{Run, emptied, rising, conn_text, reported, report, WritesPart}
 use Rattle.ipc_script.specs.Runs.{IsBehind, IsUntouched, taken_from, opened_of, ReportsConnection}
-use Rattle.ipc_script.proofs.Tables.{test, flipped, same_number, distinct_tail, value_here, value_elsewhere, keys_put, same_table, value_mapped, keys_mapped, no_value}
-use Rattle.ipc_script.proofs.Rising.{distinct_rising, any_rising}
-use Rattle.ipc_script.proofs.Written.{part_after, part_more}
+use Rattle.ipc_script.proofs.ClientTables.{test, flipped, same_number, distinct_tail, value_here, value_elsewhere, keys_put, same_table, value_mapped}
+use Rattle.ipc_script.proofs.ClientTables.{keys_mapped, no_value}
+use Rattle.ipc_script.proofs.RisingNumbers.{distinct_rising, any_rising}
+use Rattle.ipc_script.proofs.WrittenText.{part_after, part_more}
 
 -- ---- the hub of which one connection's frames are taken
 
@@ -105,7 +107,8 @@ same_end h now n e = rw e refl
 same_untouched : (h now : Clients) (n : ℕ) → client_at now n ≡ client_at h n → IfSome (client_at h n) IsUntouched → IfSome (client_at now n) IsUntouched
 same_untouched h now n e u = subst (λ (o : Option Client). IfSome o IsUntouched) (sym e) u
 
-module _ (limits : Limits) (r : Run) (hub : Hub) (opened : List Opened) (index : ℕ) (w0 w1 : Option (List ℕ)) (p : PartlyReported limits r hub opened index w0 w1) where
+module _ (limits : Limits) (r : Run) (hub : Hub) (opened : List Opened) (index : ℕ) (w0 w1 : Option (List ℕ))
+    (p : PartlyReported limits r hub opened index w0 w1) where
   -- how many are kept
   count : length opened ≡ index + length p.left
   count =
@@ -117,7 +120,8 @@ module _ (limits : Limits) (r : Run) (hub : Hub) (opened : List Opened) (index :
   abbrev now_run : Run
   now_run = record { hub = p.now; told = r.told }
 
-  module _ (untouched : (conn : ℕ) → IfSome (client_at r.hub conn) IsUntouched) (item d : Opened) (inside : index < length opened) (is_item : item ≡ get_or opened index d) where
+  module _ (untouched : (conn : ℕ) → IfSome (client_at r.hub conn) IsUntouched) (item d : Opened) (inside : index < length opened)
+      (is_item : item ≡ get_or opened index d) where
     -- there is one that is left
     no_rest : p.left ≡ [] → ⊥
     no_rest e = absurd (omega (arith, count, ap length e))
@@ -147,7 +151,8 @@ module _ (limits : Limits) (r : Run) (hub : Hub) (opened : List Opened) (index :
 
       -- what is done with the item is done with its connection
       done_here : (C : Run → ℕ → Type 0)
-          → ((s : Run) → Stands limits s.hub.accepted hub s.hub → IfSome (client_at s.hub item.conn) IsUntouched → item ≡ opened_of s.told item.conn → C s item.conn) → C now_run n
+          → ((s : Run) → Stands limits s.hub.accepted hub s.hub → IfSome (client_at s.hub item.conn) IsUntouched → item ≡ opened_of s.told item.conn
+          → C s item.conn) → C now_run n
       done_here C call =
           let conn_is : item.conn ≡ n = ap (λ (o : Opened). o.conn) item_is in
           let stands : Stands limits p.now.accepted hub p.now = subst (λ (k : ℕ). Stands limits k hub p.now) (sym p.like.accepted) p.stands in
@@ -155,12 +160,14 @@ module _ (limits : Limits) (r : Run) (hub : Hub) (opened : List Opened) (index :
           subst (λ (k : ℕ). IfSome (client_at p.now k) IsUntouched) (sym conn_is) (same_untouched r.hub p.now n here (untouched n)) in
           subst (C now_run) conn_is (call now_run stands whole (item_is ∙ ap (opened_of r.told) (sym conn_is)))
 
-    module _ (w2 : Option (List ℕ)) (call : (s : Run) → Stands limits s.hub.accepted hub s.hub → IfSome (client_at s.hub item.conn) IsUntouched → item ≡ opened_of s.told item.conn
+    module _ (w2 : Option (List ℕ)) (call : (s : Run) → Stands limits s.hub.accepted hub s.hub → IfSome (client_at s.hub item.conn) IsUntouched
+        → item ≡ opened_of s.told item.conn
         → WritesPart w1 w2 (conn_text s item.conn)) where
       part_left : (left : List ℕ) → p.left ≡ left → WritesPart w0 w2 (report r).text
       part_left [] e = absurd (no_rest e)
       part_left (n ∷ rest) e =
-          let said : p.text ++ (conn_text r n ++ flat_map (conn_text r) rest) ≡ (report r).text = ap (λ (l : List ℕ). p.text ++ flat_map (conn_text r) l) (sym e) ∙ p.said in
+          let said : p.text ++ (conn_text r n ++ flat_map (conn_text r) rest) ≡ (report r).text =
+          ap (λ (l : List ℕ). p.text ++ flat_map (conn_text r) l) (sym e) ∙ p.said in
           let part : WritesPart w1 w2 (conn_text now_run n) = done_here n rest e (λ s k. WritesPart w1 w2 (conn_text s k)) call in
           subst (WritesPart w0 w2) said (part_after w0 w1 w2 p.text _ p.written
           (part_more w1 w2 (conn_text r n) _ (subst (WritesPart w1 w2) (same_text r p.now n (here n rest e)) part)))
@@ -261,9 +268,11 @@ module _ (limits : Limits) (r : Run) (hub : Hub) (opened : List Opened) (index :
             confirmed = r.hub.accepted;
             stands = subst (Stands limits r.hub.accepted hub) same p.stands;
             kept = kept;
-            untouched = λ n. subst (λ (o : Option Client). IfSome o IsUntouched) (sym (value_mapped emptied r.hub.clients n)) (mapped_untouched (client_at r.hub n));
+            untouched =
+                λ n. subst (λ (o : Option Client). IfSome o IsUntouched) (sym (value_mapped emptied r.hub.clients n)) (mapped_untouched (client_at r.hub n));
           };
-          quiet = λ n. subst (λ (o : Option Client). IfSome o (λ c. c.frames ≡ [])) (sym (value_mapped emptied r.hub.clients n)) (mapped_quiet (client_at r.hub n));
+          quiet = λ n. subst (λ (o : Option Client). IfSome o (λ c. c.frames ≡ [])) (sym (value_mapped emptied r.hub.clients n))
+              (mapped_quiet (client_at r.hub n));
         },
         subst (Appends w0 w1) text p.written,
       )

@@ -112,7 +112,8 @@ module _ {X Y : Type 0} (f : X → Y) where
   pub value_mapped : (es : List (ℕ × X)) (n : ℕ) → value_at nat_eq (map (λ e. (e.0, f e.1)) es) n ≡ option_map f (value_at nat_eq es n)
   value_mapped [] n = refl
   value_mapped (e ∷ es) n =
-      elim (nat_eq e.0 n) as (λ b. cond b (Some (f e.1)) (value_at nat_eq (map (λ (e : ℕ × X). (e.0, f e.1)) es) n) ≡ option_map f (cond b (Some e.1) (value_at nat_eq es n))) [
+      elim (nat_eq e.0 n) as (λ b. cond b (Some (f e.1)) (value_at nat_eq (map (λ (e : ℕ × X). (e.0, f e.1)) es) n) ≡ option_map f
+      (cond b (Some e.1) (value_at nat_eq es n))) [
         | true ↦ refl
         | false ↦ value_mapped es n
       ]

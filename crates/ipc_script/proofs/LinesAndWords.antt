@@ -1,5 +1,6 @@
 -- The first word of a line, and the first line of a script.
-use Rattle.std.proofs.Common.{◌≡◌, ℕ, zero, suc, ◌+◌, ◌-◌, ◌<◌, ◌≤◌, ◌==◌, Bool, true, false, not, cond, ltb, List, [], ◌∷◌, length, get_or, take, drop, Some, None, refl, ap, arith, add-one}
+use Rattle.std.proofs.Common.{◌≡◌, ℕ, zero, suc, ◌+◌, ◌-◌, ◌<◌, ◌≤◌, ◌==◌, Bool, true, false, not, cond, ltb, List, [], ◌∷◌, length, get_or, take}
+use Rattle.std.proofs.Common.{drop, Some, None, refl, ap, arith, add-one}
 use Rattle.std.proofs.lemmas.List.{take_rest}
 use Rattle.std.proofs.lemmas.List.Quantifiers.{position-Some}
 use Rattle.std.specs.List.{slice_split, onto_first, position, position_or_len}
@@ -22,7 +23,8 @@ passed_one false n m h = (refl, omega arith)
 
 -- ---- parts
 
-split_at : {X : Type 0} (p : X → Bool) (xs : List X) (i : ℕ) (d : X) → i < length xs → p (get_or xs i d) ≡ true → ((k : ℕ) → k < i → p (get_or xs k d) ≡ false) → slice_split p xs ≡ take i xs ∷ slice_split p (drop (suc i) xs)
+split_at : {X : Type 0} (p : X → Bool) (xs : List X) (i : ℕ) (d : X) → i < length xs → p (get_or xs i d) ≡ true
+    → ((k : ℕ) → k < i → p (get_or xs k d) ≡ false) → slice_split p xs ≡ take i xs ∷ slice_split p (drop (suc i) xs)
 split_at p [] i d lt at before = absurd (omega arith)
 split_at p (x ∷ xs) zero d lt at before = rw at refl
 split_at p (x ∷ xs) (suc i) d lt at before =
@@ -36,7 +38,8 @@ split_nowhere p (x ∷ xs) h =
     let other = one.0 in
     rw other (ap (onto_first x) (split_nowhere p xs one.1))
 
-pub first_word : (text : List ℕ) (i : ℕ) → position (λ b. b == 32) text ≡ Some i → words_of text ≡ take i text ∷ words_of (take (length text - (i + 1)) (drop (i + 1) text))
+pub first_word : (text : List ℕ) (i : ℕ) → position (λ b. b == 32) text ≡ Some i
+    → words_of text ≡ take i text ∷ words_of (take (length text - (i + 1)) (drop (i + 1) text))
 unfolding words_of
 first_word text i h =
     let at = position-Some (λ b. b == 32) text i 0 h in
@@ -48,7 +51,8 @@ only_word text h = split_nowhere (λ b. b == 32) text (passed_all (λ b. b == 32
 
 -- ---- lines
 
-line_at : (xs : List ℕ) (i : ℕ) → i < length xs → (get_or xs i 0 == 10) ≡ true → ((k : ℕ) → k < i → (get_or xs k 0 == 10) ≡ false) → lines_of xs ≡ take i xs ∷ lines_of (drop (suc i) xs)
+line_at : (xs : List ℕ) (i : ℕ) → i < length xs → (get_or xs i 0 == 10) ≡ true → ((k : ℕ) → k < i → (get_or xs k 0 == 10) ≡ false)
+    → lines_of xs ≡ take i xs ∷ lines_of (drop (suc i) xs)
 unfolding lines_of
 line_at [] i lt at before = absurd (omega arith)
 line_at (x ∷ xs) zero lt at before = rw at refl
@@ -66,7 +70,8 @@ line_nowhere x (y ∷ ys) h =
     let other = one.0 in
     rw other (ap (onto_first x) (line_nowhere y ys one.1))
 
-pub first_line : (text : List ℕ) (i : ℕ) → position (λ b. b == 10) text ≡ Some i → lines_of text ≡ take i text ∷ lines_of (take (length text - (i + 1)) (drop (i + 1) text))
+pub first_line : (text : List ℕ) (i : ℕ) → position (λ b. b == 10) text ≡ Some i
+    → lines_of text ≡ take i text ∷ lines_of (take (length text - (i + 1)) (drop (i + 1) text))
 first_line text i h =
     let at = position-Some (λ b. b == 10) text i 0 h in
     rw (take_rest text (i + 1), add-one) (line_at text i at.0 at.1 at.2)

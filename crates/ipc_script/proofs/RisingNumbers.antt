@@ -6,7 +6,7 @@ use Rattle.std.proofs.lemmas.Bool.{cases_lt, ltb-false, eqb-true}
 use Rattle.std.proofs.lemmas.Bool.Decides.{nat_tests}
 use Rattle.std.proofs.lemmas.Map.Keys.{IsDistinct-head, IsDistinct-tail, IsDistinct-cons}
 use Rattle.ipc_script.specs.Script.{put, rising}
-use Rattle.ipc_script.proofs.Tables.{test, flipped, same_number}
+use Rattle.ipc_script.proofs.ClientTables.{test, flipped, same_number}
 
 lt-ltb : (n m : ℕ) → n < m → nat_lt n m ≡ true
 lt-ltb n m h = grind (arith, nat_tests)
@@ -75,7 +75,8 @@ below_both n a m le f = let least : a ≤ m = ltb-false m a f in omega arith
 put_first : (a b : ℕ) (ms : List ℕ) → ((n : ℕ) → (n ≤ a) ⊎ (n ≤ b) → put n ms ≡ n ∷ ms) → put a (b ∷ ms) ≡ put b (a ∷ ms)
 put_first a b ms first =
     elim (cases_lt a b) [
-      | inl lt ↦ put_above a b ms (ge-ltb b a (omega arith)) ∙ (ap (λ (ks : List ℕ). a ∷ ks) (sym (first b (inr (omega arith)))) ∙ sym (put_below b a ms (lt-ltb a b lt)))
+      | inl lt ↦ put_above a b ms (ge-ltb b a (omega arith))
+          ∙ (ap (λ (ks : List ℕ). a ∷ ks) (sym (first b (inr (omega arith)))) ∙ sym (put_below b a ms (lt-ltb a b lt)))
       | inr ge ↦
           elim (cases_lt b a) [
             | inl lt ↦ put_below a b ms (lt-ltb b a lt) ∙ (ap (λ (ks : List ℕ). b ∷ ks) (first a (inl (omega arith))) ∙ sym (put_above b a ms (ge-ltb a b ge)))

@@ -6,9 +6,10 @@ use Rattle.hex.specs.Hex.{decode_of}
 use Rattle.hex.specs.declared.error.FromHexError.{FromHexError}
 use Rattle.hex.proofs.HexLemmas.{decode_of-ok}
 use Rattle.ipc_script.specs.Line.{bytes_of_hex}
-use Rattle.ipc_script.proofs.Tables.{test}
+use Rattle.ipc_script.proofs.ClientTables.{test}
 
-decoded : (word : List ℕ) (r : Result (List ℕ) FromHexError) → decode_of word ≡ r → 0 < length word → is_some (result_ok r) ≡ true → 0 < length (unwrap_or (result_ok r) [])
+decoded : (word : List ℕ) (r : Result (List ℕ) FromHexError) → decode_of word ≡ r → 0 < length word → is_some (result_ok r) ≡ true
+    → 0 < length (unwrap_or (result_ok r) [])
 decoded word (Ok bytes) e some h = let d = decode_of-ok word bytes e in omega (arith, d.2)
 decoded word (Err f) e some h = cc
 
