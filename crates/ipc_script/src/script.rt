@@ -88,16 +88,12 @@ fn run_line<W: Write>(
         Line::Open { conn } => open(hub, opened, conn, number)?,
         Line::Data { moment, conn, hex } => {
             let bytes = hex.decode(alloc)?;
-            return feed(
-                alloc,
-                hub,
-                opened,
+            let sender = Sender {
                 conn,
-                &bytes,
-                Moment(moment),
+                moment: Moment(moment),
                 number,
-                writer,
-            );
+            };
+            return feed(alloc, hub, opened, sender, &bytes, writer);
         }
         Line::End { moment, conn } => close(hub, opened, conn, Moment(moment), number)?,
         Line::Tick { moment } => hub.tick(Moment(moment)),
@@ -164,26 +160,32 @@ fn place_of(opened: &[Opened], conn: u32) -> Option<usize>
     opened.iter().position(|other| other.conn == conn)
 }
 
+/// Who sends the bytes of a line, when, and in which line.
+#[derive(Clone, Copy, Debug)]
+struct Sender {
+    conn: u32,
+    moment: Moment,
+    number: u64,
+}
+
 /// Feeds a connection all of these bytes, and writes what they let out.
 fn feed<W: Write>(
     alloc: Global,
     hub: &mut Hub,
     opened: &mut [Opened],
-    conn: u32,
+    sender: Sender,
     bytes: &[u8],
-    moment: Moment,
-    number: u64,
     writer: &mut W,
 ) -> Result<(), ScriptFault>
     requires { 0 < length bytes.now }
     ensures { (limits : Limits) (r : Run) → IsBehind limits hub.old opened.old r →
-        LineRuns limits number r (Data moment.0 conn bytes.now) hub.new opened.new
+        LineRuns limits sender.number r (Data sender.moment.0 sender.conn bytes.now) hub.new opened.new
         (W.contents writer.old) (W.contents writer.new) result }
 {
     let mut rest = bytes;
     // A round takes at least one byte, since no frame waits as it begins.
     'pieces: for _ in 0..bytes.len() {
-        let taken = feed_some(alloc, hub, opened, conn, rest, moment, number, writer)?;
+        let taken = feed_some(alloc, hub, opened, sender, rest, writer)?;
         rest = &rest[taken..];
         if rest.is_empty() {
             return Ok(());
@@ -197,24 +199,22 @@ fn feed_some<W: Write>(
     alloc: Global,
     hub: &mut Hub,
     opened: &mut [Opened],
-    conn: u32,
+    sender: Sender,
     bytes: &[u8],
-    moment: Moment,
-    number: u64,
     writer: &mut W,
 ) -> Result<usize, ScriptFault>
     ensures ok { IfOk result (λ taken. (limits : Limits) (r : Run) → IsBehind limits hub.old opened.old r →
-        FeedsSome limits r moment.0 conn bytes.now taken hub.new opened.new
+        FeedsSome limits r sender.moment.0 sender.conn bytes.now taken hub.new opened.new
         (W.contents writer.old) (W.contents writer.new)) }
     ensures within { IfOk result (λ taken. taken ≤ length bytes.now) }
     ensures err { IfErr result (λ e. ByFault e ((limits : Limits) (r : Run) → IsBehind limits hub.old opened.old r →
-        FeedsPart limits r moment.0 conn bytes.now (W.contents writer.old) (W.contents writer.new))
-        ((e ≡ ScriptFault.Unknown number) × Appends (W.contents writer.old) (W.contents writer.new) [])) }
+        FeedsPart limits r sender.moment.0 sender.conn bytes.now (W.contents writer.old) (W.contents writer.new))
+        ((e ≡ ScriptFault.Unknown sender.number) × Appends (W.contents writer.old) (W.contents writer.new) [])) }
     ensures unknown { IfErr result (λ e. Refused e ((limits : Limits) (r : Run) →
-        IsBehind limits hub.old opened.old r → is_open r conn ≡ false)) }
+        IsBehind limits hub.old opened.old r → is_open r sender.conn ≡ false)) }
 {
-    let Ok(taken) = hub.feed(conn, bytes, moment) else {
-        return Err(ScriptFault::Unknown(number));
+    let Ok(taken) = hub.feed(sender.conn, bytes, sender.moment) else {
+        return Err(ScriptFault::Unknown(sender.number));
     };
     report(alloc, hub, opened, writer)?;
     Ok(taken)
