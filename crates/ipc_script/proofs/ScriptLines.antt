@@ -154,7 +154,7 @@ pub all_lines : (limits : Limits) (s : State) (script : List ℕ) (before after 
     → LinesRun limits s script before after result → Runs limits s script before after result
 all_lines limits s script before after (Ok u) short ran = (short, ran)
 all_lines limits s script before after (Err NoMemory) short ran = ran
-all_lines limits s script before after (Err Input) short ran = ran
+all_lines limits s script before after (Err Input) short ran = absurd ran
 all_lines limits s script before after (Err Output) short ran = ran
 all_lines limits s script before after (Err TooLong) short ran = absurd (never_long limits 1 (start_run s) (lines_of script) ran.0 ran.1.1)
 all_lines limits s script before after (Err (BadLine number)) short ran = (short, ran)
@@ -196,7 +196,7 @@ pub not_read : (limits : Limits) (s : State) (remaining left w : Option (List �
     → (e ≡ TooLong → ReadsTooMuch remaining left)
     → (script : List ℕ) × IfSome remaining (λ input. script ≡ input) × Runs limits s script w w (Err e)
 not_read limits s remaining left w NoMemory f long = (input_of remaining, is_input remaining, unwritten limits s (input_of remaining) w)
-not_read limits s remaining left w Input f long = (input_of remaining, is_input remaining, unwritten limits s (input_of remaining) w)
+not_read limits s remaining left w Input f long = (input_of remaining, is_input remaining, Appends-nil w)
 not_read limits s remaining left w Output f long = absurd f
 not_read limits s remaining left w TooLong f long = let l = long_input remaining left (long refl) in (l.0, l.1, (l.2, Appends-nil w))
 not_read limits s remaining left w (BadLine number) f long = absurd f

@@ -88,10 +88,11 @@ pub record FeedsPart (limits : Limits) (r : Run) (moment conn : ℕ) (bytes : Li
 
 -- ---- results
 
--- what holds of a fault: one thing if the world failed, another if the script is wrong
+-- What holds of a line's fault: one thing if the world failed, another if the script is wrong. The script was read
+-- before its first line, so no line has an input fault.
 abbrev pub ByFault : ScriptFault → Type 0 → Type 0 → Type 0
 ByFault NoMemory W P = W
-ByFault Input W P = W
+ByFault Input W P = ⊥
 ByFault Output W P = W
 ByFault TooLong W P = P
 ByFault (BadLine number) W P = P

@@ -174,12 +174,12 @@ BreaksOff limits s script before after =
 abbrev pub HasRun : Limits → State → List ℕ → Option (List ℕ) → Option (List ℕ) → Option ScriptFault → Type 0
 HasRun limits s script before after fault = (length script ≤ longest_script) × EndsAs limits s script before after fault
 
--- What holds of a script when its run has ended. If the world failed, the run broke off. A script that is too long is
--- not begun.
+-- What holds of a script when its run has ended. If memory or a write failed, the run broke off. A script that is not
+-- read to its end, or is too long, is not begun.
 abbrev pub Runs : Limits → State → List ℕ → Option (List ℕ) → Option (List ℕ) → Result ⊤ ScriptFault → Type 0
 Runs limits s script before after (Ok _) = HasRun limits s script before after None
 Runs limits s script before after (Err NoMemory) = BreaksOff limits s script before after
-Runs limits s script before after (Err Input) = BreaksOff limits s script before after
+Runs limits s script before after (Err Input) = Appends before after []
 Runs limits s script before after (Err Output) = BreaksOff limits s script before after
 Runs limits s script before after (Err TooLong) = (longest_script < length script) × Appends before after []
 Runs limits s script before after (Err (BadLine number)) = HasRun limits s script before after (Some (BadLine number))

@@ -25,9 +25,9 @@ use std::alloc::Global;
 use std::io::{Read, Write};
 
 /// Reads a script to its end, and runs it line by line. After each line the frames that it let out are
-/// written. The run stops at the first line that is refused; what the lines before it did stands. If memory, a
-/// read or a write failed, what was written is a beginning of the run's text. The script is all that the reader
-/// gives; of a reader that does not tell its bytes the clause says that there is one.
+/// written. The run stops at the first line that is refused; what the lines before it did stands. If memory or a
+/// write failed, what was written is a beginning of the run's text; after a read that failed nothing was. The
+/// script is all that the reader gives; of a reader that does not tell its bytes the clause says that there is one.
 pub fn run_script<R: Read, W: Write>(
     alloc: Global,
     engine: Engine,

@@ -9,7 +9,7 @@ use Rattle.ipc_script.specs.declared.fault.ScriptFault.TheVariants.{InUse, Unkno
 use Rattle.ipc_script.specs.Script.{Run, is_open, opened}
 use Rattle.ipc_script.specs.Runs.{IsIn, IsBehind}
 use Rattle.ipc_script.proofs.UnchangedHeads.{heads_tick, steady}
-use Rattle.ipc_script.proofs.FaultCases.{refused_of}
+use Rattle.ipc_script.proofs.FaultCases.{refused_unknown}
 use Rattle.ipc_script.proofs.HexBytes.{hex_nonempty}
 use Rattle.ipc_script.proofs.LineForms.{written_back, line_unwritten, line_reported, line_refused, open_done, open_refused, end_done, end_refused}
 use Rattle.ipc_script.proofs.script.run_line.Goals.{in-Open+in_ok-open-in-Open, in-End+in_ok-close-in-End, in-Tick}
@@ -46,12 +46,13 @@ pub returns-in_err-close-in-End : goal.returns-in_err-close-in-End
 returns-in_err-close-in-End g c = λ limits r b.
     let q = err_from_is_err_and c.from_residual-in_err-close-in-End.result c.from_residual-in_err-close-in-End.ensures.1 in
     let e = c.in_err-close-in-End.field-0.0 in
+    let is : e ≡ Unknown c.args.number = c.in_err-close-in-End.ensures.err in
     let closed = c.in_err-close-in-End.ensures.unknown limits r b in
     rw (q.1, q.2, c.in-End.is)
     (line_refused limits c.args.number r c.close.new.hub c.close.new.hub c.close.new.hub _ (g.W.Write.contents c.args.writer.now)
     (End c.in-End.moment c.in-End.conn) e (Unknown c.args.number)
     (is_open r c.in-End.conn ≡ false)
-    (refused_of (e ≡ Unknown c.args.number) e c.in_err-close-in-End.ensures.err) (refused_of (is_open r c.in-End.conn ≡ false) e closed)
+    (refused_unknown (e ≡ Unknown c.args.number) e c.args.number is is) (refused_unknown (is_open r c.in-End.conn ≡ false) e c.args.number is closed)
     (end_refused limits c.args.number r c.in-End.moment c.in-End.conn))
 
 pub returns : goal.returns
