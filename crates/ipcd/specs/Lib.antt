@@ -1,5 +1,2 @@
-pub mod Input
-pub mod Line
-pub mod LineView
-pub mod Script
-pub mod Runs
+pub mod Command
+pub mod Ending

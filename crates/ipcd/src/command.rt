@@ -1,5 +1,9 @@
 //! The command line.
 
+ghost use Rattle.std.specs.Prelude.{◌≡◌};
+ghost use Rattle.ipcd.specs.Command.{limits_asked, refusal_status};
+
+use clap::error::ErrorKind;
 use clap::{Arg, ArgAction, Command, Error};
 use ipc_base::Limits;
 use std::alloc::Global;
@@ -12,30 +16,57 @@ use std::rt::Env;
 pub enum Request {
     /// Run the script on standard input.
     Replay { limits: Limits },
-    /// Nothing more: what was to be said is said.
-    Nothing { status: u8 },
 }
 
-/// Reads the command line. What `clap` has to say of it, help or a refusal, is printed here.
-pub fn request_of(rt: &(impl Env + Print + Eprint + AllocGlobal)) -> io::Result<Request> {
-    let alloc = rt.alloc();
-    let words: Vec<String> = match std::env::args(rt) {
-        Ok(words) => words.collect(alloc)?,
-        Err(fault) if fault.kind() == io::ErrorKind::InvalidData => {
-            eprintln!(rt; "error: an argument is no text")?;
-            return Ok(Request::Nothing { status: 2 });
-        }
-        Err(fault) => return Err(fault),
-    };
-    match parse(alloc, words.as_slice()) {
-        Ok(request) => Ok(request),
-        Err(error) => {
-            error.print(rt)?;
-            Ok(Request::Nothing {
-                status: error.exit_code() as u8,
-            })
+/// Why the command line asks for nothing.
+#[derive(Debug, Drop)]
+pub enum Refusal {
+    /// Memory was refused.
+    NoMemory,
+    /// An argument is not valid UTF-8.
+    NotText,
+    /// What the parser has to say: help, the version, or a mistake in the words.
+    Parser(Error),
+}
+
+impl Refusal {
+    /// The exit status: 0 for help and the version, 1 for want of memory, 2 for a mistake.
+    pub fn status(&self) -> u8
+        ensures { result ≡ refusal_status self.now }
+    {
+        match self {
+            Refusal::NoMemory => 1,
+            Refusal::NotText => 2,
+            Refusal::Parser(error) => match error.kind() {
+                ErrorKind::DisplayHelp | ErrorKind::DisplayVersion => 0,
+                ErrorKind::OutOfMemory => 1,
+                _ => 2,
+            },
         }
     }
+
+    /// Says why. Help and the version go to standard output, all else to standard error.
+    pub fn print(&self, rt: &(impl Print + Eprint)) -> io::Result<()> {
+        match self {
+            Refusal::NoMemory => eprintln!(rt; "ipcd: no memory"),
+            Refusal::NotText => eprintln!(rt; "ipcd: an argument is not valid UTF-8"),
+            Refusal::Parser(error) => match error.kind() {
+                ErrorKind::OutOfMemory => eprintln!(rt; "ipcd: no memory"),
+                _ => error.print(rt),
+            },
+        }
+    }
+}
+
+/// Reads the command line.
+pub fn request_of(rt: &(impl Env + AllocGlobal)) -> Result<Request, Refusal> {
+    let alloc = rt.alloc();
+    let words: Vec<String> = match std::env::args(rt) {
+        Ok(words) => words.collect(alloc).map_err(|_| Refusal::NoMemory)?,
+        Err(fault) if fault.kind() == io::ErrorKind::InvalidData => return Err(Refusal::NotText),
+        Err(_) => return Err(Refusal::NoMemory),
+    };
+    parse(alloc, words.as_slice()).map_err(Refusal::Parser)
 }
 
 /// What the words ask for; the first is the program's name.
@@ -48,7 +79,8 @@ pub(crate) fn parse<S: AsStr>(alloc: Global, words: &[S]) -> Result<Request, Err
         .about("Runs the script on standard input, on a fresh server")
         .arg(small)?;
     let command = Command::new(alloc, "ipcd")
-        .about("System V and POSIX IPC objects over a socket")
+        .about("System V message queues, run from a script")
+        .version("0.1.0")
         .subcommand_required(true)
         .subcommand(replay)?;
     let matches = command.try_get_matches_from(words)?;
@@ -56,10 +88,18 @@ pub(crate) fn parse<S: AsStr>(alloc: Global, words: &[S]) -> Result<Request, Err
         Some(replay) => replay.get_flag("small"),
         None => false,
     };
-    let limits = if small {
+    Ok(Request::Replay {
+        limits: limits_of(small),
+    })
+}
+
+/// The limits of a server: small ones where they are asked for, else the standard ones.
+fn limits_of(small: bool) -> Limits
+    ensures { result ≡ limits_asked small }
+{
+    if small {
         Limits::small()
     } else {
         Limits::standard()
-    };
-    Ok(Request::Replay { limits })
+    }
 }

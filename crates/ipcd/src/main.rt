@@ -2,49 +2,39 @@
 #![tactic(auto)]
 
 mod command;
-mod digits;
-mod fault;
-mod input;
-mod line;
-mod report;
-mod script;
+mod ending;
 
 use command::{Request, request_of};
-use fault::ScriptFault;
+use ending::{Complaint, exit_of};
 use ipc_base::Limits;
 use ipc_engine::Engine;
-use script::run_script;
+use ipc_script::{ScriptFault, run_script};
 use std::io;
 use std::process::ExitCode;
 
 #[cfg(test)]
-mod cuts;
-#[cfg(test)]
-mod rows;
-#[cfg(test)]
 mod tests;
 
 fn main(rt: HostRuntime) -> io::Result<ExitCode> {
-    match request_of(&rt)? {
-        Request::Replay { limits } => replay(&rt, limits),
-        Request::Nothing { status } => Ok(ExitCode::from(status)),
-    }
+    let status = match request_of(&rt) {
+        Ok(Request::Replay { limits }) => replay(&rt, limits),
+        Err(refusal) => {
+            refusal.print(&rt)?;
+            refusal.status()
+        }
+    };
+    Ok(ExitCode::from(status))
 }
 
-/// Runs the script on standard input.
-fn replay(
-    rt: &(impl Input + Print + Eprint + AllocGlobal),
-    limits: Limits,
-) -> io::Result<ExitCode> {
+/// Runs the script on standard input, and answers the exit status.
+fn replay(rt: &(impl Input + Print + Eprint + AllocGlobal), limits: Limits) -> u8 {
     let outcome = match Engine::new(rt.alloc(), limits) {
         Ok(engine) => run_script(rt.alloc(), engine, &mut rt.reader(), &mut io::writer(rt)),
         Err(_) => Err(ScriptFault::NoMemory),
     };
-    match outcome {
-        Ok(()) => Ok(ExitCode::SUCCESS),
-        Err(fault) => {
-            eprintln!(rt; "ipcd: {fault}")?;
-            Ok(ExitCode::from(fault.status()))
-        }
+    if let Err(fault) = outcome {
+        // The status stands also if standard error is closed.
+        let _said = eprintln!(rt; "{}", Complaint(fault));
     }
+    exit_of(&outcome)
 }

@@ -1,196 +1,33 @@
-//! The program's promises that no clause says yet: whole scripts, each fault, and the command line.
+//! The command line.
 
-use crate::command::{Request, parse};
-use crate::fault::ScriptFault;
-use crate::rows::ROWS;
-use crate::script::run_script;
+use crate::command::{Refusal, Request, parse};
 use ipc_base::Limits;
-use ipc_engine::Engine;
-use std::alloc::Global;
-use std::io;
-use std::io::{Read, Write};
-use std::test::Fail;
-
-fn run<R: Read, W: Write>(
-    alloc: Global,
-    reader: &mut R,
-    writer: &mut W,
-) -> Result<(), ScriptFault> {
-    run_script(alloc, Engine::new(alloc, Limits::small())?, reader, writer)
-}
-
-#[test]
-fn scripts(rt: HostRuntime) -> Result<(), Fail> {
-    for row in &ROWS {
-        let mut output: Vec<u8> = Vec::new(rt.alloc());
-        let mut script = row.script.as_bytes();
-        let outcome = run(rt.alloc(), &mut script, &mut output);
-        assert_eq!(rt; outcome, Ok(()), "{}", row.name);
-        assert_eq!(rt; output.as_slice(), row.output.as_bytes(), "{}", row.name);
-    }
-    Ok(())
-}
-
-#[test]
-fn faults_of_a_script(rt: HostRuntime) -> Result<(), Fail> {
-    let faults = [
-        ("0 open 1\n0 open 1\n", "line 2: connection in use"),
-        ("0 end 1\n", "line 1: no such connection"),
-        ("0 data 1 00\n", "line 1: no such connection"),
-        ("\n", "line 1: bad line"),
-        ("0 tick\n\n", "line 2: bad line"),
-        ("0 open 1\n0 data 1 000\n", "line 2: bad line"),
-        ("0 open 1\n0 data 1 \n", "line 2: bad line"),
-        ("0 open 1\n0 data 1\n", "line 2: bad line"),
-        ("0 open 1\n0 data 1 0g\n", "line 2: bad line"),
-        ("18446744073709551616 tick\n", "line 1: bad line"),
-        ("0 open 4294967296\n", "line 1: bad line"),
-        ("+1 tick\n", "line 1: bad line"),
-        ("1 tick \n", "line 1: bad line"),
-        ("1  tick\n", "line 1: bad line"),
-        ("tick\n", "line 1: bad line"),
-        ("1 tick\r\n", "line 1: bad line"),
-        ("1 save\n", "line 1: bad line"),
-        ("save\n", "line 1: bad line"),
-    ];
-    for (script, text) in faults {
-        let mut output: Vec<u8> = Vec::new(rt.alloc());
-        let mut reader = script.as_bytes();
-        match run(rt.alloc(), &mut reader, &mut output) {
-            Ok(()) => assert!(rt; false, "{script:?} has no fault"),
-            Err(fault) => {
-                let said = fault.to_string(rt.alloc())?;
-                assert_eq!(rt; said.as_str(), text, "{script:?}");
-                assert_eq!(rt; fault.status(), 2, "{script:?}");
-            }
-        }
-        assert_eq!(rt; output.len(), 0, "{script:?}");
-    }
-    Ok(())
-}
-
-#[test]
-fn lines_before_a_fault_stand(rt: HostRuntime) {
-    let mut output: Vec<u8> = Vec::new(rt.alloc());
-    let mut script = "0 open 1\n0 data 1 00000000\n0 open 1\n0 data 1 00\n".as_bytes();
-    let outcome = run(rt.alloc(), &mut script, &mut output);
-    assert_eq!(rt; outcome, Err(ScriptFault::InUse(3)));
-    assert_eq!(rt;
-        output.as_slice(),
-        b"1 00000006000000000047\n1 end\n".as_slice()
-    );
-}
-
-/// Gives newlines for ever.
-#[derive(Drop)]
-struct Endless;
-
-impl Read for Endless {
-    fn read(&mut self, into: &mut [u8]) -> io::Result<usize> {
-        into.fill(b'\n');
-        Ok(into.len())
-    }
-}
-
-/// Fails at once.
-#[derive(Drop)]
-struct Broken;
-
-impl Read for Broken {
-    fn read(&mut self, _: &mut [u8]) -> io::Result<usize> {
-        Err(io::Error::from(io::ErrorKind::Interrupted))
-    }
-}
-
-impl Write for Broken {
-    fn write(&mut self, _: &[u8]) -> io::Result<usize> {
-        Ok(0)
-    }
-
-    fn flush(&mut self) -> io::Result<()> {
-        Ok(())
-    }
-}
-
-#[test]
-fn readers_and_writers_that_fail(rt: HostRuntime) {
-    let alloc = rt.alloc();
-    let mut output: Vec<u8> = Vec::new(alloc);
-    assert_eq!(rt;
-        run(alloc, &mut Endless, &mut output),
-        Err(ScriptFault::TooLong)
-    );
-    assert_eq!(rt; output.len(), 0);
-    assert_eq!(rt;
-        run(alloc, &mut Broken, &mut output),
-        Err(ScriptFault::Input)
-    );
-    let mut script = "0 open 1\n0 data 1 00000000\n".as_bytes();
-    assert_eq!(rt;
-        run(alloc, &mut script, &mut Broken),
-        Err(ScriptFault::Output)
-    );
-    assert_eq!(rt; ScriptFault::Output.status(), 1);
-}
-
-/// Gives, and takes, one byte a call.
-#[derive(Drop)]
-struct Slow<S> {
-    stream: S,
-}
-
-impl<S: Read> Read for Slow<S> {
-    fn read(&mut self, into: &mut [u8]) -> io::Result<usize> {
-        let count = into.len().min(1);
-        self.stream.read(&mut into[..count])
-    }
-}
-
-impl<S: Write> Write for Slow<S> {
-    fn write(&mut self, from: &[u8]) -> io::Result<usize> {
-        let count = from.len().min(1);
-        self.stream.write(&from[..count])
-    }
-
-    fn flush(&mut self) -> io::Result<()> {
-        self.stream.flush()
-    }
-}
-
-#[test]
-fn readers_and_writers_that_are_slow(rt: HostRuntime) {
-    for row in &ROWS {
-        let mut script = Slow {
-            stream: row.script.as_bytes(),
-        };
-        let mut output = Slow {
-            stream: Vec::<u8>::new(rt.alloc()),
-        };
-        let outcome = run(rt.alloc(), &mut script, &mut output);
-        assert_eq!(rt; outcome, Ok(()), "{}", row.name);
-        assert_eq!(rt;
-            output.stream.as_slice(),
-            row.output.as_bytes(),
-            "{}",
-            row.name
-        );
-    }
-}
 
 #[test]
 fn command_lines(rt: HostRuntime) {
     let alloc = rt.alloc();
-    assert!(rt;
-        matches!(parse(alloc, &["ipcd", "replay"]), Ok(Request::Replay { limits }) if limits == Limits::standard())
-    );
-    assert!(rt;
-        matches!(parse(alloc, &["ipcd", "replay", "--small"]), Ok(Request::Replay { limits }) if limits == Limits::small())
-    );
-    let refused: [&[&str]; 3] = [&["ipcd"], &["ipcd", "replay", "--big"], &["ipcd", "serve"]];
-    for words in refused {
+    let taken: [(&[&str], Limits); 2] = [
+        (&["ipcd", "replay"], Limits::standard()),
+        (&["ipcd", "replay", "--small"], Limits::small()),
+    ];
+    for (words, wanted) in taken {
+        match parse(alloc, words) {
+            Ok(Request::Replay { limits }) => assert_eq!(rt; limits, wanted, "{words:?}"),
+            Err(_) => assert!(rt; false, "{words:?} is refused"),
+        }
+    }
+    let refused: [(&[&str], u8); 6] = [
+        (&["ipcd"], 2),
+        (&["ipcd", "replay", "--big"], 2),
+        (&["ipcd", "serve"], 2),
+        (&["ipcd", "--help"], 0),
+        (&["ipcd", "replay", "--help"], 0),
+        (&["ipcd", "--version"], 0),
+    ];
+    for (words, status) in refused {
         match parse(alloc, words) {
             Ok(_) => assert!(rt; false, "{words:?} is taken"),
-            Err(error) => assert_eq!(rt; error.exit_code(), 2),
+            Err(error) => assert_eq!(rt; Refusal::Parser(error).status(), status, "{words:?}"),
         }
     }
 }

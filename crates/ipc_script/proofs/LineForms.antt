@@ -1,0 +1,70 @@
+-- What each form of a line does.
+use Rattle.std.proofs.Common.{◌≡◌, ℕ, true, false, List, [], ◌++◌, length, take, drop, Option, refl, sym, ap, ◌∙◌, subst}
+use Rattle.std.specs.Prelude.{Ok, Err, Result, ⊤, OnOk, IfErr}
+use Rattle.std.specs.Io.KnownBytes.{Appends}
+use Rattle.std.proofs.KnownBytes.{Appends-nil}
+use Rattle.std.proofs.Math.Seq.{take-append_seam}
+use Rattle.ipc_base.specs.declared.limits.Limits.{Limits}
+use Rattle.ipc_hub.specs.declared.hub.Hub.{Hub}
+use Rattle.ipc_hub.specs.Clients.{hangup}
+use Rattle.ipc_script.specs.declared.fault.ScriptFault.{ScriptFault}
+use Rattle.ipc_script.specs.declared.fault.ScriptFault.TheVariants.{InUse, Unknown}
+use Rattle.ipc_script.specs.declared.report.Opened.{Opened}
+use Rattle.ipc_script.specs.Line.{PlainLine, Open, End}
+use Rattle.ipc_script.specs.Script.{Run, Progress, Cut, is_open, opened, report, line_done, first_cut, WritesPart}
+use Rattle.ipc_script.specs.Runs.{IsIn, IsBehind, ByFault, Refused, WorldFailed, LineRuns, text_of}
+use Rattle.ipc_script.proofs.FaultCases.{by_fault_both, world_failed}
+use Rattle.ipc_script.proofs.WrittenText.{part_none}
+
+-- a list that is written back into its vector
+pub written_back : {A : Type 0} (n : ℕ) (new old : List A) → n ≡ length old → length new ≡ length old → take n (new ++ drop (length new) old) ≡ new
+written_back n new old len same =
+    ap (λ (k : ℕ). take k (new ++ drop (length new) old)) (len ∙ sym same) ∙ take-append_seam new (drop (length new) old)
+
+-- nothing of a line is written
+pub line_unwritten : (limits : Limits) (number : ℕ) (r : Run) (line : PlainLine) (w : Option (List ℕ)) → (cut : Cut)
+    × WritesPart w w (text_of (line_done limits number r line cut))
+line_unwritten limits number r line w = ([], part_none w (text_of (line_done limits number r line [])))
+
+module _ (limits : Limits) (number : ℕ) (r : Run) (hub mid next : Hub) (w0 w1 : Option (List ℕ)) where
+  -- what is done is reported
+  pub line_reported : (line : PlainLine) (between changed final : List Opened) (result : Result ⊤ ScriptFault)
+      → OnOk result ((limits : Limits) (r : Run) → IsIn limits mid between r → IsBehind limits next changed (report r).run × Appends w0 w1 (report r).text)
+      → IfErr result (λ e. WorldFailed e ((limits : Limits) (r : Run) → IsIn limits mid between r → WritesPart w0 w1 (report r).text))
+      → final ≡ changed → (now : Run) → IsIn limits mid between now → ((cut : Cut) → line_done limits number r line cut ≡ Ok (report now))
+      → LineRuns limits number r line next final w0 w1 result
+  line_reported line between changed final (Ok u) ok err same now i done =
+      let e = ok limits now i in
+      (first_cut [], report now, done (first_cut []), subst (λ (os : List Opened). IsBehind limits next os (report now).run) (sym same) e.0, e.1)
+  line_reported line between changed final (Err e) ok err same now i done =
+      world_failed ((limits : Limits) (r : Run) → IsIn limits mid between r → WritesPart w0 w1 (report r).text)
+      ((cut : Cut) × WritesPart w0 w1 (text_of (line_done limits number r line cut))) (((cut : Cut) → line_done limits number r line cut ≡ Err e)
+      × Appends w0 w1 []) e
+      (λ part. ([], subst (λ (p : Result Progress ScriptFault). WritesPart w0 w1 (text_of p)) (sym (done [])) (part limits now i))) err
+
+  -- a line that is refused
+  pub line_refused : (line : PlainLine) (e fault : ScriptFault) (U : Type 0) → Refused e (e ≡ fault) → Refused e U
+      → (U → (cut : Cut) → line_done limits number r line cut ≡ Err fault)
+      → ByFault e ((cut : Cut) × WritesPart w0 w0 (text_of (line_done limits number r line cut)))
+      (((cut : Cut) → line_done limits number r line cut ≡ Err e) × Appends w0 w0 [])
+  line_refused line e fault U a u refused =
+      by_fault_both ⊤ ((cut : Cut) × WritesPart w0 w0 (text_of (line_done limits number r line cut)))
+      (e ≡ fault) U (((cut : Cut) → line_done limits number r line cut ≡ Err e) × Appends w0 w0 []) e
+      (λ _. line_unwritten limits number r line w0) (λ is v. (λ cut. refused v cut ∙ ap (λ (f : ScriptFault). Err f) (sym is), Appends-nil w0)) a u
+
+-- the forms, where they are done and where they are refused
+pub open_done : (limits : Limits) (number : ℕ) (r : Run) (conn : ℕ) → is_open r conn ≡ false → (cut : Cut)
+    → line_done limits number r (Open conn) cut ≡ Ok (report (opened r conn))
+open_done limits number r conn closed cut = rw closed refl
+
+pub open_refused : (limits : Limits) (number : ℕ) (r : Run) (conn : ℕ) → is_open r conn ≡ true → (cut : Cut)
+    → line_done limits number r (Open conn) cut ≡ Err (InUse number)
+open_refused limits number r conn there cut = rw there refl
+
+pub end_done : (limits : Limits) (number : ℕ) (r : Run) (moment conn : ℕ) → is_open r conn ≡ true
+    → (cut : Cut) → line_done limits number r (End moment conn) cut ≡ Ok (report (record r { hub = hangup limits r.hub conn moment }))
+end_done limits number r moment conn there cut = rw there refl
+
+pub end_refused : (limits : Limits) (number : ℕ) (r : Run) (moment conn : ℕ) → is_open r conn ≡ false → (cut : Cut)
+    → line_done limits number r (End moment conn) cut ≡ Err (Unknown number)
+end_refused limits number r moment conn closed cut = rw closed refl

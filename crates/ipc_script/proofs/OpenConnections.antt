@@ -1,0 +1,149 @@
+-- The connections that are open, when one comes and when one goes.
+use Rattle.std.proofs.Common.{◌≡◌, ℕ, ◌+◌, Bool, true, false, ◌&&◌, List, [], ◌∷◌, ◌++◌, map, take, drop, Option, Some, None, refl, sym, ap, ◌∙◌, inl, inr}
+use Rattle.std.specs.Prelude.{nat_eq, nat_lt, not, is_some}
+use Rattle.std.specs.List.{insert, prefix_len, AllByRecursion}
+use Rattle.std.proofs.lemmas.List.{map-append}
+use Rattle.std.proofs.Math.Numerals.{one-add}
+use Rattle.std.proofs.lemmas.Bool.{cases_eq}
+use Rattle.ipc_base.specs.declared.limits.Limits.{Limits}
+use Rattle.ipc_engine.specs.Table.{value_at, without, keys_of}
+use Rattle.ipc_engine.proofs.Rows.{value_at-without}
+use Rattle.ipc_hub.proofs.Tables.{at-push, other-push, gone as no_longer}
+use Rattle.ipc_hub.proofs.Calls.{nobody}
+use Rattle.ipc_hub.specs.Hub.{is_connected}
+use Rattle.ipc_hub.specs.declared.hub.Hub.{Hub}
+use Rattle.ipc_hub.specs.Clients.{Client, Clients, client_at, start_client, connect, hangup, leave, tick, process_at}
+use Rattle.ipc_hub.specs.Stands.{Takes}
+use Rattle.ipc_script.specs.declared.report.Opened.{Opened}
+use Rattle.ipc_script.specs.Script.{Run, is_open, opened, rising, put}
+use Rattle.ipc_script.specs.Runs.{IsIn, IsBehind, opened_of}
+use Rattle.ipc_script.proofs.ClientTables.{test, flipped, same_number}
+use Rattle.ipc_script.proofs.RisingNumbers.{all_rising, rising_end, rising_gone, gone}
+use Rattle.ipc_script.proofs.HubAndClients.{connected}
+use Rattle.ipc_script.proofs.FedPieces.{open_here}
+
+-- ---- one comes
+
+-- what is told of the others is as before
+same_told : (told later : ℕ → Bool) (n : ℕ) (ns : List ℕ) → AllByRecursion (λ m. nat_eq n m ≡ false) ns → ((m : ℕ) → nat_eq m n ≡ false → later m ≡ told m)
+    → map (opened_of told) ns ≡ map (opened_of later) ns
+same_told told later n [] apart same = refl
+same_told told later n (m ∷ ns) apart same =
+    ap (λ (b : Bool). record { conn = m; told = b } ∷ map (opened_of told) ns) (sym (same m (flipped m n ∙ apart.0)))
+    ∙ ap (λ (os : List Opened). opened_of later m ∷ os) (same_told told later n ns apart.1 same)
+
+-- the place of a number among others
+pub put_place : (told later : ℕ → Bool) (n : ℕ) (ns : List ℕ) → AllByRecursion (λ m. nat_eq n m ≡ false) ns
+    → ((m : ℕ) → nat_eq m n ≡ false → later m ≡ told m) → later n ≡ false
+    → insert (map (opened_of told) ns) (prefix_len (λ o. nat_lt o.conn n) (map (opened_of told) ns)) (record { conn = n; told = false }) ≡ map
+    (opened_of later) (put n ns)
+put_place told later n [] apart same new = ap (λ (b : Bool). record { conn = n; told = b } ∷ []) (sym new)
+put_place told later n (m ∷ ns) apart same new =
+    let here : later m ≡ told m = same m (flipped m n ∙ apart.0) in
+    let rest = put_place told later n ns apart.1 same new in
+    let places = map (opened_of told) ns in
+    let k = prefix_len (λ (o : Opened). nat_lt o.conn n) places in
+    let one : Opened = record { conn = n; told = false } in
+    elim (test (nat_lt m n)) [
+      | inl t ↦
+          let step : take (1 + k) (opened_of told m ∷ places) ++ one ∷ drop (1 + k) (opened_of told m ∷ places) ≡ opened_of told m ∷ insert places k one =
+          rw one-add refl in
+          rw t (step
+          ∙ (ap (λ (b : Bool). record { conn = m; told = b } ∷ insert places k one) (sym here) ∙ ap (λ (os : List Opened). opened_of later m ∷ os) rest))
+      | inr f ↦
+          rw f (ap (λ (b : Bool). record { conn = n; told = b } ∷ map (opened_of told) (m ∷ ns)) (sym new)
+          ∙ ap (λ (os : List Opened). opened_of later n ∷ os) (same_told told later n (m ∷ ns) apart same))
+    ]
+
+-- no number of a table is one that has no value
+no_key : {X : Type 0} (es : List (ℕ × X)) (n : ℕ) → is_some (value_at nat_eq es n) ≡ false → AllByRecursion (λ m. nat_eq n m ≡ false) (keys_of es)
+no_key [] n h = tt
+no_key (e ∷ es) n h =
+    elim (test (nat_eq e.0 n)) [
+      | inl t ↦ let bad : true ≡ false = rw t at h in cc
+      | inr f ↦ (flipped n e.0 ∙ f, no_key es n (rw f at h))
+    ]
+
+-- a connection was opened
+pub open_in : (limits : Limits) (hub next : Hub) (os : List Opened) (r : Run) (conn : ℕ) → IsBehind limits hub os r → is_connected hub conn ≡ false
+    → Takes hub next (λ _ h. connect h conn)
+    → (is_open r conn ≡ false) × IsIn limits next (insert os (prefix_len (λ o. nat_lt o.conn conn) os) (record { conn = conn; told = false })) (opened r conn)
+open_in limits hub next os r conn b new takes =
+    let i : IsIn limits hub os r = b.line in
+    let closed : is_open r conn ≡ false = sym (connected limits i.confirmed hub r.hub conn i.stands) ∙ new in
+    let none : client_at r.hub conn ≡ None = nobody (client_at r.hub conn) closed in
+    let numbers : List ℕ = rising (keys_of r.hub.clients) in
+    let later : ℕ → Bool = λ other. not (nat_eq other conn) && r.told other in
+    let placed =
+    put_place r.told later conn numbers (all_rising (λ m. nat_eq conn m ≡ false) (keys_of r.hub.clients) (no_key r.hub.clients conn closed))
+    (λ m apart. rw apart refl) (rw (same_number conn) refl) in (
+      closed,
+      record {
+        confirmed = i.confirmed;
+        stands = takes limits i.confirmed r.hub i.stands;
+        kept = ap (λ (xs : List Opened). insert xs (prefix_len (λ o. nat_lt o.conn conn) xs) (record { conn = conn; told = false })) i.kept ∙ placed
+            ∙ ap (λ (ns : List ℕ). map (opened_of later) ns)
+            (sym (ap rising (map-append (λ (e : ℕ × Client). e.0) r.hub.clients ((conn, start_client) ∷ [])) ∙ rising_end (keys_of r.hub.clients) conn));
+        untouched = λ n. elim (cases_eq n conn) [
+          | inl same ↦ rw same (rw (at-push r.hub.clients conn start_client none) refl)
+          | inr apart ↦ rw (other-push r.hub.clients conn n start_client apart) (i.untouched n)
+        ];
+      },
+    )
+
+-- ---- one goes
+
+-- a connection that is open, by its number
+abbrev pub by_number : Opened → ℕ × Opened
+by_number o = (o.conn, o)
+
+back : (os : List Opened) → map (λ e. e.1) (map by_number os) ≡ os
+back [] = refl
+back (o ∷ os) = ap (λ (ps : List Opened). o ∷ ps) (back os)
+
+left_over : (told : ℕ → Bool) (n : ℕ) (ns : List ℕ)
+    → without nat_eq (map by_number (map (opened_of told) ns)) n ≡ map by_number (map (opened_of told) (gone n ns))
+left_over told n [] = refl
+left_over told n (m ∷ ns) =
+    elim (test (nat_eq m n)) [
+      | inl t ↦ rw t refl
+      | inr f ↦ rw f (ap (λ (es : List (ℕ × Opened)). by_number (opened_of told m) ∷ es) (left_over told n ns))
+    ]
+
+keys_left : (t : List (ℕ × Client)) (n : ℕ) → keys_of (without nat_eq t n) ≡ gone n (keys_of t)
+keys_left [] n = refl
+keys_left (e ∷ es) n =
+    elim (test (nat_eq e.0 n)) [
+      | inl t ↦ rw t refl
+      | inr f ↦ rw f (ap (λ (ks : List ℕ). e.0 ∷ ks) (keys_left es n))
+    ]
+
+left_clients : (limits : Limits) (now : Clients) (conn moment : ℕ) (p : Option ℕ)
+    → without nat_eq (leave limits now p moment).clients conn ≡ without nat_eq now.clients conn
+left_clients limits now conn moment None = refl
+left_clients limits now conn moment (Some pid) = refl
+
+-- a connection was closed, and taken out of those that are open
+pub close_in : (limits : Limits) (hub next : Hub) (os items : List Opened) (r : Run) (conn moment : ℕ) → IsBehind limits hub os r
+    → (is_connected hub conn ≡ false → ⊥)
+    → Takes hub next (λ limits h. hangup limits h conn moment) → map by_number items ≡ without nat_eq (map by_number os) conn
+    → (is_open r conn ≡ true) × IsIn limits next items (record r { hub = hangup limits r.hub conn moment })
+close_in limits hub next os items r conn moment b known takes left =
+    let i : IsIn limits hub os r = b.line in
+    let t : List (ℕ × Client) = r.hub.clients in
+    let now : Clients = hangup limits r.hub conn moment in
+    let clients : now.clients ≡ without nat_eq t conn =
+    left_clients limits (tick limits r.hub moment) conn moment (process_at (tick limits r.hub moment) conn) in (
+      open_here limits hub os r conn i known,
+      record {
+        confirmed = i.confirmed;
+        stands = takes limits i.confirmed r.hub i.stands;
+        kept = sym (back items) ∙ ap (map (λ (e : ℕ × Opened). e.1)) (left ∙ ap (λ (xs : List Opened). without nat_eq (map by_number xs) conn) i.kept
+            ∙ left_over r.told conn (rising (keys_of t))) ∙ back _
+            ∙ ap (map (opened_of r.told)) (sym (rising_gone conn (keys_of t)) ∙ ap rising (sym (ap keys_of clients ∙ keys_left t conn)));
+        untouched = λ n. rw clients (elim (cases_eq n conn) [
+          | inl same ↦ rw same (rw (no_longer t conn i.stands.orderly.numbers) tt)
+          | inr apart ↦ rw (value_at-without t conn n apart) (i.untouched n)
+        ]);
+      },
+    )

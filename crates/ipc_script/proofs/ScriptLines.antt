@@ -1,0 +1,204 @@
+-- The lines of a script, run one after the other.
+use Rattle.std.proofs.Common.{◌≡◌, ℕ, ◌+◌, ◌<◌, ◌≤◌, Bool, true, false, drop, List, [], ◌∷◌, ◌++◌, length, Option, Some, None, refl, sym, ap, ◌∙◌}
+use Rattle.std.proofs.Common.{subst, append_assoc, append-nil, arith}
+use Rattle.std.specs.Prelude.{Ok, Err, Result, ⊤, IfSome, if◌then◌else◌}
+use Rattle.std.specs.Io.KnownBytes.{Appends}
+use Rattle.std.proofs.KnownBytes.{Appends-nil, Appends-trans}
+use Rattle.std.proofs.lemmas.List.{length-append}
+use Rattle.ipc_base.specs.declared.limits.Limits.{Limits}
+use Rattle.ipc_engine.specs.State.{State}
+use Rattle.ipc_hub.specs.declared.hub.Hub.{Hub}
+use Rattle.ipc_hub.specs.Clients.{no_clients, hangup}
+use Rattle.ipc_hub.specs.Stands.{Stands}
+use Rattle.ipc_script.specs.declared.fault.ScriptFault.{ScriptFault}
+use Rattle.ipc_script.specs.declared.report.Opened.{Opened}
+use Rattle.ipc_script.specs.declared.fault.ScriptFault.TheVariants.{NoMemory, Input, Output, TooLong, BadLine, InUse, Unknown}
+use Rattle.ipc_script.specs.Line.{longest_script, PlainLine, Open, Data, End, Tick, line_of, lines_of}
+use Rattle.ipc_script.specs.Script.{Run, Cut, Progress, Outcome, start_run, text_done, first_cut, goes_on, run_lines, is_open, opened, report}
+use Rattle.ipc_script.specs.Script.{fed_in_pieces, script_run, WritesPart, EndsAs, BreaksOff, Runs}
+use Rattle.ipc_script.specs.Input.{IsReadFault, ReadsTooMuch}
+use Rattle.ipc_script.specs.Runs.{IsBehind, LinesRun, text_of}
+use Rattle.ipc_script.proofs.WrittenText.{part_none, part_after, part_more}
+
+-- after a text, what comes
+abbrev pub later : List ℕ → Outcome → Outcome
+later text o = record { text = text ++ o.text; fault = o.fault }
+
+-- some lines are run, and some are left
+pub record PartlyRun (limits : Limits) (s : State) (script : List ℕ) (number : ℕ) (hub : Hub) (opened : List Opened) (rest : List ℕ)
+    (before after : Option (List ℕ)) : Type 0 where
+  pub now : Run
+  pub done : List Cut
+  pub text : List ℕ
+  pub at : IsBehind limits hub opened now
+  pub written : Appends before after text
+  pub runs : (more : List Cut)
+      → run_lines limits 1 (start_run s) (lines_of script) (done ++ more) ≡ later text (run_lines limits number now (lines_of rest) more)
+
+-- a beginning of what a line writes begins what it and the next lines write
+goes_part : (a b : Option (List ℕ)) (result : Result Progress ScriptFault) (next : Run → Outcome) → WritesPart a b (text_of result)
+    → WritesPart a b (goes_on result next).text
+goes_part a b (Err e) next part = part
+goes_part a b (Ok p) next part = part_more a b p.text (next p.run).text part
+
+module _ (limits : Limits) (s : State) (script : List ℕ) where
+  pub run_begun : (hub : Hub) (w : Option (List ℕ)) → Stands limits 0 hub (no_clients s) → PartlyRun limits s script 1 hub [] script w w
+  run_begun hub w stands =
+      record {
+        now = start_run s;
+        done = [];
+        text = [];
+        at = record { line = record { confirmed = 0; stands = stands; kept = refl; untouched = λ n. tt }; quiet = λ n. tt };
+        written = Appends-nil w;
+        runs = λ more. refl;
+      }
+
+  module _ (number : ℕ) (hub : Hub) (opened : List Opened) (rest : List ℕ) (w0 w1 : Option (List ℕ))
+      (p : PartlyRun limits s script number hub opened rest w0 w1) where
+    -- one line more
+    pub run_more : (line behind : List ℕ) → lines_of rest ≡ line ∷ lines_of behind → (cut : Cut) (q : Progress)
+        → text_done limits number p.now (line_of line) cut ≡ Ok q
+        → (next : Hub) (changed : List Opened) (w2 : Option (List ℕ)) → IsBehind limits next changed q.run → Appends w1 w2 q.text
+        → PartlyRun limits s script (number + 1) next changed behind w0 w2
+    run_more line behind lines cut q is next changed w2 at wrote =
+        record {
+          now = q.run;
+          done = p.done ++ cut ∷ [];
+          text = p.text ++ q.text;
+          at = at;
+          written = Appends-trans w0 w1 w2 p.text q.text p.written wrote;
+          runs = λ more.
+              let rest_of : Outcome = run_lines limits (number + 1) q.run (lines_of behind) more in
+              ap (run_lines limits 1 (start_run s) (lines_of script)) (append_assoc p.done (cut ∷ []) more)
+              ∙ (p.runs (cut ∷ more)
+              ∙ (ap (λ (ls : List (List ℕ)). later p.text (run_lines limits number p.now ls (cut ∷ more))) lines
+              ∙ (ap (λ r. later p.text (goes_on r (λ now. run_lines limits (number + 1) now (lines_of behind) more))) is
+              ∙ ap (λ (t : List ℕ). record { text = t; fault = rest_of.fault }) (sym (append_assoc p.text q.text rest_of.text)))));
+        }
+
+    -- a line that is refused
+    pub run_refused : (line behind : List ℕ) → lines_of rest ≡ line ∷ lines_of behind → (e : ScriptFault)
+        → ((cut : Cut) → text_done limits number p.now (line_of line) cut ≡ Err e)
+        → (w2 : Option (List ℕ)) → Appends w1 w2 [] → EndsAs limits s script w0 w2 (Some e)
+    run_refused line behind lines e is w2 wrote =
+        let ends : run_lines limits 1 (start_run s) (lines_of script) p.done ≡ record { text = p.text ++ []; fault = Some e } =
+        ap (run_lines limits 1 (start_run s) (lines_of script)) (sym (append-nil p.done))
+        ∙ (p.runs []
+        ∙ (ap (λ (ls : List (List ℕ)). later p.text (run_lines limits number p.now ls [])) lines
+        ∙ ap (λ r. later p.text (goes_on r (λ now. run_lines limits (number + 1) now (lines_of behind) []))) (is (first_cut [])))) in (
+          p.done,
+          (
+            subst (Appends w0 w2) (sym (ap (λ (o : Outcome). o.text) ends)) (Appends-trans w0 w1 w2 p.text [] p.written wrote),
+            ap
+                (λ (o : Outcome). o.fault) ends,
+          ),
+        )
+
+    -- a line of which a beginning is written
+    pub run_broken : (line behind : List ℕ) → lines_of rest ≡ line ∷ lines_of behind → (cut : Cut) → (w2 : Option (List ℕ))
+        → WritesPart w1 w2 (text_of (text_done limits number p.now (line_of line) cut)) → BreaksOff limits s script w0 w2
+    run_broken line behind lines cut w2 part =
+        let next : Run → Outcome = λ now. run_lines limits (number + 1) now (lines_of behind) [] in
+        let done : Result Progress ScriptFault = text_done limits number p.now (line_of line) cut in
+        let ends : run_lines limits 1 (start_run s) (lines_of script) (p.done ++ cut ∷ []) ≡ later p.text (goes_on done next) =
+        p.runs (cut ∷ []) ∙ ap (λ (ls : List (List ℕ)). later p.text (run_lines limits number p.now ls (cut ∷ []))) lines in (
+          p.done ++ cut ∷ [],
+          subst (WritesPart w0 w2) (sym (ap (λ (o : Outcome). o.text) ends))
+              (part_after w0 w1 w2 p.text (goes_on done next).text p.written (goes_part w1 w2 done next part)),
+        )
+
+    -- no line more
+    pub run_ended : lines_of rest ≡ [] → EndsAs limits s script w0 w1 None
+    run_ended none =
+        let ends : run_lines limits 1 (start_run s) (lines_of script) p.done ≡ record { text = p.text ++ []; fault = None } =
+        ap (run_lines limits 1 (start_run s) (lines_of script)) (sym (append-nil p.done))
+        ∙ (p.runs [] ∙ ap (λ (ls : List (List ℕ)). later p.text (run_lines limits number p.now ls [])) none) in
+        (p.done, (subst (Appends w0 w1) (sym (append-nil p.text) ∙ sym (ap (λ (o : Outcome). o.text) ends)) p.written, ap (λ (o : Outcome). o.fault) ends))
+
+-- no text, no line
+pub no_lines : (text : List ℕ) → length text ≡ 0 → lines_of text ≡ []
+unfolding lines_of
+no_lines [] e = refl
+no_lines (b ∷ bs) e = absurd (omega arith)
+
+-- ---- no line is a fault of the script's length
+
+never_if : {A : Type 0} (b : Bool) (x y : Result A ScriptFault) → (x ≡ Err TooLong → ⊥) → (y ≡ Err TooLong → ⊥) → (if b then x else y) ≡ Err TooLong → ⊥
+never_if true x y one other is = one is
+never_if false x y one other is = other is
+
+never_text : (limits : Limits) (number : ℕ) (r : Run) (line : Option PlainLine) (cut : Cut) → text_done limits number r line cut ≡ Err TooLong → ⊥
+never_text limits number r None cut is = cc
+never_text limits number r (Some (Open conn)) cut is = never_if (is_open r conn) (Err (InUse number)) (Ok (report (opened r conn))) (λ e. cc) (λ e. cc) is
+never_text limits number r (Some (Data moment conn bytes)) cut is =
+    never_if (is_open r conn) (Ok (fed_in_pieces limits r moment conn bytes cut)) (Err (Unknown number)) (λ e. cc) (λ e. cc) is
+never_text limits number r (Some (End moment conn)) cut is =
+    never_if (is_open r conn) (Ok (report (record r { hub = hangup limits r.hub conn moment }))) (Err (Unknown number)) (λ e. cc) (λ e. cc) is
+never_text limits number r (Some (Tick moment)) cut is = cc
+
+never_on : (result : Result Progress ScriptFault) (next : Run → Outcome) → (result ≡ Err TooLong → ⊥)
+    → ((now : Run) → (next now).fault ≡ Some TooLong → ⊥) → (goes_on result next).fault ≡ Some TooLong → ⊥
+never_on (Err e) next here later is = let same : e ≡ TooLong = cc in here (ap (λ (f : ScriptFault). Err f) same)
+never_on (Ok p) next here later is = later p.run is
+
+never_long : (limits : Limits) (number : ℕ) (r : Run) (lines : List (List ℕ)) (cuts : List Cut)
+    → (run_lines limits number r lines cuts).fault ≡ Some TooLong → ⊥
+never_long limits number r [] cuts is = cc
+never_long limits number r (line ∷ lines) cuts is =
+    never_on (text_done limits number r (line_of line) (first_cut cuts)) (λ now. run_lines limits (number + 1) now lines (drop 1 cuts))
+    (never_text limits number r (line_of line) (first_cut cuts)) (λ now. never_long limits (number + 1) now lines (drop 1 cuts)) is
+
+-- all lines of a script that is not too long are the script's run
+pub all_lines : (limits : Limits) (s : State) (script : List ℕ) (before after : Option (List ℕ)) (result : Result ⊤ ScriptFault)
+    → length script ≤ longest_script
+    → LinesRun limits s script before after result → Runs limits s script before after result
+all_lines limits s script before after (Ok u) short ran = (short, ran)
+all_lines limits s script before after (Err NoMemory) short ran = ran
+all_lines limits s script before after (Err Input) short ran = absurd ran
+all_lines limits s script before after (Err Output) short ran = ran
+all_lines limits s script before after (Err TooLong) short ran = absurd (never_long limits 1 (start_run s) (lines_of script) ran.0 ran.1.1)
+all_lines limits s script before after (Err (BadLine number)) short ran = (short, ran)
+all_lines limits s script before after (Err (InUse number)) short ran = (short, ran)
+all_lines limits s script before after (Err (Unknown number)) short ran = (short, ran)
+
+-- a script that was read whole is run
+pub script_ends : (limits : Limits) (s : State) (seen items : List ℕ) (remaining before after : Option (List ℕ)) (result : Result ⊤ ScriptFault) → seen ≡ items
+    → length items ≤ longest_script → IfSome remaining (λ input. items ≡ input) → LinesRun limits s seen before after result
+    → (script : List ℕ) × IfSome remaining (λ input. script ≡ input) × Runs limits s script before after result
+script_ends limits s seen items remaining before after result same short whole ran = (
+  items,
+  whole,
+  subst (λ (text : List ℕ). Runs limits s text before after result) same
+      (all_lines limits s seen before after result (omega (arith, short, ap length same)) ran),
+)
+
+-- all that there is to read, if the reader tells it
+abbrev input_of : Option (List ℕ) → List ℕ
+input_of None = []
+input_of (Some input) = input
+
+is_input : (remaining : Option (List ℕ)) → IfSome remaining (λ input. input_of remaining ≡ input)
+is_input None = tt
+is_input (Some input) = refl
+
+long_input : (remaining left : Option (List ℕ)) → ReadsTooMuch remaining left → (script : List ℕ) × IfSome remaining (λ input. script ≡ input)
+    × (longest_script < length script)
+long_input None left long = (long.0, tt, long.2)
+long_input (Some input) None long = absurd long.1
+long_input (Some input) (Some rest) long = (input, refl, omega (arith, ap length long.1, length-append long.0 rest, long.2))
+
+-- nothing of a script is written
+unwritten : (limits : Limits) (s : State) (script : List ℕ) (w : Option (List ℕ)) → BreaksOff limits s script w w
+unwritten limits s script w = ([], part_none w (script_run limits s script []).text)
+
+-- a script that was not read whole
+pub not_read : (limits : Limits) (s : State) (remaining left w : Option (List ℕ)) (e : ScriptFault) → IsReadFault e
+    → (e ≡ TooLong → ReadsTooMuch remaining left)
+    → (script : List ℕ) × IfSome remaining (λ input. script ≡ input) × Runs limits s script w w (Err e)
+not_read limits s remaining left w NoMemory f long = (input_of remaining, is_input remaining, unwritten limits s (input_of remaining) w)
+not_read limits s remaining left w Input f long = (input_of remaining, is_input remaining, Appends-nil w)
+not_read limits s remaining left w Output f long = absurd f
+not_read limits s remaining left w TooLong f long = let l = long_input remaining left (long refl) in (l.0, l.1, (l.2, Appends-nil w))
+not_read limits s remaining left w (BadLine number) f long = absurd f
+not_read limits s remaining left w (InUse number) f long = absurd f
+not_read limits s remaining left w (Unknown number) f long = absurd f

@@ -1,0 +1,47 @@
+-- What a writer holds after a part of some text.
+use Rattle.std.proofs.Common.{◌≡◌, ℕ, ◌-◌, List, [], ◌++◌, length, take, drop, Option, None, Some, refl, sym, ap, ◌∙◌, subst, append_assoc, append-nil}
+use Rattle.std.proofs.lemmas.List.{take-append-drop, take_rest}
+use Rattle.std.proofs.KnownBytes.{Appends-nil, Appends-trans}
+use Rattle.std.specs.Io.KnownBytes.{Appends, Keeps}
+use Rattle.ipc_script.specs.Script.{WritesPart}
+
+-- one piece more of the bytes is written
+pub wrote_more : (a b c : Option (List ℕ)) (done rest bytes : List ℕ) (n : ℕ) → done ++ rest ≡ bytes → Appends a b done → Appends b c (take n rest)
+    → (x : List ℕ) × (x ++ take (length rest - n) (drop n rest) ≡ bytes) × Appends a c x
+wrote_more a b c done rest bytes n e before piece = (
+  done ++ take n rest,
+  ap (λ (ys : List ℕ). (done ++ take n rest) ++ ys) (take_rest rest n)
+      ∙ (append_assoc done (take n rest) (drop n rest) ∙ (ap (λ (ys : List ℕ). done ++ ys) (take-append-drop n rest) ∙ e)),
+  Appends-trans a b c done (take n rest) before piece,
+)
+
+-- ---- a beginning of a text
+
+-- nothing of it
+pub part_none : (w : Option (List ℕ)) (text : List ℕ) → WritesPart w w text
+part_none w text = ([], text, refl, Appends-nil w)
+
+-- a text, and then a beginning of another
+pub part_after : (a b c : Option (List ℕ)) (text more : List ℕ) → Appends a b text → WritesPart b c more → WritesPart a c (text ++ more)
+part_after a b c text more before part = (
+  text ++ part.0,
+  part.1,
+  ap (λ (ys : List ℕ). text ++ ys) part.2 ∙ sym (append_assoc text part.0 part.1),
+  Appends-trans a b c text part.0 before part.3,
+)
+
+-- what follows a text changes nothing
+pub part_more : (a b : Option (List ℕ)) (text more : List ℕ) → WritesPart a b text → WritesPart a b (text ++ more)
+part_more a b text more part =
+    (part.0, part.1 ++ more, ap (λ (ys : List ℕ). ys ++ more) part.2 ∙ append_assoc part.0 part.1 more, part.3)
+
+-- a writer that keeps what it holds has taken nothing
+pub kept_nothing : (a b : Option (List ℕ)) → Keeps a b → Appends a b []
+kept_nothing None b k = tt
+kept_nothing (Some xs) None k = absurd k
+kept_nothing (Some xs) (Some ys) k = k ∙ sym (append-nil xs)
+
+-- some of the bytes are written, and then nothing
+pub wrote_part : (a b c : Option (List ℕ)) (done rest bytes : List ℕ) → done ++ rest ≡ bytes → Appends a b done → Appends b c [] → WritesPart a c bytes
+wrote_part a b c done rest bytes e before none =
+    (done, rest, sym e, subst (Appends a c) (append-nil done) (Appends-trans a b c done [] before none))

@@ -1,0 +1,34 @@
+use Rattle.std.proofs.Common.{◌≡◌, ◌<◌, length, arith, ◌∙◌}
+use Rattle.std.proofs.lemmas.Bool.Decides.{nat_tests}
+use Rattle.std.proofs.lemmas.Result.{err_from_is_err_and}
+use Rattle.ipc_script.proofs.FaultCases.{world_failed}
+use Rattle.ipc_script.proofs.FrameLines.{partly_none, partly_part, partly_more, partly_done}
+use Rattle.ipc_script.proofs.report.report_frames.Goals as goal
+
+pub returns-in_err-line-clause-err : goal.returns-in_err-line-clause-err
+returns-in_err-line-clause-err g c =
+    let q = err_from_is_err_and c.from_residual.result c.from_residual.ensures.1 in
+    rw (q.1, q.2) (world_failed _ _ _ c.in_err-line.field-0.0 (λ _ limits h s u.
+    partly_none limits h c.args.conn c.frames.hub _ _ c.output-output.result.now (c.frames.invariant limits h s u) c.output-output.ensures.shown)
+    c.in_err-line.ensures.err)
+
+pub returns-in_err-write_all-clause-err : goal.returns-in_err-write_all-clause-err
+returns-in_err-write_all-clause-err g c =
+    let q = err_from_is_err_and c.from_residual-in_err-write_all.result c.from_residual-in_err-write_all.ensures.1 in
+    let some : 0 < length c.output-output.result.now = omega (arith, c.first_frame-count.ensures.some, c.first_frame-count.ensures.within) in
+    rw (q.1, q.2) (world_failed _ _ _ c.in_err-write_all.field-0.0 (λ part limits h s u.
+    partly_part limits h c.args.conn c.frames.hub _ _ c.output-output.result.now (c.frames.invariant limits h s u) c.output-output.ensures.shown
+    c.as_bytes.result.now c.first_frame-count.result some c.first_frame-count.ensures.frame (c.as_bytes.ensures.value ∙ c.in_ok-line.ensures.ok) _ part)
+    c.in_err-write_all.ensures.err)
+
+pub frames-preserved : goal.frames-preserved
+frames-preserved g c = λ limits h s u.
+    let some : 0 < length c.output-output.result.now = omega (arith, c.first_frame-count.ensures.some, c.first_frame-count.ensures.within) in
+    partly_more limits h c.args.conn c.frames.hub _ _ c.output-output.result.now (c.frames.invariant limits h s u) c.output-output.ensures.shown
+    c.as_bytes.result.now c.first_frame-count.result some c.first_frame-count.ensures.frame (c.as_bytes.ensures.value ∙ c.in_ok-line.ensures.ok)
+    c.consume.new.self _ c.in_ok-write_all.ensures.ok c.consume.ensures.ok
+
+pub returns-clause-ok : goal.returns-clause-ok
+returns-clause-ok g c = λ limits h s u.
+    let none : length c.output.result.now ≡ 0 = grind (arith, nat_tests, c.frames-test.ensures) in
+    partly_done limits h c.args.conn c.frames.hub _ _ c.output.result.now (c.frames.invariant limits h s u) c.output.ensures.shown none

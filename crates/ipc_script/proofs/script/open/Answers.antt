@@ -1,0 +1,26 @@
+use Rattle.std.proofs.Common.{◌≡◌, ℕ, false, List, sym, ap, subst, ◌∙◌, inl, inr, rules}
+use Rattle.std.specs.Prelude.{nat_lt}
+use Rattle.std.specs.List.{insert, prefix_len}
+use Rattle.ipc_hub.specs.Hub.{is_connected}
+use Rattle.ipc_script.specs.declared.report.Opened.{Opened}
+use Rattle.ipc_script.specs.Script.{opened}
+use Rattle.ipc_script.specs.Runs.{IsIn}
+use Rattle.ipc_script.proofs.ClientTables.{test}
+use Rattle.ipc_script.proofs.OpenConnections.{open_in}
+use Rattle.ipc_script.proofs.script.open.Goals as goal
+
+pub returns-clause-ok : goal.returns-clause-ok
+returns-clause-ok c limits r b =
+    let os = c.args.opened.now.items in
+    let one : Opened = record { conn = c.args.conn; told = false } in
+    let new : is_connected c.args.hub.now c.args.conn ≡ false =
+    elim (test (is_connected c.args.hub.now c.args.conn)) [ inl t ↦ let bad = c.in-Ok.ensures.in_use.1 t in cc | inr f ↦ f ] in
+    let kept : c.reserve.new.self.items ≡ os = c.reserve.ensures.items in
+    let seen : c.deref.result.now ≡ os = c.deref.ensures.value ∙ kept in
+    let place : c.place_for-place.result ≡ prefix_len (λ o. nat_lt o.conn c.args.conn) os = c.place_for-place.ensures.ok
+    ∙ ap (prefix_len (λ (o : Opened). nat_lt o.conn c.args.conn)) seen in
+    let put : c.insert.new.self.items ≡ insert c.reserve.new.self.items c.place_for-place.result one = search rules in
+    let items : c.insert.new.self.items ≡ insert os (prefix_len (λ o. nat_lt o.conn c.args.conn) os) one =
+    put ∙ ap (λ (xs : List Opened). insert xs c.place_for-place.result one) kept ∙ ap (λ (k : ℕ). insert os k one) place in
+    let done = open_in limits c.args.hub.now c.connect.new.self os r c.args.conn b new c.in-Ok.ensures.ok in
+    (done.0, subst (λ (xs : List Opened). IsIn limits c.connect.new.self xs (opened r c.args.conn)) (sym items) done.1)

@@ -1,0 +1,23 @@
+-- How the code's lines are seen as the definition's.
+use Rattle.std.specs.Prelude.{ℕ, List, [], Option, Some, None, unwrap_or}
+use Rattle.std.specs.Borrow.{Bor}
+use Rattle.ipc_script.specs.declared.digits.Hex.{Hex}
+use Rattle.ipc_script.specs.declared.line.Line.{Line}
+use Rattle.ipc_script.specs.declared.line.Line.TheVariants as lines
+use Rattle.ipc_script.specs.Line.{PlainLine, Open, Data, End, Tick, words_of, bytes_of_hex}
+
+-- the bytes that the digits spell
+abbrev pub hex_bytes : Hex → List ℕ
+hex_bytes hex = unwrap_or (bytes_of_hex hex.digits.now) []
+
+-- a line as the definition has it: the bytes in place of their digits
+abbrev pub plain_line : Line → PlainLine
+plain_line (lines.Open conn) = Open conn
+plain_line (lines.Data moment conn hex) = Data moment conn (hex_bytes hex)
+plain_line (lines.End moment conn) = End moment conn
+plain_line (lines.Tick moment) = Tick moment
+
+-- the words of what stands behind a space
+abbrev pub words_behind : Option (Bor (List ℕ)) → List (List ℕ)
+words_behind None = []
+words_behind (Some rest) = words_of rest.now

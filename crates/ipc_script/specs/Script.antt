@@ -1,0 +1,187 @@
+-- The run of a script: what its lines do to the server and its clients, and what is written. After each line all
+-- that was accepted is confirmed, so that each frame that waits is written and taken.
+use Rattle.std.specs.Prelude.{◌≡◌, ◌<◌, ◌≤◌, ⊤, length, ℕ, ◌+◌, Bool, false, ◌&&◌, ◌||◌, not, nat_eq, nat_lt}
+use Rattle.std.specs.Prelude.{if◌then◌else◌, List, [], ◌∷◌, ◌++◌, map, take, drop, codes, Option, Some, None}
+use Rattle.std.specs.Prelude.{is_some, Result, Ok, Err}
+use Rattle.std.specs.List.{flat_map}
+use Rattle.std.specs.Fmt.{decimal}
+use Rattle.std.specs.Io.KnownBytes.{Appends}
+use Rattle.hex.specs.Hex.{encode_lower}
+use Rattle.ipc_base.specs.declared.limits.Limits.{Limits}
+use Rattle.ipc_engine.specs.State.{State}
+use Rattle.ipc_engine.specs.Table.{keys_of}
+use Rattle.ipc_hub.specs.Clients.{Client, Clients, no_clients, client_at, ended_at, connect, feed, hangup, tick}
+use Rattle.ipc_script.specs.declared.fault.ScriptFault.{ScriptFault}
+use Rattle.ipc_script.specs.declared.fault.ScriptFault.TheVariants.{NoMemory, Input, Output, TooLong, BadLine}
+use Rattle.ipc_script.specs.declared.fault.ScriptFault.TheVariants.{InUse, Unknown}
+use Rattle.ipc_script.specs.Line.{PlainLine, Open, Data, End, Tick, line_of, lines_of, longest_script}
+
+-- what a run has: the clients, and of which connections the end was told
+pub record Run : Type 0 where
+  pub hub : Clients
+  pub told : ℕ → Bool
+
+-- a run that has written something
+pub record Progress : Type 0 where
+  pub text : List ℕ
+  pub run : Run
+
+-- what is written from there on stands behind it
+abbrev pub followed : Progress → (Run → Progress) → Progress
+followed p next = let more = next p.run in record { text = p.text ++ more.text; run = more.run }
+
+-- ---- what is written
+
+-- a frame: the number of its connection, a space, and its bytes in hexadecimal digits
+abbrev pub frame_line : ℕ → List ℕ → List ℕ
+frame_line conn bytes = decimal conn ++ codes " " ++ encode_lower bytes ++ codes "\n"
+
+abbrev pub end_line : ℕ → List ℕ
+end_line conn = decimal conn ++ codes " end\n"
+
+-- of a client: its frames, and then, once, that the server has ended it
+abbrev pub client_text : ℕ → Bool → Client → List ℕ
+client_text conn told c =
+    flat_map (λ f. frame_line conn f.bytes) c.frames ++ (if c.ended && not told then end_line conn else [])
+
+abbrev pub conn_text : Run → ℕ → List ℕ
+conn_text r conn = of_client (client_at r.hub conn)
+  where
+    of_client : Option Client → List ℕ
+    of_client None = []
+    of_client (Some c) = client_text conn (r.told conn) c
+
+-- a number among numbers that rise, and any numbers in rising order
+abbrev pub put : ℕ → List ℕ → List ℕ
+put n [] = n ∷ []
+put n (m ∷ ms) = if nat_lt m n then m ∷ put n ms else n ∷ m ∷ ms
+
+abbrev pub rising : List ℕ → List ℕ
+rising [] = []
+rising (n ∷ ns) = put n (rising ns)
+
+-- its frames are taken
+abbrev pub emptied : Client → Client
+emptied c = record c { frames = []; consumed = 0 }
+
+-- the frames of all clients are taken, and it is told of which the server has ended
+abbrev pub reported : Run → Run
+reported r = record {
+  hub = record r.hub { clients = map (λ e. (e.0, emptied e.1)) r.hub.clients };
+  told = λ conn. r.told conn || ended_at r.hub conn;
+}
+
+-- of each connection, in rising number
+abbrev pub report : Run → Progress
+report r = record { text = flat_map (conn_text r) (rising (keys_of r.hub.clients)); run = reported r }
+
+-- ---- a line
+
+abbrev pub is_open : Run → ℕ → Bool
+is_open r conn = is_some (client_at r.hub conn)
+
+-- a new connection: nothing was told of it
+abbrev pub opened : Run → ℕ → Run
+opened r conn = record { hub = connect r.hub conn; told = λ other. not (nat_eq other conn) && r.told other }
+
+-- some bytes, at least one, and of which of the requests in them memory was refused
+pub record Piece : Type 0 where
+  -- how many bytes besides the first
+  pub more : ℕ
+  pub refused : List Bool
+
+-- how the bytes of a line are fed: in these pieces, and then all that is left with nothing refused
+abbrev pub Cut : Type 0
+Cut = List Piece
+
+-- bytes are fed, and what they let out is written
+abbrev pub fed : Limits → Run → ℕ → ℕ → List ℕ → List Bool → Progress
+fed limits r moment conn bytes refused = report (record r { hub = feed limits r.hub conn bytes moment refused })
+
+-- Bytes are fed in pieces. A piece that reaches their end is the last.
+abbrev pub fed_in_pieces : Limits → Run → ℕ → ℕ → List ℕ → Cut → Progress
+fed_in_pieces limits r moment conn bytes [] = fed limits r moment conn bytes []
+fed_in_pieces limits r moment conn bytes (p ∷ ps) =
+    if nat_lt (p.more + 1) (length bytes)
+    then followed (fed limits r moment conn (take (p.more + 1) bytes) p.refused)
+    (λ now. fed_in_pieces limits now moment conn (drop (p.more + 1) bytes) ps)
+    else fed limits r moment conn bytes p.refused
+
+-- The line of this number: `open` of a connection that is open is refused, and so is another line for one that is not.
+abbrev pub line_done : Limits → ℕ → Run → PlainLine → Cut → Result Progress ScriptFault
+line_done limits number r (Open conn) cut = if is_open r conn then Err (InUse number) else Ok (report (opened r conn))
+line_done limits number r (Data moment conn bytes) cut =
+    if is_open r conn then Ok (fed_in_pieces limits r moment conn bytes cut) else Err (Unknown number)
+line_done limits number r (End moment conn) cut =
+    if is_open r conn then Ok (report (record r { hub = hangup limits r.hub conn moment })) else Err (Unknown number)
+line_done limits number r (Tick moment) cut = Ok (report (record r { hub = tick limits r.hub moment }))
+
+-- a text that may be a line
+abbrev pub text_done : Limits → ℕ → Run → Option PlainLine → Cut → Result Progress ScriptFault
+text_done limits number r None cut = Err (BadLine number)
+text_done limits number r (Some line) cut = line_done limits number r line cut
+
+-- ---- the script
+
+-- all that a script writes, and the fault that stops it
+pub record Outcome : Type 0 where
+  pub text : List ℕ
+  pub fault : Option ScriptFault
+
+-- the next lines are run unless this one is refused
+abbrev pub goes_on : Result Progress ScriptFault → (Run → Outcome) → Outcome
+goes_on (Err e) next = record { text = []; fault = Some e }
+goes_on (Ok p) next = let more = next p.run in record { text = p.text ++ more.text; fault = more.fault }
+
+-- the first of the cuts; if there is none, all in one piece and nothing refused
+abbrev pub first_cut : List Cut → Cut
+first_cut [] = []
+first_cut (cut ∷ cuts) = cut
+
+-- lines from this number on, with a cut for each
+abbrev pub run_lines : Limits → ℕ → Run → List (List ℕ) → List Cut → Outcome
+run_lines limits number r [] cuts = record { text = []; fault = None }
+run_lines limits number r (line ∷ lines) cuts =
+    goes_on (text_done limits number r (line_of line) (first_cut cuts))
+    (λ now. run_lines limits (number + 1) now lines (drop 1 cuts))
+
+-- no connection, over a state that is there
+abbrev pub start_run : State → Run
+start_run s = record { hub = no_clients s; told = λ _. false }
+
+-- a whole script; lines count from 1
+abbrev pub script_run : Limits → State → List ℕ → List Cut → Outcome
+script_run limits s script cuts = run_lines limits 1 (start_run s) (lines_of script) cuts
+
+-- ---- what is promised of a run
+
+-- a beginning of a text is written
+abbrev pub WritesPart : Option (List ℕ) → Option (List ℕ) → List ℕ → Type 0
+WritesPart before after text = (part : List ℕ) × (rest : List ℕ) × (text ≡ part ++ rest) × Appends before after part
+
+-- for some cut of each line what is written is the run's text, and the fault is the run's
+abbrev pub EndsAs : Limits → State → List ℕ → Option (List ℕ) → Option (List ℕ) → Option ScriptFault → Type 0
+EndsAs limits s script before after fault =
+    (cuts : List Cut)
+    × (let outcome = script_run limits s script cuts in Appends before after outcome.text × (outcome.fault ≡ fault))
+
+-- for some cut of each line what is written is a beginning of the run's text
+abbrev pub BreaksOff : Limits → State → List ℕ → Option (List ℕ) → Option (List ℕ) → Type 0
+BreaksOff limits s script before after =
+    (cuts : List Cut) × WritesPart before after (script_run limits s script cuts).text
+
+-- a script that is not too long has run
+abbrev pub HasRun : Limits → State → List ℕ → Option (List ℕ) → Option (List ℕ) → Option ScriptFault → Type 0
+HasRun limits s script before after fault = (length script ≤ longest_script) × EndsAs limits s script before after fault
+
+-- What holds of a script when its run has ended. If memory or a write failed, the run broke off. A script that is not
+-- read to its end, or is too long, is not begun.
+abbrev pub Runs : Limits → State → List ℕ → Option (List ℕ) → Option (List ℕ) → Result ⊤ ScriptFault → Type 0
+Runs limits s script before after (Ok _) = HasRun limits s script before after None
+Runs limits s script before after (Err NoMemory) = BreaksOff limits s script before after
+Runs limits s script before after (Err Input) = Appends before after []
+Runs limits s script before after (Err Output) = BreaksOff limits s script before after
+Runs limits s script before after (Err TooLong) = (longest_script < length script) × Appends before after []
+Runs limits s script before after (Err (BadLine number)) = HasRun limits s script before after (Some (BadLine number))
+Runs limits s script before after (Err (InUse number)) = HasRun limits s script before after (Some (InUse number))
+Runs limits s script before after (Err (Unknown number)) = HasRun limits s script before after (Some (Unknown number))

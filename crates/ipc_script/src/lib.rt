@@ -1,0 +1,21 @@
+//! Scripts: lines of what connections do and when, run on a fresh hub. What it lets out is written.
+#![tactic(auto)]
+
+mod digits;
+mod fault;
+mod input;
+mod line;
+mod report;
+mod script;
+
+pub use fault::ScriptFault;
+pub use script::run_script;
+
+#[cfg(test)]
+mod cuts;
+#[cfg(test)]
+mod rows;
+#[cfg(test)]
+mod standard;
+#[cfg(test)]
+mod tests;

@@ -1,0 +1,146 @@
+//! What a script's run writes: a line for each frame, and one where the server has ended a connection.
+
+ghost use Rattle.std.specs.Prelude.{◌≡◌, ⊤, ◌<◌, ◌≤◌, ℕ, List, ◌++◌, length, IfOk, IfErr, IfSome, OnOk, string_bytes};
+ghost use Rattle.std.specs.Io.KnownBytes.{Appends};
+ghost use Rattle.ipc_base.specs.declared.limits.Limits.{Limits};
+ghost use Rattle.ipc_hub.specs.Clients.{Clients, client_at};
+ghost use Rattle.ipc_hub.specs.Orderly.{IsFrame};
+ghost use Rattle.ipc_hub.specs.Stands.{Stands};
+ghost use Rattle.ipc_script.specs.Script.{Run, WritesPart, conn_text, report as report_of};
+ghost use Rattle.ipc_script.specs.Script.{frame_line as frame_text, end_line as end_text};
+ghost use Rattle.ipc_script.specs.Runs.{IsIn, IsBehind, IsUntouched, WorldFailed, opened_of, taken_from};
+ghost use Rattle.ipc_script.specs.Runs.{frames_text, ReportsConnection};
+
+use crate::fault::ScriptFault;
+use ipc_hub::Hub;
+use std::alloc::{AllocError, Global};
+use std::io::Write;
+
+/// A connection that the script has open.
+#[derive(Clone, Copy, Debug)]
+pub struct Opened {
+    pub conn: u32,
+    /// Its end was written.
+    pub told: bool,
+}
+
+/// Lets the frames that wait be seen. Writes those of each connection, a line each, and takes them; then,
+/// once, that the server has ended it.
+pub fn report<W: Write>(
+    alloc: Global,
+    hub: &mut Hub,
+    opened: &mut [Opened],
+    writer: &mut W,
+) -> Result<(), ScriptFault>
+    ensures ok { OnOk result ((limits : Limits) (r : Run) → IsIn limits hub.old opened.old r →
+        IsBehind limits hub.new opened.new (report_of r).run
+        × Appends (W.contents writer.old) (W.contents writer.new) (report_of r).text) }
+    ensures err { IfErr result (λ e. WorldFailed e ((limits : Limits) (r : Run) → IsIn limits hub.old opened.old r →
+        WritesPart (W.contents writer.old) (W.contents writer.new) (report_of r).text)) }
+{
+    hub.release();
+    for connection in opened.iter_mut() {
+        report_connection(alloc, hub, connection, writer)?;
+    }
+    Ok(())
+}
+
+/// Writes what there is to say of a connection.
+fn report_connection<W: Write>(
+    alloc: Global,
+    hub: &mut Hub,
+    connection: &mut Opened,
+    writer: &mut W,
+) -> Result<(), ScriptFault>
+    ensures ok { OnOk result ((limits : Limits) (r : Run) → Stands limits r.hub.accepted hub.old r.hub →
+        IfSome (client_at r.hub connection.old.conn) IsUntouched →
+        connection.old ≡ opened_of r.told connection.old.conn →
+        ReportsConnection limits r hub.new connection.old.conn connection.new
+        (W.contents writer.old) (W.contents writer.new)) }
+    ensures err { IfErr result (λ e. WorldFailed e ((limits : Limits) (r : Run) →
+        Stands limits r.hub.accepted hub.old r.hub →
+        IfSome (client_at r.hub connection.old.conn) IsUntouched →
+        connection.old ≡ opened_of r.told connection.old.conn →
+        WritesPart (W.contents writer.old) (W.contents writer.new) (conn_text r connection.old.conn))) }
+{
+    report_frames(alloc, hub, connection.conn, writer)?;
+    if !connection.told && hub.ended(connection.conn) {
+        connection.told = true;
+        let line = end_line(alloc, connection.conn)?;
+        write_all(writer, line.as_bytes())?;
+    }
+    Ok(())
+}
+
+/// Writes the frames that the client of a connection may see, and takes them.
+fn report_frames<W: Write>(
+    alloc: Global,
+    hub: &mut Hub,
+    conn: u32,
+    writer: &mut W,
+) -> Result<(), ScriptFault>
+    ensures ok { OnOk result ((limits : Limits) (h : Clients) → Stands limits h.accepted hub.old h →
+        IfSome (client_at h conn) IsUntouched → Stands limits h.accepted hub.new (taken_from h conn)
+        × Appends (W.contents writer.old) (W.contents writer.new) (frames_text h conn)) }
+    ensures err { IfErr result (λ e. WorldFailed e ((limits : Limits) (h : Clients) →
+        Stands limits h.accepted hub.old h → IfSome (client_at h conn) IsUntouched →
+        WritesPart (W.contents writer.old) (W.contents writer.new) (frames_text h conn))) }
+{
+    'frames: while !hub.output(conn).is_empty() {
+        let output = hub.output(conn);
+        let count = first_frame(output);
+        let line = frame_line(alloc, conn, &output[..count])?;
+        write_all(writer, line.as_bytes())?;
+        hub.consume(conn, count);
+    }
+    Ok(())
+}
+
+/// How many bytes the first frame of an output has.
+fn first_frame(output: &[u8]) -> usize
+    requires { 0 < length output.now }
+    ensures some { 0 < result }
+    ensures within { result ≤ length output.now }
+    ensures frame { (frame rest : List ℕ) → IsFrame frame → output.now ≡ frame ++ rest → result ≡ length frame }
+{
+    match output.split_first_chunk::<4>() {
+        Some((length, rest)) => 4 + rest.len().min(u32::from_be_bytes(*length) as usize),
+        None => output.len(),
+    }
+}
+
+/// The line of a frame.
+fn frame_line(alloc: Global, conn: u32, frame: &[u8]) -> Result<String, ScriptFault>
+    ensures ok { IfOk result (λ line. string_bytes line ≡ frame_text conn frame.now) }
+    ensures err { IfErr result (λ e. WorldFailed e ⊤) }
+{
+    let digits = hex::encode(alloc, frame)?;
+    Ok(format!(in alloc; "{conn} {digits}\n")?)
+}
+
+/// The line that says that a connection has ended.
+fn end_line(alloc: Global, conn: u32) -> Result<String, ScriptFault>
+    ensures ok { IfOk result (λ line. string_bytes line ≡ end_text conn) }
+    ensures err { IfErr result (λ e. WorldFailed e ⊤) }
+{
+    Ok(format!(in alloc; "{conn} end\n")?)
+}
+
+/// A write that fails or takes nothing is a fault.
+fn write_all<W: Write>(writer: &mut W, bytes: &[u8]) -> Result<(), ScriptFault>
+    ensures ok { OnOk result (Appends (W.contents writer.old) (W.contents writer.new) bytes.now) }
+    ensures err { IfErr result (λ e.
+        WorldFailed e (WritesPart (W.contents writer.old) (W.contents writer.new) bytes.now)) }
+{
+    let mut rest = bytes;
+    'pieces: while !rest.is_empty() {
+        let Ok(taken) = writer.write(rest) else {
+            return Err(ScriptFault::Output);
+        };
+        if taken == 0 {
+            return Err(ScriptFault::Output);
+        }
+        rest = &rest[taken..];
+    }
+    Ok(())
+}

@@ -1,0 +1,221 @@
+//! A script: lines of what connections do and when, run on a hub.
+
+ghost use Rattle.std.specs.Prelude.{◌≡◌, [], ◌<◌, ◌≤◌, ◌||◌, ℕ, Bool, true, false, List, length, map, nat_eq};
+ghost use Rattle.std.specs.Prelude.{nat_lt, position, IfOk, IfErr, IfSome, OnOk, MatchResult, Err};
+ghost use Rattle.std.specs.List.{prefix_len};
+ghost use Rattle.std.specs.Io.KnownBytes.{Appends};
+ghost use Rattle.ipc_base.specs.declared.limits.Limits.{Limits};
+ghost use Rattle.ipc_base.specs.Limits.{standard_limits};
+ghost use Rattle.ipc_engine.specs.Engine.{limits_of, state_of as machine_state};
+ghost use Rattle.ipc_hub.specs.Clients.{hangup};
+ghost use Rattle.ipc_script.specs.Line.{longest_script};
+ghost use Rattle.ipc_script.specs.Line.PlainLine.{Data};
+ghost use Rattle.ipc_script.specs.LineView.{plain_line};
+ghost use Rattle.ipc_script.specs.Script.{Run, Runs, is_open, opened as opened_run};
+ghost use Rattle.ipc_script.specs.Runs.{IsIn, IsBehind, FeedsSome, FeedsPart, ByFault, Refused, LineRuns, LinesRun};
+
+use crate::fault::ScriptFault;
+use crate::input::read_script;
+use crate::line::{Line, first_line, line_of};
+use crate::report::{Opened, report};
+use ipc_base::Moment;
+use ipc_engine::Engine;
+use ipc_hub::{ConnectError, Hub};
+use std::alloc::Global;
+use std::io::{Read, Write};
+
+/// Reads a script to its end, and runs it line by line. After each line the frames that it let out are
+/// written. The run stops at the first line that is refused; what the lines before it did stands. If memory or a
+/// write failed, what was written is a beginning of the run's text; after a read that failed nothing was. The
+/// script is all that the reader gives; of a reader that does not tell its bytes the clause says that there is one.
+pub fn run_script<R: Read, W: Write>(
+    alloc: Global,
+    engine: Engine,
+    reader: &mut R,
+    writer: &mut W,
+) -> Result<(), ScriptFault>
+    ensures { (limits_of engine).msgmnb ≤ standard_limits.msgmnb →
+        (script : List ℕ) × IfSome (R.remaining reader.old) (λ input. script ≡ input)
+        × Runs (limits_of engine) (machine_state engine) script
+        (W.contents writer.old) (W.contents writer.new) result }
+{
+    let script = read_script(alloc, reader)?;
+    run_lines(alloc, engine, &script, writer)
+}
+
+/// Runs the lines of a script on a server without connections.
+fn run_lines<W: Write>(
+    alloc: Global,
+    engine: Engine,
+    script: &[u8],
+    writer: &mut W,
+) -> Result<(), ScriptFault>
+    requires { length script.now ≤ longest_script }
+    ensures { (limits_of engine).msgmnb ≤ standard_limits.msgmnb →
+        LinesRun (limits_of engine) (machine_state engine) script.now
+        (W.contents writer.old) (W.contents writer.new) result }
+{
+    let mut hub = Hub::new(alloc, engine);
+    let mut opened = Vec::new(alloc);
+    let mut rest = script;
+    let mut number: u64 = 0;
+    'lines: while !rest.is_empty() {
+        let (text, behind) = first_line(rest);
+        number += 1;
+        let Some(line) = line_of(text) else {
+            return Err(ScriptFault::BadLine(number));
+        };
+        run_line(alloc, &mut hub, &mut opened, line, number, writer)?;
+        rest = behind;
+    }
+    Ok(())
+}
+
+/// Runs a line.
+fn run_line<W: Write>(
+    alloc: Global,
+    hub: &mut Hub,
+    opened: &mut Vec<Opened>,
+    line: Line<'_>,
+    number: u64,
+    writer: &mut W,
+) -> Result<(), ScriptFault>
+    ensures { (limits : Limits) (r : Run) → IsBehind limits hub.old opened.old.items r →
+        LineRuns limits number r (plain_line line.entry) hub.new opened.new.items
+        (W.contents writer.old) (W.contents writer.new) result }
+{
+    match line {
+        Line::Open { conn } => open(hub, opened, conn, number)?,
+        Line::Data { moment, conn, hex } => {
+            let bytes = hex.decode(alloc)?;
+            let sender = Sender {
+                conn,
+                moment: Moment(moment),
+                number,
+            };
+            return feed(alloc, hub, opened, sender, &bytes, writer);
+        }
+        Line::End { moment, conn } => close(hub, opened, conn, Moment(moment), number)?,
+        Line::Tick { moment } => hub.tick(Moment(moment)),
+    }
+    report(alloc, hub, opened, writer)
+}
+
+/// Opens a connection, and keeps those that are open in rising order.
+fn open(hub: &mut Hub, opened: &mut Vec<Opened>, conn: u32, number: u64) -> Result<(), ScriptFault>
+    ensures ok { OnOk result ((limits : Limits) (r : Run) → IsBehind limits hub.old opened.old.items r →
+        (is_open r conn ≡ false) × IsIn limits hub.new opened.new.items (opened_run r conn)) }
+    ensures err { IfErr result (λ e. Refused e (e ≡ ScriptFault.InUse number)) }
+    ensures in_use { IfErr result (λ e. Refused e ((limits : Limits) (r : Run) →
+        IsBehind limits hub.old opened.old.items r → is_open r conn ≡ true)) }
+{
+    opened.reserve(1)?;
+    match hub.connect(conn) {
+        Ok(()) => {}
+        Err(ConnectError::InUse) => return Err(ScriptFault::InUse(number)),
+        Err(ConnectError::NoMemory) => return Err(ScriptFault::NoMemory),
+    }
+    let place = place_for(opened, conn);
+    opened.insert(place, Opened { conn, told: false })?;
+    Ok(())
+}
+
+/// How many of the connections, which rise, are below a number.
+fn place_for(opened: &[Opened], conn: u32) -> usize
+    ensures ok { result ≡ prefix_len (λ o. nat_lt o.conn conn) opened.now }
+    ensures within { result ≤ length opened.now }
+{
+    opened.iter().take_while(|other| other.conn < conn).count()
+}
+
+/// The client of a connection is gone.
+fn close(
+    hub: &mut Hub,
+    opened: &mut Vec<Opened>,
+    conn: u32,
+    moment: Moment,
+    number: u64,
+) -> Result<(), ScriptFault>
+    ensures ok { OnOk result ((limits : Limits) (r : Run) → IsBehind limits hub.old opened.old.items r →
+        (is_open r conn ≡ true)
+        × IsIn limits hub.new opened.new.items (record r { hub = hangup limits r.hub conn moment.0 })) }
+    ensures err { IfErr result (λ e. e ≡ ScriptFault.Unknown number) }
+    ensures unknown { IfErr result (λ e. (limits : Limits) (r : Run) →
+        IsBehind limits hub.old opened.old.items r → is_open r conn ≡ false) }
+{
+    let Ok(()) = hub.hangup(conn, moment) else {
+        return Err(ScriptFault::Unknown(number));
+    };
+    if let Some(place) = place_of(opened, conn) {
+        opened.remove(place);
+    }
+    Ok(())
+}
+
+/// Where a connection stands among those that are open.
+fn place_of(opened: &[Opened], conn: u32) -> Option<usize>
+    ensures ok { result ≡ position (λ o. nat_eq o.conn conn) opened.now }
+    ensures within { IfSome result (λ place. place < length opened.now) }
+{
+    opened.iter().position(|other| other.conn == conn)
+}
+
+/// Who sends the bytes of a line, when, and in which line.
+#[derive(Clone, Copy, Debug)]
+struct Sender {
+    conn: u32,
+    moment: Moment,
+    number: u64,
+}
+
+/// Feeds a connection all of these bytes, and writes what they let out.
+fn feed<W: Write>(
+    alloc: Global,
+    hub: &mut Hub,
+    opened: &mut [Opened],
+    sender: Sender,
+    bytes: &[u8],
+    writer: &mut W,
+) -> Result<(), ScriptFault>
+    requires { 0 < length bytes.now }
+    ensures { (limits : Limits) (r : Run) → IsBehind limits hub.old opened.old r →
+        LineRuns limits sender.number r (Data sender.moment.0 sender.conn bytes.now) hub.new opened.new
+        (W.contents writer.old) (W.contents writer.new) result }
+{
+    let mut rest = bytes;
+    // A round takes at least one byte, since no frame waits as it begins.
+    'pieces: for _ in 0..bytes.len() {
+        let taken = feed_some(alloc, hub, opened, sender, rest, writer)?;
+        rest = &rest[taken..];
+        if rest.is_empty() {
+            return Ok(());
+        }
+    }
+    Ok(())
+}
+
+/// Feeds a connection some of these bytes, and writes what they let out. Answers how many.
+fn feed_some<W: Write>(
+    alloc: Global,
+    hub: &mut Hub,
+    opened: &mut [Opened],
+    sender: Sender,
+    bytes: &[u8],
+    writer: &mut W,
+) -> Result<usize, ScriptFault>
+    ensures ok { IfOk result (λ taken. (limits : Limits) (r : Run) → IsBehind limits hub.old opened.old r →
+        FeedsSome limits r sender.moment.0 sender.conn bytes.now taken hub.new opened.new
+        (W.contents writer.old) (W.contents writer.new)) }
+    ensures within { IfOk result (λ taken. taken ≤ length bytes.now) }
+    ensures err { IfErr result (λ e. ByFault e ((limits : Limits) (r : Run) → IsBehind limits hub.old opened.old r →
+        FeedsPart limits r sender.moment.0 sender.conn bytes.now (W.contents writer.old) (W.contents writer.new))
+        ((e ≡ ScriptFault.Unknown sender.number) × Appends (W.contents writer.old) (W.contents writer.new) [])) }
+    ensures unknown { IfErr result (λ e. Refused e ((limits : Limits) (r : Run) →
+        IsBehind limits hub.old opened.old r → is_open r sender.conn ≡ false)) }
+{
+    let Ok(taken) = hub.feed(sender.conn, bytes, sender.moment) else {
+        return Err(ScriptFault::Unknown(sender.number));
+    };
+    report(alloc, hub, opened, writer)?;
+    Ok(taken)
+}
