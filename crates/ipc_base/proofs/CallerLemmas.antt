@@ -1,9 +1,9 @@
 -- What the crates above cite of tables, of numbers that rise, and of limits that were checked.
-use Rattle.std.proofs.Common.{◌≡◌, ◌≢◌, ℕ, zero, suc, ◌+◌, ◌<◌, ◌≤◌, Bool, true, false, not, ◌&&◌, leb, cond, List, [], ◌∷◌, ◌++◌, length, map, find, get_or, set, is_some, Option, Some, None, refl, sym, ap, subst, ◌∙◌, arith}
+use Rattle.std.proofs.Common.{◌≡◌, ◌≢◌, ℕ, zero, suc, ◌+◌, ◌<◌, ◌≤◌, Bool, true, false, not, ◌&&◌, leb, eqb, cond, ◌⊎◌, inl, inr, List, [], ◌∷◌, ◌++◌, length, map, find, get_or, set, is_some, Option, Some, None, refl, sym, ap, subst, ◌∙◌, arith}
 use Rattle.std.specs.Prelude.{nat_eq, if◌then◌else◌, All, ◌||◌, option_map}
 use Rattle.std.specs.List.{list_any, remove, position, position_or_len, IsDistinct, AllByRecursion}
 use Rattle.std.specs.Cmp.{IsEquivalence}
-use Rattle.std.proofs.lemmas.Bool.{ltb-false, leb-true}
+use Rattle.std.proofs.lemmas.Bool.{ltb-false, leb-true, eqb-true, eq-eqb}
 use Rattle.std.proofs.lemmas.Bool.Decides.{nat_tests}
 use Rattle.std.proofs.lemmas.List.Elements.{All-cons, All-head, All-tail}
 use Rattle.std.proofs.lemmas.List.Quantifiers.{position-Some}
@@ -38,11 +38,11 @@ module _ {A K X : Type 0} (row : A → K × X) (same : K → K → Bool) (k : K)
       let other : is_at x ≡ false = before 0 (omega arith) in
       rw other (first_value xs i d (omega arith) here (λ j h. before (suc j) (omega arith)))
 
-  no_value : (xs : List A) → ((j : ℕ) (d : A) → j < length xs → is_at (get_or xs j d) ≡ false) → value_at same (map row xs) k ≡ None
-  no_value [] before = refl
-  no_value (x ∷ xs) before =
+  valueless : (xs : List A) → ((j : ℕ) (d : A) → j < length xs → is_at (get_or xs j d) ≡ false) → value_at same (map row xs) k ≡ None
+  valueless [] before = refl
+  valueless (x ∷ xs) before =
       let other : is_at x ≡ false = before 0 x (omega arith) in
-      rw other (no_value xs (λ j d h. before (suc j) d (omega arith)))
+      rw other (valueless xs (λ j d h. before (suc j) d (omega arith)))
 
   first_set : (xs : List A) (i : ℕ) (d b : A) → i < length xs → is_at (get_or xs i d) ≡ true
       → ((j : ℕ) → j < i → is_at (get_or xs j d) ≡ false) → (row b).0 ≡ (row (get_or xs i d)).0
@@ -110,7 +110,7 @@ module _ {A K X : Type 0} (row : A → K × X) (same : K → K → Bool) (k : K)
   pub value_nowhere : (xs : List A) → position is_at xs ≡ None → value_at same (map row xs) k ≡ None
   value_nowhere xs none =
       let late : length xs ≤ position_or_len is_at xs = ltb-false _ _ (not_some _ _ none) in
-      no_value xs (λ j d h. fails_before_first is_at xs j d (omega arith))
+      valueless xs (λ j d h. fails_before_first is_at xs j d (omega arith))
 
   -- another value at the place that a search found
   pub set_at_place : (xs : List A) (i : ℕ) (a b : A) → position is_at xs ≡ Some i → a ≡ get_or xs i a → (row b).0 ≡ (row a).0
@@ -448,6 +448,73 @@ module _ {X Y : Type 0} where
           → is_some (value_at nat_eq (e ∷ es) k) ≡ is_some (if b then Some t.1 else value_at nat_eq ts k)
       by_test true t rest = rw t refl
       by_test false t rest = rw t rest
+
+-- ---- tables told apart by their keys
+
+pub test_cases : (b : Bool) → (b ≡ true) ⊎ (b ≡ false)
+test_cases true = inl refl
+test_cases false = inr refl
+
+-- a test of equal numbers is the same from both sides
+pub flipped : (n m : ℕ) → nat_eq n m ≡ nat_eq m n
+flipped n m =
+    elim (test_cases (nat_eq n m)) [
+      | inl t ↦ t ∙ sym (eq-eqb m n (sym (eqb-true n m t)))
+      | inr f ↦ elim (test_cases (nat_eq m n)) [ inl t ↦ eq-eqb n m (sym (eqb-true m n t)) ∙ sym t | inr g ↦ f ∙ sym g ]
+    ]
+
+pub distinct_tail : (k : ℕ) (ks : List ℕ) → AllByRecursion (λ n. nat_eq k n ≡ false) ks → (n : ℕ) → nat_eq k n ≡ true → list_any (nat_eq n) ks ≡ false
+distinct_tail k [] h n t = refl
+distinct_tail k (j ∷ ks) h n t =
+    let same = eqb-true k n t in
+    let far : nat_eq n j ≡ false = ap (λ (i : ℕ). nat_eq i j) (sym same) ∙ h.0 in
+    rw far (distinct_tail k ks h.1 n t)
+
+-- nobody has a number at which there is no value
+pub nobody : {X : Type 0} (r : Option X) → is_some r ≡ false → r ≡ None
+nobody None is = refl
+nobody (Some x) is = cc
+
+module _ {X : Type 0} where
+  -- another number keeps its value, by the test
+  pub value_elsewhere : (es : List (ℕ × X)) (n m : ℕ) (x : X) → nat_eq n m ≡ false → value_at nat_eq (with_value nat_eq es n x) m ≡ value_at nat_eq es m
+  value_elsewhere es n m x apart = other-with es n m x (λ same. let bad : nat_eq n m ≡ true = ap (λ k. nat_eq n k) same ∙ same_key n in cc)
+
+  -- a number that is none of the keys has no value
+  pub no_value : (es : List (ℕ × X)) (n : ℕ) → list_any (nat_eq n) (keys_of es) ≡ false → value_at nat_eq es n ≡ None
+  no_value [] n h = refl
+  no_value (e ∷ es) n h =
+      elim (test_cases (nat_eq e.0 n)) [
+        | inl t ↦ let u : nat_eq n e.0 ≡ true = flipped n e.0 ∙ t in let bad : true ≡ false = rw u at h in cc
+        | inr f ↦ let u : nat_eq n e.0 ≡ false = flipped n e.0 ∙ f in rw f (no_value es n (rw u at h))
+      ]
+
+  -- two tables of the same keys, of which none stands twice, with the same values
+  pub same_table : (es fs : List (ℕ × X)) → keys_of es ≡ keys_of fs → IsDistinct nat_eq (keys_of es)
+      → ((n : ℕ) → value_at nat_eq es n ≡ value_at nat_eq fs n) → es ≡ fs
+  same_table [] [] k d v = refl
+  same_table [] (f ∷ fs) k d v = cc
+  same_table (e ∷ es) [] k d v = cc
+  same_table (e ∷ es) (f ∷ fs) k d v =
+      let head : e.0 ≡ f.0 = cc in
+      let keys : keys_of es ≡ keys_of fs = cc in
+      let here : cond (nat_eq e.0 e.0) (Some e.1) (value_at nat_eq es e.0) ≡ cond (nat_eq f.0 e.0) (Some f.1) (value_at nat_eq fs e.0) = v e.0 in
+      let one : nat_eq e.0 e.0 ≡ true = same_key e.0 in
+      let other : nat_eq f.0 e.0 ≡ true = eq-eqb f.0 e.0 (sym head) in
+      let first : Some e.1 ≡ Some f.1 = rw (one, other) at here in
+      let value : e.1 ≡ f.1 = cc in
+      let rest : (n : ℕ) → value_at nat_eq es n ≡ value_at nat_eq fs n = λ n.
+      (elim (test_cases (nat_eq e.0 n)) [
+        | inl t ↦
+            let gone = distinct_tail e.0 (keys_of es) (IsDistinct-head nat_eq e.0 (keys_of es) d) n t in
+            no_value es n gone ∙ sym (no_value fs n (subst (λ (ks : List ℕ). list_any (nat_eq n) ks ≡ false) keys gone))
+        | inr f' ↦
+            let f2 : nat_eq f.0 n ≡ false = ap (λ (i : ℕ). nat_eq i n) (sym head) ∙ f' in
+            let at : cond (nat_eq e.0 n) (Some e.1) (value_at nat_eq es n) ≡ cond (nat_eq f.0 n) (Some f.1) (value_at nat_eq fs n) = v n in
+            rw (f', f2) at at
+      ]) in
+      let entry : e ≡ f = ap (λ (i : ℕ). (i, e.1)) head ∙ ap (λ (x : X). (f.0, x)) value in
+      ap (λ (y : ℕ × X). y ∷ es) entry ∙ ap (λ (t : List (ℕ × X)). f ∷ t) (same_table es fs keys (IsDistinct-tail nat_eq e.0 (keys_of es) d) rest)
 
 -- ---- limits that were checked
 

@@ -18,7 +18,7 @@ use Rattle.ipc_engine.specs.Step.{at_moment}
 use Rattle.ipc_engine.specs.Event.{Exit}
 use Rattle.ipc_engine.specs.Sound.{IsSound}
 use Rattle.ipc_engine.proofs.CallerLemmas.{step-sound}
-use Rattle.ipc_base.proofs.CallerLemmas.{keys_of-with_value, no_key, value_at-without}
+use Rattle.ipc_base.proofs.CallerLemmas.{nobody, keys_of-with_value, no_key, value_at-without}
 use Rattle.ipc_hub.specs.declared.connection.Connection.{Connection}
 use Rattle.ipc_hub.specs.declared.hub.Hub.{Hub}
 use Rattle.ipc_hub.specs.Clients.{Frame, Client, Clients, start_client, no_clients, client_at, process_at, with_client, leave, all_bytes, confirmed_bytes, shown_at, ended_at, connect, tick, feed, take_in, hangup, consume, consumed_from}
@@ -36,11 +36,6 @@ use Rattle.ipc_hub.proofs.Serving.{reply-length}
 use Rattle.ipc_hub.proofs.Taking.{client-of, connected-in}
 
 -- ---- the tests on a number
-
--- nobody has a number that is not connected
-pub nobody : {X : Type 0} (r : Option X) → is_some r ≡ false → r ≡ None
-nobody None is = refl
-nobody (Some x) is = cc
 
 -- whether the code's hub and the other one have a number
 pub same-connected : (limits : Limits) (confirmed : ℕ) (hub : Hub) (h : Clients) (conn : ℕ) → Stands limits confirmed hub h → is_some (connection_of hub conn) ≡ is_some (client_at h conn)

@@ -10,7 +10,7 @@ use Rattle.ipc_hub.specs.Stands.{Stands}
 use Rattle.ipc_script.specs.declared.report.Opened.{Opened}
 use Rattle.ipc_script.specs.Script.{Run, emptied, end_line, conn_text, WritesPart}
 use Rattle.ipc_script.specs.Runs.{taken_from, frames_text, ReportsConnection}
-use Rattle.ipc_script.proofs.ClientTables.{value_here}
+use Rattle.ipc_base.proofs.CallerLemmas.{at-with as value_here}
 use Rattle.ipc_script.proofs.WrittenText.{part_after, part_more}
 
 -- the server's ends stay

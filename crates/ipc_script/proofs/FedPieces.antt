@@ -17,7 +17,7 @@ use Rattle.ipc_script.specs.declared.fault.ScriptFault.TheVariants.{Unknown}
 use Rattle.ipc_script.specs.Line.PlainLine.{Data}
 use Rattle.ipc_script.specs.Script.{Run, Progress, Piece, Cut, followed, is_open, fed, fed_in_pieces, report, reported, emptied, line_done, WritesPart}
 use Rattle.ipc_script.specs.Runs.{IsIn, IsBehind, FeedsSome, FeedsPart, ByFault, Refused, text_of}
-use Rattle.ipc_script.proofs.ClientTables.{test, value_mapped}
+use Rattle.ipc_base.proofs.CallerLemmas.{test_cases as test, at-map as value_mapped}
 use Rattle.ipc_script.proofs.FaultCases.{by_fault_both}
 use Rattle.ipc_script.proofs.WrittenText.{part_after, part_more}
 use Rattle.ipc_script.proofs.HubAndClients.{connected, no_frame}

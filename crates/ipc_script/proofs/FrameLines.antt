@@ -10,7 +10,7 @@ use Rattle.std.proofs.lemmas.List.{length-append}
 use Rattle.std.proofs.lemmas.List.Elements.{All-head, All-tail}
 use Rattle.std.proofs.lemmas.Bool.Decides.{nat_tests}
 use Rattle.ipc_base.specs.declared.limits.Limits.{Limits}
-use Rattle.ipc_engine.specs.Table.{with_value}
+use Rattle.ipc_base.specs.Table.{with_value}
 use Rattle.ipc_hub.specs.declared.hub.Hub.{Hub}
 use Rattle.ipc_hub.specs.Clients.{Frame, Client, Clients, client_at, with_client, consume, consumed_from, confirmed_bytes, shown, shown_at}
 use Rattle.ipc_hub.specs.Orderly.{IsFrame, IsTidy}
@@ -18,7 +18,7 @@ use Rattle.ipc_hub.specs.Stands.{Stands, Takes}
 use Rattle.ipc_script.specs.Script.{emptied, frame_line, WritesPart}
 use Rattle.ipc_script.specs.Runs.{IsUntouched, taken_from, frames_text}
 use Rattle.ipc_script.proofs.FirstFrame.{frame_length}
-use Rattle.ipc_script.proofs.ClientTables.{value_here, put_same, put_twice}
+use Rattle.ipc_base.proofs.CallerLemmas.{at-with as value_here, own as put_same, twice as put_twice}
 use Rattle.ipc_script.proofs.WrittenText.{part_after, part_more}
 
 -- some frames are written and taken: what is behind them now, and the text so far

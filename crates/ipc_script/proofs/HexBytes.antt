@@ -6,7 +6,7 @@ use Rattle.hex.specs.Hex.{decode_of}
 use Rattle.hex.specs.declared.error.FromHexError.{FromHexError}
 use Rattle.hex.proofs.HexLemmas.{decode_of-ok}
 use Rattle.ipc_script.specs.Line.{bytes_of_hex}
-use Rattle.ipc_script.proofs.ClientTables.{test}
+use Rattle.ipc_base.proofs.CallerLemmas.{test_cases as test}
 
 decoded : (word : List ℕ) (r : Result (List ℕ) FromHexError) → decode_of word ≡ r → 0 < length word → is_some (result_ok r) ≡ true
     → 0 < length (unwrap_or (result_ok r) [])

@@ -3,7 +3,7 @@ use Rattle.std.proofs.Common.{◌≡◌, ℕ, ◌-◌, ◌≤◌, List, [], leng
 use Rattle.std.specs.Prelude.{is_some, slice_range, nat_eq}
 use Rattle.std.proofs.lemmas.List.{length-take-le, length-drop}
 use Rattle.ipc_base.specs.declared.limits.Limits.{Limits}
-use Rattle.ipc_engine.specs.Table.{value_at}
+use Rattle.ipc_base.specs.Table.{value_at}
 use Rattle.ipc_hub.specs.declared.connection.Connection.{Connection}
 use Rattle.ipc_hub.specs.declared.hub.Hub.{Hub}
 use Rattle.ipc_hub.specs.declared.outbox.Outbox.{Outbox}

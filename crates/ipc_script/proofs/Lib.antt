@@ -2,7 +2,6 @@ pub mod DecimalNumbers
 pub mod LinesAndWords
 pub mod LineWords
 pub mod HexDigits
-pub mod ClientTables
 pub mod HexBytes
 pub mod WrittenText
 pub mod FaultCases

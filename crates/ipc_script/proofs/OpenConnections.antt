@@ -6,10 +6,10 @@ use Rattle.std.proofs.lemmas.List.{map-append}
 use Rattle.std.proofs.Math.Numerals.{one-add}
 use Rattle.std.proofs.lemmas.Bool.{cases_eq}
 use Rattle.ipc_base.specs.declared.limits.Limits.{Limits}
-use Rattle.ipc_engine.specs.Table.{value_at, without, keys_of}
-use Rattle.ipc_engine.proofs.Rows.{value_at-without}
-use Rattle.ipc_hub.proofs.Tables.{at-push, other-push, gone as no_longer}
-use Rattle.ipc_hub.proofs.Calls.{nobody}
+use Rattle.ipc_base.specs.Table.{value_at, without, keys_of}
+use Rattle.ipc_base.proofs.CallerLemmas.{value_at-without}
+use Rattle.ipc_base.proofs.CallerLemmas.{at-push, other-push, gone as no_longer}
+use Rattle.ipc_base.proofs.CallerLemmas.{nobody}
 use Rattle.ipc_hub.specs.Hub.{is_connected}
 use Rattle.ipc_hub.specs.declared.hub.Hub.{Hub}
 use Rattle.ipc_hub.specs.Clients.{Client, Clients, client_at, start_client, connect, hangup, leave, tick, process_at}
@@ -17,7 +17,7 @@ use Rattle.ipc_hub.specs.Stands.{Takes}
 use Rattle.ipc_script.specs.declared.report.Opened.{Opened}
 use Rattle.ipc_script.specs.Script.{Run, is_open, opened, rising, put}
 use Rattle.ipc_script.specs.Runs.{IsIn, IsBehind, opened_of}
-use Rattle.ipc_script.proofs.ClientTables.{test, flipped, same_number}
+use Rattle.ipc_base.proofs.CallerLemmas.{test_cases as test, flipped, same_key as same_number}
 use Rattle.ipc_script.proofs.RisingNumbers.{all_rising, rising_end, rising_gone, gone}
 use Rattle.ipc_script.proofs.HubAndClients.{connected}
 use Rattle.ipc_script.proofs.FedPieces.{open_here}

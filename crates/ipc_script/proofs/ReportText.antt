@@ -11,15 +11,15 @@ use Rattle.std.proofs.lemmas.Bool.{eqb-true}
 use Rattle.std.proofs.lemmas.Map.Keys.{IsDistinct-head, IsDistinct-tail}
 use Rattle.ipc_base.specs.declared.limits.Limits.{Limits}
 use Rattle.ipc_engine.specs.State.{State}
-use Rattle.ipc_engine.specs.Table.{keys_of}
+use Rattle.ipc_base.specs.Table.{keys_of}
 use Rattle.ipc_hub.specs.declared.hub.Hub.{Hub}
 use Rattle.ipc_hub.specs.Clients.{Client, Clients, client_at, ended_at}
 use Rattle.ipc_hub.specs.Stands.{Stands}
 use Rattle.ipc_script.specs.declared.report.Opened.{Opened}
 use Rattle.ipc_script.specs.Script.{Run, emptied, rising, conn_text, reported, report, WritesPart}
 use Rattle.ipc_script.specs.Runs.{IsBehind, IsUntouched, taken_from, opened_of, ReportsConnection}
-use Rattle.ipc_script.proofs.ClientTables.{test, flipped, same_number, distinct_tail, value_here, value_elsewhere, keys_put, same_table, value_mapped}
-use Rattle.ipc_script.proofs.ClientTables.{keys_mapped, no_value}
+use Rattle.ipc_base.proofs.CallerLemmas.{test_cases as test, flipped, same_key as same_number, distinct_tail, at-with as value_here, value_elsewhere, keys_of-with_value, same_table, at-map as value_mapped}
+use Rattle.ipc_base.proofs.CallerLemmas.{keys-map as keys_mapped, no_value}
 use Rattle.ipc_script.proofs.RisingNumbers.{distinct_rising, any_rising}
 use Rattle.ipc_script.proofs.WrittenText.{part_after, part_more}
 
@@ -50,7 +50,7 @@ taken_like h n = at (client_at h n) refl
   where
     at : (o : Option Client) → client_at h n ≡ o → IsLike h (taken_from h n)
     at None e = rw e (record { state = refl; accepted = refl; keys = refl })
-    at (Some c) e = rw e (record { state = refl; accepted = refl; keys = keys_put h.clients n (emptied c) })
+    at (Some c) e = rw e (record { state = refl; accepted = refl; keys = keys_of-with_value nat_eq h.clients n (emptied c) })
 
 -- ---- some of the connections
 

@@ -6,7 +6,7 @@ use Rattle.std.proofs.lemmas.Bool.{cases_lt, ltb-false, eqb-true}
 use Rattle.std.proofs.lemmas.Bool.Decides.{nat_tests}
 use Rattle.std.proofs.lemmas.Map.Keys.{IsDistinct-head, IsDistinct-tail, IsDistinct-cons}
 use Rattle.ipc_script.specs.Script.{put, rising}
-use Rattle.ipc_script.proofs.ClientTables.{test, flipped, same_number}
+use Rattle.ipc_base.proofs.CallerLemmas.{test_cases as test, flipped, same_key as same_number}
 
 lt-ltb : (n m : ℕ) → n < m → nat_lt n m ≡ true
 lt-ltb n m h = grind (arith, nat_tests)

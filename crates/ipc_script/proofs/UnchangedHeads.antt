@@ -6,7 +6,7 @@ use Rattle.ipc_wire.specs.Request.{PlainCall, PlainRequest}
 use Rattle.ipc_wire.specs.Request.PlainCall.{Hello, Msgget, Msgsnd, Msgrcv}
 use Rattle.ipc_wire.specs.Stream.{Ending, stream_of}
 use Rattle.ipc_wire.specs.Stream.Ending.{Rest, Broken}
-use Rattle.ipc_engine.specs.Table.{value_at, with_value, keys_of}
+use Rattle.ipc_base.specs.Table.{value_at, with_value, keys_of}
 use Rattle.ipc_engine.specs.Event.{PlainEvent, PlainOutcome, Connect, Call, Tick, Exit}
 use Rattle.ipc_engine.specs.Step.{step}
 use Rattle.ipc_hub.specs.Clients.{Frame, Client, Clients, client_at, with_client, with_frame, deliver, deliver_all, accept, hello_answered, greet}
@@ -16,7 +16,7 @@ use Rattle.ipc_hub.specs.Stands.{Stands}
 use Rattle.ipc_script.specs.declared.report.Opened.{Opened}
 use Rattle.ipc_script.specs.Script.{Run, rising}
 use Rattle.ipc_script.specs.Runs.{IsIn, IsUntouched, opened_of}
-use Rattle.ipc_script.proofs.ClientTables.{put_same, value_mapped, keys_mapped}
+use Rattle.ipc_base.proofs.CallerLemmas.{own as put_same, at-map as value_mapped, keys-map as keys_mapped}
 
 -- the numbers, each with how much of the first frame is consumed
 abbrev pub heads : List (ℕ × Client) → List (ℕ × ℕ)

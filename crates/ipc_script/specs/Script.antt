@@ -9,7 +9,7 @@ use Rattle.std.specs.Io.KnownBytes.{Appends}
 use Rattle.hex.specs.Hex.{encode_lower}
 use Rattle.ipc_base.specs.declared.limits.Limits.{Limits}
 use Rattle.ipc_engine.specs.State.{State}
-use Rattle.ipc_engine.specs.Table.{keys_of}
+use Rattle.ipc_base.specs.Table.{keys_of}
 use Rattle.ipc_hub.specs.Clients.{Client, Clients, no_clients, client_at, ended_at, connect, feed, hangup, tick}
 use Rattle.ipc_script.specs.declared.fault.ScriptFault.{ScriptFault}
 use Rattle.ipc_script.specs.declared.fault.ScriptFault.TheVariants.{NoMemory, Input, Output, TooLong, BadLine}

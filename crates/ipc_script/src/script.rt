@@ -5,8 +5,6 @@ ghost use Rattle.std.specs.Prelude.{nat_lt, position, IfOk, IfErr, IfSome, OnOk,
 ghost use Rattle.std.specs.List.{prefix_len};
 ghost use Rattle.std.specs.Io.KnownBytes.{Appends};
 ghost use Rattle.ipc_base.specs.declared.limits.Limits.{Limits};
-ghost use Rattle.ipc_base.specs.Limits.{standard_limits};
-ghost use Rattle.ipc_engine.specs.Engine.{limits_of, state_of as machine_state};
 ghost use Rattle.ipc_hub.specs.Clients.{hangup};
 ghost use Rattle.ipc_script.specs.Line.{longest_script};
 ghost use Rattle.ipc_script.specs.Line.PlainLine.{Data};
@@ -34,9 +32,8 @@ pub fn run_script<R: Read, W: Write>(
     reader: &mut R,
     writer: &mut W,
 ) -> Result<(), ScriptFault>
-    ensures { (limits_of engine).msgmnb ≤ standard_limits.msgmnb →
-        (script : List ℕ) × IfSome (R.remaining reader.old) (λ input. script ≡ input)
-        × Runs (limits_of engine) (machine_state engine) script
+    ensures { (script : List ℕ) × IfSome (R.remaining reader.old) (λ input. script ≡ input)
+        × Runs engine.limits engine.state script
         (W.contents writer.old) (W.contents writer.new) result }
 {
     let script = read_script(alloc, reader)?;
@@ -51,8 +48,7 @@ fn run_lines<W: Write>(
     writer: &mut W,
 ) -> Result<(), ScriptFault>
     requires { length script.now ≤ longest_script }
-    ensures { (limits_of engine).msgmnb ≤ standard_limits.msgmnb →
-        LinesRun (limits_of engine) (machine_state engine) script.now
+    ensures { LinesRun engine.limits engine.state script.now
         (W.contents writer.old) (W.contents writer.new) result }
 {
     let mut hub = Hub::new(alloc, engine);

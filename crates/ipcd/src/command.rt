@@ -1,6 +1,7 @@
 //! The command line.
 
 ghost use Rattle.std.specs.Prelude.{◌≡◌};
+ghost use Rattle.ipc_base.specs.Limits.{ArePassed};
 ghost use Rattle.ipcd.specs.Command.{limits_asked, refusal_status};
 
 use clap::error::ErrorKind;
@@ -14,8 +15,8 @@ use std::rt::Env;
 /// What the command line asks for.
 #[derive(Clone, Copy, Debug)]
 pub enum Request {
-    /// Run the script on standard input.
-    Replay { limits: Limits },
+    /// Run the script on standard input, with small limits or standard ones.
+    Replay { small: bool },
 }
 
 /// Why the command line asks for nothing.
@@ -88,14 +89,13 @@ pub(crate) fn parse<S: AsStr>(alloc: Global, words: &[S]) -> Result<Request, Err
         Some(replay) => replay.get_flag("small"),
         None => false,
     };
-    Ok(Request::Replay {
-        limits: limits_of(small),
-    })
+    Ok(Request::Replay { small })
 }
 
 /// The limits of a server: small ones where they are asked for, else the standard ones.
-fn limits_of(small: bool) -> Limits
-    ensures { result ≡ limits_asked small }
+pub fn limits_of(small: bool) -> Limits
+    ensures limits { result ≡ limits_asked small }
+    ensures passed { ArePassed result }
 {
     if small {
         Limits::small()

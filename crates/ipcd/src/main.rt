@@ -4,9 +4,8 @@
 mod command;
 mod ending;
 
-use command::{Request, request_of};
+use command::{Request, limits_of, request_of};
 use ending::{Complaint, exit_of};
-use ipc_base::Limits;
 use ipc_engine::Engine;
 use ipc_script::{ScriptFault, run_script};
 use std::io;
@@ -17,7 +16,7 @@ mod tests;
 
 fn main(rt: HostRuntime) -> io::Result<ExitCode> {
     let status = match request_of(&rt) {
-        Ok(Request::Replay { limits }) => replay(&rt, limits),
+        Ok(Request::Replay { small }) => replay(&rt, small),
         Err(refusal) => {
             refusal.print(&rt)?;
             refusal.status()
@@ -27,8 +26,8 @@ fn main(rt: HostRuntime) -> io::Result<ExitCode> {
 }
 
 /// Runs the script on standard input, and answers the exit status.
-fn replay(rt: &(impl Input + Print + Eprint + AllocGlobal), limits: Limits) -> u8 {
-    let outcome = match Engine::new(rt.alloc(), limits) {
+fn replay(rt: &(impl Input + Print + Eprint + AllocGlobal), small: bool) -> u8 {
+    let outcome = match Engine::new(rt.alloc(), limits_of(small)) {
         Ok(engine) => run_script(rt.alloc(), engine, &mut rt.reader(), &mut io::writer(rt)),
         Err(_) => Err(ScriptFault::NoMemory),
     };

@@ -1,6 +1,6 @@
 //! The command line.
 
-use crate::command::{Refusal, Request, parse};
+use crate::command::{Refusal, Request, limits_of, parse};
 use ipc_base::Limits;
 
 #[test]
@@ -12,7 +12,9 @@ fn command_lines(rt: HostRuntime) {
     ];
     for (words, wanted) in taken {
         match parse(alloc, words) {
-            Ok(Request::Replay { limits }) => assert_eq!(rt; limits, wanted, "{words:?}"),
+            Ok(Request::Replay { small }) => {
+                assert_eq!(rt; limits_of(small), wanted, "{words:?}");
+            }
             Err(_) => assert!(rt; false, "{words:?} is refused"),
         }
     }

@@ -1,6 +1,6 @@
 use Rattle.std.proofs.Common.{map, sym, ap, ◌∙◌}
 use Rattle.std.specs.Prelude.{nat_eq, position}
-use Rattle.ipc_engine.proofs.Tables.{remove_at_place, without_nowhere}
+use Rattle.ipc_base.proofs.CallerLemmas.{remove_at_place, without_nowhere}
 use Rattle.ipc_script.specs.declared.report.Opened.{Opened}
 use Rattle.ipc_script.proofs.OpenConnections.{by_number, close_in}
 use Rattle.ipc_script.proofs.script.close.Goals as goal

@@ -5,7 +5,7 @@ use Rattle.ipc_hub.specs.Hub.{is_connected}
 use Rattle.ipc_script.specs.declared.report.Opened.{Opened}
 use Rattle.ipc_script.specs.Script.{opened}
 use Rattle.ipc_script.specs.Runs.{IsIn}
-use Rattle.ipc_script.proofs.ClientTables.{test}
+use Rattle.ipc_base.proofs.CallerLemmas.{test_cases as test}
 use Rattle.ipc_script.proofs.OpenConnections.{open_in}
 use Rattle.ipc_script.proofs.script.open.Goals as goal
 

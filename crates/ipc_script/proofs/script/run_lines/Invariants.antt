@@ -1,6 +1,4 @@
 use Rattle.std.proofs.Common.{◌+◌, ◌≤◌, length}
-use Rattle.ipc_base.specs.Limits.{standard_limits}
-use Rattle.ipc_engine.specs.Engine.{limits_of, state_of}
 use Rattle.ipc_script.proofs.ScriptLines.{PartlyRun}
 use Rattle.ipc_script.proofs.script.run_lines.Given as goal
 
@@ -8,9 +6,8 @@ use Rattle.ipc_script.proofs.script.run_lines.Given as goal
 abbrev pub invariant-lines : goal.invariant-lines
 invariant-lines g l =
     (l.number + length l.rest ≤ length l.initial.rest)
-    × ((limits_of l.fn.engine).msgmnb ≤ standard_limits.msgmnb
-    → PartlyRun (limits_of l.fn.engine) (state_of l.fn.engine) l.fn.script (l.number + 1) l.hub l.opened.items l.rest
-    (g.W.Write.contents l.fn.writer) (g.W.Write.contents l.writer))
+    × PartlyRun l.fn.engine.limits l.fn.engine.state l.fn.script (l.number + 1) l.hub l.opened.items l.rest
+    (g.W.Write.contents l.fn.writer) (g.W.Write.contents l.writer)
 
 -- the text behind the lines so far
 abbrev pub decreases-lines : goal.decreases-lines

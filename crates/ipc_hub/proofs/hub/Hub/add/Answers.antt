@@ -1,7 +1,8 @@
 use Rattle.std.proofs.Common.{◌≡◌, ◌+◌, ◌++◌, ◌∷◌, [], refl, ap, ◌∙◌, arith, rules}
 use Rattle.ipc_base.specs.declared.limits.Limits.{Limits}
 use Rattle.ipc_hub.specs.Serving.{pid_of}
-use Rattle.ipc_hub.proofs.Calls.{connect-stands, nobody}
+use Rattle.ipc_hub.proofs.Calls.{connect-stands}
+use Rattle.ipc_base.proofs.CallerLemmas.{nobody}
 use Rattle.ipc_hub.proofs.hub.Hub.add.Goals as goal
 
 pub returns-clause-ok : goal.returns-clause-ok
