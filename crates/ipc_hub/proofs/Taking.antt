@@ -245,6 +245,16 @@ takes-none engine c moment limits confirmed h conn serves =
     some_same : (x y : Client) → Some x ≡ Some y → x ≡ y
     some_same x y is = cc
 
+-- an ended connection drops what comes
+pub takes-dropped : (engine : Machine) (c : Connection) (moment : ℕ) (bytes : List ℕ) → c.ended ≡ true → TakesIn engine c engine c bytes moment
+takes-dropped engine c moment bytes over limits confirmed h conn serves =
+    let has = client-of limits confirmed c (client_at h conn) serves.client in (
+      [],
+      subst (λ (t : Clients). Serves limits confirmed engine c t conn)
+          (sym (ended-stays h conn (λ x. settled limits (emptied limits h conn x) conn moment (stream_of (x.input ++ bytes)) []) has.0 has.1.0
+          (sym has.1.1.ended ∙ over))) serves,
+    )
+
 pub takes-then : (one two three : Machine) (c d f : Connection) (bytes more : List ℕ) (moment : ℕ) → TakesIn one c two d bytes moment → TakesIn two d three f more moment
     → TakesIn one c three f (bytes ++ more) moment
 takes-then one two three c d f bytes more moment first_part second_part limits confirmed h conn serves =

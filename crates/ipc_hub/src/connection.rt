@@ -62,7 +62,11 @@ impl Connection {
         ensures within { result ≤ length piece.now }
         ensures whole { IsEmpty self.new.outbox → result ≡ length piece.now }
         ensures starts { IsEmpty self.old.outbox → 0 < length piece.now → 0 < result }
+        ensures dropped { self.old.ended ≡ true → result ≡ length piece.now }
     {
+        if self.ended {
+            return piece.len();
+        }
         for (taken, byte) in piece.iter().enumerate() {
             if !self.ended && !self.outbox.has_room() {
                 return taken;

@@ -80,8 +80,9 @@ impl Hub {
         Ok(())
     }
 
-    /// Gives a connection the next bytes of its stream, at a moment. Answers how many it took: all of them
-    /// where no frame of the connection waits when it returns.
+    /// Gives a connection the next bytes of its stream, at a moment. Answers how many it took: all of them if
+    /// no frame of the connection waits when it returns, or if the server has ended it. Requests are taken
+    /// while the longest reply has room behind the frames that wait.
     pub fn feed(
         &mut self,
         conn: u32,
@@ -92,6 +93,7 @@ impl Hub {
         ensures within { IfOk result (λ taken. taken ≤ length piece.now) }
         ensures whole { IfOk result (λ taken. HasNoFrame self.new conn → taken ≡ length piece.now) }
         ensures starts { HasNoFrame self.old conn → 0 < length piece.now → IfOk result (λ taken. 0 < taken) }
+        ensures dropped { ended_of self.old conn ≡ true → IfOk result (λ taken. taken ≡ length piece.now) }
         ensures unknown { IsErr result ↔ (is_connected self.old conn ≡ false) }
         ensures err { OnErr result (parts self.new ≡ parts self.old) }
     {

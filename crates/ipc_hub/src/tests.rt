@@ -3,6 +3,7 @@
 use super::*;
 use ipc_base::{Limits, Moment};
 use ipc_engine::Engine;
+use std::alloc::Global;
 use std::test::Fail;
 
 /// HELLO of uid 1000 and gid 100, and its answer for pid 1.
@@ -50,19 +51,52 @@ fn a_client_comes_and_goes(rt: HostRuntime) -> Result<(), Fail> {
     Ok(())
 }
 
-#[test]
-fn nothing_is_taken_while_a_frame_waits(rt: HostRuntime) -> Result<(), Fail> {
-    let mut hub = Hub::new(rt.alloc(), Engine::new(rt.alloc(), Limits::small())?);
+/// msgget of key 1234 with IPC_CREAT, and its answer.
+const GET: [u8; 17] = [0, 0, 0, 13, 0, 0, 0, 2, 10, 0, 0, 4, 210, 0, 0, 3, 128];
+
+const GOT: [u8; 14] = [0, 0, 0, 10, 0, 0, 0, 2, 0, 0, 0, 0, 0, 1];
+
+/// A hub with connection 1 past its HELLO, and `count` times GET in one piece.
+fn many_gets(alloc: Global, count: u32) -> Result<(Hub, Vec<u8>), Fail> {
+    let mut hub = Hub::new(alloc, Engine::new(alloc, Limits::small())?);
     hub.connect(1)?;
-    hub.connect(2)?;
-    assert_eq!(rt; hub.feed(1, &HELLO, Moment(0)), Ok(17));
-    assert_eq!(rt; hub.feed(1, &[0, 0], Moment(0)), Ok(0));
+    hub.feed(1, &HELLO, Moment(0))?;
     hub.release();
-    assert_eq!(rt; hub.output(1), WELCOME.as_slice());
-    assert_eq!(rt; hub.output(2).len(), 0);
     if hub.output(1).len() == 14 {
         hub.consume(1, 14);
     }
-    assert_eq!(rt; hub.feed(1, &[0, 0], Moment(0)), Ok(2));
+    let mut piece = Vec::new(alloc);
+    for _ in 0..count {
+        piece.extend_from_slice(&GET)?;
+    }
+    Ok((hub, piece))
+}
+
+/// Whether the output is as many answers as requests were taken.
+fn is_answered(output: &[u8], taken: usize) -> bool {
+    output.len() == taken / 17 * 14 && output.chunks(14).all(|frame| frame == GOT.as_slice())
+}
+
+#[test]
+fn a_hundred_requests_are_served_in_one_feed(rt: HostRuntime) -> Result<(), Fail> {
+    let (mut hub, piece) = many_gets(rt.alloc(), 100)?;
+    assert_eq!(rt; hub.feed(1, &piece, Moment(0)), Ok(1700));
+    assert_eq!(rt; hub.output(1).len(), 0);
+    hub.release();
+    assert!(rt; is_answered(hub.output(1), 1700));
+    Ok(())
+}
+
+#[test]
+fn requests_wait_while_their_answers_have_no_room(rt: HostRuntime) -> Result<(), Fail> {
+    let (mut hub, piece) = many_gets(rt.alloc(), 1000)?;
+    let taken = hub.feed(1, &piece, Moment(0))?;
+    assert!(rt; 1700 < taken && taken < 17000);
+    assert_eq!(rt; hub.feed(1, &piece, Moment(0)), Ok(0));
+    hub.release();
+    assert!(rt; is_answered(hub.output(1), taken));
+    let shown = hub.output(1).len();
+    hub.consume(1, shown);
+    assert_eq!(rt; hub.feed(1, &GET, Moment(0)), Ok(17));
     Ok(())
 }

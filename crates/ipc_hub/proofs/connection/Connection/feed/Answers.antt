@@ -1,12 +1,20 @@
 use Rattle.std.proofs.Common.{◌≡◌, ◌+◌, suc, ◌++◌, ◌∷◌, [], ℕ, List, true, false, take, length, get_or, refl, sym, ap, subst, ◌∙◌, inl, inr, arith}
 use Rattle.std.proofs.Math.Seq.{take-suc}
 use Rattle.std.proofs.lemmas.Bool.{cases_lt}
+use Rattle.std.proofs.lemmas.List.{take_all}
 use Rattle.ipc_hub.specs.declared.outbox.Outbox.{Outbox}
 use Rattle.ipc_hub.specs.Outbox.{IsEmpty, HasRoom}
 use Rattle.ipc_hub.specs.Serves.{TakesIn}
-use Rattle.ipc_hub.proofs.Taking.{takes-none, takes-then}
+use Rattle.ipc_hub.proofs.Taking.{takes-none, takes-then, takes-dropped}
 use Rattle.ipc_hub.proofs.connection.Connection.feed.Goals.{else-not-self-via-then-not-self+else-not-has_room, else-not-self-via-else-not-self}
 use Rattle.ipc_hub.proofs.connection.Connection.feed.Goals as goal
+
+pub returns-then-self-clause-bytes : goal.returns-then-self-clause-bytes
+returns-then-self-clause-bytes c =
+    let all = take_all (length c.args.piece.now) c.args.piece.now (omega arith) in
+    let dropped = takes-dropped c.args.engine.now c.args.self.now c.args.moment.0 c.args.piece.now c.if-self.true in
+    let P : List ℕ → Type 0 = λ bytes. TakesIn c.args.engine.now c.args.self.now c.args.engine.now c.args.self.now bytes c.args.moment.0 in
+    subst P (sym all) dropped
 
 pub loop-taken-init : goal.loop-taken-init
 loop-taken-init c = (refl, takes-none c.args.engine.now c.args.self.now c.args.moment.0, λ _. refl)

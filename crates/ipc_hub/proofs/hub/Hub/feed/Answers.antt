@@ -4,7 +4,7 @@ use Rattle.ipc_base.proofs.CallerLemmas.{is_some_value, value_at_place, set_at_p
 use Rattle.ipc_base.specs.Table.{value_at}
 use Rattle.ipc_hub.specs.declared.connection.Connection.{Connection}
 use Rattle.ipc_hub.specs.Outbox.{IsEmpty}
-use Rattle.ipc_hub.specs.Hub.{row}
+use Rattle.ipc_hub.specs.Hub.{ended_by, row}
 use Rattle.ipc_base.proofs.CallerLemmas.{at-with}
 use Rattle.ipc_hub.proofs.Calls.{feed-stands}
 use Rattle.ipc_hub.proofs.hub.Hub.feed.Goals as goal
@@ -45,3 +45,11 @@ returns-clause-starts c none some =
     let place = sym c.place_of.ensures ∙ c.in-Some.is in
     let found = value_at_place row nat_eq c.args.conn items c.in-Some.place was place c.index_mut-connection.ensures.value in
     c.feed.ensures.starts (subst (λ (o : Option Connection). IfSome o (λ d. IsEmpty d.outbox)) found none) some
+
+pub returns-clause-dropped : goal.returns-clause-dropped
+returns-clause-dropped c over =
+    let items = c.args.self.now.connections.items in
+    let was = c.index_mut-connection.result.now in
+    let place = sym c.place_of.ensures ∙ c.in-Some.is in
+    let found = value_at_place row nat_eq c.args.conn items c.in-Some.place was place c.index_mut-connection.ensures.value in
+    c.feed.ensures.dropped (sym (ap ended_by found) ∙ over)
