@@ -2,8 +2,8 @@
 use Rattle.std.proofs.Common.{◌≡◌, ℕ, ◌+◌, Bool, true, false, cond, ◌&&◌, List, [], ◌∷◌, ◌++◌, drop, map, Option, Some, None, IfSome, refl, sym, ap, ◌∙◌}
 use Rattle.std.specs.Prelude.{nat_eq, option_map, is_some, if◌then◌else◌}
 use Rattle.ipc_base.specs.declared.limits.Limits.{Limits}
-use Rattle.ipc_wire.specs.Request.{PlainCall, PlainRequest}
-use Rattle.ipc_wire.specs.Request.PlainCall.{Hello, Msgget, Msgsnd, Msgrcv}
+use Rattle.ipc_wire.specs.Request.{PlainKind, PlainRequest, Hello, Calls}
+use Rattle.ipc_engine.specs.Engine.{takes_memory}
 use Rattle.ipc_wire.specs.Stream.{Ending, stream_of}
 use Rattle.ipc_wire.specs.Stream.Ending.{Rest, Broken}
 use Rattle.ipc_base.specs.Table.{value_at, with_value, keys_of}
@@ -87,25 +87,23 @@ module _ (limits : Limits) (conn moment : ℕ) where
     abbrev client : Option ℕ → Client
     client process = record { process = process; input = input; frames = frames; consumed = consumed; ended = ended }
 
-    accepted_or_refused : (pid : ℕ) (call : PlainCall) (b : Bool) → client_at h conn ≡ Some (client (Some pid))
+    accepted_or_refused : (pid : ℕ) (kind : PlainKind) (b : Bool) → client_at h conn ≡ Some (client (Some pid))
         → heads (if b then refuse h conn (client (Some pid)) serial else accept limits h
-        (Call pid (record { serial = serial; call = call }) moment)).clients ≡ heads h.clients
-    accepted_or_refused pid call b at =
-        heads_choice h (refuse h conn (client (Some pid)) serial) (accept limits h (Call pid (record { serial = serial; call = call }) moment)) b
-        (heads_refuse h (client (Some pid)) at serial) (heads_accept limits h (Call pid (record { serial = serial; call = call }) moment))
+        (Call pid (record { serial = serial; kind = kind }) moment)).clients ≡ heads h.clients
+    accepted_or_refused pid kind b at =
+        heads_choice h (refuse h conn (client (Some pid)) serial) (accept limits h (Call pid (record { serial = serial; kind = kind }) moment)) b
+        (heads_refuse h (client (Some pid)) at serial) (heads_accept limits h (Call pid (record { serial = serial; kind = kind }) moment))
 
-    heads_request : (process : Option ℕ) (call : PlainCall) → client_at h conn ≡ Some (client process)
-        → heads (on_request limits h conn (client process) moment (record { serial = serial; call = call }) refused).clients ≡ heads h.clients
+    heads_request : (process : Option ℕ) (kind : PlainKind) → client_at h conn ≡ Some (client process)
+        → heads (on_request limits h conn (client process) moment (record { serial = serial; kind = kind }) refused).clients ≡ heads h.clients
     heads_request None (Hello cred) at =
         heads_choice h (refuse h conn (client None) serial) (greet limits h conn (client None) (Connect cred serial moment)) refused
         (heads_refuse h (client None) at serial) (heads_greet h (client None) at (Connect cred serial moment))
-    heads_request None (Msgget key flags) at = heads_break_off h (client None) at serial
-    heads_request None (Msgsnd id flags mtype text) at = heads_break_off h (client None) at serial
-    heads_request None (Msgrcv id flags size mtype) at = heads_break_off h (client None) at serial
+    heads_request None (Calls call) at = heads_break_off h (client None) at serial
     heads_request (Some pid) (Hello cred) at = heads_break_off h (client (Some pid)) at serial
-    heads_request (Some pid) (Msgget key flags) at = accepted_or_refused pid (Msgget key flags) (refused && true) at
-    heads_request (Some pid) (Msgsnd id flags mtype text) at = accepted_or_refused pid (Msgsnd id flags mtype text) (refused && true) at
-    heads_request (Some pid) (Msgrcv id flags size mtype) at = accepted_or_refused pid (Msgrcv id flags size mtype) (refused && false) at
+    heads_request (Some pid) (Calls call) at =
+        let request : PlainRequest = record { serial = serial; kind = Calls call } in
+        accepted_or_refused pid (Calls call) (refused && takes_memory (Call pid request moment)) at
 
   module _ (act : Client → Clients) (h : Clients) (each : (c : Client) → client_at h conn ≡ Some c → heads (act c).clients ≡ heads h.clients) where
     tried : (o : Option Client) → client_at h conn ≡ o → heads (unless_ended h conn act).clients ≡ heads h.clients
@@ -120,7 +118,7 @@ module _ (limits : Limits) (conn moment : ℕ) where
   heads_requests h (r ∷ rs) refused =
       let act : Client → Clients = λ c. on_request limits h conn c moment r (first_of refused) in
       heads_requests (unless_ended h conn act) rs (drop 1 refused)
-      ∙ heads_unless act h (λ c at. heads_request h c.input c.frames c.consumed c.ended r.serial (first_of refused) c.process r.call at)
+      ∙ heads_unless act h (λ c at. heads_request h c.input c.frames c.consumed c.ended r.serial (first_of refused) c.process r.kind at)
 
   heads_ending : (h : Clients) (ending : Ending) → heads (on_ending limits h conn moment ending).clients ≡ heads h.clients
   heads_ending h (Rest bytes) = heads_unless _ h (λ c at. put_like h.clients h.clients conn c _ refl at refl)
