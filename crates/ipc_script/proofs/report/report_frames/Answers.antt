@@ -2,8 +2,12 @@ use Rattle.std.proofs.Common.{◌≡◌, ◌<◌, length, arith, ◌∙◌}
 use Rattle.std.proofs.lemmas.Bool.Decides.{nat_tests}
 use Rattle.std.proofs.lemmas.Result.{err_from_is_err_and}
 use Rattle.ipc_script.proofs.FaultCases.{world_failed}
-use Rattle.ipc_script.proofs.FrameLines.{partly_none, partly_part, partly_more, partly_done}
+use Rattle.ipc_script.proofs.FrameLines.{partly_begun, partly_none, partly_part, partly_more, partly_done}
 use Rattle.ipc_script.proofs.report.report_frames.Goals as goal
+
+pub frames-init : goal.frames-init
+frames-init g c limits h stands untouched =
+    partly_begun limits h c.args.conn c.args.hub.now (g.W.Write.contents c.args.writer.now) stands untouched
 
 pub returns-in_err-line-clause-err : goal.returns-in_err-line-clause-err
 returns-in_err-line-clause-err g c =
