@@ -10,7 +10,7 @@ use Rattle.ipc_wire.specs.Stream.Ending.{Rest}
 use Rattle.ipc_wire.proofs.CallerLemmas.{first_short, whole_last}
 use Rattle.ipc_engine.specs.Engine.{Machine}
 
-use Rattle.ipc_engine.specs.State.{State, is_process}
+use Rattle.ipc_state.specs.State.{State, is_process}
 use Rattle.ipc_engine.specs.View.{reply_of}
 use Rattle.ipc_base.specs.declared.identity.Pid.{Pid}
 use Rattle.ipc_hub.specs.declared.outbox.Outbox.{Outbox}
