@@ -1,5 +1,6 @@
 -- What the crates above cite of tables, of numbers that rise, and of limits that were checked.
-use Rattle.std.proofs.Common.{◌≡◌, ◌≢◌, ℕ, zero, suc, ◌+◌, ◌<◌, ◌≤◌, Bool, true, false, not, ◌&&◌, leb, eqb, cond, ◌⊎◌, inl, inr, List, [], ◌∷◌, ◌++◌, length, map, find, get_or, set, is_some, Option, Some, None, refl, sym, ap, subst, ◌∙◌, arith}
+use Rattle.std.proofs.Common.{◌≡◌, ◌≢◌, ℕ, zero, suc, ◌+◌, ◌<◌, ◌≤◌, Bool, true, false, not, ◌&&◌, leb, eqb, cond, ◌⊎◌, inl, inr, List, [], ◌∷◌, ◌++◌, length}
+use Rattle.std.proofs.Common.{map, find, get_or, set, is_some, Option, Some, None, refl, sym, ap, subst, ◌∙◌, arith}
 use Rattle.std.specs.Prelude.{nat_eq, if◌then◌else◌, All, ◌||◌, option_map}
 use Rattle.std.specs.List.{list_any, remove, position, position_or_len, IsDistinct, AllByRecursion}
 use Rattle.std.specs.Cmp.{IsEquivalence}
@@ -155,7 +156,8 @@ module _ {A K X : Type 0} (row : A → K × X) (same : K → K → Bool) (k : K)
   is_some_found : (xs : List A) (r : Option ℕ) → position is_at xs ≡ r → is_some (value_at same (map row xs) k) ≡ is_some r
   is_some_found xs None e = ap is_some (value_nowhere xs e)
   is_some_found [] (Some i) e = cc
-  is_some_found (x ∷ xs) (Some i) e = ap is_some (value_at_place (x ∷ xs) i (get_or (x ∷ xs) i x) e (get_or_self (x ∷ xs) i x (position-Some is_at (x ∷ xs) i x e).0))
+  is_some_found (x ∷ xs) (Some i) e = ap is_some (value_at_place (x ∷ xs) i (get_or (x ∷ xs) i x) e
+      (get_or_self (x ∷ xs) i x (position-Some is_at (x ∷ xs) i x e).0))
 
   -- whether there is a value is whether a search finds a place
   pub is_some_value : (xs : List A) → is_some (value_at same (map row xs) k) ≡ is_some (position is_at xs)
@@ -280,7 +282,8 @@ module _ {K X : Type 0} (same : K → K → Bool) where
   is_some-with_value (e ∷ es) k j x =
       choice (λ (t : List (K × X)). is_some (value_at same t j) ≡ is_some (value_at same (e ∷ es) j)) (same e.0 k) ((e.0, x) ∷ es) (e ∷ with_value same es k x)
       (λ _. either (same e.0 j) x e.1 (value_at same es j))
-      (λ _. elim (same e.0 j) as (λ b. is_some (if b then Some e.1 else value_at same (with_value same es k x) j) ≡ is_some (if b then Some e.1 else value_at same es j))
+      (λ _. elim (same e.0 j) as (λ b. is_some (if b then Some e.1 else value_at same (with_value same es k x) j) ≡ is_some
+      (if b then Some e.1 else value_at same es j))
       [ true ↦ refl | false ↦ is_some-with_value es k j x ])
 
   some_kept : (b : Bool) (v : X) (r more : Option X) → is_some (if b then Some v else r) ≡ true → (is_some r ≡ true → is_some more ≡ true)
@@ -386,7 +389,8 @@ module _ {X : Type 0} where
           rw t (gone_by (keys_of es) es k refl (rw here at (IsDistinct-head nat_eq e.0 (keys_of es) distinct)))
       gone_if false t rest = rw t (rw t rest)
 
-  apart-without : (n : ℕ) (es : List (ℕ × X)) (k : ℕ) → AllByRecursion (λ y. nat_eq n y ≡ false) (keys_of es) → AllByRecursion (λ y. nat_eq n y ≡ false) (keys_of (without nat_eq es k))
+  apart-without : (n : ℕ) (es : List (ℕ × X)) (k : ℕ) → AllByRecursion (λ y. nat_eq n y ≡ false) (keys_of es)
+      → AllByRecursion (λ y. nat_eq n y ≡ false) (keys_of (without nat_eq es k))
   apart-without n [] k apart = apart
   apart-without n (e ∷ es) k apart = by_test (nat_eq e.0 k) refl (apart-without n es k apart.1)
     where

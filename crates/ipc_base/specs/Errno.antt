@@ -1,7 +1,10 @@
 -- The error numbers of errno(3): each name has the number that Linux gives it.
 use Rattle.std.specs.Prelude.{ℕ}
 use Rattle.ipc_base.specs.declared.errno.Errno.{Errno}
-use Rattle.ipc_base.specs.declared.errno.Errno.TheVariants.{EPERM, ENOENT, EINTR, EIO, E2BIG, EBADF, EAGAIN, ENOMEM, EACCES, EBUSY, EEXIST, EINVAL, ENFILE, EMFILE, EFBIG, ENOSPC, ERANGE, ENAMETOOLONG, ENOMSG, EIDRM, EPROTO, EOVERFLOW, EMSGSIZE, ETIMEDOUT, EALREADY}
+use Rattle.ipc_base.specs.declared.errno.Errno.TheVariants.{EPERM, ENOENT, EINTR, EIO, E2BIG, EBADF, EAGAIN, ENOMEM}
+use Rattle.ipc_base.specs.declared.errno.Errno.TheVariants.{EACCES, EBUSY, EEXIST, EINVAL, ENFILE, EMFILE, EFBIG}
+use Rattle.ipc_base.specs.declared.errno.Errno.TheVariants.{ENOSPC, ERANGE, ENAMETOOLONG, ENOMSG, EIDRM, EPROTO}
+use Rattle.ipc_base.specs.declared.errno.Errno.TheVariants.{EOVERFLOW, EMSGSIZE, ETIMEDOUT, EALREADY}
 
 abbrev pub number_of : Errno → ℕ
 number_of EPERM = 1

@@ -8,14 +8,16 @@ use Rattle.std.specs.Int.{Width, from_be_bytes, to_be_bytes, cast_signed, cast_u
 -- than n were there, none is given and all are left.
 abbrev pub Reads : {X : Type 0} → ℕ → (List ℕ → X) → List ℕ → List ℕ → Option X → Type 0
 Reads n value old new result =
-    MatchOption result ((length old < n) × (new ≡ old)) (λ x. (n ≤ length old) × (x ≡ value (take n old)) × (new ≡ drop n old))
+    MatchOption result ((length old < n) × (new ≡ old))
+    (λ x. (n ≤ length old) × (x ≡ value (take n old)) × (new ≡ drop n old))
 
 -- A field was put at a place of a buffer: behind what stood before the place, with what stands behind the
 -- field kept. Where it would pass the end, nothing has changed.
 abbrev pub Puts : List ℕ → ℕ → ℕ → List ℕ → List ℕ → Bool → Type 0
 Puts field at next old new written =
     MatchBool written
-    ((at + length field ≤ length old) × (next ≡ at + length field) × (new ≡ take at old ++ field ++ drop (at + length field) old))
+    ((at + length field ≤ length old) × (next ≡ at + length field)
+    × (new ≡ take at old ++ field ++ drop (at + length field) old))
     ((length old < at + length field) × (next ≡ at) × (new ≡ old))
 
 -- the signed number that the bytes spell

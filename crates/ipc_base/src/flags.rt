@@ -125,7 +125,8 @@ impl Flags for OpenFlags {
 
     ghost exact = { ⊤ };
 
-    ghost table = { (codes "O_WRONLY", 1) ∷ (codes "O_RDWR", 2) ∷ (codes "O_CREAT", 64) ∷ (codes "O_EXCL", 128) ∷ (codes "O_TRUNC", 512) ∷ (codes "O_NONBLOCK", 2048) ∷ [] };
+    ghost table = { (codes "O_WRONLY", 1) ∷ (codes "O_RDWR", 2) ∷ (codes "O_CREAT", 64) ∷ (codes "O_EXCL", 128)
+        ∷ (codes "O_TRUNC", 512) ∷ (codes "O_NONBLOCK", 2048) ∷ [] };
 
     ghost set_of = { λ f. f.0 };
 

@@ -1,5 +1,6 @@
 -- Each call of the hub takes what the code's hub stands for to the call of the definitions.
-use Rattle.std.proofs.Common.{◌≡◌, ◌≢◌, ℕ, suc, ◌+◌, ◌<◌, ◌≤◌, Bool, true, false, List, [], ◌∷◌, ◌++◌, length, map, drop, get_or, is_some, Option, Some, None, refl, sym, ap, ◌∙◌, subst, arith, inl, inr}
+use Rattle.std.proofs.Common.{◌≡◌, ◌≢◌, ℕ, suc, ◌+◌, ◌<◌, ◌≤◌, Bool, true, false, List, [], ◌∷◌, ◌++◌, length, map, drop, get_or, is_some, Option, Some, None}
+use Rattle.std.proofs.Common.{refl, sym, ap, ◌∙◌, subst, arith, inl, inr}
 use Rattle.std.specs.Prelude.{nat_eq, vec_len, IfSome}
 use Rattle.std.specs.List.{IsDistinct}
 use Rattle.std.specs.Cmp.{nat_eq_equiv}
@@ -21,7 +22,8 @@ use Rattle.ipc_engine.proofs.CallerLemmas.{step-sound}
 use Rattle.ipc_base.proofs.CallerLemmas.{nobody, keys_of-with_value, no_key, value_at-without}
 use Rattle.ipc_hub.specs.declared.connection.Connection.{Connection}
 use Rattle.ipc_hub.specs.declared.hub.Hub.{Hub}
-use Rattle.ipc_hub.specs.Clients.{Frame, Client, Clients, start_client, no_clients, client_at, process_at, with_client, leave, all_bytes, confirmed_bytes, shown_at, ended_at, connect, tick, feed, take_in, hangup, consume, consumed_from}
+use Rattle.ipc_hub.specs.Clients.{Frame, Client, Clients, start_client, no_clients, client_at, process_at, with_client, leave, all_bytes, confirmed_bytes}
+use Rattle.ipc_hub.specs.Clients.{shown_at, ended_at, connect, tick, feed, take_in, hangup, consume, consumed_from}
 use Rattle.ipc_hub.specs.Orderly.{IsFrame, IsTidy, IsOrderly}
 use Rattle.ipc_hub.specs.Outbox.{waiting, visible}
 use Rattle.ipc_hub.specs.Serving.{pid_of}

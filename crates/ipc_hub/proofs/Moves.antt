@@ -1,5 +1,6 @@
 -- What one connection does leaves the hub of the definitions in order and every other connection as it is.
-use Rattle.std.proofs.Common.{◌≡◌, ◌≢◌, ℕ, is_some, ◌+◌, ◌≤◌, Bool, true, false, ◌&&◌, List, [], ◌∷◌, ◌++◌, length, Option, Some, None, refl, sym, ap, ◌∙◌, subst, arith, inl, inr}
+use Rattle.std.proofs.Common.{◌≡◌, ◌≢◌, ℕ, is_some, ◌+◌, ◌≤◌, Bool, true, false, ◌&&◌, List, [], ◌∷◌, ◌++◌, length, Option, Some, None, refl, sym, ap, ◌∙◌}
+use Rattle.std.proofs.Common.{subst, arith, inl, inr}
 use Rattle.std.specs.Prelude.{nat_eq, nat_le, nat_lt, ◌||◌, drop, if◌then◌else◌, option_map, option_and_then, IfSome}
 use Rattle.std.specs.Int.{w64}
 use Rattle.std.proofs.lemmas.Bool.{cases_eq}
@@ -37,7 +38,9 @@ use Rattle.ipc_base.proofs.CallerLemmas.{keys_of-with_value, rising-found, is_so
 use Rattle.std.specs.Cmp.{nat_eq_equiv}
 use Rattle.ipc_engine.specs.Engine.{takes_memory}
 use Rattle.ipc_base.proofs.CallerLemmas.{longest_reply-bound}
-use Rattle.ipc_hub.specs.Clients.{Frame, Client, Clients, client_at, process_at, all_bytes, with_client, with_frame, delivered, deliver, accept, refusal, process_of, hello_answered, greet, leave, break_off, refuse, tick, answered, on_request, unless_ended, on_requests, on_ending, first_of}
+use Rattle.ipc_hub.specs.Clients.{Frame, Client, Clients, client_at, process_at, all_bytes, with_client, with_frame, delivered, deliver, accept, refusal}
+use Rattle.ipc_hub.specs.Clients.{process_of, hello_answered, greet, leave, break_off, refuse, tick, answered, on_request, unless_ended, on_requests, on_ending}
+use Rattle.ipc_hub.specs.Clients.{first_of}
 use Rattle.ipc_hub.specs.Orderly.{IsFrame, IsTidy, IsOrderly}
 use Rattle.ipc_base.proofs.CallerLemmas.{same_key, at-with, other-with, at-map, keys-map}
 

@@ -1,5 +1,6 @@
 -- Bytes taken in at once, and in pieces.
-use Rattle.std.proofs.Common.{◌≡◌, ℕ, zero, suc, ◌+◌, ◌≤◌, Bool, true, false, ◌&&◌, List, [], ◌∷◌, ◌++◌, length, drop, Option, Some, None, refl, sym, ap, ◌∙◌, subst, arith, append_assoc, append-nil}
+use Rattle.std.proofs.Common.{◌≡◌, ℕ, zero, suc, ◌+◌, ◌≤◌, Bool, true, false, ◌&&◌, List, [], ◌∷◌, ◌++◌, length, drop, Option, Some, None, refl, sym, ap, ◌∙◌}
+use Rattle.std.proofs.Common.{subst, arith, append_assoc, append-nil}
 use Rattle.std.specs.Prelude.{nat_eq, if◌then◌else◌, option_map}
 use Rattle.std.proofs.lemmas.List.{length-drop}
 use Rattle.ipc_base.specs.declared.limits.Limits.{Limits}
@@ -14,7 +15,8 @@ use Rattle.ipc_base.specs.Table.{value_at, with_value}
 use Rattle.ipc_engine.specs.Event.{Connect, Call, PlainOutcome}
 use Rattle.ipc_engine.specs.Step.{step}
 use Rattle.ipc_engine.specs.Engine.{takes_memory}
-use Rattle.ipc_hub.specs.Clients.{Client, Clients, client_at, with_client, with_frame, delivered, deliver, deliver_all, accept, hello_answered, leave, break_off, refuse, answered, on_request, unless_ended, on_requests, on_ending, first_of, take_in, is_for, fitted, arriving}
+use Rattle.ipc_hub.specs.Clients.{Client, Clients, client_at, with_client, with_frame, delivered, deliver, deliver_all, accept, hello_answered, leave}
+use Rattle.ipc_hub.specs.Clients.{break_off, refuse, answered, on_request, unless_ended, on_requests, on_ending, first_of, take_in, is_for, fitted, arriving}
 use Rattle.ipc_hub.specs.Orderly.{IsOrderly}
 use Rattle.ipc_base.proofs.CallerLemmas.{choice}
 use Rattle.ipc_base.proofs.CallerLemmas.{at-with, twice, own, at-map}

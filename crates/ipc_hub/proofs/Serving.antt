@@ -1,5 +1,6 @@
 -- A request served is the hub's answer to it: the engine's step, and its reply in the outbox.
-use Rattle.std.proofs.Common.{◌≡◌, ℕ, ◌+◌, ◌<◌, ◌≤◌, Bool, true, false, List, [], ◌∷◌, ◌++◌, length, drop, Option, Some, None, Result, Ok, Err, refl, sym, ap, ◌∙◌, subst, arith, append-nil}
+use Rattle.std.proofs.Common.{◌≡◌, ℕ, ◌+◌, ◌<◌, ◌≤◌, Bool, true, false, List, [], ◌∷◌, ◌++◌, length, drop, Option, Some, None, Result, Ok, Err, refl, sym, ap}
+use Rattle.std.proofs.Common.{◌∙◌, subst, arith, append-nil}
 use Rattle.std.specs.Prelude.{nat_le, nat_lt, ◌||◌, if◌then◌else◌, option_and_then, is_ok, IsOk, OnOk, OnErr, vec_len}
 use Rattle.std.specs.Int.{w16, w32, to_be_bytes}
 use Rattle.std.proofs.lemmas.List.{length-append, drop-append-le}
@@ -26,7 +27,8 @@ use Rattle.ipc_state.specs.Sound.{FitsBody}
 use Rattle.ipc_engine.proofs.CallerLemmas.{step-fits}
 use Rattle.ipc_base.proofs.CallerLemmas.{choice}
 use Rattle.ipc_hub.specs.declared.outbox.Outbox.{Outbox}
-use Rattle.ipc_hub.specs.Clients.{Frame, Client, Clients, all_bytes, confirmed_bytes, with_frame, accept, greet, refuse, break_off, refusal, hello_answered, process_of, answered, on_request}
+use Rattle.ipc_hub.specs.Clients.{Frame, Client, Clients, all_bytes, confirmed_bytes, with_frame, accept, greet, refuse, break_off, refusal, hello_answered}
+use Rattle.ipc_hub.specs.Clients.{process_of, answered, on_request}
 use Rattle.ipc_hub.specs.Orderly.{IsTidy}
 use Rattle.ipc_hub.specs.Outbox.{HasRoom, GainsFrame, HasFrames}
 use Rattle.ipc_hub.specs.Serving.{pid_of, said_by, Meets, IsServed, IsMisplaced}

@@ -22,7 +22,8 @@ use Rattle.ipc_hub.specs.Serving.{pid_of, Meets, IsServed}
 use Rattle.ipc_hub.specs.Serves.{IsClient, AreClient, Serves, TakesIn, BreaksOff, left, IsConnected}
 use Rattle.ipc_base.proofs.CallerLemmas.{at-with, own}
 use Rattle.ipc_hub.proofs.Moves.{Moves, broken, break_off-moves, keep-moves, process_in}
-use Rattle.ipc_hub.proofs.Pieces.{begun, acts, ended-stays, request-keeps_by, settled, emptied, take_in-acts, take_in-moves, take_in-nothing, take_in-pieces, left_at}
+use Rattle.ipc_hub.proofs.Pieces.{begun, acts, ended-stays, request-keeps_by, settled, emptied, take_in-acts, take_in-moves, take_in-nothing, take_in-pieces}
+use Rattle.ipc_hub.proofs.Pieces.{left_at}
 use Rattle.ipc_hub.proofs.Serving.{frames-gain}
 
 -- the client that a connection stands for

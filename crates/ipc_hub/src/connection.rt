@@ -1,6 +1,7 @@
 //! One connection: its process, the bytes that are no whole frame yet, and the frames that wait.
 
-ghost use Rattle.std.specs.Prelude.{◌≡◌, ◌<◌, ◌≤◌, ◌^◌, ◌∷◌, [], None, true, false, IfOk, length, map, take, vec_len, vec_capacity};
+ghost use Rattle.std.specs.Prelude.{◌≡◌, ◌<◌, ◌≤◌, ◌^◌, ◌∷◌, [], None, true, false, IfOk, length, map, take, vec_len};
+ghost use Rattle.std.specs.Prelude.{vec_capacity};
 ghost use Rattle.std.specs.Bool.{OnTrue, OnFalse};
 ghost use Rattle.ipc_wire.specs.Request.{plain_kind, plain_request};
 ghost use Rattle.ipc_wire.specs.Reply.{plain_reply};

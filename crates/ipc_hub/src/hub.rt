@@ -1,6 +1,7 @@
 //! The hub: connections by number, over one engine.
 
-ghost use Rattle.std.specs.Prelude.{◌≡◌, ◌==◌, ◌<◌, ◌≤◌, ◌↔◌, ℕ, get_or, length, drop, take, position, true, false, IfOk, IsErr, OnErr, OnOk, Err};
+ghost use Rattle.std.specs.Prelude.{◌≡◌, ◌==◌, ◌<◌, ◌≤◌, ◌↔◌, ℕ, get_or, length, drop, take, position, true, false};
+ghost use Rattle.std.specs.Prelude.{IfOk, IsErr, OnErr, OnOk, Err};
 ghost use Rattle.ipc_base.specs.declared.limits.Limits.{Limits};
 ghost use Rattle.ipc_state.specs.State.{at_moment};
 ghost use Rattle.ipc_hub.specs.declared.connection.Connection.{Connection};

@@ -1,5 +1,6 @@
 -- Fields are read where they were spelled, and what is read is spelled so: for one number, and for a list of them.
-use Rattle.std.proofs.Common.{◌≡◌, ℕ, ℤ, pos, negsuc, ◌+◌, ◌≤◌, ◌<◌, ◌^◌, List, [], ◌∷◌, ◌++◌, length, take, drop, get_or, refl, sym, ap, ◌∙◌, arith, inl, inr, FitsSigned, to_z-of_z, append_assoc, All}
+use Rattle.std.proofs.Common.{◌≡◌, ℕ, ℤ, pos, negsuc, ◌+◌, ◌≤◌, ◌<◌, ◌^◌, List, [], ◌∷◌, ◌++◌, length, take, drop, get_or, refl, sym, ap, ◌∙◌, arith, inl, inr}
+use Rattle.std.proofs.Common.{FitsSigned, to_z-of_z, append_assoc, All}
 use Rattle.std.specs.Int.{w32, w64, from_be_bytes, to_be_bytes, cast_signed, cast_unsigned}
 use Rattle.std.proofs.Math.Facts.{sfits_to_z, Fits-bits}
 use Rattle.std.proofs.lemmas.Bool.{cases_lt}

@@ -1,5 +1,6 @@
 -- What the first frame of a stream says, step by step, and that it stays when more bytes come.
-use Rattle.std.proofs.Common.{◌≡◌, ℕ, ◌+◌, ◌-◌, ◌≤◌, ◌<◌, Bool, true, false, cond, ltb, eqb, ◌||◌, List, ◌++◌, length, take, drop, Option, Some, None, refl, sym, ap, ◌∙◌, arith, ◌⊎◌, inl, inr}
+use Rattle.std.proofs.Common.{◌≡◌, ℕ, ◌+◌, ◌-◌, ◌≤◌, ◌<◌, Bool, true, false, cond, ltb, eqb, ◌||◌, List, ◌++◌, length, take, drop, Option, Some, None, refl}
+use Rattle.std.proofs.Common.{sym, ap, ◌∙◌, arith, ◌⊎◌, inl, inr}
 use Rattle.std.specs.Int.{w32, from_be_bytes}
 use Rattle.std.specs.Prelude.{slice_index}
 use Rattle.std.proofs.lemmas.Bool.{cases_lt, lt-ltb, le-ltb, ltb-false, ltb-true, cond-true, cond-false, cond_both}
@@ -16,7 +17,8 @@ pub frame_takes : (text : List ℕ) (available : ℕ) → 5 ≤ length text → 
 unfolding frame_of
 frame_takes text available least most =
     let call : Option PlainKind = kind_of (slice_index text 4) (drop 5 text) in
-    cond_both (eqb (u32_at 0 text) 0) (Fault 0) (request_or_fault (4 + length text) (u32_at 0 text) call) (λ (f : PlainFrame). TakesBytes f available) (λ _. tt) (λ _. request_takes call (4 + length text) (u32_at 0 text) available (omega arith) most)
+    cond_both (eqb (u32_at 0 text) 0) (Fault 0) (request_or_fault (4 + length text) (u32_at 0 text) call) (λ (f : PlainFrame). TakesBytes f available) (λ _. tt)
+    (λ _. request_takes call (4 + length text) (u32_at 0 text) available (omega arith) most)
 
 -- a length out of range, and what a frame of this length is
 abbrev pub is_out_of_range : ℕ → Bool
@@ -51,7 +53,8 @@ first_takes bytes =
           let size : ℕ = u32_at 0 bytes in
           let text : List ℕ = part 4 size bytes in
           rw (first_long bytes long)
-          (cond_both (is_out_of_range size) (Fault 0) (cond (ltb (length bytes) (4 + size)) More (frame_of text)) (λ (f : PlainFrame). TakesBytes f (length bytes)) (λ _. tt)
+          (cond_both (is_out_of_range size) (Fault 0) (cond (ltb (length bytes) (4 + size)) More (frame_of text))
+          (λ (f : PlainFrame). TakesBytes f (length bytes)) (λ _. tt)
           (λ inside. cond_both (ltb (length bytes) (4 + size)) More (frame_of text) (λ (f : PlainFrame). TakesBytes f (length bytes)) (λ _. tt)
           (λ whole.
           let enough : 4 + size ≤ length bytes = ltb-false _ _ whole in
@@ -69,7 +72,8 @@ pub frame_waits : (text : List ℕ) → frame_of text ≡ More → ⊥
 unfolding frame_of
 frame_waits text =
     let call : Option PlainKind = kind_of (slice_index text 4) (drop 5 text) in
-    cond_both (eqb (u32_at 0 text) 0) (Fault 0) (request_or_fault (4 + length text) (u32_at 0 text) call) (λ (f : PlainFrame). f ≡ More → ⊥) (λ _ e. cc) (λ _. request_waits call (4 + length text) (u32_at 0 text))
+    cond_both (eqb (u32_at 0 text) 0) (Fault 0) (request_or_fault (4 + length text) (u32_at 0 text) call) (λ (f : PlainFrame). f ≡ More → ⊥) (λ _ e. cc)
+    (λ _. request_waits call (4 + length text) (u32_at 0 text))
 
 pub waiting_short : (bytes : List ℕ) → first bytes ≡ More → length bytes < 8452
 waiting_short bytes e =
@@ -78,7 +82,8 @@ waiting_short bytes e =
       | inr long ↦
           let size : ℕ = u32_at 0 bytes in
           let text : List ℕ = part 4 size bytes in
-          cond_both (is_out_of_range size) (Fault 0) (cond (ltb (length bytes) (4 + size)) More (frame_of text)) (λ (f : PlainFrame). f ≡ More → length bytes < 8452) (λ _ w. cc)
+          cond_both (is_out_of_range size) (Fault 0) (cond (ltb (length bytes) (4 + size)) More (frame_of text))
+          (λ (f : PlainFrame). f ≡ More → length bytes < 8452) (λ _ w. cc)
           (λ inside. cond_both (ltb (length bytes) (4 + size)) More (frame_of text) (λ (f : PlainFrame). f ≡ More → length bytes < 8452)
           (λ short _.
           let least = in_range size inside in
@@ -121,7 +126,9 @@ first_stays bytes more =
           let size = number_stays bytes more long in
           let later_at : first (bytes ++ more) ≡ sized (u32_at 0 bytes) (length (bytes ++ more)) (frame_of (part 4 (u32_at 0 bytes) (bytes ++ more))) =
           later ∙ ap (λ (n : ℕ). sized n (length (bytes ++ more)) (frame_of (part 4 n (bytes ++ more)))) size in
-          elim (sized_stays (is_out_of_range (u32_at 0 bytes)) (u32_at 0 bytes) (length bytes) (length (bytes ++ more)) (frame_of (part 4 (u32_at 0 bytes) bytes)) (frame_of (part 4 (u32_at 0 bytes) (bytes ++ more))) (omega arith) (λ enough. ap frame_of (part_stays 4 (u32_at 0 bytes) bytes more enough))) [
+          elim (sized_stays (is_out_of_range (u32_at 0 bytes)) (u32_at 0 bytes) (length bytes) (length (bytes ++ more))
+          (frame_of (part 4 (u32_at 0 bytes) bytes)) (frame_of (part 4 (u32_at 0 bytes) (bytes ++ more))) (omega arith)
+          (λ enough. ap frame_of (part_stays 4 (u32_at 0 bytes) bytes more enough))) [
             | inl waits ↦ inl (now ∙ waits)
             | inr same ↦ inr (later_at ∙ same ∙ sym now)
           ]
@@ -151,7 +158,8 @@ frame_used : (text : List ℕ) (used : ℕ) (request : PlainRequest) → frame_o
 unfolding frame_of
 frame_used text used request =
     let call : Option PlainKind = kind_of (slice_index text 4) (drop 5 text) in
-    cond_both (eqb (u32_at 0 text) 0) (Fault 0) (request_or_fault (4 + length text) (u32_at 0 text) call) (λ (f : PlainFrame). f ≡ Whole used request → used ≡ 4 + length text) (λ _ e. cc)
+    cond_both (eqb (u32_at 0 text) 0) (Fault 0) (request_or_fault (4 + length text) (u32_at 0 text) call)
+    (λ (f : PlainFrame). f ≡ Whole used request → used ≡ 4 + length text) (λ _ e. cc)
     (λ _. request_used call (4 + length text) (u32_at 0 text) used request)
 
 sized_waits : (size available : ℕ) (text : List ℕ) → is_out_of_range size ≡ false → sized size available (frame_of text) ≡ More → available < 4 + size
@@ -160,11 +168,14 @@ sized_waits size available text inside =
     (cond_both (ltb available (4 + size)) More (frame_of text) (λ (f : PlainFrame). f ≡ More → available < 4 + size)
     (λ short _. ltb-true _ _ short) (λ _ e. absurd (frame_waits text e)))
 
-sized_whole : (size available : ℕ) (text : List ℕ) (used : ℕ) (request : PlainRequest) → (4 + size ≤ available → length text ≡ size) → sized size available (frame_of text) ≡ Whole used request
+sized_whole : (size available : ℕ) (text : List ℕ) (used : ℕ) (request : PlainRequest) → (4 + size ≤ available → length text ≡ size)
+    → sized size available (frame_of text) ≡ Whole used request
     → (is_out_of_range size ≡ false) × (used ≡ 4 + size)
 sized_whole size available text used request exact =
-    cond_both (is_out_of_range size) (Fault 0) (cond (ltb available (4 + size)) More (frame_of text)) (λ (f : PlainFrame). f ≡ Whole used request → (is_out_of_range size ≡ false) × (used ≡ 4 + size)) (λ _ e. cc)
-    (λ inside. cond_both (ltb available (4 + size)) More (frame_of text) (λ (f : PlainFrame). f ≡ Whole used request → (is_out_of_range size ≡ false) × (used ≡ 4 + size)) (λ _ e. cc)
+    cond_both (is_out_of_range size) (Fault 0) (cond (ltb available (4 + size)) More (frame_of text))
+    (λ (f : PlainFrame). f ≡ Whole used request → (is_out_of_range size ≡ false) × (used ≡ 4 + size)) (λ _ e. cc)
+    (λ inside. cond_both (ltb available (4 + size)) More (frame_of text)
+    (λ (f : PlainFrame). f ≡ Whole used request → (is_out_of_range size ≡ false) × (used ≡ 4 + size)) (λ _ e. cc)
     (λ long e.
     let enough : 4 + size ≤ available = ltb-false _ _ long in
     (inside, omega (arith, frame_used text used request e, exact enough))))

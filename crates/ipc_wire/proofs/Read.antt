@@ -1,5 +1,6 @@
 -- What is read as a request is spelled so: its bytes are the frame of that request.
-use Rattle.std.proofs.Common.{◌≡◌, ℕ, ◌+◌, ◌≤◌, ◌<◌, ◌^◌, ◌⊎◌, Bool, true, false, cond, ltb, eqb, List, ◌∷◌, ◌++◌, length, take, drop, Option, Some, None, refl, sym, ap, ◌∙◌, arith, inl, inr, All}
+use Rattle.std.proofs.Common.{◌≡◌, ℕ, ◌+◌, ◌≤◌, ◌<◌, ◌^◌, ◌⊎◌, Bool, true, false, cond, ltb, eqb, List, ◌∷◌, ◌++◌, length, take, drop, Option, Some, None, refl}
+use Rattle.std.proofs.Common.{sym, ap, ◌∙◌, arith, inl, inr, All}
 use Rattle.std.specs.Int.{w32, to_be_bytes}
 use Rattle.std.specs.Prelude.{slice_index}
 use Rattle.std.proofs.lemmas.Bool.{cases_lt, ltb-false, eqb-false}
@@ -64,7 +65,8 @@ record Read (text : List ℕ) (used : ℕ) (request : PlainRequest) : Type 0 whe
   text_is : text ≡ text_of request.serial (opcode_of request.kind) (fields_of request.kind)
   has : HasFrame request
 
-text_back : (text : List ℕ) (used : ℕ) (request : PlainRequest) → IsBytes text → 5 ≤ length text → length text ≤ 8448 → frame_of text ≡ Whole used request → Read text used request
+text_back : (text : List ℕ) (used : ℕ) (request : PlainRequest) → IsBytes text → 5 ≤ length text → length text ≤ 8448 → frame_of text ≡ Whole used request
+    → Read text used request
 unfolding frame_of
 text_back text used request fits least most e =
     let call : Option PlainKind = kind_of (slice_index text 4) (drop 5 text) in
@@ -77,17 +79,21 @@ text_back text used request fits least most e =
           let below = number_below 0 text fits in
           let serial : to_be_bytes w32 request.serial ≡ take 4 text = ap (to_be_bytes w32) (sym found.2) ∙ number_back 0 text fits (omega arith) in
           let fields : opcode_of request.kind ∷ fields_of request.kind ≡ drop 4 text =
-          ap (λ (n : ℕ). n ∷ fields_of request.kind) spelled.opcode_is ∙ ap (λ (x : List ℕ). slice_index text 4 ∷ x) spelled.fields_are ∙ sym (drop_more text 4 0 (omega arith)) in
+          ap (λ (n : ℕ). n ∷ fields_of request.kind) spelled.opcode_is ∙ ap (λ (x : List ℕ). slice_index text 4 ∷ x) spelled.fields_are
+          ∙ sym (drop_more text 4 0 (omega arith)) in
           let least_serial : 1 ≤ request.serial = omega (arith, found.2, nonzero) in
           let most_serial : request.serial < 2 ^ 32 = omega (arith, found.2) in
           record {
             used_is = found.1;
-            text_is = sym (take-append-drop 4 text) ∙ sym (side (to_be_bytes w32 request.serial) (take 4 text) (opcode_of request.kind ∷ fields_of request.kind) (drop 4 text) serial fields);
-            has = record { serial = (least_serial, most_serial); fields = spelled.fit; short = omega (arith, ap length spelled.fields_are, length-drop 5 text) };
+            text_is = sym (take-append-drop 4 text) ∙ sym (side (to_be_bytes w32 request.serial) (take 4 text) (opcode_of request.kind ∷ fields_of request.kind)
+                (drop 4 text) serial fields);
+            has = record { serial = (least_serial, most_serial); fields = spelled.fit; short = omega
+                (arith, ap length spelled.fields_are, length-drop 5 text) };
           }
     ]
 
-request_back : (bytes : List ℕ) (used : ℕ) (request : PlainRequest) → IsBytes bytes → first bytes ≡ Whole used request → (take used bytes ≡ frame request) × HasFrame request
+request_back : (bytes : List ℕ) (used : ℕ) (request : PlainRequest) → IsBytes bytes → first bytes ≡ Whole used request
+    → (take used bytes ≡ frame request) × HasFrame request
 unfolding frame
 request_back bytes used request fits e =
     elim (cases_lt (length bytes) 4) [
@@ -108,7 +114,8 @@ request_back bytes used request fits e =
                   let spelled : List ℕ = text_of request.serial (opcode_of request.kind) (fields_of request.kind) in
                   let count : 5 + length (fields_of request.kind) ≡ size = omega (arith, len, ap length read.text_is) in
                   let used_is : used ≡ 4 + size = omega (arith, read.used_is, len) in
-                  let header : to_be_bytes w32 (5 + length (fields_of request.kind)) ≡ take 4 bytes = ap (to_be_bytes w32) count ∙ number_back 0 bytes fits long in
+                  let header : to_be_bytes w32 (5 + length (fields_of request.kind)) ≡ take 4 bytes = ap (to_be_bytes w32) count
+                  ∙ number_back 0 bytes fits long in
                   let all : to_be_bytes w32 (5 + length (fields_of request.kind)) ++ spelled ≡ take (4 + size) bytes =
                   behind 4 size bytes (to_be_bytes w32 (5 + length (fields_of request.kind))) spelled header (sym read.text_is) in
                   (ap (λ (n : ℕ). take n bytes) used_is ∙ sym all, read.has)
@@ -116,7 +123,8 @@ request_back bytes used request fits e =
           ]
     ]
 
-pub bytes_back : (bytes : List ℕ) (used : ℕ) (request : PlainRequest) → All (λ byte. byte < 256) bytes → first bytes ≡ Whole used request → take used bytes ≡ frame request
+pub bytes_back : (bytes : List ℕ) (used : ℕ) (request : PlainRequest) → All (λ byte. byte < 256) bytes → first bytes ≡ Whole used request
+    → take used bytes ≡ frame request
 bytes_back bytes used request all e = (request_back bytes used request (from_all bytes all) e).0
 
 pub has_back : (bytes : List ℕ) (used : ℕ) (request : PlainRequest) → All (λ byte. byte < 256) bytes → first bytes ≡ Whole used request → HasFrame request

@@ -1,5 +1,6 @@
 -- The table both ways: a request has the row of its opcode, and a row's request is taken apart into what made it.
-use Rattle.std.proofs.Common.{◌≡◌, ℕ, ◌+◌, ◌≤◌, Bool, true, false, cond, eqb, leb, List, [], ◌∷◌, ◌++◌, length, drop, Option, Some, None, refl, sym, ap, subst, ◌∙◌, arith}
+use Rattle.std.proofs.Common.{◌≡◌, ℕ, ◌+◌, ◌≤◌, Bool, true, false, cond, eqb, leb, List, [], ◌∷◌, ◌++◌, length, drop, Option, Some, None, refl, sym, ap, subst}
+use Rattle.std.proofs.Common.{◌∙◌, arith}
 use Rattle.std.specs.Prelude.{◌==◌, if◌then◌else◌}
 use Rattle.std.proofs.lemmas.Bool.{eqb-true, leb-true, le-leb, eq-eqb}
 use Rattle.std.proofs.lemmas.List.{length-append, length-drop, drop_at}
@@ -114,7 +115,8 @@ fitting false n bytes is =
     let same = eqb-true (length bytes) n is in
     record { enough = omega (arith, same); none = λ e. nothing (drop n bytes) (omega (arith, length-drop n bytes, same)) }
 
-row_back : (opcode : ℕ) (row : Row) (bytes : List ℕ) (kind : PlainKind) → IsBytes bytes → row_of opcode ≡ Some row → made_by row bytes ≡ Some kind → Spelled opcode bytes kind
+row_back : (opcode : ℕ) (row : Row) (bytes : List ℕ) (kind : PlainKind) → IsBytes bytes → row_of opcode ≡ Some row → made_by row bytes ≡ Some kind
+    → Spelled opcode bytes kind
 row_back opcode row bytes kind fits is e =
     let v : Values row.fields = values_of row.fields bytes in
     let rest : List ℕ = drop (total row.fields) bytes in

@@ -7,7 +7,8 @@ use Rattle.ipc_wire.specs.Stream.PlainFrame.{More, Whole, Fault}
 use Rattle.ipc_wire.specs.Stream.Ending.{Rest, Broken}
 use Rattle.ipc_wire.proofs.Frames.{first_short, first_takes, whole_stays, fault_stays}
 
-begins_same : (f : PlainFrame) (bytes : List ℕ) (a b : ℕ → Stream) → TakesBytes f (length bytes) → ((used : ℕ) → 9 ≤ used → used ≤ length bytes → a used ≡ b used) → begins_with f bytes a ≡ begins_with f bytes b
+begins_same : (f : PlainFrame) (bytes : List ℕ) (a b : ℕ → Stream) → TakesBytes f (length bytes)
+    → ((used : ℕ) → 9 ≤ used → used ≤ length bytes → a used ≡ b used) → begins_with f bytes a ≡ begins_with f bytes b
 begins_same More bytes a b takes same = refl
 begins_same (Fault serial) bytes a b takes same = refl
 begins_same (Whole used request) bytes a b takes same = ap (λ (s : Stream). begins_with (Whole used request) bytes (λ _. s)) (same used takes.0 takes.1)
@@ -26,7 +27,8 @@ pub stream_step : (bytes : List ℕ) → stream_of bytes ≡ begins_with (first 
 unfolding stream_of stream_within
 stream_step bytes =
     within_same (length bytes) (suc (length bytes)) bytes (omega arith) (omega arith)
-    ∙ begins_same (first bytes) bytes (λ used. stream_within (length bytes) (drop used bytes)) (λ used. stream_within (length (drop used bytes)) (drop used bytes)) (first_takes bytes)
+    ∙ begins_same (first bytes) bytes (λ used. stream_within (length bytes) (drop used bytes))
+    (λ used. stream_within (length (drop used bytes)) (drop used bytes)) (first_takes bytes)
     (λ used least most. within_same (length bytes) (length (drop used bytes)) (drop used bytes) (omega (arith, length-drop used bytes)) (omega arith))
 
 -- a stream of which the first frame is known
@@ -39,7 +41,8 @@ goes_on s more = continued s.requests s.ending more
 abbrev in_front : PlainRequest → Stream → Stream
 in_front r s = record { requests = r ∷ s.requests; ending = s.ending }
 
-continued_front : (r : PlainRequest) (requests : List PlainRequest) (ending : Ending) (more : List ℕ) → continued (r ∷ requests) ending more ≡ in_front r (continued requests ending more)
+continued_front : (r : PlainRequest) (requests : List PlainRequest) (ending : Ending) (more : List ℕ)
+    → continued (r ∷ requests) ending more ≡ in_front r (continued requests ending more)
 continued_front r requests (Rest bytes) more = refl
 continued_front r requests (Broken serial) more = refl
 

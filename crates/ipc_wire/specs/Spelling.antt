@@ -17,7 +17,8 @@ fields_of kind = spelled (parts_of kind)
 
 -- the serial, the opcode and the fields, behind their length
 unfoldable pub frame : PlainRequest → List ℕ
-frame r = to_be_bytes w32 (5 + length (fields_of r.kind)) ++ to_be_bytes w32 r.serial ++ opcode_of r.kind ∷ fields_of r.kind
+frame r =
+    to_be_bytes w32 (5 + length (fields_of r.kind)) ++ to_be_bytes w32 r.serial ++ opcode_of r.kind ∷ fields_of r.kind
 
 -- the requests that have a frame: each number is in the range of its field, and the fields are not too long
 pub record HasFrame (r : PlainRequest) : Type 0 where

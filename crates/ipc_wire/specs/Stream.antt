@@ -1,6 +1,7 @@
 -- The requests of a stream of bytes. A frame is the length of what follows (four bytes, from 5 to 8448), a
 -- serial of four bytes that is not 0, an opcode of one byte, and the fields of the opcode's row.
-use Rattle.std.specs.Prelude.{◌≤◌, ◌+◌, ◌-◌, ℕ, zero, suc, Bool, true, false, List, [], ◌∷◌, ◌++◌, length, take, drop, slice_index, nat_lt, nat_le, ◌==◌, ◌||◌, if◌then◌else◌, Option, Some, None}
+use Rattle.std.specs.Prelude.{◌≤◌, ◌+◌, ◌-◌, ℕ, zero, suc, Bool, true, false, List, [], ◌∷◌, ◌++◌, length, take, drop}
+use Rattle.std.specs.Prelude.{slice_index, nat_lt, nat_le, ◌==◌, ◌||◌, if◌then◌else◌, Option, Some, None}
 use Rattle.std.specs.Int.{w32, from_be_bytes}
 use Rattle.ipc_wire.specs.declared.request.Frame.{Frame}
 use Rattle.ipc_wire.specs.declared.request.Frame.TheVariants as frames
@@ -98,7 +99,8 @@ pub record Stream : Type 0 where
 abbrev pub begins_with : PlainFrame → List ℕ → (ℕ → Stream) → Stream
 begins_with More bytes behind = record { requests = []; ending = Rest bytes }
 begins_with (Fault serial) bytes behind = record { requests = []; ending = Broken serial }
-begins_with (Whole used request) bytes behind = record { requests = request ∷ (behind used).requests; ending = (behind used).ending }
+begins_with (Whole used request) bytes behind =
+    record { requests = request ∷ (behind used).requests; ending = (behind used).ending }
 
 -- at most so many requests
 unfoldable pub stream_within : ℕ → List ℕ → Stream

@@ -19,12 +19,21 @@ msgget = record { fields = I32 ∷ U32 ∷ []; has_rest = false; make = λ v res
 
 -- id, flags, type; the rest is the text
 abbrev pub msgsnd : Row
-msgsnd = record { fields = U32 ∷ U32 ∷ I64 ∷ []; has_rest = true; make = λ v rest. Calls (Msgsnd v.0 v.1.0 v.1.1.0 rest) }
+msgsnd =
+    record {
+      fields = U32 ∷ U32 ∷ I64 ∷ [];
+      has_rest = true;
+      make = λ v rest. Calls (Msgsnd v.0 v.1.0 v.1.1.0 rest);
+    }
 
 -- id, flags, size, type
 abbrev pub msgrcv : Row
 msgrcv =
-    record { fields = U32 ∷ U32 ∷ U32 ∷ I64 ∷ []; has_rest = false; make = λ v rest. Calls (Msgrcv v.0 v.1.0 v.1.1.0 v.1.1.1.0) }
+    record {
+      fields = U32 ∷ U32 ∷ U32 ∷ I64 ∷ [];
+      has_rest = false;
+      make = λ v rest. Calls (Msgrcv v.0 v.1.0 v.1.1.0 v.1.1.1.0);
+    }
 
 -- the row of an opcode, if it has one
 abbrev pub row_of : ℕ → Option Row

@@ -20,7 +20,8 @@ pub fn found_frame_stays()
 pub fn frame_is_bounded()
     ensures whole { (bytes : List ℕ) → TakesBytes (first bytes) (length bytes) }
     ensures waiting { (bytes : List ℕ) → first bytes ≡ More → length bytes < 8452 }
-    ensures missing { (bytes : List ℕ) → first bytes ≡ More → (0 < missing bytes) × (length bytes + missing bytes ≤ 8452) }
+    ensures missing { (bytes : List ℕ) → first bytes ≡ More
+        → (0 < missing bytes) × (length bytes + missing bytes ≤ 8452) }
     ensures last { (bytes more : List ℕ) (used : ℕ) (request : PlainRequest)
         → first bytes ≡ More → length more ≤ missing bytes
         → first (bytes ++ more) ≡ Whole used request → used ≡ length (bytes ++ more) }
@@ -28,7 +29,8 @@ pub fn frame_is_bounded()
 
 /// A stream is its first frame and the stream behind it.
 pub fn stream_begins()
-    ensures { (bytes : List ℕ) → stream_of bytes ≡ begins_with (first bytes) bytes (λ used. stream_of (drop used bytes)) }
+    ensures { (bytes : List ℕ) →
+        stream_of bytes ≡ begins_with (first bytes) bytes (λ used. stream_of (drop used bytes)) }
 {}
 
 /// A stream that comes in two pieces has the requests of the first piece, and then those of its rest with the

@@ -8,7 +8,8 @@ returns-in-Some-bytes-clause-used c =
     let read = c.in-Some-bytes.ensures in
     let header = c.in-Some.ensures in
     let size : length c.in-Some-bytes.text.now ≡ c.in-Some.length = ap length read.1 ∙ omega (arith, read.0, length-take c.in-Some.length c.u32.new.self) in
-    let left : length c.u32.new.self + 4 ≡ length c.args.bytes.now = omega (arith, header.0, ap length header.2, length-drop 4 c.new-cursor.result, ap length c.new-cursor.ensures) in
+    let left : length c.u32.new.self + 4 ≡ length c.args.bytes.now = omega
+    (arith, header.0, ap length header.2, length-drop 4 c.new-cursor.result, ap length c.new-cursor.ensures) in
     rw c.whole_frame.ensures (frame_takes c.in-Some-bytes.text.now (length c.args.bytes.now) (omega arith) (omega (arith, read.0)))
 
 pub returns-in-Some-bytes-clause-waiting : goal.returns-in-Some-bytes-clause-waiting
