@@ -40,7 +40,8 @@ use Rattle.ipc_hub.proofs.Taking.{client-of, connected-in}
 -- ---- the tests on a number
 
 -- whether the code's hub and the other one have a number
-pub same-connected : (limits : Limits) (confirmed : ℕ) (hub : Hub) (h : Clients) (conn : ℕ) → Stands limits confirmed hub h → is_some (connection_of hub conn) ≡ is_some (client_at h conn)
+pub same-connected : (limits : Limits) (confirmed : ℕ) (hub : Hub) (h : Clients) (conn : ℕ) → Stands limits confirmed hub h
+    → is_some (connection_of hub conn) ≡ is_some (client_at h conn)
 same-connected limits confirmed hub h conn stands = same_keys (rows hub) h.clients conn stands.numbers
 
 no_client : (limits : Limits) (confirmed : ℕ) (r : Option Connection) (q : Option Client) → AreClient limits confirmed r q → r ≡ None → q ≡ None
@@ -48,17 +49,20 @@ no_client limits confirmed None None are is = refl
 no_client limits confirmed None (Some cl) are is = absurd are
 no_client limits confirmed (Some c) q are is = cc
 
-pub absent : (limits : Limits) (confirmed : ℕ) (hub : Hub) (h : Clients) (conn : ℕ) → Stands limits confirmed hub h → connection_of hub conn ≡ None → client_at h conn ≡ None
+pub absent : (limits : Limits) (confirmed : ℕ) (hub : Hub) (h : Clients) (conn : ℕ) → Stands limits confirmed hub h → connection_of hub conn ≡ None
+    → client_at h conn ≡ None
 absent limits confirmed hub h conn stands is = no_client limits confirmed (connection_of hub conn) (client_at h conn) (stands.clients conn) is
 
 -- the client of a connection
-pub present : (limits : Limits) (confirmed : ℕ) (hub : Hub) (h : Clients) (conn : ℕ) (c : Connection) → Stands limits confirmed hub h → connection_of hub conn ≡ Some c
+pub present : (limits : Limits) (confirmed : ℕ) (hub : Hub) (h : Clients) (conn : ℕ) (c : Connection) → Stands limits confirmed hub h
+    → connection_of hub conn ≡ Some c
     → AreClient limits confirmed (Some c) (client_at h conn)
 present limits confirmed hub h conn c stands is = rw is at (stands.clients conn)
 
 -- ---- a connection changes
 
-pub stands-after : (limits : Limits) (confirmed : ℕ) (old new : Hub) (h h' : Clients) (conn : ℕ) (c c' : Connection) → Stands limits confirmed old h → new.room ≡ old.room → connection_of old conn ≡ Some c
+pub stands-after : (limits : Limits) (confirmed : ℕ) (old new : Hub) (h h' : Clients) (conn : ℕ) (c c' : Connection) → Stands limits confirmed old h
+    → new.room ≡ old.room → connection_of old conn ≡ Some c
     → Spares conn h h' → new.engine.limits ≡ limits → new.engine.state ≡ h'.state → rows new ≡ with_value nat_eq (rows old) conn c'
     → AreClient limits confirmed (Some c') (client_at h' conn) → IsOrderly limits h' → confirmed ≤ h'.accepted → Stands limits confirmed new h'
 stands-after limits confirmed old new h h' conn c c' stands kept found spares keeps state row_is are orderly known =
@@ -78,7 +82,8 @@ stands-after limits confirmed old new h h' conn c c' stands kept found spares ke
 
 -- ---- new, connect
 
-pub new-stands : (hub : Hub) → hub.connections.items ≡ [] → ArePassed (hub.engine.limits) → hub.room ≡ longest_reply (hub.engine.limits) → IsSound (hub.engine.limits) (hub.engine.state)
+pub new-stands : (hub : Hub) → hub.connections.items ≡ [] → ArePassed (hub.engine.limits) → hub.room ≡ longest_reply (hub.engine.limits)
+    → IsSound (hub.engine.limits) (hub.engine.state)
     → Stands (hub.engine.limits) 0 hub (no_clients (hub.engine.state))
 unfolding IsDistinct
 new-stands hub none range room sound =
@@ -100,7 +105,8 @@ connect-orderly : (limits : Limits) (h : Clients) (conn : ℕ) → IsOrderly lim
 connect-orderly limits h conn o none =
     record {
       sound = o.sound;
-      numbers = rw (map-append (λ (e : ℕ × Client). e.0) h.clients ((conn, start_client) ∷ [])) (IsDistinct-push nat_eq_equiv (keys_of h.clients) conn o.numbers (no_key nat_eq nat_eq_equiv h.clients conn none));
+      numbers = rw (map-append (λ (e : ℕ × Client). e.0) h.clients ((conn, start_client) ∷ []))
+          (IsDistinct-push nat_eq_equiv (keys_of h.clients) conn o.numbers (no_key nat_eq nat_eq_equiv h.clients conn none));
       connected = λ j pid is. o.connected j pid (before j pid is);
       own = λ one other pid is too. o.own one other pid (before one pid is) (before other pid too);
       tidy = λ j. elim (cases_eq j conn) [
@@ -118,8 +124,10 @@ connect-orderly limits h conn o none =
           | inr apart ↦ sym (ap process_in (other-push h.clients conn j start_client apart)) ∙ is
         ]
 
-pub connect-stands : (limits : Limits) (confirmed : ℕ) (old new : Hub) (h : Clients) (conn : ℕ) (c : Connection) → Stands limits confirmed old h → new.room ≡ old.room → connection_of old conn ≡ None
-    → new.engine ≡ old.engine → new.connections.items ≡ old.connections.items ++ c ∷ [] → c.number ≡ conn → IsClient limits confirmed c start_client → Stands limits confirmed new (connect h conn)
+pub connect-stands : (limits : Limits) (confirmed : ℕ) (old new : Hub) (h : Clients) (conn : ℕ) (c : Connection) → Stands limits confirmed old h
+    → new.room ≡ old.room → connection_of old conn ≡ None
+    → new.engine ≡ old.engine → new.connections.items ≡ old.connections.items ++ c ∷ [] → c.number ≡ conn → IsClient limits confirmed c start_client
+    → Stands limits confirmed new (connect h conn)
 connect-stands limits confirmed old new h conn c stands kept none engine items number is =
     record {
       keeps = ap (λ (m : Machine). m.limits) engine ∙ stands.keeps;
@@ -144,7 +152,8 @@ connect-stands limits confirmed old new h conn c stands kept none engine items n
 
 -- ---- tick, feed
 
-pub tick-stands : (limits : Limits) (confirmed : ℕ) (old new : Hub) (h : Clients) (moment : ℕ) → Stands limits confirmed old h → new.room ≡ old.room → new.connections ≡ old.connections
+pub tick-stands : (limits : Limits) (confirmed : ℕ) (old new : Hub) (h : Clients) (moment : ℕ) → Stands limits confirmed old h → new.room ≡ old.room
+    → new.connections ≡ old.connections
     → new.engine.limits ≡ old.engine.limits → new.engine.state ≡ at_moment (old.engine.state) moment → Stands limits confirmed new (tick limits h moment)
 tick-stands limits confirmed old new h moment stands kept same keeps state =
     record {
@@ -158,7 +167,8 @@ tick-stands limits confirmed old new h moment stands kept same keeps state =
       known = omega (arith, stands.known);
     }
 
-pub feed-stands : (limits : Limits) (confirmed : ℕ) (old new : Hub) (engine : Machine) (h : Clients) (conn moment : ℕ) (bytes : List ℕ) (c c' : Connection) → Stands limits confirmed old h → new.room ≡ old.room
+pub feed-stands : (limits : Limits) (confirmed : ℕ) (old new : Hub) (engine : Machine) (h : Clients) (conn moment : ℕ) (bytes : List ℕ) (c c' : Connection)
+    → Stands limits confirmed old h → new.room ≡ old.room
     → connection_of old conn ≡ Some c → engine.limits ≡ old.engine.limits → engine.state ≡ at_moment (old.engine.state) moment
     → TakesIn engine c new.engine c' bytes moment → rows new ≡ with_value nat_eq (rows old) conn c'
     → (refused : List Bool) × Stands limits confirmed new (feed limits h conn bytes moment refused)
@@ -166,13 +176,15 @@ feed-stands limits confirmed old new engine h conn moment bytes c c' stands kept
     let now : Clients = tick limits h moment in
     let orderly = tick-orderly limits h moment stands.orderly in
     let done = takes limits confirmed now conn (record {
-      runs = record { keeps = keeps ∙ stands.keeps; state = state ∙ ap (λ (s : State). at_moment s moment) stands.state; orderly = orderly; later = omega (arith, stands.known); range = stands.range };
+      runs = record { keeps = keeps ∙ stands.keeps; state = state ∙ ap (λ (s : State). at_moment s moment) stands.state; orderly = orderly; later = omega
+          (arith, stands.known); range = stands.range };
       client = present limits confirmed old h conn c stands found;
     }) in
     let moved = take_in-moves limits now conn moment bytes done.0 stands.range orderly in (
       done.0,
       stands-after limits confirmed old new h (take_in limits now conn bytes moment done.0) conn c c' stands kept found
-          (record { keys = moved.spares.keys; others = moved.spares.others }) done.1.runs.keeps done.1.runs.state row_is done.1.client done.1.runs.orderly (omega (arith, done.1.runs.later)),
+          (record { keys = moved.spares.keys; others = moved.spares.others }) done.1.runs.keeps done.1.runs.state row_is done.1.client done.1.runs.orderly
+              (omega (arith, done.1.runs.later)),
     )
 
 -- ---- hangup
@@ -181,14 +193,16 @@ feed-stands limits confirmed old new engine h conn moment bytes c c' stands kept
 abbrev dropped : Limits → Clients → ℕ → ℕ → Option ℕ → Clients
 dropped limits now conn moment p = record (leave limits now p moment) { clients = without nat_eq (leave limits now p moment).clients conn }
 
-dropped-orderly : (limits : Limits) (now : Clients) (conn moment : ℕ) (p : Option ℕ) → IsOrderly limits now → process_at now conn ≡ p → IsOrderly limits (dropped limits now conn moment p)
+dropped-orderly : (limits : Limits) (now : Clients) (conn moment : ℕ) (p : Option ℕ) → IsOrderly limits now → process_at now conn ≡ p
+    → IsOrderly limits (dropped limits now conn moment p)
 dropped-orderly limits now conn moment p o mine = by_process p mine
   where
     none : client_at (record now { clients = without nat_eq now.clients conn }) conn ≡ None
     none = gone now.clients conn o.numbers
 
     apart_from : (j pid : ℕ) → process_at (record now { clients = without nat_eq now.clients conn }) j ≡ Some pid → j ≢ conn
-    apart_from j pid is same = let never : None ≡ Some pid = sym (ap process_in none) ∙ ap (process_at (record now { clients = without nat_eq now.clients conn })) (sym same) ∙ is in cc
+    apart_from j pid is same = let never : None ≡ Some pid = sym (ap process_in none)
+        ∙ ap (process_at (record now { clients = without nat_eq now.clients conn })) (sym same) ∙ is in cc
 
     before : (j pid : ℕ) → process_at (record now { clients = without nat_eq now.clients conn }) j ≡ Some pid → process_at now j ≡ Some pid
     before j pid is = sym (ap process_in (value_at-without now.clients conn j (apart_from j pid is))) ∙ is
@@ -222,7 +236,8 @@ dropped-state : (limits : Limits) (now : Clients) (conn moment : ℕ) (p : Optio
 dropped-state limits now conn moment None = refl
 dropped-state limits now conn moment (Some pid) = refl
 
-dropped-clients : (limits : Limits) (now : Clients) (conn moment : ℕ) (p : Option ℕ) → (dropped limits now conn moment p).clients ≡ without nat_eq now.clients conn
+dropped-clients : (limits : Limits) (now : Clients) (conn moment : ℕ) (p : Option ℕ)
+    → (dropped limits now conn moment p).clients ≡ without nat_eq now.clients conn
 dropped-clients limits now conn moment None = refl
 dropped-clients limits now conn moment (Some pid) = refl
 
@@ -230,7 +245,8 @@ dropped-later : (limits : Limits) (now : Clients) (conn moment : ℕ) (p : Optio
 dropped-later limits now conn moment None = omega arith
 dropped-later limits now conn moment (Some pid) = omega arith
 
-keys-without : {X Y : Type 0} → (es : List (ℕ × X)) (ts : List (ℕ × Y)) (k : ℕ) → keys_of es ≡ keys_of ts → keys_of (without nat_eq es k) ≡ keys_of (without nat_eq ts k)
+keys-without : {X Y : Type 0} → (es : List (ℕ × X)) (ts : List (ℕ × Y)) (k : ℕ) → keys_of es ≡ keys_of ts
+    → keys_of (without nat_eq es k) ≡ keys_of (without nat_eq ts k)
 keys-without [] [] k same = refl
 keys-without [] (t ∷ ts) k same = cc
 keys-without (e ∷ es) [] k same = cc
@@ -239,12 +255,14 @@ keys-without (e ∷ es) (t ∷ ts) k same =
     let rest : keys_of es ≡ keys_of ts = cc in
     by_test (nat_eq t.0 k) refl (ap (λ (n : ℕ). nat_eq n k) head) head rest (keys-without es ts k rest)
   where
-    by_test : (b : Bool) → nat_eq t.0 k ≡ b → nat_eq e.0 k ≡ nat_eq t.0 k → e.0 ≡ t.0 → keys_of es ≡ keys_of ts → keys_of (without nat_eq es k) ≡ keys_of (without nat_eq ts k)
+    by_test : (b : Bool) → nat_eq t.0 k ≡ b → nat_eq e.0 k ≡ nat_eq t.0 k → e.0 ≡ t.0 → keys_of es ≡ keys_of ts
+        → keys_of (without nat_eq es k) ≡ keys_of (without nat_eq ts k)
         → keys_of (without nat_eq (e ∷ es) k) ≡ keys_of (without nat_eq (t ∷ ts) k)
     by_test true is both head rest more = rw (both ∙ is) (rw is rest)
     by_test false is both head rest more = rw (both ∙ is) (rw is (ap (λ (n : ℕ). n ∷ keys_of (without nat_eq es k)) head ∙ ap (λ (ks : List ℕ). t.0 ∷ ks) more))
 
-pub hangup-stands : (limits : Limits) (confirmed : ℕ) (old new : Hub) (engine : Machine) (h : Clients) (conn moment : ℕ) (c c' : Connection) → Stands limits confirmed old h → new.room ≡ old.room
+pub hangup-stands : (limits : Limits) (confirmed : ℕ) (old new : Hub) (engine : Machine) (h : Clients) (conn moment : ℕ) (c c' : Connection)
+    → Stands limits confirmed old h → new.room ≡ old.room
     → connection_of old conn ≡ Some c → engine.limits ≡ old.engine.limits → engine.state ≡ at_moment (old.engine.state) moment
     → Leaves engine c new.engine c' moment → rows new ≡ without nat_eq (rows old) conn
     → Stands limits confirmed new (hangup limits h conn moment)
@@ -259,14 +277,18 @@ hangup-stands limits confirmed old new engine h conn moment c c' stands kept fou
     let none = gone now.clients conn orderly.numbers in
     let clients_are = dropped-clients limits now conn moment p in
     let later = dropped-later limits now conn moment p in
-    let empty : value_at nat_eq (without nat_eq (rows old) conn) conn ≡ None = nobody (value_at nat_eq (without nat_eq (rows old) conn) conn) (same_keys (without nat_eq (rows old) conn) (without nat_eq now.clients conn) conn (keys-without (rows old) now.clients conn stands.numbers) ∙ ap is_some none) in
+    let empty : value_at nat_eq (without nat_eq (rows old) conn) conn ≡ None = nobody (value_at nat_eq (without nat_eq (rows old) conn) conn)
+    (same_keys (without nat_eq (rows old) conn) (without nat_eq now.clients conn) conn (keys-without (rows old) now.clients conn stands.numbers)
+    ∙ ap is_some none) in
     record {
       keeps = leaves.keeps ∙ keeps ∙ stands.keeps;
-      state = leaves.state there ∙ ap (λ (s : State). left s (pid_of c.process) moment) at_now ∙ ap (λ (q : Option ℕ). left now.state q moment) mine ∙ sym (dropped-state limits now conn moment p);
+      state = leaves.state there ∙ ap (λ (s : State). left s (pid_of c.process) moment) at_now ∙ ap (λ (q : Option ℕ). left now.state q moment) mine
+          ∙ sym (dropped-state limits now conn moment p);
       numbers = ap keys_of row_is ∙ keys-without (rows old) now.clients conn stands.numbers ∙ ap keys_of (sym clients_are);
       clients = λ j. elim (cases_eq j conn) [
         | inl same ↦ rw same (rw row_is (rw empty (rw clients_are (rw none tt))))
-        | inr apart ↦ rw row_is (rw (value_at-without (rows old) conn j apart) (rw clients_are (rw (value_at-without now.clients conn j apart) (stands.clients j))))
+        | inr apart ↦ rw row_is (rw (value_at-without (rows old) conn j apart)
+        (rw clients_are (rw (value_at-without now.clients conn j apart) (stands.clients j))))
       ];
       orderly = dropped-orderly limits now conn moment p orderly refl;
       range = stands.range;
@@ -283,7 +305,8 @@ AreReleased None (Some d) = ⊥
 AreReleased (Some c) None = ⊥
 AreReleased (Some c) (Some d) = Releases c d
 
-released-at : (cs ds : List Connection) (conn : ℕ) → length ds ≡ length cs → ((k : ℕ) (d : Connection) → k < length cs → Releases (get_or cs k d) (get_or ds k d))
+released-at : (cs ds : List Connection) (conn : ℕ) → length ds ≡ length cs
+    → ((k : ℕ) (d : Connection) → k < length cs → Releases (get_or cs k d) (get_or ds k d))
     → AreReleased (value_at nat_eq (map row cs) conn) (value_at nat_eq (map row ds) conn)
 released-at [] [] conn count each = tt
 released-at [] (d ∷ ds) conn count each = absurd (omega (arith, count))
@@ -297,7 +320,8 @@ released-at (c ∷ cs) (d ∷ ds) conn count each =
     by_test true is head rest = rw is (rw (ap (λ (n : ℕ). nat_eq n conn) head.number ∙ is) head)
     by_test false is head rest = rw is (rw (ap (λ (n : ℕ). nat_eq n conn) head.number ∙ is) rest)
 
-released-numbers : (cs ds : List Connection) → length ds ≡ length cs → ((k : ℕ) (d : Connection) → k < length cs → Releases (get_or cs k d) (get_or ds k d)) → keys_of (map row ds) ≡ keys_of (map row cs)
+released-numbers : (cs ds : List Connection) → length ds ≡ length cs → ((k : ℕ) (d : Connection) → k < length cs → Releases (get_or cs k d) (get_or ds k d))
+    → keys_of (map row ds) ≡ keys_of (map row cs)
 released-numbers [] [] count each = refl
 released-numbers [] (d ∷ ds) count each = absurd (omega (arith, count))
 released-numbers (c ∷ cs) [] count each = absurd (omega (arith, count))
@@ -305,7 +329,8 @@ released-numbers (c ∷ cs) (d ∷ ds) count each =
     ap (λ (n : ℕ). n ∷ keys_of (map row ds)) (each 0 c (omega arith)).number
     ∙ ap (λ (ks : List ℕ). c.number ∷ ks) (released-numbers cs ds (omega (arith, count)) (λ k e within. each (suc k) e (omega (arith, within))))
 
-released-client : (limits : Limits) (confirmed accepted : ℕ) (r s : Option Connection) (q : Option Client) → AreReleased r s → AreClient limits confirmed r q → IfSome q (IsTidy accepted) → AreClient limits accepted s q
+released-client : (limits : Limits) (confirmed accepted : ℕ) (r s : Option Connection) (q : Option Client) → AreReleased r s → AreClient limits confirmed r q
+    → IfSome q (IsTidy accepted) → AreClient limits accepted s q
 released-client limits confirmed accepted None None None released are tidy = tt
 released-client limits confirmed accepted None None (Some cl) released are tidy = absurd are
 released-client limits confirmed accepted None (Some d) q released are tidy = absurd released
@@ -325,7 +350,8 @@ released-client limits confirmed accepted (Some c) (Some d) (Some cl) released a
       };
     }
 
-pub release-stands : (limits : Limits) (confirmed : ℕ) (old new : Hub) (h : Clients) → Stands limits confirmed old h → new.room ≡ old.room → new.engine ≡ old.engine
+pub release-stands : (limits : Limits) (confirmed : ℕ) (old new : Hub) (h : Clients) → Stands limits confirmed old h → new.room ≡ old.room
+    → new.engine ≡ old.engine
     → length new.connections.items ≡ length old.connections.items
     → ((k : ℕ) (d : Connection) → k < length old.connections.items → Releases (get_or old.connections.items k d) (get_or new.connections.items k d))
     → Stands limits h.accepted new h
@@ -344,16 +370,19 @@ release-stands limits confirmed old new h stands kept engine count each =
 
 -- ---- output, ended
 
-output_is : (limits : Limits) (confirmed : ℕ) (r : Option Connection) (h : Clients) (conn : ℕ) (q : Option Client) → client_at h conn ≡ q → AreClient limits confirmed r q → visible_of r ≡ shown_at confirmed h conn
+output_is : (limits : Limits) (confirmed : ℕ) (r : Option Connection) (h : Clients) (conn : ℕ) (q : Option Client) → client_at h conn ≡ q
+    → AreClient limits confirmed r q → visible_of r ≡ shown_at confirmed h conn
 output_is limits confirmed None h conn None is are = rw is refl
 output_is limits confirmed None h conn (Some cl) is are = absurd are
 output_is limits confirmed (Some c) h conn None is are = absurd are
 output_is limits confirmed (Some c) h conn (Some cl) is are = rw is are.outbox.visible
 
-pub output-stands : (limits : Limits) (confirmed : ℕ) (hub : Hub) (h : Clients) (conn : ℕ) → Stands limits confirmed hub h → output_of hub conn ≡ shown_at confirmed h conn
+pub output-stands : (limits : Limits) (confirmed : ℕ) (hub : Hub) (h : Clients) (conn : ℕ) → Stands limits confirmed hub h
+    → output_of hub conn ≡ shown_at confirmed h conn
 output-stands limits confirmed hub h conn stands = output_is limits confirmed (connection_of hub conn) h conn (client_at h conn) refl (stands.clients conn)
 
-ended_is : (limits : Limits) (confirmed : ℕ) (r : Option Connection) (h : Clients) (conn : ℕ) (q : Option Client) → client_at h conn ≡ q → AreClient limits confirmed r q → ended_by r ≡ ended_at h conn
+ended_is : (limits : Limits) (confirmed : ℕ) (r : Option Connection) (h : Clients) (conn : ℕ) (q : Option Client) → client_at h conn ≡ q
+    → AreClient limits confirmed r q → ended_by r ≡ ended_at h conn
 ended_is limits confirmed None h conn None is are = rw is refl
 ended_is limits confirmed None h conn (Some cl) is are = absurd are
 ended_is limits confirmed (Some c) h conn None is are = absurd are
@@ -367,7 +396,8 @@ ended-stands limits confirmed hub h conn stands = ended_is limits confirmed (con
 has-bytes : (f : Frame) → IsFrame f.bytes → 0 < length f.bytes
 has-bytes f is = omega (arith, ap length is.1.0, reply-length is.0)
 
-pub consume-nowhere : (limits : Limits) (confirmed : ℕ) (hub : Hub) (h : Clients) (conn n : ℕ) → Stands limits confirmed hub h → connection_of hub conn ≡ None → Stands limits confirmed hub (consume h conn n)
+pub consume-nowhere : (limits : Limits) (confirmed : ℕ) (hub : Hub) (h : Clients) (conn n : ℕ) → Stands limits confirmed hub h → connection_of hub conn ≡ None
+    → Stands limits confirmed hub (consume h conn n)
 consume-nowhere limits confirmed hub h conn n stands none =
     let no = absent limits confirmed hub h conn stands none in
     let same : consume h conn n ≡ h = rw no refl in
@@ -377,7 +407,8 @@ consume-is : (h : Clients) (conn n : ℕ) (cl : Client) → client_at h conn ≡
     → consume h conn n ≡ with_client h conn (record cl { frames = (consumed_from cl.frames (cl.consumed + n)).0; consumed = (consumed_from cl.frames (cl.consumed + n)).1 })
 consume-is h conn n cl here = rw here refl
 
-pub consume-stands : (limits : Limits) (confirmed : ℕ) (old new : Hub) (h : Clients) (conn n : ℕ) (c c' : Connection) → Stands limits confirmed old h → new.room ≡ old.room → connection_of old conn ≡ Some c
+pub consume-stands : (limits : Limits) (confirmed : ℕ) (old new : Hub) (h : Clients) (conn n : ℕ) (c c' : Connection) → Stands limits confirmed old h
+    → new.room ≡ old.room → connection_of old conn ≡ Some c
     → new.engine ≡ old.engine → rows new ≡ with_value nat_eq (rows old) conn c'
     → c'.process ≡ c.process → c'.input ≡ c.input → c'.ended ≡ c.ended → n ≤ length (visible c.outbox)
     → waiting c'.outbox ≡ drop n (waiting c.outbox) → visible c'.outbox ≡ drop n (visible c.outbox) → c'.outbox.reply ≡ c.outbox.reply
@@ -391,17 +422,23 @@ consume-stands limits confirmed old new h conn n c c' stands kept found engine r
     let rest : List Frame × ℕ = consumed_from cl.frames (cl.consumed + n) in
     let d : Client = record cl { frames = rest.0; consumed = rest.1 } in
     let most : n ≤ length (drop cl.consumed (confirmed_bytes confirmed cl.frames)) = omega (arith, within, ap length is.outbox.visible) in
-    let fits : cl.consumed + n ≤ length (confirmed_bytes confirmed cl.frames) = omega (arith, most, is.outbox.seen, length-drop cl.consumed (confirmed_bytes confirmed cl.frames)) in
-    let shows = consumed-shown confirmed cl.frames (cl.consumed + n) (All-weaker (λ (f : Frame). IsFrame f.bytes) (λ (f : Frame). 0 < length f.bytes) has-bytes cl.frames tidy.replies) fits in
+    let fits : cl.consumed + n ≤ length (confirmed_bytes confirmed cl.frames) = omega
+    (arith, most, is.outbox.seen, length-drop cl.consumed (confirmed_bytes confirmed cl.frames)) in
+    let shows = consumed-shown confirmed cl.frames (cl.consumed + n) (All-weaker (λ (f : Frame). IsFrame f.bytes)
+    (λ (f : Frame). 0 < length f.bytes) has-bytes cl.frames tidy.replies) fits in
     let all_fits : cl.consumed + n ≤ length (all_bytes cl.frames) = omega (arith, fits, confirmed-short confirmed cl.frames) in
     let to : consume h conn n ≡ with_client h conn d = consume-is h conn n cl here in
-    let spares : Spares conn h (with_client h conn d) = record { keys = keys_of-with_value nat_eq h.clients conn d; others = λ j apart. other-with h.clients conn j d apart } in
-    let moved = orderly-change limits conn h (with_client h conn d) d stands.orderly spares (at-with h.clients conn d cl here) (omega arith) stands.orderly.sound
-    (record { input = tidy.input; marks = consumed-all (λ (f : Frame). f.mark ≤ h.accepted) cl.frames (cl.consumed + n) tidy.marks; replies = consumed-all (λ (f : Frame). IsFrame f.bytes) cl.frames (cl.consumed + n) tidy.replies; consumed = consumed-bound cl.frames (cl.consumed + n) all_fits })
+    let spares : Spares conn h (with_client h conn d) = record { keys = keys_of-with_value nat_eq h.clients conn d; others =
+    λ j apart. other-with h.clients conn j d apart } in
+    let moved = orderly-change limits conn h (with_client h conn d) d stands.orderly spares (at-with h.clients conn d cl here)
+    (omega arith) stands.orderly.sound
+    (record { input = tidy.input; marks = consumed-all (λ (f : Frame). f.mark ≤ h.accepted) cl.frames (cl.consumed + n) tidy.marks; replies = consumed-all
+        (λ (f : Frame). IsFrame f.bytes) cl.frames (cl.consumed + n) tidy.replies; consumed = consumed-bound cl.frames (cl.consumed + n) all_fits })
     (λ pid mine. (stands.orderly.connected conn pid (ap process_in here ∙ mine), λ j too. stands.orderly.own j conn pid too (ap process_in here ∙ mine)))
     (λ j pid apart other. stands.orderly.connected j pid other) in
     subst (λ (t : Clients). Stands limits confirmed new t) (sym to)
-    (stands-after limits confirmed old new h (with_client h conn d) conn c c' stands kept found spares (ap (λ (m : Machine). m.limits) engine ∙ stands.keeps) (ap (λ (m : Machine). m.state) engine ∙ stands.state) row_is
+    (stands-after limits confirmed old new h (with_client h conn d) conn c c' stands kept found spares (ap (λ (m : Machine). m.limits) engine ∙ stands.keeps)
+    (ap (λ (m : Machine). m.state) engine ∙ stands.state) row_is
     (rw (at-with h.clients conn d cl here)
     (record {
       process = ap pid_of process ∙ is.process;

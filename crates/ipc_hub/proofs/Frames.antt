@@ -18,7 +18,8 @@ pub confirmed-short : (confirmed : ℕ) (frames : List Frame) → length (confir
 confirmed-short confirmed [] = omega arith
 confirmed-short confirmed (f ∷ fs) = by_test (nat_le f.mark confirmed) refl (confirmed-short confirmed fs)
   where
-    by_test : (b : Bool) → nat_le f.mark confirmed ≡ b → length (confirmed_bytes confirmed fs) ≤ length (all_bytes fs) → length (confirmed_bytes confirmed (f ∷ fs)) ≤ length (all_bytes (f ∷ fs))
+    by_test : (b : Bool) → nat_le f.mark confirmed ≡ b → length (confirmed_bytes confirmed fs) ≤ length (all_bytes fs)
+        → length (confirmed_bytes confirmed (f ∷ fs)) ≤ length (all_bytes (f ∷ fs))
     by_test true t rest = rw t (omega (arith, rest, length-append f.bytes (confirmed_bytes confirmed fs), length-append f.bytes (all_bytes fs)))
     by_test false t rest = rw t (omega arith)
 
@@ -45,7 +46,8 @@ pub consumed-bound : (frames : List Frame) (n : ℕ) → n ≤ length (all_bytes
 consumed-bound [] n le = omega arith
 consumed-bound (f ∷ fs) n le = by_test (nat_le (length f.bytes) n) refl (consumed-bound fs (n - length f.bytes))
   where
-    by_test : (b : Bool) → nat_le (length f.bytes) n ≡ b → (n - length f.bytes ≤ length (all_bytes fs) → (consumed_from fs (n - length f.bytes)).1 ≤ length (all_bytes (consumed_from fs (n - length f.bytes)).0))
+    by_test : (b : Bool) → nat_le (length f.bytes) n ≡ b → (n - length f.bytes ≤ length (all_bytes fs)
+        → (consumed_from fs (n - length f.bytes)).1 ≤ length (all_bytes (consumed_from fs (n - length f.bytes)).0))
         → (consumed_from (f ∷ fs) n).1 ≤ length (all_bytes (consumed_from (f ∷ fs) n).0)
     by_test true t rest = rw t (rest (omega (arith, le, length-append f.bytes (all_bytes fs))))
     by_test false t rest = rw t le
@@ -59,7 +61,8 @@ module _ (confirmed : ℕ) where
       by_test (nat_le (length f.bytes) n) (nat_le f.mark confirmed) refl refl (All-head (λ (g : Frame). 0 < length g.bytes) f fs some) le
       (consumed-shown fs (n - length f.bytes) (All-tail (λ (g : Frame). 0 < length g.bytes) f fs some))
     where
-      by_test : (b known : Bool) → nat_le (length f.bytes) n ≡ b → nat_le f.mark confirmed ≡ known → 0 < length f.bytes → n ≤ length (confirmed_bytes confirmed (f ∷ fs))
+      by_test : (b known : Bool) → nat_le (length f.bytes) n ≡ b → nat_le f.mark confirmed ≡ known → 0 < length f.bytes
+          → n ≤ length (confirmed_bytes confirmed (f ∷ fs))
           → (n - length f.bytes ≤ length (confirmed_bytes confirmed fs)
           → (drop (consumed_from fs (n - length f.bytes)).1 (confirmed_bytes confirmed (consumed_from fs (n - length f.bytes)).0) ≡ drop (n - length f.bytes) (confirmed_bytes confirmed fs))
           × ((consumed_from fs (n - length f.bytes)).1 ≤ length (confirmed_bytes confirmed (consumed_from fs (n - length f.bytes)).0)))

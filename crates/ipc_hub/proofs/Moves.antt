@@ -134,7 +134,9 @@ tidy-frame accepted mark c o le t frame =
       input = t.input;
       marks = All-push (λ (f : Frame). f.mark ≤ mark) c.frames _ (tidy-later accepted mark c le t).marks (omega arith);
       replies = All-push (λ (f : Frame). IsFrame f.bytes) c.frames _ t.replies frame;
-      consumed = omega (arith, t.consumed, length-append (all_bytes c.frames) (all_bytes (record { mark = mark; bytes = reply_bytes (reply_of o) } ∷ [])), ap length (flat_map-append (λ (f : Frame). f.bytes) c.frames (record { mark = mark; bytes = reply_bytes (reply_of o) } ∷ [])));
+      consumed = omega (arith, t.consumed, length-append (all_bytes c.frames)
+          (all_bytes (record { mark = mark; bytes = reply_bytes (reply_of o) } ∷ [])), ap length
+              (flat_map-append (λ (f : Frame). f.bytes) c.frames (record { mark = mark; bytes = reply_bytes (reply_of o) } ∷ [])));
     }
 
 -- ---- one reply to one process
@@ -151,8 +153,10 @@ not_for mark o (Some d) never = by_process d.process refl
     by_process None is = rw is refl
     by_process (Some q) is = by_test q (nat_eq q o.pid) is refl
 
-pub reply-spares : (limits : Limits) (h : Clients) (conn mark : ℕ) (c : Client) (o : PlainOutcome) → IsOrderly limits h → client_at h conn ≡ Some c → c.process ≡ Some o.pid
-    → (value_at nat_eq (deliver mark h.clients o) conn ≡ Some (with_frame c mark o)) × ((j : ℕ) → j ≢ conn → value_at nat_eq (deliver mark h.clients o) j ≡ client_at h j)
+pub reply-spares : (limits : Limits) (h : Clients) (conn mark : ℕ) (c : Client) (o : PlainOutcome) → IsOrderly limits h → client_at h conn ≡ Some c
+    → c.process ≡ Some o.pid
+    → (value_at nat_eq (deliver mark h.clients o) conn ≡ Some (with_frame c mark o)) × ((j : ℕ) → j ≢ conn
+    → value_at nat_eq (deliver mark h.clients o) j ≡ client_at h j)
 reply-spares limits h conn mark c o orderly here mine = (
   at-map (delivered mark o) h.clients conn ∙ ap (option_map (delivered mark o)) here ∙ rw mine (rw (same_key o.pid) refl),
   λ j apart. at-map (delivered mark o) h.clients j
@@ -180,11 +184,14 @@ call-moves limits h conn pid moment c request range o here mine =
     let reply : PlainOutcome = record { pid = pid; serial = request.serial; errno = end.errno; body = end.body } in
     let mark : ℕ = h.accepted + 1 in
     let spares = reply-spares limits h conn mark c reply o here mine in
-    let there : (q : ℕ) → is_process now.state q ≡ is_process h.state q = λ q. ap (λ (ps : List (ℕ × Cred)). is_some (value_at nat_eq ps q)) (asked-keeps limits (at_moment h.state moment) pid request.kind) in
+    let there : (q : ℕ) → is_process now.state q ≡ is_process h.state q = λ q. ap (λ (ps : List (ℕ × Cred)). is_some (value_at nat_eq ps q))
+    (asked-keeps limits (at_moment h.state moment) pid request.kind) in
     let tidy : IsTidy h.accepted c = rw here at (o.tidy conn) in
-    orderly-change limits conn h (accept limits h e) (with_frame c mark reply) o (record { keys = keys-map (delivered mark reply) h.clients; others = spares.1 }) spares.0
+    orderly-change limits conn h (accept limits h e) (with_frame c mark reply) o
+        (record { keys = keys-map (delivered mark reply) h.clients; others = spares.1 }) spares.0
     (omega arith) (step-sound limits h.state e o.sound)
-    (tidy-frame h.accepted mark c reply (omega arith) tidy (frame-fits limits reply range (All-head (λ (p : PlainOutcome). FitsBody limits p.body) reply [] (step-fits limits h.state e o.sound))))
+    (tidy-frame h.accepted mark c reply (omega arith) tidy (frame-fits limits reply range
+    (All-head (λ (p : PlainOutcome). FitsBody limits p.body) reply [] (step-fits limits h.state e o.sound))))
     (λ q is. (there q ∙ o.connected conn q (ap process_in here ∙ is), λ j too. o.own j conn q too (ap process_in here ∙ is)))
     (λ j q apart is. there q ∙ o.connected j q is)
 
@@ -198,7 +205,8 @@ refuse-moves limits h conn serial c range o here =
     let now : Client = with_frame c h.accepted (refusal serial ENOMEM) in
     let tidy : IsTidy h.accepted c = rw here at (o.tidy conn) in
     orderly-change limits conn h (refuse h conn c serial) now o
-    (record { keys = keys_of-with_value nat_eq h.clients conn now; others = λ j apart. other-with h.clients conn j now apart }) (at-with h.clients conn now c here)
+    (record { keys = keys_of-with_value nat_eq h.clients conn now; others = λ j apart. other-with h.clients conn j now apart })
+        (at-with h.clients conn now c here)
     (omega arith) o.sound (tidy-frame h.accepted h.accepted c (refusal serial ENOMEM) (omega arith) tidy (bare-frame limits serial ENOMEM range))
     (λ pid is. (o.connected conn pid (ap process_in here ∙ is), λ j too. o.own j conn pid too (ap process_in here ∙ is)))
     (λ j pid apart is. o.connected j pid is)
@@ -220,7 +228,8 @@ greeted-moves limits h conn c s reply o here sound frame mine theirs =
     let tidy : IsTidy h.accepted c = rw here at (o.tidy conn) in
     let framed = tidy-frame h.accepted mark c reply (omega arith) tidy frame in
     orderly-change limits conn h (greeted h conn c (record { state = s; outcomes = reply ∷ [] })) now o
-    (record { keys = keys_of-with_value nat_eq h.clients conn now; others = λ j apart. other-with h.clients conn j now apart }) (at-with h.clients conn now c here)
+    (record { keys = keys_of-with_value nat_eq h.clients conn now; others = λ j apart. other-with h.clients conn j now apart })
+        (at-with h.clients conn now c here)
     (omega arith) sound (record { input = framed.input; marks = framed.marks; replies = framed.replies; consumed = framed.consumed }) mine theirs
 
 given : (n pid : ℕ) (b : Bool) → (if b then None else Some n) ≡ Some pid → n ≡ pid
@@ -238,7 +247,8 @@ greet-moves limits h conn serial moment cred c range o here =
     let sound : IsSound limits (connect limits s cred serial).state = step-sound limits h.state (Connect cred serial moment) o.sound in
     choice_with (λ (now : Step). Moves limits conn h (greeted h conn c now)) (λ (now : Step). IsSound limits now.state) full
     (record { state = s; outcomes = none ∷ [] }) (record { state = more; outcomes = fresh ∷ [] }) sound
-    (λ known. greeted-moves limits h conn c s none o here known (frame-fits limits none range (omega arith)) (λ pid is. cc) (λ j pid apart is. o.connected j pid is))
+    (λ known. greeted-moves limits h conn c s none o here known (frame-fits limits none range (omega arith)) (λ pid is. cc)
+    (λ j pid apart is. o.connected j pid is))
     (λ known. greeted-moves limits h conn c more fresh o here known (frame-fits limits fresh range (omega arith))
     (λ pid is.
     let same : s.next_pid ≡ pid = given s.next_pid pid (nat_eq s.next_pid 0) is in (
@@ -264,12 +274,14 @@ broken-moves limits h conn serial accepted c s range o here later sound theirs =
     let tidy : IsTidy h.accepted c = rw here at (o.tidy conn) in
     let framed = tidy-frame h.accepted accepted c (refusal serial EPROTO) later tidy (bare-frame limits serial EPROTO range) in
     orderly-change limits conn h (record { state = s; accepted = accepted; clients = with_value nat_eq h.clients conn now }) now o
-    (record { keys = keys_of-with_value nat_eq h.clients conn now; others = λ j apart. other-with h.clients conn j now apart }) (at-with h.clients conn now c here)
+    (record { keys = keys_of-with_value nat_eq h.clients conn now; others = λ j apart. other-with h.clients conn j now apart })
+        (at-with h.clients conn now c here)
     later sound (record { input = first_short [] (omega arith); marks = framed.marks; replies = framed.replies; consumed = framed.consumed })
     (λ pid is. cc) theirs
 
 -- the other processes stay as one leaves
-pub others-stay : (limits : Limits) (h : Clients) (conn pid moment : ℕ) → IsOrderly limits h → process_at h conn ≡ Some pid → (j q : ℕ) → j ≢ conn → process_at h j ≡ Some q
+pub others-stay : (limits : Limits) (h : Clients) (conn pid moment : ℕ) → IsOrderly limits h → process_at h conn ≡ Some pid → (j q : ℕ) → j ≢ conn
+    → process_at h j ≡ Some q
     → is_process (exit (at_moment h.state moment) pid) q ≡ true
 others-stay limits h conn pid moment o mine j q apart is =
     ap is_some (value_at-without h.state.processes pid q (λ same. apart (o.own j conn pid (is ∙ ap Some same) mine))) ∙ o.connected j q is
@@ -280,7 +292,8 @@ break_off-by : (limits : Limits) (h : Clients) (conn serial moment : ℕ) (c : C
 break_off-by limits h conn serial moment c None range o here mine =
     broken-moves limits h conn serial h.accepted c h.state range o here (omega arith) o.sound (λ j pid apart is. o.connected j pid is)
 break_off-by limits h conn serial moment c (Some pid) range o here mine =
-    broken-moves limits h conn serial (h.accepted + 1) c (exit (at_moment h.state moment) pid) range o here (omega arith) (step-sound limits h.state (Exit pid moment) o.sound)
+    broken-moves limits h conn serial (h.accepted + 1) c (exit (at_moment h.state moment) pid) range o here (omega arith)
+    (step-sound limits h.state (Exit pid moment) o.sound)
     (others-stay limits h conn pid moment o (ap process_in here ∙ mine))
 
 pub break_off-moves : (limits : Limits) (h : Clients) (conn serial moment : ℕ) (c : Client) → ArePassed limits → IsOrderly limits h
@@ -290,7 +303,8 @@ break_off-moves limits h conn serial moment c range o here = break_off-by limits
 -- ---- requests
 
 module _ (limits : Limits) (range : ArePassed limits) where
-  may_refuse : (h : Clients) (conn pid moment : ℕ) (c : Client) (request : PlainRequest) (b : Bool) → IsOrderly limits h → client_at h conn ≡ Some c → c.process ≡ Some pid
+  may_refuse : (h : Clients) (conn pid moment : ℕ) (c : Client) (request : PlainRequest) (b : Bool) → IsOrderly limits h → client_at h conn ≡ Some c
+      → c.process ≡ Some pid
       → Moves limits conn h (if b then refuse h conn c request.serial else accept limits h (Call pid request moment))
   may_refuse h conn pid moment c request true o here mine = refuse-moves limits h conn request.serial c range o here
   may_refuse h conn pid moment c request false o here mine = call-moves limits h conn pid moment c request range o here mine
@@ -334,7 +348,8 @@ module _ (limits : Limits) (range : ArePassed limits) where
       let now : Client = record c { input = bytes } in
       let tidy : IsTidy h.accepted c = rw here at (o.tidy conn) in
       orderly-change limits conn h (with_client h conn now) now o
-      (record { keys = keys_of-with_value nat_eq h.clients conn now; others = λ j apart. other-with h.clients conn j now apart }) (at-with h.clients conn now c here)
+      (record { keys = keys_of-with_value nat_eq h.clients conn now; others = λ j apart. other-with h.clients conn j now apart })
+          (at-with h.clients conn now c here)
       (omega arith) o.sound (record { input = more; marks = tidy.marks; replies = tidy.replies; consumed = tidy.consumed })
       (λ pid is. (o.connected conn pid (ap process_in here ∙ is), λ j too. o.own j conn pid too (ap process_in here ∙ is)))
       (λ j pid apart is. o.connected j pid is)
@@ -342,6 +357,8 @@ module _ (limits : Limits) (range : ArePassed limits) where
   pub ending-moves : (h : Clients) (conn moment : ℕ) (ending : Ending) → IsOrderly limits h → ((bytes : List ℕ) → ending ≡ Rest bytes → first bytes ≡ More)
       → Moves limits conn h (on_ending limits h conn moment ending)
   ending-moves h conn moment (Rest bytes) o waits =
-      unless-moves h conn (λ c. with_client h conn (record c { input = bytes })) (client_at h conn) o refl (λ c is. keep-moves h conn c bytes (waits bytes refl) o is)
+      unless-moves h conn (λ c. with_client h conn (record c { input = bytes })) (client_at h conn) o refl
+          (λ c is. keep-moves h conn c bytes (waits bytes refl) o is)
   ending-moves h conn moment (Broken serial) o waits =
-      unless-moves h conn (λ c. break_off limits h conn c serial moment) (client_at h conn) o refl (λ c is. break_off-moves limits h conn serial moment c range o is)
+      unless-moves h conn (λ c. break_off limits h conn c serial moment) (client_at h conn) o refl
+      (λ c is. break_off-moves limits h conn serial moment c range o is)

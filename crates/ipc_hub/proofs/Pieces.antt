@@ -63,7 +63,8 @@ acts h conn act c here live = rw here (rw live refl)
 abbrev pub KeepsNone : Clients → ℕ → Type 0
 KeepsNone h conn = (c : Client) → client_at h conn ≡ Some c → c.input ≡ []
 
-put-is_by : (e : ℕ × Client) (es : List (ℕ × Client)) (k : ℕ) (d x : Client) (b : Bool) → nat_eq e.0 k ≡ b → value_at nat_eq (with_value nat_eq (e ∷ es) k d) k ≡ Some x
+put-is_by : (e : ℕ × Client) (es : List (ℕ × Client)) (k : ℕ) (d x : Client) (b : Bool) → nat_eq e.0 k ≡ b
+    → value_at nat_eq (with_value nat_eq (e ∷ es) k d) k ≡ Some x
     → (value_at nat_eq (with_value nat_eq es k d) k ≡ Some x → d ≡ x) → d ≡ x
 put-is_by e es k d x true t is rest = let same : Some d ≡ Some x = rw t at (rw t at is) in cc
 put-is_by e es k d x false t is rest = rest (rw t at (rw t at is))
@@ -106,12 +107,15 @@ module _ (limits : Limits) where
   call-keeps : (h : Clients) (conn pid moment : ℕ) (c : Client) (request : PlainRequest) (b : Bool) → KeepsNone h conn → c.input ≡ []
       → KeepsNone (if b then refuse h conn c request.serial else accept limits h (Call pid request moment)) conn
   call-keeps h conn pid moment c request true all none = put-keeps h.clients conn _ none
-  call-keeps h conn pid moment c request false all none = delivers-keep (h.accepted + 1) conn (step limits h.state (Call pid request moment)).outcomes h.clients all
+  call-keeps h conn pid moment c request false all none = delivers-keep (h.accepted + 1) conn
+      (step limits h.state (Call pid request moment)).outcomes h.clients all
 
-  pub request-keeps_by : (h : Clients) (conn moment : ℕ) (c : Client) (request : PlainRequest) (refused : Bool) (p : Option ℕ) (kind : PlainKind) → KeepsNone h conn
+  pub request-keeps_by : (h : Clients) (conn moment : ℕ) (c : Client) (request : PlainRequest) (refused : Bool) (p : Option ℕ) (kind : PlainKind)
+      → KeepsNone h conn
       → c.input ≡ [] → KeepsNone (answered limits h conn c moment request refused p kind) conn
   request-keeps_by h conn moment c request true None (Hello cred) all none = put-keeps h.clients conn _ none
-  request-keeps_by h conn moment c request false None (Hello cred) all none = put-keeps h.clients conn _ (hello-keeps c (h.accepted + 1) (step limits h.state (Connect cred request.serial moment)).outcomes none)
+  request-keeps_by h conn moment c request false None (Hello cred) all none = put-keeps h.clients conn _
+      (hello-keeps c (h.accepted + 1) (step limits h.state (Connect cred request.serial moment)).outcomes none)
   request-keeps_by h conn moment c request refused None (Calls call) all none = put-keeps _ conn _ refl
   request-keeps_by h conn moment c request refused (Some pid) (Hello cred) all none = put-keeps _ conn _ refl
   request-keeps_by h conn moment c request refused (Some pid) (Calls call) all none =
@@ -195,7 +199,8 @@ module _ (limits : Limits) where
           let same : on_ending limits h conn moment (Broken serial) ≡ h = ended-stays h conn (λ d. break_off limits h conn d serial moment) c is over in
           subst (λ (t : Clients). unless_ended t conn act ≡ t) (sym same) (ended-stays h conn act c is over)
       by_end false live =
-          let same : on_ending limits h conn moment (Broken serial) ≡ break_off limits h conn c serial moment = acts h conn (λ d. break_off limits h conn d serial moment) c is live in
+          let same : on_ending limits h conn moment (Broken serial) ≡ break_off limits h conn c serial moment = acts h conn
+          (λ d. break_off limits h conn d serial moment) c is live in
           let left : Clients = leave limits h c.process moment in
           let now : Client = broken c left.accepted serial in
           subst (λ (t : Clients). unless_ended t conn act ≡ t) (sym same)
@@ -209,7 +214,8 @@ module _ (limits : Limits) where
       let s : Stream = stream_of (bytes ++ more) in
       ap (λ (t : Clients). take_in limits t conn more moment refused) (ending-over h conn moment (Rest bytes) over)
       ∙ over (λ d. settled (emptied h conn d) conn moment (stream_of (d.input ++ more)) refused)
-      ∙ sym (ap (λ (t : Clients). on_ending limits t conn moment s.ending) (requests-over h conn moment s.requests refused over) ∙ ending-over h conn moment s.ending over)
+      ∙ sym (ap (λ (t : Clients). on_ending limits t conn moment s.ending) (requests-over h conn moment s.requests refused over)
+      ∙ ending-over h conn moment s.ending over)
   rest-more h conn moment bytes more refused (Some c) none is = by_end c.ended refl
     where
       s : Stream
@@ -220,29 +226,36 @@ module _ (limits : Limits) where
           let over : IsOver h conn = λ act. ended-stays h conn act c is ended in
           ap (λ (t : Clients). take_in limits t conn more moment refused) (ending-over h conn moment (Rest bytes) over)
           ∙ over (λ d. settled (emptied h conn d) conn moment (stream_of (d.input ++ more)) refused)
-          ∙ sym (ap (λ (t : Clients). on_ending limits t conn moment s.ending) (requests-over h conn moment s.requests refused over) ∙ ending-over h conn moment s.ending over)
+          ∙ sym (ap (λ (t : Clients). on_ending limits t conn moment s.ending) (requests-over h conn moment s.requests refused over)
+          ∙ ending-over h conn moment s.ending over)
       by_end false live =
           let kept : Client = record c { input = bytes } in
-          let same : on_ending limits h conn moment (Rest bytes) ≡ with_client h conn kept = acts h conn (λ d. with_client h conn (record d { input = bytes })) c is live in
+          let same : on_ending limits h conn moment (Rest bytes) ≡ with_client h conn kept = acts h conn
+          (λ d. with_client h conn (record d { input = bytes })) c is live in
           let empty : record c { input = [] } ≡ c = ap (λ (i : List ℕ). record c { input = i }) (sym (none c is)) in
           let back : emptied (with_client h conn kept) conn kept ≡ h =
-          ap (λ (es : List (ℕ × Client)). record h { clients = es }) (twice h.clients conn kept (record c { input = [] }) ∙ ap (λ (d : Client). with_value nat_eq h.clients conn d) empty ∙ own h.clients conn c is) in
+          ap (λ (es : List (ℕ × Client)). record h { clients = es }) (twice h.clients conn kept (record c { input = [] })
+              ∙ ap (λ (d : Client). with_value nat_eq h.clients conn d) empty ∙ own h.clients conn c is) in
           ap (λ (t : Clients). take_in limits t conn more moment refused) same
           ∙ take_in-acts (with_client h conn kept) conn moment kept more refused (at-with h.clients conn kept c is) live
           ∙ ap (λ (t : Clients). settled t conn moment (stream_of (bytes ++ more)) refused) back
 
-  goes-on : (h : Clients) (conn moment : ℕ) (rs : List PlainRequest) (ending : Ending) (more : List ℕ) (xs ys : List Bool) → KeepsNone h conn → length xs ≡ length rs
+  goes-on : (h : Clients) (conn moment : ℕ) (rs : List PlainRequest) (ending : Ending) (more : List ℕ) (xs ys : List Bool) → KeepsNone h conn
+      → length xs ≡ length rs
       → take_in limits (on_ending limits (on_requests limits h conn moment rs xs) conn moment ending) conn more moment ys
       ≡ settled h conn moment (continued rs ending more) (xs ++ ys)
   goes-on h conn moment rs (Rest bytes) more xs ys none same =
       let now : Clients = on_requests limits h conn moment rs xs in
       rest-more now conn moment bytes more ys (client_at now conn) (requests-keep h conn moment rs xs none) refl
-      ∙ ap (λ (t : Clients). on_ending limits t conn moment (stream_of (bytes ++ more)).ending) (sym (requests-append h conn moment rs (stream_of (bytes ++ more)).requests xs ys same))
+      ∙ ap (λ (t : Clients). on_ending limits t conn moment (stream_of (bytes ++ more)).ending)
+      (sym (requests-append h conn moment rs (stream_of (bytes ++ more)).requests xs ys same))
   goes-on h conn moment rs (Broken serial) more xs ys none same =
       let now : Clients = on_requests limits h conn moment rs xs in
-      broken-over now conn moment serial (client_at now conn) refl (λ d. settled (emptied (on_ending limits now conn moment (Broken serial)) conn d) conn moment (stream_of (d.input ++ more)) ys)
+      broken-over now conn moment serial (client_at now conn) refl (λ d. settled (emptied (on_ending limits now conn moment (Broken serial)) conn d) conn moment
+      (stream_of (d.input ++ more)) ys)
       ∙ ap (λ (t : Clients). on_ending limits t conn moment (Broken serial))
-      (sym (ap (λ (qs : List PlainRequest). on_requests limits h conn moment qs (xs ++ ys)) (sym (append-nil rs)) ∙ requests-append h conn moment rs [] xs ys same))
+      (sym (ap (λ (qs : List PlainRequest). on_requests limits h conn moment qs (xs ++ ys)) (sym (append-nil rs))
+      ∙ requests-append h conn moment rs [] xs ys same))
 
   -- bytes taken in in two pieces are taken in at once
   pub take_in-pieces : (h : Clients) (conn moment : ℕ) (bytes more : List ℕ) (xs ys : List Bool) (r : Option Client) → client_at h conn ≡ r
@@ -260,13 +273,16 @@ module _ (limits : Limits) where
           let s : Stream = stream_of (c.input ++ bytes) in
           let zs : List Bool = fitted (length s.requests) xs in
           ap (λ (t : Clients). take_in limits t conn more moment ys)
-          (take_in-acts h conn moment c bytes xs is live ∙ ap (λ (t : Clients). on_ending limits t conn moment s.ending) (sym (requests-fitted (emptied h conn c) conn moment s.requests xs)))
+          (take_in-acts h conn moment c bytes xs is live ∙ ap (λ (t : Clients). on_ending limits t conn moment s.ending)
+          (sym (requests-fitted (emptied h conn c) conn moment s.requests xs)))
           ∙ goes-on (emptied h conn c) conn moment s.requests s.ending more zs ys (put-keeps h.clients conn _ refl) (length-fitted (length s.requests) xs)
-          ∙ ap (λ (t : Stream). settled (emptied h conn c) conn moment t (zs ++ ys)) (sym (pieces (c.input ++ bytes) more) ∙ ap stream_of (append_assoc c.input bytes more))
+          ∙ ap (λ (t : Stream). settled (emptied h conn c) conn moment t (zs ++ ys))
+          (sym (pieces (c.input ++ bytes) more) ∙ ap stream_of (append_assoc c.input bytes more))
           ∙ sym (take_in-acts h conn moment c (bytes ++ more) (zs ++ ys) is live)
 
   -- taking in nothing does nothing
-  pub take_in-nothing : (h : Clients) (conn moment : ℕ) (r : Option Client) → client_at h conn ≡ r → ((c : Client) → r ≡ Some c → first c.input ≡ More) → take_in limits h conn [] moment [] ≡ h
+  pub take_in-nothing : (h : Clients) (conn moment : ℕ) (r : Option Client) → client_at h conn ≡ r → ((c : Client) → r ≡ Some c → first c.input ≡ More)
+      → take_in limits h conn [] moment [] ≡ h
   take_in-nothing h conn moment None is waits = gone-stays h conn _ is
   take_in-nothing h conn moment (Some c) is waits = by_end c.ended refl
     where
@@ -274,7 +290,8 @@ module _ (limits : Limits) where
       by_end true ended = ended-stays h conn _ c is ended
       by_end false live =
           let e : Client = record c { input = [] } in
-          let s : stream_of (c.input ++ []) ≡ record { requests = []; ending = Rest c.input } = ap stream_of (append-nil c.input) ∙ begun c.input More (waits c refl) in
+          let s : stream_of (c.input ++ []) ≡ record { requests = []; ending = Rest c.input } = ap stream_of (append-nil c.input)
+          ∙ begun c.input More (waits c refl) in
           take_in-acts h conn moment c [] [] is live
           ∙ ap (λ (t : Stream). settled (emptied h conn c) conn moment t []) s
           ∙ acts (emptied h conn c) conn (λ d. with_client (emptied h conn c) conn (record d { input = c.input })) e (at-with h.clients conn e c is) live
@@ -289,5 +306,7 @@ module _ (limits : Limits) where
       let s : Stream = stream_of (c.input ++ bytes) in
       let empty = keep-moves limits range h conn c [] (first_short [] (omega arith)) o is in
       let asked = requests-move limits range (emptied h conn c) conn moment s.requests refused empty.orderly in
-      let end = ending-moves limits range (on_requests limits (emptied h conn c) conn moment s.requests refused) conn moment s.ending asked.orderly (rest-waits (c.input ++ bytes)) in
-      then_moves limits conn h (emptied h conn c) _ empty (then_moves limits conn (emptied h conn c) (on_requests limits (emptied h conn c) conn moment s.requests refused) _ asked end))
+      let end = ending-moves limits range (on_requests limits (emptied h conn c) conn moment s.requests refused) conn moment s.ending asked.orderly
+      (rest-waits (c.input ++ bytes)) in
+      then_moves limits conn h (emptied h conn c) _ empty (then_moves limits conn (emptied h conn c)
+      (on_requests limits (emptied h conn c) conn moment s.requests refused) _ asked end))

@@ -8,7 +8,8 @@ use Rattle.std.proofs.lemmas.List.{drop-take, drop-drop, length-drop, length-tak
 pub drop-slice_range : (xs : List ℕ) (from to n : ℕ) → from + n ≤ to → slice_range xs (from + n) to ≡ drop n (slice_range xs from to)
 drop-slice_range xs from to n within =
     let split : to - from ≡ n + (to - (from + n)) = omega arith in
-    sym (ap (λ (k : ℕ). drop n (take k (drop from xs))) split ∙ (drop-take n (to - (from + n)) (drop from xs) ∙ ap (take (to - (from + n))) (drop-drop n from xs)))
+    sym (ap (λ (k : ℕ). drop n (take k (drop from xs))) split ∙ (drop-take n (to - (from + n)) (drop from xs)
+    ∙ ap (take (to - (from + n))) (drop-drop n from xs)))
 
 pub drop_none : (n : ℕ) → drop {A = ℕ} n [] ≡ []
 drop_none zero = refl
@@ -51,5 +52,7 @@ written v xs out bytes end same long room is =
     let rest : List ℕ = drop (length bytes) (take (length xs - end) free) in
     let behind : List ℕ = drop (length xs - end) free in
     let ws : List ℕ = take end xs ++ ((bytes ++ rest) ++ behind) in
-    let size : length ws ≡ v.len = omega (arith, v.ok.0, ap length same, length-append (take end xs) ((bytes ++ rest) ++ behind), length-append (bytes ++ rest) behind, length-append bytes rest, length-take-le end xs long, length-drop end xs, length-drop (length bytes) (take (length xs - end) free), length-take-le (length xs - end) free (omega (arith, length-drop end xs)), length-drop (length xs - end) free) in
+    let size : length ws ≡ v.len = omega (arith, v.ok.0, ap length same, length-append (take end xs) ((bytes ++ rest) ++ behind), length-append
+    (bytes ++ rest) behind, length-append bytes rest, length-take-le end xs long, length-drop end xs, length-drop (length bytes)
+    (take (length xs - end) free), length-take-le (length xs - end) free (omega (arith, length-drop end xs)), length-drop (length xs - end) free) in
     ap (λ (o : List ℕ). (with_items v (take end xs ++ (o ++ behind))).items) is ∙ with_items_is v ws size

@@ -39,9 +39,12 @@ use Rattle.ipc_hub.proofs.Moves.{reply-spares, greet-moves, call-moves, refuse-m
 
 pub reply-length : (r : PlainReply) → length (reply_bytes r) ≡ 10 + length (body_bytes r.body)
 unfolding reply_bytes
-reply-length r = omega (arith, length-append (to_be_bytes w32 (6 + length (body_bytes r.body))) (to_be_bytes w32 r.serial ++ to_be_bytes w16 (error_number r.errno) ++ body_bytes r.body), length-append (to_be_bytes w32 r.serial) (to_be_bytes w16 (error_number r.errno) ++ body_bytes r.body), length-append (to_be_bytes w16 (error_number r.errno)) (body_bytes r.body))
+reply-length r = omega (arith, length-append (to_be_bytes w32 (6 + length (body_bytes r.body)))
+    (to_be_bytes w32 r.serial ++ to_be_bytes w16 (error_number r.errno) ++ body_bytes r.body), length-append (to_be_bytes w32 r.serial)
+    (to_be_bytes w16 (error_number r.errno) ++ body_bytes r.body), length-append (to_be_bytes w16 (error_number r.errno)) (body_bytes r.body))
 
-not_yet : (confirmed : ℕ) (frames : List Frame) (f : Frame) → confirmed < f.mark → confirmed_bytes confirmed (frames ++ f ∷ []) ≡ confirmed_bytes confirmed frames
+not_yet : (confirmed : ℕ) (frames : List Frame) (f : Frame) → confirmed < f.mark
+    → confirmed_bytes confirmed (frames ++ f ∷ []) ≡ confirmed_bytes confirmed frames
 not_yet confirmed [] f later =
     let above : nat_le f.mark confirmed ≡ false = grind (arith, nat_tests) in
     rw above refl
@@ -69,7 +72,8 @@ frames-gain limits confirmed mark accepted old new c o range has tidy later empt
 
 -- ---- what a request asks for
 
-pub hello-asks : (limits : Limits) (h : Clients) (conn moment : ℕ) (c : Client) (request : PlainRequest) (cred : Cred) → c.process ≡ None → request.kind ≡ Hello cred
+pub hello-asks : (limits : Limits) (h : Clients) (conn moment : ℕ) (c : Client) (request : PlainRequest) (cred : Cred) → c.process ≡ None
+    → request.kind ≡ Hello cred
     → (on_request limits h conn c moment request false ≡ greet limits h conn c (Connect cred request.serial moment)) × (on_request limits h conn c moment request true ≡ refuse h conn c request.serial)
 hello-asks limits h conn moment c request cred none said = (rw none (rw said refl), rw none (rw said refl))
 
@@ -85,7 +89,8 @@ pub call-asks : (limits : Limits) (h : Clients) (conn pid moment : ℕ) (c : Cli
     → on_request limits h conn c moment request false ≡ accept limits h (Call pid request moment)
 call-asks limits h conn pid moment c request mine said = rw mine (rw (asks-call request.kind said).1 refl)
 
-pub call-refused : (limits : Limits) (h : Clients) (conn pid moment : ℕ) (c : Client) (request : PlainRequest) → c.process ≡ Some pid → said_by request.kind ≡ None
+pub call-refused : (limits : Limits) (h : Clients) (conn pid moment : ℕ) (c : Client) (request : PlainRequest) → c.process ≡ Some pid
+    → said_by request.kind ≡ None
     → takes_memory (Call pid request moment) ≡ true → on_request limits h conn c moment request true ≡ refuse h conn c request.serial
 call-refused limits h conn pid moment c request mine said takes =
     let call = asks-call request.kind said in
@@ -93,13 +98,15 @@ call-refused limits h conn pid moment c request mine said takes =
     ∙ ap (λ (k : PlainKind). answered limits h conn c moment request true (Some pid) k) call.1
     ∙ ap (λ (b : Bool). if b then refuse h conn c request.serial else accept limits h (Call pid request moment)) takes
 
-pub hello-misplaced : (limits : Limits) (h : Clients) (conn pid moment : ℕ) (c : Client) (request : PlainRequest) (cred : Cred) (refused : Bool) → c.process ≡ Some pid → request.kind ≡ Hello cred
+pub hello-misplaced : (limits : Limits) (h : Clients) (conn pid moment : ℕ) (c : Client) (request : PlainRequest) (cred : Cred) (refused : Bool)
+    → c.process ≡ Some pid → request.kind ≡ Hello cred
     → on_request limits h conn c moment request refused ≡ break_off limits h conn c request.serial moment
 hello-misplaced limits h conn pid moment c request cred refused mine said =
     ap (λ (p : Option ℕ). answered limits h conn c moment request refused p request.kind) mine
     ∙ ap (λ (k : PlainKind). answered limits h conn c moment request refused (Some pid) k) said
 
-pub call-misplaced : (limits : Limits) (h : Clients) (conn moment : ℕ) (c : Client) (request : PlainRequest) (refused : Bool) → c.process ≡ None → said_by request.kind ≡ None
+pub call-misplaced : (limits : Limits) (h : Clients) (conn moment : ℕ) (c : Client) (request : PlainRequest) (refused : Bool) → c.process ≡ None
+    → said_by request.kind ≡ None
     → on_request limits h conn c moment request refused ≡ break_off limits h conn c request.serial moment
 call-misplaced limits h conn moment c request refused none said =
     ap (λ (p : Option ℕ). answered limits h conn c moment request refused p request.kind) none
@@ -107,7 +114,8 @@ call-misplaced limits h conn moment c request refused none said =
 
 -- ---- what the engine did
 
-hello-once : (limits : Limits) (s : State) (cred : Cred) (serial moment : ℕ) → (o : PlainOutcome) × ((step limits s (Connect cred serial moment)).outcomes ≡ o ∷ [])
+hello-once : (limits : Limits) (s : State) (cred : Cred) (serial moment : ℕ)
+    → (o : PlainOutcome) × ((step limits s (Connect cred serial moment)).outcomes ≡ o ∷ [])
 hello-once limits s cred serial moment =
     choice (λ (t : Step). (o : PlainOutcome) × (t.outcomes ≡ o ∷ [])) (nat_le limits.processes (length s.processes) || nat_lt last_number s.next_pid) _ _
     (λ _. (_, refl)) (λ _. (_, refl))
@@ -130,14 +138,18 @@ module _ (limits : Limits) (confirmed : ℕ) (h : Clients) (conn : ℕ) (c : Cli
       let mark : ℕ = h.accepted + 1 in
       let d : Client = hello_answered c mark (o ∷ []) in
       let told = answers o once.1 in
-      let fits : FitsBody limits o.body = All-head (λ (p : PlainOutcome). FitsBody limits p.body) o [] (rw once.1 at (step-fits limits h.state (Connect cred serial moment) meets.runs.orderly.sound)) in
-      let has = frames-gain limits confirmed mark h.accepted old new c o meets.runs.range meets.frames tidy (omega (arith, meets.runs.later)) empty told.0 fits in
+      let fits : FitsBody limits o.body = All-head (λ (p : PlainOutcome). FitsBody limits p.body) o []
+      (rw once.1 at (step-fits limits h.state (Connect cred serial moment) meets.runs.orderly.sound)) in
+      let has = frames-gain limits confirmed mark h.accepted old new c o meets.runs.range meets.frames tidy
+      (omega (arith, meets.runs.later)) empty told.0 fits in
       let moved = greet-moves limits h conn serial moment cred c meets.runs.range meets.runs.orderly meets.found in (
         d,
         (
           record {
-            runs = record { keeps = keeps ∙ meets.runs.keeps; state = state; orderly = moved.orderly; later = omega (arith, moved.later, meets.runs.later); range = meets.runs.range };
-            found = at-with h.clients conn (hello_answered c mark (step limits h.state (Connect cred serial moment)).outcomes) c meets.found ∙ ap (λ (os : List PlainOutcome). Some (hello_answered c mark os)) once.1;
+            runs = record { keeps = keeps ∙ meets.runs.keeps; state = state; orderly = moved.orderly; later = omega
+                (arith, moved.later, meets.runs.later); range = meets.runs.range };
+            found = at-with h.clients conn (hello_answered c mark (step limits h.state (Connect cred serial moment)).outcomes) c meets.found
+                ∙ ap (λ (os : List PlainOutcome). Some (hello_answered c mark os)) once.1;
             same = told.1;
             frames = record { waiting = has.waiting; visible = has.visible; seen = has.seen; room = has.room };
           },
@@ -145,20 +157,25 @@ module _ (limits : Limits) (confirmed : ℕ) (h : Clients) (conn : ℕ) (c : Cli
         ),
       )
 
-  pub called-meets : (pid moment : ℕ) (request : PlainRequest) (process' : Option Pid) → c.process ≡ Some pid → engine'.state ≡ (step limits h.state (Call pid request moment)).state
+  pub called-meets : (pid moment : ℕ) (request : PlainRequest) (process' : Option Pid) → c.process ≡ Some pid
+      → engine'.state ≡ (step limits h.state (Call pid request moment)).state
       → Answers old new process' (step limits h.state (Call pid request moment))
       → (d : Client) × (Meets limits confirmed engine' process new (accept limits h (Call pid request moment)) conn d × (d.ended ≡ c.ended))
   called-meets pid moment request process' mine state answers =
-      let o : PlainOutcome = record { pid = pid; serial = request.serial; errno = (asked limits (at_moment h.state moment) pid request.kind).errno; body = (asked limits (at_moment h.state moment) pid request.kind).body } in
+      let o : PlainOutcome = record { pid = pid; serial = request.serial; errno = (asked limits (at_moment h.state moment) pid request.kind).errno; body =
+      (asked limits (at_moment h.state moment) pid request.kind).body } in
       let mark : ℕ = h.accepted + 1 in
       let d : Client = with_frame c mark o in
-      let fits : FitsBody limits o.body = All-head (λ (p : PlainOutcome). FitsBody limits p.body) o [] (step-fits limits h.state (Call pid request moment) meets.runs.orderly.sound) in
-      let has = frames-gain limits confirmed mark h.accepted old new c o meets.runs.range meets.frames tidy (omega (arith, meets.runs.later)) empty (answers o refl).0 fits in
+      let fits : FitsBody limits o.body = All-head (λ (p : PlainOutcome). FitsBody limits p.body) o []
+      (step-fits limits h.state (Call pid request moment) meets.runs.orderly.sound) in
+      let has = frames-gain limits confirmed mark h.accepted old new c o meets.runs.range meets.frames tidy (omega (arith, meets.runs.later)) empty
+      (answers o refl).0 fits in
       let moved = call-moves limits h conn pid moment c request meets.runs.range meets.runs.orderly meets.found mine in (
         d,
         (
           record {
-            runs = record { keeps = keeps ∙ meets.runs.keeps; state = state; orderly = moved.orderly; later = omega (arith, moved.later, meets.runs.later); range = meets.runs.range };
+            runs = record { keeps = keeps ∙ meets.runs.keeps; state = state; orderly = moved.orderly; later = omega
+                (arith, moved.later, meets.runs.later); range = meets.runs.range };
             found = (reply-spares limits h conn mark c o meets.runs.orderly meets.found mine).0;
             same = meets.same;
             frames = has;
@@ -177,7 +194,8 @@ module _ (limits : Limits) (confirmed : ℕ) (h : Clients) (conn : ℕ) (c : Cli
         d,
         (
           record {
-            runs = record { keeps = keeps ∙ meets.runs.keeps; state = state ∙ meets.runs.state; orderly = moved.orderly; later = omega (arith, moved.later, meets.runs.later); range = meets.runs.range };
+            runs = record { keeps = keeps ∙ meets.runs.keeps; state = state
+                ∙ meets.runs.state; orderly = moved.orderly; later = omega (arith, moved.later, meets.runs.later); range = meets.runs.range };
             found = at-with h.clients conn d c meets.found;
             same = meets.same;
             frames = has;
@@ -206,8 +224,10 @@ module _ (engine engine' : Machine) (process process' : Option Pid) (old new : O
   hello-served cred none said state answers limits confirmed h conn c meets empty =
       let asked = hello-asks limits h conn moment c request cred (sym meets.same ∙ ap pid_of none) (asks-hello request.kind cred said) in
       let same : step (engine.limits) (engine.state) (Connect cred request.serial moment) ≡ step limits h.state (Connect cred request.serial moment) =
-      ap (λ (l : Limits). step l (engine.state) (Connect cred request.serial moment)) meets.runs.keeps ∙ ap (λ (s : State). step limits s (Connect cred request.serial moment)) meets.runs.state in
-      let served = greeted-meets limits confirmed h conn c engine engine' process old new meets empty keeps cred request.serial moment process' (state ∙ ap (λ (t : Step). t.state) same)
+      ap (λ (l : Limits). step l (engine.state) (Connect cred request.serial moment)) meets.runs.keeps
+      ∙ ap (λ (s : State). step limits s (Connect cred request.serial moment)) meets.runs.state in
+      let served = greeted-meets limits confirmed h conn c engine engine' process old new meets empty keeps cred request.serial moment process'
+      (state ∙ ap (λ (t : Step). t.state) same)
       (λ o once. answers o (ap (λ (t : Step). t.outcomes) same ∙ once)) in
       (false, (served.0, (subst (λ (t : Clients). Meets limits confirmed engine' process' new t conn served.0) (sym asked.0) served.1.0, served.1.1)))
 
@@ -216,7 +236,8 @@ module _ (engine engine' : Machine) (process process' : Option Pid) (old new : O
   hello-refused cred none kept said state gains limits confirmed h conn c meets empty =
       let asked = hello-asks limits h conn moment c request cred (sym meets.same ∙ ap pid_of none) (asks-hello request.kind cred said) in
       let served = refused-meets limits confirmed h conn c engine engine' process old new meets empty keeps request.serial state gains in
-      (true, (served.0, (subst (λ (t : Clients). Meets limits confirmed engine' process' new t conn served.0) (sym asked.1) (subst (λ (p : Option Pid). Meets limits confirmed engine' p new (refuse h conn c request.serial) conn served.0) (sym kept) served.1.0), served.1.1)))
+      (true, (served.0, (subst (λ (t : Clients). Meets limits confirmed engine' process' new t conn served.0) (sym asked.1)
+      (subst (λ (p : Option Pid). Meets limits confirmed engine' p new (refuse h conn c request.serial) conn served.0) (sym kept) served.1.0), served.1.1)))
 
   pub call-served : (pid : Pid) (answered_to : Option Pid) → process ≡ Some pid → process' ≡ process → said_by request.kind ≡ None
       → engine'.state ≡ (step (engine.limits) (engine.state) (Call pid.0 request moment)).state
@@ -226,18 +247,24 @@ module _ (engine engine' : Machine) (process process' : Option Pid) (old new : O
       let own : c.process ≡ Some pid.0 = sym meets.same ∙ ap pid_of mine in
       let asked = call-asks limits h conn pid.0 moment c request own said in
       let same : step (engine.limits) (engine.state) (Call pid.0 request moment) ≡ step limits h.state (Call pid.0 request moment) =
-      ap (λ (l : Limits). step l (engine.state) (Call pid.0 request moment)) meets.runs.keeps ∙ ap (λ (s : State). step limits s (Call pid.0 request moment)) meets.runs.state in
-      let served = called-meets limits confirmed h conn c engine engine' process old new meets empty keeps pid.0 moment request answered_to own (state ∙ ap (λ (t : Step). t.state) same)
+      ap (λ (l : Limits). step l (engine.state) (Call pid.0 request moment)) meets.runs.keeps
+      ∙ ap (λ (s : State). step limits s (Call pid.0 request moment)) meets.runs.state in
+      let served = called-meets limits confirmed h conn c engine engine' process old new meets empty keeps pid.0 moment request answered_to own
+      (state ∙ ap (λ (t : Step). t.state) same)
       (λ o once. answers o (ap (λ (t : Step). t.outcomes) same ∙ once)) in
-      (false, (served.0, (subst (λ (t : Clients). Meets limits confirmed engine' process' new t conn served.0) (sym asked) (subst (λ (p : Option Pid). Meets limits confirmed engine' p new (accept limits h (Call pid.0 request moment)) conn served.0) (sym kept) served.1.0), served.1.1)))
+      (false, (served.0, (subst (λ (t : Clients). Meets limits confirmed engine' process' new t conn served.0) (sym asked)
+      (subst (λ (p : Option Pid). Meets limits confirmed engine' p new (accept limits h (Call pid.0 request moment)) conn served.0)
+      (sym kept) served.1.0), served.1.1)))
 
-  pub call-not-served : (pid : Pid) → process ≡ Some pid → process' ≡ process → said_by request.kind ≡ None → takes_memory (Call pid.0 request moment) ≡ true → engine'.state ≡ engine.state
+  pub call-not-served : (pid : Pid) → process ≡ Some pid → process' ≡ process → said_by request.kind ≡ None → takes_memory (Call pid.0 request moment) ≡ true
+      → engine'.state ≡ engine.state
       → GainsFrame old new (reply_of (refusal request.serial ENOMEM)) → IsServed engine process old engine' process' new request moment
   call-not-served pid mine kept said takes state gains limits confirmed h conn c meets empty =
       let own : c.process ≡ Some pid.0 = sym meets.same ∙ ap pid_of mine in
       let asked = call-refused limits h conn pid.0 moment c request own said takes in
       let served = refused-meets limits confirmed h conn c engine engine' process old new meets empty keeps request.serial state gains in
-      (true, (served.0, (subst (λ (t : Clients). Meets limits confirmed engine' process' new t conn served.0) (sym asked) (subst (λ (p : Option Pid). Meets limits confirmed engine' p new (refuse h conn c request.serial) conn served.0) (sym kept) served.1.0), served.1.1)))
+      (true, (served.0, (subst (λ (t : Clients). Meets limits confirmed engine' process' new t conn served.0) (sym asked)
+      (subst (λ (p : Option Pid). Meets limits confirmed engine' p new (refuse h conn c request.serial) conn served.0) (sym kept) served.1.0), served.1.1)))
 
 -- only an event that may need memory is refused for it
 pub refused-takes : {A E : Type 0} (takes : Bool) (r : Result A E) → is_ok r ≡ false → (takes ≡ false → IsOk r) → takes ≡ true
@@ -246,21 +273,26 @@ refused-takes false r failed must = let never : true ≡ false = sym (must refl)
 
 module _ (engine : Machine) (process : Option Pid) (old : Outbox) (request : PlainRequest) (moment : ℕ) where
   -- a process of a connection is connected
-  pub always-connected : (pid : Pid) → process ≡ Some pid → is_process (engine.state) pid.0 ≡ false → IsMisplaced engine process old engine process old request moment
+  pub always-connected : (pid : Pid) → process ≡ Some pid → is_process (engine.state) pid.0 ≡ false
+      → IsMisplaced engine process old engine process old request moment
   always-connected pid mine apart = (
     refl,
     refl,
     refl,
     λ limits confirmed h conn c meets refused.
-        let there = meets.runs.orderly.connected conn pid.0 (ap (λ (r : Option Client). option_and_then (λ (d : Client). d.process) r) meets.found ∙ sym meets.same ∙ ap pid_of mine) in
+        let there = meets.runs.orderly.connected conn pid.0 (ap (λ (r : Option Client). option_and_then (λ (d : Client). d.process) r) meets.found
+        ∙ sym meets.same ∙ ap pid_of mine) in
         let never : true ≡ false = sym there ∙ sym (ap (λ (s : State). is_process s pid.0) meets.runs.state) ∙ apart in
         cc,
   )
 
   pub none-misplaced : process ≡ None → said_by request.kind ≡ None → IsMisplaced engine process old engine process old request moment
   none-misplaced none said =
-      (refl, refl, refl, λ limits confirmed h conn c meets refused. call-misplaced limits h conn moment c request refused (sym meets.same ∙ ap pid_of none) said)
+      (refl, refl, refl, λ limits confirmed h conn c meets refused. call-misplaced limits h conn moment c request refused
+      (sym meets.same ∙ ap pid_of none) said)
 
-  pub some-misplaced : (pid : Pid) (cred : Cred) → process ≡ Some pid → said_by request.kind ≡ Some cred → IsMisplaced engine process old engine process old request moment
+  pub some-misplaced : (pid : Pid) (cred : Cred) → process ≡ Some pid → said_by request.kind ≡ Some cred
+      → IsMisplaced engine process old engine process old request moment
   some-misplaced pid cred mine said =
-      (refl, refl, refl, λ limits confirmed h conn c meets refused. hello-misplaced limits h conn pid.0 moment c request cred refused (sym meets.same ∙ ap pid_of mine) (asks-hello request.kind cred said))
+      (refl, refl, refl, λ limits confirmed h conn c meets refused. hello-misplaced limits h conn pid.0 moment c request cred refused
+      (sym meets.same ∙ ap pid_of mine) (asks-hello request.kind cred said))

@@ -27,11 +27,13 @@ use Rattle.ipc_hub.proofs.Pieces.{left_at}
 use Rattle.ipc_hub.proofs.Serving.{frames-gain}
 
 -- the client that a connection stands for
-abbrev pub client-of : (limits : Limits) (confirmed : ℕ) (c : Connection) (r : Option Client) → AreClient limits confirmed (Some c) r → (cl : Client) × ((r ≡ Some cl) × IsClient limits confirmed c cl)
+abbrev pub client-of : (limits : Limits) (confirmed : ℕ) (c : Connection) (r : Option Client) → AreClient limits confirmed (Some c) r
+    → (cl : Client) × ((r ≡ Some cl) × IsClient limits confirmed c cl)
 client-of limits confirmed c None is = absurd is
 client-of limits confirmed c (Some cl) is = (cl, (refl, is))
 
-pub are-client : (limits : Limits) (confirmed : ℕ) (c : Connection) (r : Option Client) (cl : Client) → r ≡ Some cl → IsClient limits confirmed c cl → AreClient limits confirmed (Some c) r
+pub are-client : (limits : Limits) (confirmed : ℕ) (c : Connection) (r : Option Client) (cl : Client) → r ≡ Some cl → IsClient limits confirmed c cl
+    → AreClient limits confirmed (Some c) r
 are-client limits confirmed c r cl is same = rw is same
 
 -- ---- the process leaves
@@ -44,7 +46,8 @@ leave-later : (limits : Limits) (h : Clients) (p : Option ℕ) (moment : ℕ) �
 leave-later limits h None moment = omega arith
 leave-later limits h (Some pid) moment = omega arith
 
-pub connected-in : (limits : Limits) (h : Clients) (conn : ℕ) (s : State) (p : Option ℕ) → IsOrderly limits h → s ≡ h.state → process_in (client_at h conn) ≡ p → IsConnected s p
+pub connected-in : (limits : Limits) (h : Clients) (conn : ℕ) (s : State) (p : Option ℕ) → IsOrderly limits h → s ≡ h.state → process_in (client_at h conn) ≡ p
+    → IsConnected s p
 connected-in limits h conn s None o same is = tt
 connected-in limits h conn s (Some pid) o same is = ap (λ (t : State). is_process t pid) same ∙ o.connected conn pid is
 
@@ -59,24 +62,29 @@ breaks-off engine engine' c c' serial moment empty keeps state none input ended 
     let later = leave-later limits h cl.process moment in
     let moved = break_off-moves limits h conn serial moment cl meets.runs.range meets.runs.orderly meets.found in
     let tidy : IsTidy h.accepted cl = rw meets.found at (meets.runs.orderly.tidy conn) in
-    let has = frames-gain limits confirmed went.accepted h.accepted c.outbox c'.outbox cl (refusal serial EPROTO) meets.runs.range meets.frames tidy (omega (arith, later, meets.runs.later)) empty gains (omega arith) in
+    let has = frames-gain limits confirmed went.accepted h.accepted c.outbox c'.outbox cl (refusal serial EPROTO) meets.runs.range meets.frames tidy
+    (omega (arith, later, meets.runs.later)) empty gains (omega arith) in
     let there = connected-in limits h conn (engine.state) (pid_of c.process) meets.runs.orderly meets.runs.state (ap process_in meets.found ∙ sym meets.same) in
-    let found : client_at (break_off limits h conn cl serial moment) conn ≡ Some now = at-with went.clients conn now cl (left_at limits h conn moment cl.process ∙ meets.found) in
+    let found : client_at (break_off limits h conn cl serial moment) conn ≡ Some now = at-with went.clients conn now cl
+    (left_at limits h conn moment cl.process ∙ meets.found) in
     record {
       runs = record {
         keeps = keeps ∙ meets.runs.keeps;
-        state = state there ∙ ap (λ (s : State). left s (pid_of c.process) moment) meets.runs.state ∙ ap (λ (p : Option ℕ). left h.state p moment) meets.same ∙ sym (leave-state limits h cl.process moment);
+        state = state there ∙ ap (λ (s : State). left s (pid_of c.process) moment) meets.runs.state ∙ ap (λ (p : Option ℕ). left h.state p moment) meets.same
+            ∙ sym (leave-state limits h cl.process moment);
         orderly = moved.orderly;
         later = omega (arith, later, meets.runs.later);
         range = meets.runs.range;
       };
       client = are-client limits confirmed c' (client_at (break_off limits h conn cl serial moment) conn) now found
-          (record { process = ap pid_of none; input = ap (λ v. v.items) input ∙ cleared; ended = ended; outbox = record { waiting = has.waiting; visible = has.visible; seen = has.seen; room = has.room } });
+          (record { process = ap pid_of none; input = ap (λ v. v.items) input
+              ∙ cleared; ended = ended; outbox = record { waiting = has.waiting; visible = has.visible; seen = has.seen; room = has.room } });
     }
 
 -- nothing of the client was touched
 pub same-meets : (limits : Limits) (confirmed : ℕ) (engine engine' : Machine) (process process' : Option Pid) (outbox outbox' : Outbox) (h : Clients) (conn : ℕ) (cl : Client)
-    → engine' ≡ engine → process' ≡ process → outbox' ≡ outbox → Meets limits confirmed engine process outbox h conn cl → Meets limits confirmed engine' process' outbox' h conn cl
+    → engine' ≡ engine → process' ≡ process → outbox' ≡ outbox → Meets limits confirmed engine process outbox h conn cl
+    → Meets limits confirmed engine' process' outbox' h conn cl
 same-meets limits confirmed engine engine' process process' outbox outbox' h conn cl e p o meets =
     subst (λ (x : Machine). Meets limits confirmed x process' outbox' h conn cl) (sym e)
     (subst (λ (x : Option Pid). Meets limits confirmed engine x outbox' h conn cl) (sym p)
@@ -134,7 +142,8 @@ module _ (limits : Limits) (confirmed : ℕ) (engine : Machine) (c : Connection)
       }
 
   -- no whole frame yet
-  pub takes-more : (c' : Connection) → c.ended ≡ false → first bytes ≡ More → c'.process ≡ c.process → c'.input.items ≡ bytes → c'.outbox ≡ c.outbox → c'.ended ≡ c.ended
+  pub takes-more : (c' : Connection) → c.ended ≡ false → first bytes ≡ More → c'.process ≡ c.process → c'.input.items ≡ bytes → c'.outbox ≡ c.outbox
+      → c'.ended ≡ c.ended
       → Serves limits confirmed engine c' (take_in limits h conn next moment []) conn
   takes-more c' live is process input outbox ended =
       let d : Client = record cl { input = bytes } in
@@ -144,19 +153,22 @@ module _ (limits : Limits) (confirmed : ℕ) (engine : Machine) (c : Connection)
       let moved = take_in-moves limits h conn moment next [] serves.runs.range serves.runs.orderly in
       subst (λ (t : Clients). Serves limits confirmed engine c' t conn) (sym to)
       (record {
-        runs = record { keeps = serves.runs.keeps; state = serves.runs.state; orderly = subst (λ (t : Clients). IsOrderly limits t) to moved.orderly; later = serves.runs.later; range = serves.runs.range };
+        runs = record { keeps = serves.runs.keeps; state = serves.runs.state; orderly = subst
+            (λ (t : Clients). IsOrderly limits t) to moved.orderly; later = serves.runs.later; range = serves.runs.range };
         client = are-client limits confirmed c' (client_at h' conn) d (at-with bare.clients conn d e bare-found)
             (record {
               process = ap pid_of process ∙ same.process;
               input = input;
               ended = ended ∙ same.ended;
-              outbox = subst (λ o. HasFrames limits confirmed o d) (sym outbox) (record { waiting = same.outbox.waiting; visible = same.outbox.visible; seen = same.outbox.seen; room = same.outbox.room });
+              outbox = subst (λ o. HasFrames limits confirmed o d) (sym outbox)
+                  (record { waiting = same.outbox.waiting; visible = same.outbox.visible; seen = same.outbox.seen; room = same.outbox.room });
             });
       })
 
   -- a fault
   pub takes-fault : (engine' : Machine) (c' : Connection) (serial : ℕ) → c.ended ≡ false → first bytes ≡ Fault serial
-      → Serves limits confirmed engine' c' (break_off limits bare conn e serial moment) conn → Serves limits confirmed engine' c' (take_in limits h conn next moment []) conn
+      → Serves limits confirmed engine' c' (break_off limits bare conn e serial moment) conn
+      → Serves limits confirmed engine' c' (take_in limits h conn next moment []) conn
   takes-fault engine' c' serial live is broke =
       let to : take_in limits h conn next moment [] ≡ break_off limits bare conn e serial moment =
       taken [] (Fault serial) live is ∙ acts bare conn (λ x. break_off limits bare conn x serial moment) e bare-found (sym same.ended ∙ live) in
@@ -179,10 +191,12 @@ module _ (limits : Limits) (confirmed : ℕ) (engine : Machine) (c : Connection)
       taken (refused ∷ []) (Whole used request) live is
       ∙ ap (λ (s : Stream). settled limits bare conn moment (record { requests = request ∷ s.requests; ending = s.ending }) (refused ∷ []))
       (ap stream_of (nothing-behind used request is) ∙ begun [] More (first_short [] (omega arith)))
-      ∙ ap (λ (t : Clients). on_ending limits t conn moment (Rest [])) (acts bare conn (λ x. on_request limits bare conn x moment request refused) e bare-found (sym same.ended ∙ live))
+      ∙ ap (λ (t : Clients). on_ending limits t conn moment (Rest [])) (acts bare conn (λ x. on_request limits bare conn x moment request refused) e bare-found
+      (sym same.ended ∙ live))
 
   -- a request that was answered
-  pub takes-served : (engine' : Machine) (c' : Connection) (used : ℕ) (request : PlainRequest) → c.ended ≡ false → HasRoom c.outbox → first bytes ≡ Whole used request
+  pub takes-served : (engine' : Machine) (c' : Connection) (used : ℕ) (request : PlainRequest) → c.ended ≡ false → HasRoom c.outbox
+      → first bytes ≡ Whole used request
       → IsServed engine c.process c.outbox engine' c'.process c'.outbox request moment → c'.input.items ≡ [] → c'.ended ≡ c.ended
       → (refused : List Bool) × Serves limits confirmed engine' c' (take_in limits h conn next moment refused) conn
   takes-served engine' c' used request live empty is served input ended =
@@ -191,7 +205,8 @@ module _ (limits : Limits) (confirmed : ℕ) (engine : Machine) (c : Connection)
       let d : Client = done.1.0 in
       let meets = done.1.1.0 in
       let after : Clients = on_request limits bare conn e moment request refused in
-      let kept : d.input ≡ [] = request-keeps_by limits bare conn moment e request refused e.process request.kind (λ x found'. let one : e ≡ x = some_same e x (sym bare-found ∙ found') in subst (λ (y : Client). y.input ≡ []) one refl) refl d meets.found in
+      let kept : d.input ≡ [] = request-keeps_by limits bare conn moment e request refused e.process request.kind
+      (λ x found'. let one : e ≡ x = some_same e x (sym bare-found ∙ found') in subst (λ (y : Client). y.input ≡ []) one refl) refl d meets.found in
       let whole : record d { input = [] } ≡ d = ap (λ (i : List ℕ). record d { input = i }) (sym kept) in
       let to : take_in limits h conn next moment (refused ∷ []) ≡ after =
       taken-whole refused used request live is
@@ -234,7 +249,8 @@ takes-none engine c moment limits confirmed h conn serves =
     let tidy : IsTidy h.accepted has.0 = rw has.1.0 at (serves.runs.orderly.tidy conn) in (
       [],
       subst (λ (t : Clients). Serves limits confirmed engine c t conn)
-          (sym (take_in-nothing limits h conn moment (Some has.0) has.1.0 (λ d is. subst (λ (x : Client). first x.input ≡ More) (some_same has.0 d is) tidy.input))) serves,
+          (sym (take_in-nothing limits h conn moment (Some has.0) has.1.0
+          (λ d is. subst (λ (x : Client). first x.input ≡ More) (some_same has.0 d is) tidy.input))) serves,
     )
   where
     some_same : (x y : Client) → Some x ≡ Some y → x ≡ y
@@ -250,7 +266,8 @@ takes-dropped engine c moment bytes over limits confirmed h conn serves =
           (sym has.1.1.ended ∙ over))) serves,
     )
 
-pub takes-then : (one two three : Machine) (c d f : Connection) (bytes more : List ℕ) (moment : ℕ) → TakesIn one c two d bytes moment → TakesIn two d three f more moment
+pub takes-then : (one two three : Machine) (c d f : Connection) (bytes more : List ℕ) (moment : ℕ) → TakesIn one c two d bytes moment
+    → TakesIn two d three f more moment
     → TakesIn one c three f (bytes ++ more) moment
 takes-then one two three c d f bytes more moment first_part second_part limits confirmed h conn serves =
     let a = first_part limits confirmed h conn serves in

@@ -6,19 +6,23 @@ use Rattle.ipc_hub.proofs.hub.Hub.connect.Goals as goal
 
 pub returns-then-is_some-clause-in_use : goal.returns-then-is_some-clause-in_use
 returns-then-is_some-clause-in_use c =
-    let connected = is_some_value row nat_eq c.args.conn c.args.self.now.connections.items ∙ (ap is_some (sym c.place_of.ensures) ∙ (sym c.is_some.ensures ∙ c.if-is_some.true)) in
+    let connected = is_some_value row nat_eq c.args.conn c.args.self.now.connections.items
+    ∙ (ap is_some (sym c.place_of.ensures) ∙ (sym c.is_some.ensures ∙ c.if-is_some.true)) in
     (λ _. connected, λ _. refl)
 
 pub add-requires : goal.add-requires
 add-requires c =
-    is_some_value row nat_eq c.args.conn c.args.self.now.connections.items ∙ (ap is_some (sym c.place_of.ensures) ∙ (sym c.is_some.ensures ∙ c.if-is_some.false))
+    is_some_value row nat_eq c.args.conn c.args.self.now.connections.items
+    ∙ (ap is_some (sym c.place_of.ensures) ∙ (sym c.is_some.ensures ∙ c.if-is_some.false))
 
 pub returns-in-Ok-clause-in_use : goal.returns-in-Ok-clause-in_use
 returns-in-Ok-clause-in_use c =
-    let apart = is_some_value row nat_eq c.args.conn c.args.self.now.connections.items ∙ (ap is_some (sym c.place_of.ensures) ∙ (sym c.is_some.ensures ∙ c.if-is_some.false)) in
+    let apart = is_some_value row nat_eq c.args.conn c.args.self.now.connections.items
+    ∙ (ap is_some (sym c.place_of.ensures) ∙ (sym c.is_some.ensures ∙ c.if-is_some.false)) in
     (λ e. cc, λ h. let bad : true ≡ false = sym h ∙ apart in cc)
 
 pub returns-in-Err-clause-in_use : goal.returns-in-Err-clause-in_use
 returns-in-Err-clause-in_use c =
-    let apart = is_some_value row nat_eq c.args.conn c.args.self.now.connections.items ∙ (ap is_some (sym c.place_of.ensures) ∙ (sym c.is_some.ensures ∙ c.if-is_some.false)) in
+    let apart = is_some_value row nat_eq c.args.conn c.args.self.now.connections.items
+    ∙ (ap is_some (sym c.place_of.ensures) ∙ (sym c.is_some.ensures ∙ c.if-is_some.false)) in
     (λ e. cc, λ h. let bad : true ≡ false = sym h ∙ apart in cc)

@@ -11,7 +11,8 @@ use Rattle.ipc_hub.proofs.hub.Hub.consume.Goals as goal
 
 pub consume-requires : goal.consume-requires
 consume-requires c =
-    let found = value_at_place row nat_eq c.args.conn c.args.self.now.connections.items c.in-Some.place c.index_mut-connection.result.now (sym c.place_of.ensures ∙ c.in-Some.is) c.index_mut-connection.ensures.value in
+    let found = value_at_place row nat_eq c.args.conn c.args.self.now.connections.items c.in-Some.place c.index_mut-connection.result.now
+    (sym c.place_of.ensures ∙ c.in-Some.is) c.index_mut-connection.ensures.value in
     subst (λ (o : Option Connection). c.args.count ≤ length (visible_of o)) found c.requires
 
 pub returns-in-Some-clause-ok : goal.returns-in-Some-clause-ok
@@ -21,7 +22,8 @@ returns-in-Some-clause-ok c limits confirmed h stands =
     let place = sym c.place_of.ensures ∙ c.in-Some.is in
     let found = value_at_place row nat_eq c.args.conn items c.in-Some.place was place c.index_mut-connection.ensures.value in
     let within = subst (λ (o : Option Connection). c.args.count ≤ length (visible_of o)) found c.requires in
-    consume-stands limits confirmed c.args.self.now _ h c.args.conn c.args.count was _ stands refl found refl (set_at_place row nat_eq c.args.conn items c.in-Some.place was _ place c.index_mut-connection.ensures.value refl)
+    consume-stands limits confirmed c.args.self.now _ h c.args.conn c.args.count was _ stands refl found refl
+    (set_at_place row nat_eq c.args.conn items c.in-Some.place was _ place c.index_mut-connection.ensures.value refl)
     refl refl refl within c.consume.ensures.waiting c.consume.ensures.visible c.consume.ensures.room
 
 pub returns-in-Some-clause-output : goal.returns-in-Some-clause-output
@@ -36,7 +38,8 @@ returns-in-Some-clause-output c =
 
 pub returns-in_default-clause-ok : goal.returns-in_default-clause-ok
 returns-in_default-clause-ok c limits confirmed h stands =
-    consume-nowhere limits confirmed c.args.self.now h c.args.conn c.args.count stands (value_nowhere row nat_eq c.args.conn c.args.self.now.connections.items (sym c.place_of.ensures ∙ c.in_default.is))
+    consume-nowhere limits confirmed c.args.self.now h c.args.conn c.args.count stands
+    (value_nowhere row nat_eq c.args.conn c.args.self.now.connections.items (sym c.place_of.ensures ∙ c.in_default.is))
 
 pub returns-in_default-clause-output : goal.returns-in_default-clause-output
 returns-in_default-clause-output c =

@@ -25,7 +25,8 @@ returns-clause-ok c limits confirmed h stands =
     let was = c.index_mut-connection.result.now in
     let place = sym c.place_of.ensures ∙ c.in-Some.is in
     let found = value_at_place row nat_eq c.args.conn items c.in-Some.place was place c.index_mut-connection.ensures.value in
-    feed-stands limits confirmed c.args.self.now _ c.pass.new.engine h c.args.conn c.args.moment.0 (take c.feed.result c.args.piece.now) was c.feed.new.self stands refl found c.pass.ensures.limits c.pass.ensures.state
+    feed-stands limits confirmed c.args.self.now _ c.pass.new.engine h c.args.conn c.args.moment.0
+    (take c.feed.result c.args.piece.now) was c.feed.new.self stands refl found c.pass.ensures.limits c.pass.ensures.state
     c.feed.ensures.bytes (set_at_place row nat_eq c.args.conn items c.in-Some.place was c.feed.new.self place c.index_mut-connection.ensures.value c.feed.ensures.number)
 
 pub returns-clause-whole : goal.returns-clause-whole
