@@ -1,14 +1,13 @@
 -- What the crates above cite of a step.
-use Rattle.std.proofs.Common.{◌≡◌, ℕ}
+use Rattle.std.proofs.Common.{◌≡◌, ℕ, refl}
 use Rattle.std.specs.Prelude.{All}
 use Rattle.ipc_base.specs.declared.limits.Limits.{Limits}
-use Rattle.ipc_wire.specs.Request.{PlainKind}
-use Rattle.ipc_engine.specs.Calls.{asked}
+use Rattle.ipc_wire.specs.Request.{PlainKind, Hello, Calls}
 use Rattle.ipc_engine.specs.Event.{PlainEvent, PlainOutcome}
-use Rattle.ipc_engine.specs.Sound.{IsSound, FitsBody}
-use Rattle.ipc_engine.specs.State.{State}
-use Rattle.ipc_engine.specs.Step.{step}
-use Rattle.ipc_engine.proofs.Processes as processes
+use Rattle.ipc_state.specs.Sound.{IsSound, FitsBody}
+use Rattle.ipc_state.specs.State.{State}
+use Rattle.ipc_engine.specs.Step.{step, asked}
+use Rattle.sysv_calls.proofs.CallerLemmas.{attempt-keeps}
 use Rattle.ipc_engine.proofs.Soundness as soundness
 
 -- a sound state stays sound
@@ -21,4 +20,5 @@ step-fits = soundness.step-fits
 
 -- a request leaves the processes as they are
 pub asked-keeps : (limits : Limits) (s : State) (pid : ℕ) (kind : PlainKind) → (asked limits s pid kind).state.processes ≡ s.processes
-asked-keeps = processes.asked-keeps
+asked-keeps limits s pid (Hello cred) = refl
+asked-keeps limits s pid (Calls call) = attempt-keeps limits s pid call

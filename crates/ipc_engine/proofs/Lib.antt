@@ -1,5 +1,2 @@
-pub mod Places
-pub mod Ends
 pub mod Soundness
-pub mod Processes
 pub mod CallerLemmas

@@ -2,8 +2,9 @@
 use Rattle.std.specs.Prelude.{◌≡◌, ℕ, Bool, true, false, List}
 use Rattle.ipc_base.specs.declared.limits.Limits.{Limits}
 use Rattle.ipc_wire.specs.Request.{PlainKind, Hello, Calls}
-use Rattle.ipc_engine.specs.State.{State, is_process}
-use Rattle.ipc_engine.specs.Room.{takes_memory as call_takes_memory}
+use Rattle.ipc_state.specs.State.{State, is_process}
+use Rattle.ipc_state.specs.Held.{Room}
+use Rattle.sysv_calls.specs.Needs.{IsReserved, takes_memory as call_takes_memory}
 use Rattle.ipc_engine.specs.Event.{PlainEvent, Connect, Call, Tick, Exit, PlainOutcome}
 
 -- the limits that it keeps, the state, and the replies of the last event
@@ -29,3 +30,8 @@ takes_memory (Connect cred serial moment) = true
 takes_memory (Call pid request moment) = kind_takes_memory request.kind
 takes_memory (Tick moment) = false
 takes_memory (Exit pid moment) = false
+
+-- what a request of a process needs is there
+abbrev pub IsReadyFor : Room → PlainKind → Type 0
+IsReadyFor room (Hello cred) = Unit {0}
+IsReadyFor room (Calls call) = IsReserved room call

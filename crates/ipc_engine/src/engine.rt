@@ -1,31 +1,28 @@
 //! The machine: one step for each event.
 
 ghost use Rattle.std.specs.Prelude.{
-    ◌≡◌, ◌<◌, ◌≤◌, false, [], ◌∷◌, map, IsOk, OnOk, OnErr, IfOk, All, vec_len, vec_capacity,
+    ◌≡◌, ◌<◌, ◌≤◌, true, false, [], ◌∷◌, map, IsOk, OnOk, OnErr, IfOk, All, vec_capacity,
 };
 ghost use Rattle.ipc_base.specs.Limits.{ArePassed};
 ghost use Rattle.ipc_wire.specs.Request.{plain_kind};
-ghost use Rattle.ipc_engine.specs.Calls.{asked};
-ghost use Rattle.ipc_engine.specs.declared.state.State.{State as Tables};
-ghost use Rattle.ipc_engine.specs.Engine.{kind_takes_memory};
-ghost use Rattle.ipc_engine.specs.Room.{IsReadyFor};
-ghost use Rattle.ipc_engine.specs.Sound.{IsSound, FitsBody};
-ghost use Rattle.ipc_engine.specs.State.{is_process, start};
-ghost use Rattle.ipc_engine.specs.Step.{step as step_on, connect as connect_step, replied};
-ghost use Rattle.ipc_engine.specs.View.{plain_event, plain_outcome, state_of as tables_of, step_of, finish_of};
+ghost use Rattle.ipc_state.specs.Finish.{finish_of};
+ghost use Rattle.ipc_state.specs.Sound.{IsSound, FitsBody};
+ghost use Rattle.ipc_state.specs.State.{State as PlainState, is_process, start};
+ghost use Rattle.ipc_engine.specs.Engine.{kind_takes_memory, IsReadyFor};
+ghost use Rattle.ipc_engine.specs.Step.{step as step_on, asked, connect as connect_step, replied};
+ghost use Rattle.ipc_engine.specs.View.{plain_event, plain_outcome, step_of};
 
-use crate::calls::{Answer, attempt, reserve};
 use crate::event::{Event, Outcome};
-use crate::state::{LAST_NUMBER, Process, State, process_place, remove_process};
 use ipc_base::{Cred, Errno, Limits, Pid};
+use ipc_state::State;
 use ipc_wire::{Body, RequestKind};
 use std::alloc::{AllocError, Global};
 use std::marker::Model;
+use sysv_calls::{Answer, attempt, reserve};
 
 /// The machine. A contract sees its limits, its state and the replies of the last event.
 #[derive(Drop)]
 pub struct Engine {
-    alloc: Global,
     state: State,
     outcomes: Vec<Outcome>,
 }
@@ -34,18 +31,18 @@ impl Model for Engine {
     ghost use Rattle.std.specs.Prelude.{◌<◌, map, vec_capacity};
     ghost use Rattle.ipc_base.specs.Limits.{ArePassed};
     ghost use Rattle.ipc_engine.specs.Engine.{Machine};
-    ghost use Rattle.ipc_engine.specs.Sound.{IsSound};
-    ghost use Rattle.ipc_engine.specs.View.{plain_outcome, state_of};
+    ghost use Rattle.ipc_state.specs.Sound.{IsSound};
+    ghost use Rattle.ipc_engine.specs.View.{plain_outcome};
 
     ghost Value = { Machine };
 
     ghost view = { λ e. record {
       limits = e.state.limits;
-      state = state_of e.state;
+      state = e.state.state;
       outcomes = map plain_outcome e.outcomes.items;
     } };
 
-    ghost invariant = { λ e. (0 < vec_capacity e.outcomes) × IsSound e.state.limits (state_of e.state)
+    ghost invariant = { λ e. (0 < vec_capacity e.outcomes) × IsSound e.state.limits e.state.state
         × ArePassed e.state.limits };
 }
 
@@ -62,7 +59,6 @@ impl Engine {
     {
         let outcomes = Vec::with_capacity(alloc, 1)?;
         Ok(Engine {
-            alloc,
             state: State::new(alloc, limits),
             outcomes,
         })
@@ -74,14 +70,14 @@ impl Engine {
         ensures passed { ArePassed result.now }
         ensures sound { IsSound self.now.limits self.now.state }
     {
-        &self.state.limits
+        self.state.limits()
     }
 
     /// Whether a process has this number.
     pub fn connected(&self, pid: Pid) -> bool
         ensures { result ≡ is_process self.now.state pid.0 }
     {
-        process_place(&self.state.processes, pid).is_some()
+        self.state.has_process(pid)
     }
 
     /// The replies of the last event, in order.
@@ -113,7 +109,7 @@ impl Engine {
                 serial,
                 moment,
             } => {
-                self.state.processes.reserve(1)?;
+                self.state.reserve_process()?;
                 self.state.begin(moment);
                 let outcome = connect(&mut self.state, cred, serial);
                 answer(&mut self.outcomes, outcome);
@@ -125,7 +121,7 @@ impl Engine {
             } => {
                 reserve_kind(&mut self.state, &request.kind)?;
                 self.state.begin(moment);
-                let ended = ask(self.alloc, &mut self.state, pid, &request.kind);
+                let ended = ask(&mut self.state, pid, &request.kind);
                 answer(&mut self.outcomes, reply_to(pid, request.serial, ended));
             }
             Event::Tick { moment } => {
@@ -134,7 +130,7 @@ impl Engine {
             }
             Event::Exit { pid, moment } => {
                 self.state.begin(moment);
-                remove_process(&mut self.state.processes, pid);
+                self.state.remove_process(pid);
                 self.outcomes.clear();
             }
         }
@@ -154,11 +150,11 @@ fn answer(outcomes: &mut Vec<Outcome>, outcome: Outcome)
 
 /// The reply to a HELLO: a new process, or ENFILE where none can be added. It takes no memory.
 fn connect(state: &mut State, cred: Cred, serial: u32) -> Outcome
-    requires { vec_len state.old.processes < vec_capacity state.old.processes }
-    ensures step { step_of state.new result ≡ connect_step state.old.limits (tables_of state.old) cred serial }
+    requires { state.old.room.process ≡ true }
+    ensures step { step_of state.new.state result ≡ connect_step state.old.limits state.old.state cred serial }
     ensures limits { state.new.limits ≡ state.old.limits }
 {
-    if state.limits.processes as usize <= state.processes.len() || LAST_NUMBER < state.next_pid {
+    if state.has_all_processes() {
         return Outcome {
             pid: Pid(0),
             serial,
@@ -166,23 +162,20 @@ fn connect(state: &mut State, cred: Cred, serial: u32) -> Outcome
             body: Body::Empty,
         };
     }
-    let number = state.next_pid;
-    let pid = Pid(number);
-    state.next_pid += 1;
-    state.processes.push(Process { pid, cred }).unwrap();
+    let pid = state.add_process(cred);
     Outcome {
         pid,
         serial,
         errno: None,
-        body: Body::Number(number),
+        body: Body::Number(pid.0),
     }
 }
 
 /// Takes the memory that a request of a process may need.
 fn reserve_kind(state: &mut State, kind: &RequestKind<'_>) -> Result<(), AllocError>
-    ensures state { tables_of state.new ≡ tables_of state.old }
+    ensures state { state.new.state ≡ state.old.state }
     ensures limits { state.new.limits ≡ state.old.limits }
-    ensures ok { OnOk result (IsReadyFor state.new (plain_kind kind.now)) }
+    ensures ok { OnOk result (IsReadyFor state.new.room (plain_kind kind.now)) }
     ensures memory { kind_takes_memory (plain_kind kind.now) ≡ false → IsOk result }
 {
     match kind {
@@ -192,21 +185,21 @@ fn reserve_kind(state: &mut State, kind: &RequestKind<'_>) -> Result<(), AllocEr
 }
 
 /// How a request of a process ends, whose memory is reserved. It takes none.
-fn ask(alloc: Global, state: &mut State, pid: Pid, kind: &RequestKind<'_>) -> Answer
-    requires { IsReadyFor state.old (plain_kind kind.now) }
-    ensures finish { finish_of state.new result
-        ≡ asked state.old.limits (tables_of state.old) pid.0 (plain_kind kind.now) }
+fn ask(state: &mut State, pid: Pid, kind: &RequestKind<'_>) -> Answer
+    requires { IsReadyFor state.old.room (plain_kind kind.now) }
+    ensures finish { finish_of state.new.state result
+        ≡ asked state.old.limits state.old.state pid.0 (plain_kind kind.now) }
     ensures limits { state.new.limits ≡ state.old.limits }
 {
     match kind {
         RequestKind::Hello(_) => Err(Errno::EPROTO),
-        RequestKind::Call(call) => attempt(alloc, state, pid, call),
+        RequestKind::Call(call) => attempt(state, pid, call),
     }
 }
 
 /// The reply that tells a process how its request ended.
 fn reply_to(pid: Pid, serial: u32, ended: Answer) -> Outcome
-    ensures { (t : Tables) → step_of t result ≡ replied pid.0 serial (finish_of t ended) }
+    ensures { (s : PlainState) → step_of s result ≡ replied pid.0 serial (finish_of s ended) }
 {
     let (errno, body) = match ended {
         Ok(body) => (None, body),

@@ -4,11 +4,10 @@ ghost use Rattle.std.specs.Prelude.{◌≡◌, ◌≢◌, ◌<◌, ◌≤◌, �
 ghost use Rattle.ipc_base.specs.declared.limits.Limits.{Limits};
 ghost use Rattle.ipc_base.specs.declared.identity.Cred.{Cred};
 ghost use Rattle.ipc_wire.specs.Request.{PlainRequest};
-ghost use Rattle.ipc_engine.specs.State.{State, start, is_process};
-ghost use Rattle.ipc_engine.specs.Calls.{asked};
+ghost use Rattle.ipc_state.specs.State.{State, start, is_process, at_moment};
 ghost use Rattle.ipc_engine.specs.Event.{PlainEvent, Connect, Call, Tick, Exit, moment_of};
-ghost use Rattle.ipc_engine.specs.Step.{step, run, at_moment};
-ghost use Rattle.ipc_engine.specs.Sound.{IsSound, FitsBody};
+ghost use Rattle.ipc_engine.specs.Step.{step, run, asked};
+ghost use Rattle.ipc_state.specs.Sound.{IsSound, FitsBody};
 
 /// The state is sound before the first event, and after each event if it was before.
 pub fn step_keeps_soundness()

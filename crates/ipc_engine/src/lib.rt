@@ -1,11 +1,9 @@
 //! The server as one pure machine: an event goes in, the state changes by a step, and replies come out.
 #![tactic(auto)]
 
-mod calls;
 mod engine;
 mod event;
 mod laws;
-mod state;
 
 pub use engine::Engine;
 pub use event::{Event, Outcome};

@@ -13,10 +13,10 @@ use Rattle.ipc_wire.proofs.CallerLemmas.{first_short}
 use Rattle.ipc_engine.specs.Engine.{Machine}
 use Rattle.ipc_base.specs.Table.{value_at, with_value, without, keys_of}
 
-use Rattle.ipc_engine.specs.State.{State}
-use Rattle.ipc_engine.specs.Step.{at_moment}
+use Rattle.ipc_state.specs.State.{State}
+use Rattle.ipc_state.specs.State.{at_moment}
 use Rattle.ipc_engine.specs.Event.{Exit}
-use Rattle.ipc_engine.specs.Sound.{IsSound}
+use Rattle.ipc_state.specs.Sound.{IsSound}
 use Rattle.ipc_engine.proofs.CallerLemmas.{step-sound}
 use Rattle.ipc_base.proofs.CallerLemmas.{nobody, keys_of-with_value, no_key, value_at-without}
 use Rattle.ipc_hub.specs.declared.connection.Connection.{Connection}

@@ -19,16 +19,18 @@ use Rattle.ipc_wire.specs.Stream.Ending.{Rest, Broken}
 use Rattle.ipc_wire.proofs.CallerLemmas.{first_short}
 use Rattle.ipc_wire.specs.Stream.PlainFrame.{More}
 use Rattle.ipc_base.specs.Table.{value_at, with_value, keys_of}
-use Rattle.ipc_engine.specs.State.{State, is_process}
-use Rattle.ipc_engine.specs.Calls.{Finish, asked}
-use Rattle.ipc_engine.specs.Step.{Step, at_moment, step, connect, exit}
+use Rattle.ipc_state.specs.State.{State, is_process}
+use Rattle.ipc_state.specs.Finish.{Finish}
+use Rattle.ipc_engine.specs.Step.{asked}
+use Rattle.ipc_engine.specs.Step.{Step, step, connect}
+use Rattle.ipc_state.specs.State.{at_moment, exit}
 use Rattle.ipc_engine.specs.Event.{PlainEvent, Connect, Call, Tick, Exit, PlainOutcome}
 use Rattle.ipc_engine.specs.View.{reply_of}
-use Rattle.ipc_engine.specs.Sound.{IsSound, FitsBody}
+use Rattle.ipc_state.specs.Sound.{IsSound, FitsBody}
 use Rattle.ipc_base.specs.declared.errno.Errno.{Errno}
 use Rattle.ipc_base.specs.declared.errno.Errno.TheVariants.{ENOMEM, EPROTO, ENFILE}
 use Rattle.ipc_base.specs.declared.identity.Cred.{Cred}
-use Rattle.ipc_engine.specs.State.{last_number}
+use Rattle.ipc_state.specs.Objects.{last_number}
 use Rattle.ipc_engine.proofs.CallerLemmas.{step-sound, step-fits}
 use Rattle.ipc_engine.proofs.CallerLemmas.{asked-keeps}
 use Rattle.ipc_base.proofs.CallerLemmas.{keys_of-with_value, rising-found, is_some-append, is_some-push, value_at-without}

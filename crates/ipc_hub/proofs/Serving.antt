@@ -15,12 +15,14 @@ use Rattle.ipc_wire.specs.Request.{PlainCall, PlainKind, PlainRequest, Hello, Ca
 use Rattle.ipc_wire.specs.Reply.{PlainReply, reply_bytes, body_bytes, error_number}
 use Rattle.ipc_engine.specs.Engine.{Machine, takes_memory}
 
-use Rattle.ipc_engine.specs.State.{State, is_process, last_number}
-use Rattle.ipc_engine.specs.Calls.{asked}
+use Rattle.ipc_state.specs.State.{State, is_process}
+use Rattle.ipc_state.specs.Objects.{last_number}
+use Rattle.ipc_engine.specs.Step.{asked}
 use Rattle.ipc_engine.specs.Event.{Connect, Call, PlainOutcome}
-use Rattle.ipc_engine.specs.Step.{Step, at_moment, step}
+use Rattle.ipc_engine.specs.Step.{Step, step}
+use Rattle.ipc_state.specs.State.{at_moment}
 use Rattle.ipc_engine.specs.View.{reply_of}
-use Rattle.ipc_engine.specs.Sound.{FitsBody}
+use Rattle.ipc_state.specs.Sound.{FitsBody}
 use Rattle.ipc_engine.proofs.CallerLemmas.{step-fits}
 use Rattle.ipc_base.proofs.CallerLemmas.{choice}
 use Rattle.ipc_hub.specs.declared.outbox.Outbox.{Outbox}

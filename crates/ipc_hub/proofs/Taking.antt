@@ -1,16 +1,16 @@
--- One byte more on a connection is the hub's taking in of that byte.
+-- Bytes up to the end of a frame on a connection are the hub's taking in of those bytes.
 use Rattle.std.proofs.Common.{◌≡◌, ℕ, ◌+◌, ◌≤◌, Bool, true, false, List, [], ◌∷◌, ◌++◌, length, drop, Option, Some, None, refl, sym, ap, ◌∙◌, subst, arith}
 use Rattle.std.proofs.lemmas.List.{length-append, length-drop}
 use Rattle.ipc_base.specs.declared.limits.Limits.{Limits}
 use Rattle.ipc_base.specs.declared.errno.Errno.TheVariants.{EPROTO}
 use Rattle.ipc_wire.specs.Request.{PlainRequest}
-use Rattle.ipc_wire.specs.Stream.{PlainFrame, first, Stream, begins_with, stream_of}
+use Rattle.ipc_wire.specs.Stream.{PlainFrame, first, missing, Stream, begins_with, stream_of}
 use Rattle.ipc_wire.specs.Stream.PlainFrame.{More, Whole, Fault}
 use Rattle.ipc_wire.specs.Stream.Ending.{Rest}
-use Rattle.ipc_wire.proofs.CallerLemmas.{first_short, missing_some, whole_last}
+use Rattle.ipc_wire.proofs.CallerLemmas.{first_short, whole_last}
 use Rattle.ipc_engine.specs.Engine.{Machine}
 
-use Rattle.ipc_engine.specs.State.{State, is_process}
+use Rattle.ipc_state.specs.State.{State, is_process}
 use Rattle.ipc_engine.specs.View.{reply_of}
 use Rattle.ipc_base.specs.declared.identity.Pid.{Pid}
 use Rattle.ipc_hub.specs.declared.outbox.Outbox.{Outbox}
@@ -81,9 +81,10 @@ same-meets limits confirmed engine engine' process process' outbox outbox' h con
     (subst (λ (x : Option Pid). Meets limits confirmed engine x outbox' h conn cl) (sym p)
     (subst (λ (x : Outbox). Meets limits confirmed engine process x h conn cl) (sym o) meets))
 
--- ---- one byte
+-- ---- some bytes, of which there are no more than are missing of a frame
 
-module _ (limits : Limits) (confirmed : ℕ) (engine : Machine) (c : Connection) (h : Clients) (conn byte moment : ℕ) (serves : Serves limits confirmed engine c h conn) where
+module _ (limits : Limits) (confirmed : ℕ) (engine : Machine) (c : Connection) (h : Clients) (conn : ℕ) (next : List ℕ) (moment : ℕ)
+    (few : length next ≤ missing c.input.items) (serves : Serves limits confirmed engine c h conn) where
   abbrev pub cl : Client
   cl = (client-of limits confirmed c (client_at h conn) serves.client).0
 
@@ -101,7 +102,7 @@ module _ (limits : Limits) (confirmed : ℕ) (engine : Machine) (c : Connection)
   bare = emptied limits h conn cl
 
   abbrev pub bytes : List ℕ
-  bytes = c.input.items ++ byte ∷ []
+  bytes = c.input.items ++ next
 
   waits : first c.input.items ≡ More
   waits =
@@ -116,11 +117,11 @@ module _ (limits : Limits) (confirmed : ℕ) (engine : Machine) (c : Connection)
 
   -- what taking in comes to
   taken : (refused : List Bool) (f : PlainFrame) → c.ended ≡ false → first bytes ≡ f
-      → take_in limits h conn (byte ∷ []) moment refused ≡ settled limits bare conn moment (begins_with f bytes (λ used. stream_of (drop used bytes))) refused
+      → take_in limits h conn next moment refused ≡ settled limits bare conn moment (begins_with f bytes (λ used. stream_of (drop used bytes))) refused
   taken refused f live is =
-      take_in-acts limits h conn moment cl (byte ∷ []) refused found (sym same.ended ∙ live)
+      take_in-acts limits h conn moment cl next refused found (sym same.ended ∙ live)
       ∙ ap (λ (s : Stream). settled limits bare conn moment s refused)
-      (ap (λ (i : List ℕ). stream_of (i ++ byte ∷ [])) (sym same.input) ∙ begun bytes f is)
+      (ap (λ (i : List ℕ). stream_of (i ++ next)) (sym same.input) ∙ begun bytes f is)
 
   pub meets-bare : Meets limits confirmed engine c.process c.outbox bare conn e
   meets-bare =
@@ -133,13 +134,13 @@ module _ (limits : Limits) (confirmed : ℕ) (engine : Machine) (c : Connection)
 
   -- no whole frame yet
   pub takes-more : (c' : Connection) → c.ended ≡ false → first bytes ≡ More → c'.process ≡ c.process → c'.input.items ≡ bytes → c'.outbox ≡ c.outbox → c'.ended ≡ c.ended
-      → Serves limits confirmed engine c' (take_in limits h conn (byte ∷ []) moment []) conn
+      → Serves limits confirmed engine c' (take_in limits h conn next moment []) conn
   takes-more c' live is process input outbox ended =
       let d : Client = record cl { input = bytes } in
       let h' : Clients = with_client bare conn d in
-      let to : take_in limits h conn (byte ∷ []) moment [] ≡ h' =
+      let to : take_in limits h conn next moment [] ≡ h' =
       taken [] More live is ∙ acts bare conn (λ x. with_client bare conn (record x { input = bytes })) e bare-found (sym same.ended ∙ live) in
-      let moved = take_in-moves limits h conn moment (byte ∷ []) [] serves.runs.range serves.runs.orderly in
+      let moved = take_in-moves limits h conn moment next [] serves.runs.range serves.runs.orderly in
       subst (λ (t : Clients). Serves limits confirmed engine c' t conn) (sym to)
       (record {
         runs = record { keeps = serves.runs.keeps; state = serves.runs.state; orderly = subst (λ (t : Clients). IsOrderly limits t) to moved.orderly; later = serves.runs.later; range = serves.runs.range };
@@ -154,17 +155,16 @@ module _ (limits : Limits) (confirmed : ℕ) (engine : Machine) (c : Connection)
 
   -- a fault
   pub takes-fault : (engine' : Machine) (c' : Connection) (serial : ℕ) → c.ended ≡ false → first bytes ≡ Fault serial
-      → Serves limits confirmed engine' c' (break_off limits bare conn e serial moment) conn → Serves limits confirmed engine' c' (take_in limits h conn (byte ∷ []) moment []) conn
+      → Serves limits confirmed engine' c' (break_off limits bare conn e serial moment) conn → Serves limits confirmed engine' c' (take_in limits h conn next moment []) conn
   takes-fault engine' c' serial live is broke =
-      let to : take_in limits h conn (byte ∷ []) moment [] ≡ break_off limits bare conn e serial moment =
+      let to : take_in limits h conn next moment [] ≡ break_off limits bare conn e serial moment =
       taken [] (Fault serial) live is ∙ acts bare conn (λ x. break_off limits bare conn x serial moment) e bare-found (sym same.ended ∙ live) in
       subst (λ (t : Clients). Serves limits confirmed engine' c' t conn) (sym to) broke
 
-  -- nothing stands behind a frame that is whole with this byte
+  -- nothing stands behind a frame that is whole with these bytes
   nothing-behind : (used : ℕ) (request : PlainRequest) → first bytes ≡ Whole used request → drop used bytes ≡ []
   nothing-behind used request is =
-      let some = missing_some c.input.items waits in
-      let last : used ≡ length bytes = whole_last c.input.items (byte ∷ []) used request waits (omega (arith, some.0)) is in
+      let last : used ≡ length bytes = whole_last c.input.items next used request waits few is in
       none (drop used bytes) (omega (arith, last, length-drop used bytes))
     where
       none : (xs : List ℕ) → length xs ≡ 0 → xs ≡ []
@@ -173,7 +173,7 @@ module _ (limits : Limits) (confirmed : ℕ) (engine : Machine) (c : Connection)
 
   -- a request, and what it came to
   taken-whole : (refused : Bool) (used : ℕ) (request : PlainRequest) → c.ended ≡ false → first bytes ≡ Whole used request
-      → take_in limits h conn (byte ∷ []) moment (refused ∷ []) ≡ on_ending limits (on_request limits bare conn e moment request refused) conn moment (Rest [])
+      → take_in limits h conn next moment (refused ∷ []) ≡ on_ending limits (on_request limits bare conn e moment request refused) conn moment (Rest [])
   taken-whole refused used request live is =
       taken (refused ∷ []) (Whole used request) live is
       ∙ ap (λ (s : Stream). settled limits bare conn moment (record { requests = request ∷ s.requests; ending = s.ending }) (refused ∷ []))
@@ -183,7 +183,7 @@ module _ (limits : Limits) (confirmed : ℕ) (engine : Machine) (c : Connection)
   -- a request that was answered
   pub takes-served : (engine' : Machine) (c' : Connection) (used : ℕ) (request : PlainRequest) → c.ended ≡ false → HasRoom c.outbox → first bytes ≡ Whole used request
       → IsServed engine c.process c.outbox engine' c'.process c'.outbox request moment → c'.input.items ≡ [] → c'.ended ≡ c.ended
-      → (refused : List Bool) × Serves limits confirmed engine' c' (take_in limits h conn (byte ∷ []) moment refused) conn
+      → (refused : List Bool) × Serves limits confirmed engine' c' (take_in limits h conn next moment refused) conn
   takes-served engine' c' used request live empty is served input ended =
       let done = served limits confirmed bare conn e meets-bare empty in
       let refused : Bool = done.0 in
@@ -192,7 +192,7 @@ module _ (limits : Limits) (confirmed : ℕ) (engine : Machine) (c : Connection)
       let after : Clients = on_request limits bare conn e moment request refused in
       let kept : d.input ≡ [] = request-keeps_by limits bare conn moment e request refused e.process request.kind (λ x found'. let one : e ≡ x = some_same e x (sym bare-found ∙ found') in subst (λ (y : Client). y.input ≡ []) one refl) refl d meets.found in
       let whole : record d { input = [] } ≡ d = ap (λ (i : List ℕ). record d { input = i }) (sym kept) in
-      let to : take_in limits h conn (byte ∷ []) moment (refused ∷ []) ≡ after =
+      let to : take_in limits h conn next moment (refused ∷ []) ≡ after =
       taken-whole refused used request live is
       ∙ acts after conn (λ x. with_client after conn (record x { input = [] })) d meets.found (done.1.1.1 ∙ sym same.ended ∙ live)
       ∙ ap (λ (x : Client). with_client after conn x) whole
@@ -213,23 +213,17 @@ module _ (limits : Limits) (confirmed : ℕ) (engine : Machine) (c : Connection)
   pub takes-misplaced : (engine' : Machine) (c' : Connection) (used : ℕ) (request : PlainRequest) → c.ended ≡ false → first bytes ≡ Whole used request
       → ((refused : Bool) → on_request limits bare conn e moment request refused ≡ break_off limits bare conn e request.serial moment)
       → Serves limits confirmed engine' c' (break_off limits bare conn e request.serial moment) conn
-      → (refused : List Bool) × Serves limits confirmed engine' c' (take_in limits h conn (byte ∷ []) moment refused) conn
+      → (refused : List Bool) × Serves limits confirmed engine' c' (take_in limits h conn next moment refused) conn
   takes-misplaced engine' c' used request live is misplaced broke =
       let after : Clients = break_off limits bare conn e request.serial moment in
       let went : Clients = leave limits bare e.process moment in
       let now : Client = broken e went.accepted request.serial in
       let there : client_at after conn ≡ Some now = at-with went.clients conn now e (left_at limits bare conn moment e.process ∙ bare-found) in
-      let to : take_in limits h conn (byte ∷ []) moment (false ∷ []) ≡ after =
+      let to : take_in limits h conn next moment (false ∷ []) ≡ after =
       taken-whole false used request live is
       ∙ ap (λ (t : Clients). on_ending limits t conn moment (Rest [])) (misplaced false)
       ∙ ended-stays after conn (λ x. with_client after conn (record x { input = [] })) now there refl in
       (false ∷ [], subst (λ (t : Clients). Serves limits confirmed engine' c' t conn) (sym to) broke)
-
-  -- a byte for a connection that has ended
-  pub takes-nothing : c.ended ≡ true → Serves limits confirmed engine c (take_in limits h conn (byte ∷ []) moment []) conn
-  takes-nothing over =
-      subst (λ (t : Clients). Serves limits confirmed engine c t conn)
-      (sym (ended-stays h conn (λ x. settled limits (emptied limits h conn x) conn moment (stream_of (x.input ++ byte ∷ [])) []) cl found (sym same.ended ∙ over))) serves
 
 -- ---- bytes in a row
 

@@ -12,7 +12,7 @@ use Rattle.ipc_engine.specs.Engine.{takes_memory}
 use Rattle.ipc_wire.specs.Stream.{Ending, stream_of}
 use Rattle.ipc_wire.specs.Stream.Ending.{Rest, Broken}
 use Rattle.ipc_base.specs.Table.{value_at, with_value, without}
-use Rattle.ipc_engine.specs.State.{State}
+use Rattle.ipc_state.specs.State.{State}
 use Rattle.ipc_engine.specs.Event.{PlainEvent, Connect, Call, Tick, Exit, PlainOutcome}
 use Rattle.ipc_engine.specs.Step.{step}
 use Rattle.ipc_engine.specs.View.{reply_of}

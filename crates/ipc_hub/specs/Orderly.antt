@@ -6,8 +6,8 @@ use Rattle.ipc_wire.specs.Reply.{PlainReply, reply_bytes, body_bytes}
 use Rattle.ipc_wire.specs.Stream.{first}
 use Rattle.ipc_wire.specs.Stream.PlainFrame.{More}
 use Rattle.ipc_base.specs.Table.{keys_of}
-use Rattle.ipc_engine.specs.State.{is_process}
-use Rattle.ipc_engine.specs.Sound.{IsSound}
+use Rattle.ipc_state.specs.State.{is_process}
+use Rattle.ipc_state.specs.Sound.{IsSound}
 use Rattle.ipc_hub.specs.Clients.{Client, Clients, client_at, process_at, all_bytes}
 
 -- the bytes of a reply that is not too long for its length field

@@ -3,8 +3,8 @@ use Rattle.std.specs.Prelude.{◌≡◌, ℕ, true, Bool, List, [], Option, Some
 use Rattle.ipc_base.specs.declared.limits.Limits.{Limits}
 use Rattle.ipc_engine.specs.Engine.{Machine}
 
-use Rattle.ipc_engine.specs.State.{State, is_process}
-use Rattle.ipc_engine.specs.Step.{at_moment, exit}
+use Rattle.ipc_state.specs.State.{State, is_process}
+use Rattle.ipc_state.specs.State.{at_moment, exit}
 use Rattle.ipc_hub.specs.declared.connection.Connection.{Connection}
 use Rattle.ipc_hub.specs.Clients.{Client, Clients, client_at, take_in, break_off}
 use Rattle.ipc_hub.specs.Outbox.{HasFrames}

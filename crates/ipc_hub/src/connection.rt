@@ -4,6 +4,7 @@ ghost use Rattle.std.specs.Prelude.{◌≡◌, ◌<◌, ◌≤◌, ◌^◌, ◌�
 ghost use Rattle.std.specs.Bool.{OnTrue, OnFalse};
 ghost use Rattle.ipc_wire.specs.Request.{plain_kind, plain_request};
 ghost use Rattle.ipc_wire.specs.Reply.{plain_reply};
+ghost use Rattle.ipc_wire.specs.Stream.{is_more, first};
 ghost use Rattle.ipc_engine.specs.View.{plain_outcome, reply_of};
 ghost use Rattle.ipc_hub.specs.Clients.{refusal as refusal_of, process_of};
 ghost use Rattle.ipc_hub.specs.Serving.{IsServed, IsMisplaced, pid_of, said_by};
@@ -13,7 +14,7 @@ ghost use Rattle.ipc_hub.specs.Outbox.{GainsFrame};
 use crate::outbox::Outbox;
 use ipc_base::{Cred, Errno, Moment, Pid};
 use ipc_engine::{Engine, Event, Outcome};
-use ipc_wire::{Body, Frame, GREATEST_FRAME, Reply, Request, RequestKind, read_frame};
+use ipc_wire::{Body, Frame, GREATEST_FRAME, Reply, Request, RequestKind, bytes_missing, read_frame};
 use std::alloc::{AllocError, Global};
 
 /// A connection. All its buffers are made with it.
@@ -27,7 +28,7 @@ pub(crate) struct Connection {
     pub(crate) outbox: Outbox,
     /// The server has ended it: what comes is dropped.
     pub(crate) ended: bool,
-    ghost partial: { vec_len input < 8452 },
+    ghost partial: { is_more (first input.items) ≡ true },
     ghost room: { 8452 ≤ vec_capacity input },
 }
 
@@ -67,24 +68,31 @@ impl Connection {
         if self.ended {
             return piece.len();
         }
-        for (taken, byte) in piece.iter().enumerate() {
+        let mut taken = 0;
+        while taken < piece.len() {
             if !self.ended && !self.outbox.has_room() {
                 return taken;
             }
-            self.take(engine, *byte, moment);
+            taken += self.take(engine, &piece[taken..], moment);
         }
-        piece.len()
+        taken
     }
 
-    /// One byte more.
-    fn take(&mut self, engine: &mut Engine, byte: u8, moment: Moment)
+    /// Takes bytes of a piece, up to the end of a frame at most, and answers the request if it is whole. Answers
+    /// how many bytes it took.
+    fn take(&mut self, engine: &mut Engine, piece: &[u8], moment: Moment) -> usize
+        requires { 0 < length piece.now }
         ensures number { self.new.number ≡ self.old.number }
-        ensures bytes { (self.old.ended ≡ false → HasRoom self.old.outbox) → TakesIn engine.old self.old engine.new self.new (byte ∷ []) moment.0 }
+        ensures bytes { (self.old.ended ≡ false → HasRoom self.old.outbox) →
+            TakesIn engine.old self.old engine.new self.new (take result piece.now) moment.0 }
+        ensures within { result ≤ length piece.now }
+        ensures some { 0 < result }
     {
         if self.ended {
-            return;
+            return piece.len();
         }
-        self.input.push(byte).unwrap();
+        let count = piece.len().min(bytes_missing(&self.input));
+        self.input.extend_from_slice(&piece[..count]).unwrap();
         match read_frame(&self.input) {
             Frame::More => {}
             Frame::Whole { request, .. } => {
@@ -106,6 +114,7 @@ impl Connection {
                 self.break_off(engine, serial, moment);
             }
         }
+        count
     }
 
     /// The process leaves, and an EPROTO frame is the last of the connection.

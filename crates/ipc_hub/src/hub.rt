@@ -2,7 +2,7 @@
 
 ghost use Rattle.std.specs.Prelude.{◌≡◌, ◌==◌, ◌<◌, ◌≤◌, ◌↔◌, ℕ, get_or, length, drop, take, position, true, false, IfOk, IsErr, OnErr, OnOk, Err};
 ghost use Rattle.ipc_base.specs.declared.limits.Limits.{Limits};
-ghost use Rattle.ipc_engine.specs.Step.{at_moment};
+ghost use Rattle.ipc_state.specs.State.{at_moment};
 ghost use Rattle.ipc_hub.specs.declared.connection.Connection.{Connection};
 ghost use Rattle.ipc_hub.specs.Hub.{Releases};
 ghost use Rattle.ipc_hub.specs.Clients.{Clients, no_clients, connect, hangup, tick, consume, shown_at, ended_at};

@@ -10,7 +10,7 @@ use Rattle.std.proofs.Math.Seq.{set-append_seam, get_or-append_seam}
 use Rattle.std.proofs.lemmas.Bool.{eqb-true}
 use Rattle.std.proofs.lemmas.Map.Keys.{IsDistinct-head, IsDistinct-tail}
 use Rattle.ipc_base.specs.declared.limits.Limits.{Limits}
-use Rattle.ipc_engine.specs.State.{State}
+use Rattle.ipc_state.specs.State.{State}
 use Rattle.ipc_base.specs.Table.{keys_of}
 use Rattle.ipc_hub.specs.declared.hub.Hub.{Hub}
 use Rattle.ipc_hub.specs.Clients.{Client, Clients, client_at, ended_at}

@@ -4,7 +4,7 @@ use Rattle.std.specs.Prelude.{IfSome, Result, Ok, Err, ⊤}
 use Rattle.std.specs.List.{flat_map}
 use Rattle.std.specs.Io.KnownBytes.{Appends}
 use Rattle.ipc_base.specs.declared.limits.Limits.{Limits}
-use Rattle.ipc_engine.specs.State.{State}
+use Rattle.ipc_state.specs.State.{State}
 use Rattle.ipc_base.specs.Table.{keys_of}
 use Rattle.ipc_hub.specs.declared.hub.Hub.{Hub}
 use Rattle.ipc_hub.specs.Clients.{Client, Clients, client_at, with_client}

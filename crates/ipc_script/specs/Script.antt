@@ -8,7 +8,7 @@ use Rattle.std.specs.Fmt.{decimal}
 use Rattle.std.specs.Io.KnownBytes.{Appends}
 use Rattle.hex.specs.Hex.{encode_lower}
 use Rattle.ipc_base.specs.declared.limits.Limits.{Limits}
-use Rattle.ipc_engine.specs.State.{State}
+use Rattle.ipc_state.specs.State.{State}
 use Rattle.ipc_base.specs.Table.{keys_of}
 use Rattle.ipc_hub.specs.Clients.{Client, Clients, no_clients, client_at, ended_at, connect, feed, hangup, tick}
 use Rattle.ipc_script.specs.declared.fault.ScriptFault.{ScriptFault}

@@ -1,11 +1,17 @@
 -- What the crates above cite of streams and replies.
-use Rattle.std.proofs.Common.{◌≡◌, ℕ, ◌+◌, ◌≤◌, ◌<◌, List, ◌++◌, length, drop, ap, ◌∙◌, arith}
+use Rattle.std.proofs.Common.{◌≡◌, ℕ, true, refl, ◌+◌, ◌≤◌, ◌<◌, List, ◌++◌, length, drop, ap, ◌∙◌, arith}
 use Rattle.ipc_wire.specs.Reply.{PlainReply, body_bytes, reply_bytes}
 use Rattle.ipc_wire.specs.Request.{PlainRequest}
-use Rattle.ipc_wire.specs.Stream.{PlainFrame, TakesBytes, first, missing, begins_with, stream_of, continued}
-use Rattle.ipc_wire.specs.Stream.PlainFrame.{More, Whole}
+use Rattle.ipc_wire.specs.Stream.{PlainFrame, is_more, TakesBytes, first, missing, begins_with, stream_of, continued}
+use Rattle.ipc_wire.specs.Stream.PlainFrame.{More, Whole, Fault}
 use Rattle.ipc_wire.proofs.Frames as frames
 use Rattle.ipc_wire.proofs.Streams as streams
+
+-- a frame that the test finds not whole is not
+pub more-is : (f : PlainFrame) → is_more f ≡ true → f ≡ More
+more-is More e = refl
+more-is (Whole used request) e = cc
+more-is (Fault serial) e = cc
 
 -- fewer than four bytes are no whole frame
 pub first_short : (bytes : List ℕ) → length bytes < 4 → first bytes ≡ More

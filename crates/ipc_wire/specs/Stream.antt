@@ -1,6 +1,6 @@
 -- The requests of a stream of bytes. A frame is the length of what follows (four bytes, from 5 to 8448), a
 -- serial of four bytes that is not 0, an opcode of one byte, and the fields of the opcode's row.
-use Rattle.std.specs.Prelude.{◌≤◌, ◌+◌, ◌-◌, ℕ, zero, suc, Bool, List, [], ◌∷◌, ◌++◌, length, take, drop, slice_index, nat_lt, nat_le, ◌==◌, ◌||◌, if◌then◌else◌, Option, Some, None}
+use Rattle.std.specs.Prelude.{◌≤◌, ◌+◌, ◌-◌, ℕ, zero, suc, Bool, true, false, List, [], ◌∷◌, ◌++◌, length, take, drop, slice_index, nat_lt, nat_le, ◌==◌, ◌||◌, if◌then◌else◌, Option, Some, None}
 use Rattle.std.specs.Int.{w32, from_be_bytes}
 use Rattle.ipc_wire.specs.declared.request.Frame.{Frame}
 use Rattle.ipc_wire.specs.declared.request.Frame.TheVariants as frames
@@ -66,6 +66,11 @@ first bytes =
     else if nat_lt size 5 || nat_lt 8448 size then Fault 0
     else if nat_lt (length bytes) (4 + size) then More
     else frame_of (part 4 size bytes)
+
+abbrev pub is_more : PlainFrame → Bool
+is_more More = true
+is_more (Whole used request) = false
+is_more (Fault serial) = false
 
 -- How many bytes are missing, at least, of a frame that is not whole: those of its length, and then those that the
 -- length counts.

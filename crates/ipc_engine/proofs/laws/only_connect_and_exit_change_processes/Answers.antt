@@ -1,5 +1,5 @@
-use Rattle.ipc_engine.specs.Step.{at_moment}
-use Rattle.ipc_engine.proofs.Processes.{asked-keeps}
+use Rattle.ipc_state.specs.State.{at_moment}
+use Rattle.ipc_engine.proofs.CallerLemmas.{asked-keeps}
 use Rattle.ipc_engine.proofs.laws.only_connect_and_exit_change_processes.Goals as goal
 
 pub returns-clause-call : goal.returns-clause-call

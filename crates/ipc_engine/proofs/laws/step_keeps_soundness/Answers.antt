@@ -1,4 +1,5 @@
-use Rattle.ipc_engine.proofs.Soundness.{start-sound, step-sound}
+use Rattle.ipc_state.proofs.CallerLemmas.{start-sound}
+use Rattle.ipc_engine.proofs.Soundness.{step-sound}
 use Rattle.ipc_engine.proofs.laws.step_keeps_soundness.Goals as goal
 
 pub returns-clause-start : goal.returns-clause-start

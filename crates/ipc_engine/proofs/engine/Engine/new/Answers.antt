@@ -1,9 +1,9 @@
 use Rattle.std.proofs.Common.{◌<◌, vec_capacity, sym, subst, rules, arith}
 use Rattle.ipc_base.specs.declared.limits.Limits.{Limits}
 use Rattle.ipc_base.specs.Limits.{ArePassed}
-use Rattle.ipc_engine.specs.State.{State}
-use Rattle.ipc_engine.specs.Sound.{IsSound}
-use Rattle.ipc_engine.proofs.Soundness.{start-sound}
+use Rattle.ipc_state.specs.State.{State}
+use Rattle.ipc_state.specs.Sound.{IsSound}
+use Rattle.ipc_state.proofs.CallerLemmas.{start-sound}
 use Rattle.ipc_engine.proofs.engine.Engine.new.Goals as goal
 
 pub invariant_of-result : goal.invariant_of-result

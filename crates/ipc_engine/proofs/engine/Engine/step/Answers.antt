@@ -3,16 +3,16 @@ use Rattle.ipc_base.specs.declared.limits.Limits.{Limits}
 use Rattle.ipc_base.specs.Limits.{ArePassed}
 use Rattle.ipc_wire.specs.Request.{plain_request}
 use Rattle.ipc_engine.specs.Event.{Connect, Call, Exit}
-use Rattle.ipc_engine.specs.View.{state_of, plain_outcome}
+use Rattle.ipc_engine.specs.View.{plain_outcome}
 use Rattle.ipc_engine.proofs.Soundness.{after-sound, after-fits}
 use Rattle.ipc_engine.proofs.engine.Engine.step.Goals as goal
 
-pub returns-in_ok-reserve-in-Connect-clause-sound : goal.returns-in_ok-reserve-in-Connect-clause-sound
-returns-in_ok-reserve-in-Connect-clause-sound c =
+pub returns-in_ok-reserve_process-in-Connect-clause-sound : goal.returns-in_ok-reserve_process-in-Connect-clause-sound
+returns-in_ok-reserve_process-in-Connect-clause-sound c =
     let old = c.self.inside.state in
     let new = c.connect-outcome.new.state in
     let event = Connect c.in-Connect.cred c.in-Connect.serial c.in-Connect.moment.0 in
-    after-sound old.limits new.limits (state_of old) (state_of new) event (search rules) (search rules) c.self.invariant.1
+    after-sound old.limits new.limits old.state new.state event (search rules) (search rules) c.self.invariant.1
 
 pub invariant_of-self-in-Connect : goal.invariant_of-self-in-Connect
 invariant_of-self-in-Connect c =
@@ -22,7 +22,7 @@ invariant_of-self-in-Connect c =
     let room : 0 < vec_capacity c.answer.new.outcomes = search rules in
     let same : new.limits ≡ old.limits = search rules in (
       room,
-      after-sound old.limits new.limits (state_of old) (state_of new) event same (search rules) c.self.invariant.1,
+      after-sound old.limits new.limits old.state new.state event same (search rules) c.self.invariant.1,
       subst (λ (l : Limits). ArePassed l) (sym same) c.self.invariant.2,
     )
 
@@ -31,7 +31,7 @@ returns-in_ok-reserve_kind-in-Call-clause-sound c =
     let old = c.self.inside.state in
     let new = c.ask-ended.new.state in
     let event = Call c.in-Call.pid.0 (plain_request c.in-Call.request) c.in-Call.moment.0 in
-    after-sound old.limits new.limits (state_of old) (state_of new) event (search rules) (search rules) c.self.invariant.1
+    after-sound old.limits new.limits old.state new.state event (search rules) (search rules) c.self.invariant.1
 
 pub invariant_of-self-in-Call : goal.invariant_of-self-in-Call
 invariant_of-self-in-Call c =
@@ -41,7 +41,7 @@ invariant_of-self-in-Call c =
     let room : 0 < vec_capacity c.answer-in-Call.new.outcomes = search rules in
     let same : new.limits ≡ old.limits = search rules in (
       room,
-      after-sound old.limits new.limits (state_of old) (state_of new) event same (search rules) c.self.invariant.1,
+      after-sound old.limits new.limits old.state new.state event same (search rules) c.self.invariant.1,
       subst (λ (l : Limits). ArePassed l) (sym same) c.self.invariant.2,
     )
 
@@ -50,23 +50,23 @@ returns-in_ok-reserve_kind-in-Call-clause-fits c =
     let old = c.self.inside.state in
     let new = c.ask-ended.new.state in
     let event = Call c.in-Call.pid.0 (plain_request c.in-Call.request) c.in-Call.moment.0 in
-    after-fits old.limits new.limits (state_of old) (map plain_outcome c.answer-in-Call.new.outcomes.items) event (search rules) (search rules) c.self.invariant.1
+    after-fits old.limits new.limits old.state (map plain_outcome c.answer-in-Call.new.outcomes.items) event (search rules) (search rules) c.self.invariant.1
 
 pub returns-in-Exit-clause-sound : goal.returns-in-Exit-clause-sound
 returns-in-Exit-clause-sound c =
     let old = c.self.inside.state in
-    let new = record c.begin-in-Exit.new.self { processes = c.remove_process.new.processes } in
+    let new = c.remove_process.new.self in
     let event = Exit c.in-Exit.pid.0 c.in-Exit.moment.0 in
-    after-sound old.limits new.limits (state_of old) (state_of new) event (search rules) (search rules) c.self.invariant.1
+    after-sound old.limits new.limits old.state new.state event (search rules) (search rules) c.self.invariant.1
 
 pub invariant_of-self-in-Exit : goal.invariant_of-self-in-Exit
 invariant_of-self-in-Exit c =
     let old = c.self.inside.state in
-    let new = record c.begin-in-Exit.new.self { processes = c.remove_process.new.processes } in
+    let new = c.remove_process.new.self in
     let event = Exit c.in-Exit.pid.0 c.in-Exit.moment.0 in
     let room : 0 < vec_capacity c.clear-in-Exit.new.self = search rules in
     let same : new.limits ≡ old.limits = search rules in (
       room,
-      after-sound old.limits new.limits (state_of old) (state_of new) event same (search rules) c.self.invariant.1,
+      after-sound old.limits new.limits old.state new.state event same (search rules) c.self.invariant.1,
       subst (λ (l : Limits). ArePassed l) (sym same) c.self.invariant.2,
     )

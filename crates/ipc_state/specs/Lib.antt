@@ -1,0 +1,6 @@
+pub mod Objects
+pub mod State
+pub mod Sound
+pub mod Held
+pub mod Tables
+pub mod Finish

@@ -1,0 +1,117 @@
+//! The objects of one kind, as plain lists: at most some dozens, found from the front.
+
+ghost use Rattle.std.specs.Prelude.{
+    ◌≡◌, ◌==◌, ◌<◌, ◌^◌, true, position, option_map, option_copied, OnOk,
+};
+ghost use Rattle.std.specs.Ordering.{int_eq};
+ghost use Rattle.ipc_state.specs.Objects.{no_objects, object_of, keyed, with_new, is_full as is_full_of};
+ghost use Rattle.ipc_state.specs.Tables.{objects_of, has_place};
+
+use ipc_base::Id;
+use std::alloc::{AllocError, Global};
+
+/// A key in use, and the identifier of its object.
+#[derive(Drop)]
+pub(crate) struct Key {
+    pub(crate) key: i32,
+    pub(crate) id: Id,
+}
+
+/// An object and its identifier.
+#[derive(Drop)]
+pub(crate) struct Entry<T> {
+    pub(crate) id: Id,
+    pub(crate) object: T,
+}
+
+/// The objects of one kind, the next identifier, and the keys in use.
+#[derive(Drop)]
+pub(crate) struct Objects<T> {
+    pub(crate) next: u32,
+    pub(crate) keys: Vec<Key>,
+    pub(crate) entries: Vec<Entry<T>>,
+}
+
+/// Identifiers and pids end here.
+pub const LAST_NUMBER: u32 = 2147483647;
+
+/// The key of a get that always makes a new object. See msgget(2).
+pub const IPC_PRIVATE: i32 = 0;
+
+impl<T> Objects<T> {
+    /// No objects. It takes no memory.
+    pub(crate) fn new(alloc: Global) -> Self
+        ensures { objects_of result ≡ no_objects }
+    {
+        Objects {
+            next: 1,
+            keys: Vec::new(alloc),
+            entries: Vec::new(alloc),
+        }
+    }
+
+    /// Takes the memory for one object and one key more.
+    pub(crate) fn reserve(&mut self) -> Result<(), AllocError>
+        ensures objects { objects_of self.new ≡ objects_of self.old }
+        ensures ok { OnOk result (has_place self.new ≡ true) }
+    {
+        self.keys.reserve(1)?;
+        self.entries.reserve(1)
+    }
+
+    /// Whether no object can be added: there are `most`, or no identifier is left.
+    pub(crate) fn is_full(&self, most: u32) -> bool
+        ensures { result ≡ is_full_of most (objects_of self.now) }
+    {
+        most as usize <= self.entries.len() || LAST_NUMBER < self.next
+    }
+
+    /// The identifier that a key has.
+    pub(crate) fn of_key(&self, key: i32) -> Option<Id>
+        ensures { option_map (λ id. id.0) result ≡ keyed (objects_of self.now) key }
+    {
+        if key == IPC_PRIVATE {
+            return None;
+        }
+        let place = key_place(&self.keys, key)?;
+        Some(self.keys[place].id)
+    }
+
+    /// The place of an identifier.
+    pub(crate) fn place(&self, id: Id) -> Option<usize>
+        ensures { result ≡ position (λ e. e.id.0 == id.0) self.now.entries.items }
+    {
+        self.entries.iter().position(|entry| entry.id.0 == id.0)
+    }
+
+    /// The object that an identifier has.
+    pub(crate) fn get(&self, id: Id) -> Option<&T>
+        ensures { option_copied result ≡ object_of (objects_of self.now) id.0 }
+    {
+        let place = self.place(id)?;
+        Some(&self.entries[place].object)
+    }
+
+    /// Adds an object under the next identifier, and its key. It takes no memory.
+    pub(crate) fn add(&mut self, key: i32, object: T) -> Id
+        requires place { has_place self.old ≡ true }
+        requires number { self.old.next < 2 ^ 31 }
+        ensures objects { objects_of self.new ≡ with_new (objects_of self.old) key object }
+        ensures id { result.0 ≡ self.old.next }
+    {
+        let id = Id(self.next);
+        self.next += 1;
+        if key != IPC_PRIVATE {
+            self.keys.push_reserved(Key { key, id });
+        }
+        self.entries.push_reserved(Entry { id, object });
+        id
+    }
+}
+
+/// The place of a key.
+fn key_place(keys: &[Key], key: i32) -> Option<usize>
+    ensures { result ≡ position (λ k. int_eq k.key key) keys.now }
+{
+    keys.iter().position(|entry| entry.key == key)
+}

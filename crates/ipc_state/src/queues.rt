@@ -1,0 +1,51 @@
+//! What calls change in the message queue that an identifier has.
+
+ghost use Rattle.std.specs.Prelude.{◌≡◌, ◌<◌, length, slice_get, Some, IsSome, OnOk};
+ghost use Rattle.sysv_msg.specs.Queue.{Queue, plain, sent, taken};
+ghost use Rattle.ipc_state.specs.Objects.{object_of, with_object};
+ghost use Rattle.ipc_state.specs.Held.{HasTextRoom};
+ghost use Rattle.ipc_state.specs.Tables.{queues_of, texts_of};
+
+use crate::objects::Objects;
+use ipc_base::{Id, Moment, Pid};
+use std::alloc::AllocError;
+use sysv_msg::{Message, MsgQueue};
+
+/// Takes the memory for one message of `len` bytes, if the queue is there.
+pub(crate) fn reserve_text(queues: &mut Objects<MsgQueue>, id: Id, len: usize) -> Result<(), AllocError>
+    ensures queues { queues_of queues.new ≡ queues_of queues.old }
+    ensures ok { OnOk result (HasTextRoom (texts_of queues.new) id.0 len) }
+{
+    let Some(place) = queues.place(id) else {
+        return Ok(());
+    };
+    let entry = &mut queues.entries[place];
+    entry.object.reserve(len)
+}
+
+/// Sends a message to a queue that is there. It takes no memory.
+pub(crate) fn send(queues: &mut Objects<MsgQueue>, id: Id, mtype: i64, text: &[u8], pid: Pid, now: Moment)
+    requires there { IsSome (object_of (queues_of queues.old) id.0) }
+    requires room { HasTextRoom (texts_of queues.old) id.0 (length text.now) }
+    ensures { (q : Queue) → object_of (queues_of queues.old) id.0 ≡ Some q
+        → queues_of queues.new ≡ with_object (queues_of queues.old) id.0
+        (sent q (record { mtype = mtype; text = text.now }) pid.0 now.0) }
+{
+    let place = queues.place(id).unwrap();
+    let entry = &mut queues.entries[place];
+    entry.object.send(mtype, text, pid, now);
+}
+
+/// Takes the message at a place of a queue that is there.
+pub(crate) fn take(queues: &mut Objects<MsgQueue>, id: Id, at: usize, pid: Pid, now: Moment) -> Message
+    requires there { IsSome (object_of (queues_of queues.old) id.0) }
+    requires within { (q : Queue) → object_of (queues_of queues.old) id.0 ≡ Some q → at < length q.messages }
+    ensures queues { (q : Queue) → object_of (queues_of queues.old) id.0 ≡ Some q
+        → queues_of queues.new ≡ with_object (queues_of queues.old) id.0 (taken q at pid.0 now.0) }
+    ensures message { (q : Queue) → object_of (queues_of queues.old) id.0 ≡ Some q
+        → slice_get q.messages at ≡ Some (plain result) }
+{
+    let place = queues.place(id).unwrap();
+    let entry = &mut queues.entries[place];
+    entry.object.take(at, pid, now)
+}

@@ -1,0 +1,215 @@
+//! The state between two events. It is sound at all times.
+
+ghost use Rattle.std.specs.Prelude.{
+    ◌≡◌, ◌<◌, ◌≤◌, true, false, pos, int_lt, length, slice_get, None, Some, option_map, option_copied,
+    IsTrue, IsSome, IfSome, OnOk,
+};
+ghost use Rattle.ipc_base.specs.Limits.{ArePassed};
+ghost use Rattle.sysv_msg.specs.Queue.{Queue, plain, sent, taken, full};
+ghost use Rattle.ipc_state.specs.Held.{HasTextRoom};
+ghost use Rattle.ipc_state.specs.Objects.{keyed, is_full};
+ghost use Rattle.ipc_state.specs.Sound.{IsSound, IsSoundQueue};
+ghost use Rattle.ipc_state.specs.State.{
+    start, at_moment, is_process, has_all_processes, with_process, exit, queue_of, with_queue, with_new_queue,
+};
+
+use crate::objects::{LAST_NUMBER, Objects};
+use crate::processes::{Process, process_place, remove_process};
+use crate::queues;
+use ipc_base::{Cred, Id, Limits, Moment, Pid};
+use std::alloc::{AllocError, Global};
+use std::marker::Model;
+use sysv_msg::{Message, MsgQueue};
+
+/// The state between two events. A contract sees its limits, the state of the definitions, and the room
+/// that is reserved. It is sound: each change asks for what keeps it so.
+#[derive(Drop)]
+pub struct State {
+    alloc: Global,
+    limits: Limits,
+    clock: Moment,
+    next_pid: u32,
+    processes: Vec<Process>,
+    msg: Objects<MsgQueue>,
+}
+
+impl Model for State {
+    ghost use Rattle.ipc_base.specs.Limits.{ArePassed};
+    ghost use Rattle.ipc_state.specs.Held.{Held};
+    ghost use Rattle.ipc_state.specs.Sound.{IsSound};
+    ghost use Rattle.ipc_state.specs.Tables.{state_of, room_of};
+
+    ghost Value = { Held };
+
+    ghost view = { λ s. record {
+      limits = s.limits;
+      state = state_of s.clock s.next_pid s.processes s.msg;
+      room = room_of s.processes s.msg;
+    } };
+
+    ghost invariant = { λ s. ArePassed s.limits
+        × IsSound s.limits (state_of s.clock s.next_pid s.processes s.msg) };
+}
+
+impl State {
+    /// Nothing has happened yet. It takes no memory.
+    pub fn new(alloc: Global, limits: Limits) -> State
+        requires { ArePassed limits }
+        ensures state { result.state ≡ start }
+        ensures limits { result.limits ≡ limits }
+    {
+        State {
+            alloc,
+            limits,
+            clock: Moment(0),
+            next_pid: 1,
+            processes: Vec::new(alloc),
+            msg: Objects::new(alloc),
+        }
+    }
+
+    /// The limits, which the state keeps.
+    pub fn limits(&self) -> &Limits
+        ensures limits { result.now ≡ self.now.limits }
+        ensures passed { ArePassed result.now }
+        ensures sound { IsSound self.now.limits self.now.state }
+    {
+        &self.limits
+    }
+
+    /// A moment comes: the clock is the greatest so far.
+    pub fn begin(&mut self, moment: Moment)
+        ensures { self.new ≡ record self.old { state = at_moment self.old.state moment.0 } }
+    {
+        self.clock = Moment(self.clock.0.max(moment.0));
+    }
+
+    /// Whether a process has this number.
+    pub fn has_process(&self, pid: Pid) -> bool
+        ensures { result ≡ is_process self.now.state pid.0 }
+    {
+        process_place(&self.processes, pid).is_some()
+    }
+
+    /// Whether no process can be added: there are as many as the limit says, or no number is left.
+    pub fn has_all_processes(&self) -> bool
+        ensures { result ≡ has_all_processes self.now.limits self.now.state }
+    {
+        self.limits.processes as usize <= self.processes.len() || LAST_NUMBER < self.next_pid
+    }
+
+    /// Takes the memory for one process more. Refused, the state is as before.
+    pub fn reserve_process(&mut self) -> Result<(), AllocError>
+        ensures state { self.new.state ≡ self.old.state }
+        ensures limits { self.new.limits ≡ self.old.limits }
+        ensures ok { OnOk result (self.new.room.process ≡ true) }
+    {
+        self.processes.reserve(1)
+    }
+
+    /// Adds a process under the next number, which it gives. It takes no memory.
+    pub fn add_process(&mut self, cred: Cred) -> Pid
+        requires room { self.old.room.process ≡ true }
+        requires more { has_all_processes self.old.limits self.old.state ≡ false }
+        ensures state { self.new.state ≡ with_process self.old.state cred }
+        ensures pid { result.0 ≡ self.old.state.next_pid }
+        ensures limits { self.new.limits ≡ self.old.limits }
+    {
+        let pid = Pid(self.next_pid);
+        self.next_pid += 1;
+        self.processes.push_reserved(Process { pid, cred });
+        pid
+    }
+
+    /// Takes a process out, if it is there.
+    pub fn remove_process(&mut self, pid: Pid)
+        ensures state { self.new.state ≡ exit self.old.state pid.0 }
+        ensures limits { self.new.limits ≡ self.old.limits }
+    {
+        remove_process(&mut self.processes, pid);
+    }
+
+    /// The identifier of the queue that a key has; IPC_PRIVATE has none.
+    pub fn queue_of_key(&self, key: i32) -> Option<Id>
+        ensures { option_map (λ id. id.0) result ≡ keyed self.now.state.msg key }
+    {
+        self.msg.of_key(key)
+    }
+
+    /// The queue that an identifier has. It is within the limits.
+    pub fn queue(&self, id: Id) -> Option<&MsgQueue>
+        ensures queue { option_map (λ k. k.queue) (option_copied result) ≡ queue_of self.now.state id.0 }
+        ensures sound { IfSome (option_copied result) (λ k. IsSoundQueue self.now.limits k.queue) }
+    {
+        self.msg.get(id)
+    }
+
+    /// Whether no queue can be added: there are msgmni, or no identifier is left.
+    pub fn has_all_queues(&self) -> bool
+        ensures { result ≡ is_full self.now.limits.msgmni self.now.state.msg }
+    {
+        self.msg.is_full(self.limits.msgmni)
+    }
+
+    /// Takes the memory for one queue more and its key. Refused, the state is as before.
+    pub fn reserve_queue(&mut self) -> Result<(), AllocError>
+        ensures state { self.new.state ≡ self.old.state }
+        ensures limits { self.new.limits ≡ self.old.limits }
+        ensures ok { OnOk result (self.new.room.queue ≡ true) }
+    {
+        self.msg.reserve()
+    }
+
+    /// Adds a queue without messages under the next identifier, which it gives, and its key unless that
+    /// is IPC_PRIVATE. It takes no memory.
+    pub fn add_queue(&mut self, key: i32) -> Id
+        requires room { self.old.room.queue ≡ true }
+        requires unused { keyed self.old.state.msg key ≡ None }
+        requires more { is_full self.old.limits.msgmni self.old.state.msg ≡ false }
+        ensures state { self.new.state ≡ with_new_queue self.old.limits self.old.state key }
+        ensures id { result.0 ≡ self.old.state.msg.next }
+        ensures limits { self.new.limits ≡ self.old.limits }
+    {
+        let queue = MsgQueue::new(self.alloc, self.limits.msgmnb, self.clock);
+        self.msg.add(key, queue)
+    }
+
+    /// Takes the memory for one message of `len` bytes in a queue, if it is there. Refused, the state is
+    /// as before.
+    pub fn reserve_text(&mut self, id: Id, len: usize) -> Result<(), AllocError>
+        ensures state { self.new.state ≡ self.old.state }
+        ensures limits { self.new.limits ≡ self.old.limits }
+        ensures ok { OnOk result (HasTextRoom self.new.room.texts id.0 len) }
+    {
+        queues::reserve_text(&mut self.msg, id, len)
+    }
+
+    /// Sends a message to a queue that is not full for it. It takes no memory.
+    pub fn send(&mut self, id: Id, mtype: i64, text: &[u8], pid: Pid)
+        requires above { IsTrue (int_lt (pos 0) mtype) }
+        requires short { length text.now ≤ self.old.limits.msgmax }
+        requires there { IsSome (queue_of self.old.state id.0) }
+        requires fits { (q : Queue) → queue_of self.old.state id.0 ≡ Some q
+            → full q (length text.now) ≡ false }
+        requires room { HasTextRoom self.old.room.texts id.0 (length text.now) }
+        ensures state { (q : Queue) → queue_of self.old.state id.0 ≡ Some q
+            → self.new.state ≡ with_queue self.old.state id.0
+            (sent q (record { mtype = mtype; text = text.now }) pid.0 self.old.state.clock) }
+        ensures limits { self.new.limits ≡ self.old.limits }
+    {
+        queues::send(&mut self.msg, id, mtype, text, pid, self.clock);
+    }
+
+    /// Takes the message at a position, counted from the oldest, out of a queue.
+    pub fn take(&mut self, id: Id, at: usize, pid: Pid) -> Message
+        requires there { IsSome (queue_of self.old.state id.0) }
+        requires within { (q : Queue) → queue_of self.old.state id.0 ≡ Some q → at < length q.messages }
+        ensures state { (q : Queue) → queue_of self.old.state id.0 ≡ Some q
+            → self.new.state ≡ with_queue self.old.state id.0 (taken q at pid.0 self.old.state.clock) }
+        ensures message { (q : Queue) → queue_of self.old.state id.0 ≡ Some q
+            → slice_get q.messages at ≡ Some (plain result) }
+        ensures limits { self.new.limits ≡ self.old.limits }
+    {
+        queues::take(&mut self.msg, id, at, pid, self.clock)
+    }
+}

@@ -1,0 +1,76 @@
+-- What the crates above cite of the calls: from a sound state each ends in one, with a body that fits, and the
+-- processes stay.
+use Rattle.std.proofs.Common.{◌≡◌, ℕ, ℤ, pos, ◌<◌, ◌≤◌, Bool, true, false, not, ◌&&◌, List, [], length, Option, Some, None, refl, arith}
+use Rattle.std.specs.Prelude.{nat_lt, int_lt, All, IsTrue}
+use Rattle.std.specs.Ordering.{int_eq}
+use Rattle.std.proofs.lemmas.Bool.{ltb-false}
+use Rattle.std.proofs.lemmas.List.Elements.{All-get_or}
+use Rattle.std.proofs.lemmas.List.Quantifiers.{position-Some}
+use Rattle.std.proofs.lemmas.Option.{unwrap_or-slice_get}
+use Rattle.ipc_base.specs.declared.limits.Limits.{Limits}
+use Rattle.ipc_base.specs.declared.errno.Errno.TheVariants.{ENOENT, EEXIST, EINVAL, ENOSPC, EAGAIN, ENOMSG, E2BIG}
+use Rattle.ipc_base.proofs.CallerLemmas.{message-is_bounded}
+use Rattle.ipc_wire.specs.Request.{PlainCall, Msgget, Msgsnd, Msgrcv}
+use Rattle.ipc_wire.specs.declared.reply.Body.TheVariants.{Empty, Number, Message}
+use Rattle.sysv_msg.specs.Queue.{Queue, PlainMessage, pick, is_allowed, full, sent, taken}
+use Rattle.ipc_state.specs.Finish.{Finish, Done}
+use Rattle.ipc_state.specs.Objects.{last_number}
+use Rattle.ipc_state.specs.Sound.{IsSound, IsSoundQueue, FitsBody}
+use Rattle.ipc_state.specs.State.{State, queue_of, with_queue, with_new_queue}
+use Rattle.ipc_state.proofs.CallerLemmas.{EndsSound, Ends, IsGood, after-refuse, after-orelse, by-if_some, answered, read, ended-sound, ended-keeps, with_new_queue-sound, with_queue-sound, queue-sound, sent-sound, taken-sound}
+use Rattle.sysv_calls.specs.Calls.{msgget, msgsnd, msgrcv, message_at, attempt}
+
+not_false : (b : Bool) → not b ≡ false → b ≡ true
+not_false true h = refl
+not_false false h = cc
+
+module _ (limits : Limits) (s : State) where
+  msgget-ends : (key : ℤ) (flags : ℕ) → Ends limits s (msgget limits s key flags)
+  msgget-ends key flags =
+      by-if_some (λ id _. after-refuse EEXIST (λ _. read (Number id) (λ _. omega arith)))
+      (λ unused. after-refuse ENOENT (λ _. after-refuse ENOSPC (λ room. answered (with_new_queue limits s key) (Number s.msg.next) (record {
+        state = λ h. with_new_queue-sound limits s key unused room h;
+        body = λ _. omega arith;
+        kept = refl;
+      }))))
+
+  msgsnd-ends : (pid id : ℕ) (mtype : ℤ) (text : List ℕ) → Ends limits s (msgsnd limits s pid id mtype text)
+  msgsnd-ends pid id mtype text =
+      let m : PlainMessage = record { mtype = mtype; text = text } in
+      after-refuse EINVAL (λ above. after-refuse EINVAL (λ short. after-orelse EINVAL (λ q is. after-refuse EAGAIN (λ fits. answered (with_queue s id (sent q m pid s.clock)) Empty (record {
+        state = λ h. with_queue-sound limits s id (sent q m pid s.clock)
+            (sent-sound limits q m pid s.clock fits (not_false (int_lt (pos 0) mtype) above) (ltb-false _ _ short) (queue-sound limits s id q is h)) h;
+        body = λ _. omega arith;
+        kept = refl;
+      })))))
+
+  -- the text of a message of a queue
+  message_at-fits : (q : Queue) (at : ℕ) → at < length q.messages → IsSoundQueue limits q
+      → FitsBody limits (Message (message_at q at).mtype (message_at q at).text)
+  message_at-fits q at inside good =
+      let none : PlainMessage = record { mtype = pos 0; text = [] } in
+      let short : length (message_at q at).text ≤ limits.msgmax =
+      rw unwrap_or-slice_get (All-get_or (λ (m : PlainMessage). length m.text ≤ limits.msgmax) q.messages at none inside good.texts) in
+      omega (arith, message-is_bounded limits (length (message_at q at).text) short)
+
+  msgrcv-ends : (pid id size : ℕ) (mtype : ℤ) → Ends limits s (msgrcv s pid id size mtype)
+  msgrcv-ends pid id size mtype =
+      after-refuse EINVAL {b = nat_lt last_number size} (λ _. after-orelse EINVAL (λ q is. after-orelse ENOMSG (λ at picked. after-refuse E2BIG (λ _.
+      let inside : at < length q.messages = (position-Some (is_allowed q.messages mtype false) q.messages at (record { mtype = pos 0; text = [] }) picked).0 in
+      answered (with_queue s id (taken q at pid s.clock)) (Message (message_at q at).mtype (message_at q at).text) (record {
+        state = λ h. with_queue-sound limits s id (taken q at pid s.clock) (taken-sound limits q at pid s.clock inside (queue-sound limits s id q is h)) h;
+        body = λ h. message_at-fits q at inside (queue-sound limits s id q is h);
+        kept = refl;
+      })))))
+
+-- from a sound state a call ends in one, and its body fits
+pub attempt-sound : (limits : Limits) (s : State) (pid : ℕ) (call : PlainCall) → IsSound limits s → EndsSound limits (attempt limits s pid call)
+attempt-sound limits s pid (Msgget key flags) = ended-sound limits s (msgget limits s key flags) (msgget-ends limits s key flags)
+attempt-sound limits s pid (Msgsnd id flags mtype text) = ended-sound limits s (msgsnd limits s pid id mtype text) (msgsnd-ends limits s pid id mtype text)
+attempt-sound limits s pid (Msgrcv id flags size mtype) = ended-sound limits s (msgrcv s pid id size mtype) (msgrcv-ends limits s pid id size mtype)
+
+-- a call leaves the processes as they are
+pub attempt-keeps : (limits : Limits) (s : State) (pid : ℕ) (call : PlainCall) → (attempt limits s pid call).state.processes ≡ s.processes
+attempt-keeps limits s pid (Msgget key flags) = ended-keeps limits s (msgget limits s key flags) (msgget-ends limits s key flags)
+attempt-keeps limits s pid (Msgsnd id flags mtype text) = ended-keeps limits s (msgsnd limits s pid id mtype text) (msgsnd-ends limits s pid id mtype text)
+attempt-keeps limits s pid (Msgrcv id flags size mtype) = ended-keeps limits s (msgrcv s pid id size mtype) (msgrcv-ends limits s pid id size mtype)

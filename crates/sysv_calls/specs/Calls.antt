@@ -1,0 +1,64 @@
+-- What each call answers and leaves: msgget(2) and msgop(2), in this server's profile. Refusals stand in the order
+-- in which they are tested. A call that would have to wait is refused, with or without IPC_NOWAIT.
+use Rattle.std.specs.Prelude.{ℕ, ℤ, pos, Bool, false, not, ◌&&◌, List, [], length, nat_lt, ◌==◌, int_lt, slice_get, unwrap_or}
+use Rattle.std.specs.Ordering.{int_eq}
+use Rattle.std.specs.Int.RustNames.{bit_and}
+use Rattle.ipc_base.specs.declared.errno.Errno.TheVariants.{ENOENT, EEXIST, EINVAL, ENOSPC, EAGAIN, ENOMSG, E2BIG}
+use Rattle.ipc_base.specs.declared.limits.Limits.{Limits}
+use Rattle.ipc_wire.specs.Request.{PlainCall, Msgget, Msgsnd, Msgrcv}
+use Rattle.ipc_wire.specs.declared.reply.Body.TheVariants.{Empty, Number, Message}
+use Rattle.sysv_msg.specs.Queue.{Queue, PlainMessage, pick, full, sent, taken}
+use Rattle.ipc_state.specs.Objects.{keyed, is_full, last_number}
+use Rattle.ipc_state.specs.State.{State, queue_of, with_queue, with_new_queue}
+use Rattle.ipc_state.specs.Finish.{Finish, Attempt, Done, ended, answer, refuse, if_some, ◌orelse◌, ◌>>◌, ◌>>=◌}
+
+-- whether a flag is among the flags
+abbrev pub has : ℕ → ℕ → Bool
+has flags flag = bit_and flags flag == flag
+
+-- IPC_CREAT and IPC_EXCL
+abbrev pub creat : ℕ
+creat = 512
+
+abbrev pub excl : ℕ
+excl = 1024
+
+-- msgget(2): the queue that the key has, or a new one
+abbrev pub msgget : Limits → State → ℤ → ℕ → Attempt Done
+msgget limits s key flags =
+    if_some (keyed s.msg key)
+      (λ id. do
+        refuse EEXIST (has flags creat && has flags excl)
+        answer s (Number id))
+      (do
+        refuse ENOENT (not (int_eq key (pos 0)) && not (has flags creat))
+        refuse ENOSPC (is_full limits.msgmni s.msg)
+        answer (with_new_queue limits s key) (Number s.msg.next))
+
+-- msgsnd of msgop(2)
+abbrev pub msgsnd : Limits → State → ℕ → ℕ → ℤ → List ℕ → Attempt Done
+msgsnd limits s pid id mtype text = do
+  refuse EINVAL (not (int_lt (pos 0) mtype))
+  refuse EINVAL (nat_lt limits.msgmax (length text))
+  q ← queue_of s id orelse EINVAL
+  refuse EAGAIN (full q (length text))
+  answer (with_queue s id (sent q (record { mtype = mtype; text = text }) pid s.clock)) Empty
+
+-- the message at a place that a queue has
+abbrev pub message_at : Queue → ℕ → PlainMessage
+message_at q at = unwrap_or (slice_get q.messages at) (record { mtype = pos 0; text = [] })
+
+-- msgrcv of msgop(2)
+abbrev pub msgrcv : State → ℕ → ℕ → ℕ → ℤ → Attempt Done
+msgrcv s pid id size mtype = do
+  refuse EINVAL (nat_lt last_number size)
+  q ← queue_of s id orelse EINVAL
+  at ← pick q.messages mtype false orelse ENOMSG
+  refuse E2BIG (nat_lt size (length (message_at q at).text))
+  answer (with_queue s id (taken q at pid s.clock)) (Message (message_at q at).mtype (message_at q at).text)
+
+-- the attempt of a call by a process
+abbrev pub attempt : Limits → State → ℕ → PlainCall → Finish
+attempt limits s pid (Msgget key flags) = ended s (msgget limits s key flags)
+attempt limits s pid (Msgsnd id flags mtype text) = ended s (msgsnd limits s pid id mtype text)
+attempt limits s pid (Msgrcv id flags size mtype) = ended s (msgrcv s pid id size mtype)

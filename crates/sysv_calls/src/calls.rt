@@ -1,0 +1,126 @@
+//! The calls. Each has its memory before its attempt, and takes none in it.
+
+ghost use Rattle.std.specs.Prelude.{◌≡◌, true, false, length, IsOk, OnOk};
+ghost use Rattle.ipc_wire.specs.Request.{plain_call};
+ghost use Rattle.ipc_state.specs.Held.{HasTextRoom};
+ghost use Rattle.ipc_state.specs.Finish.{finish_of, ended};
+ghost use Rattle.sysv_calls.specs.Calls.{
+    attempt as attempt_of, msgget as msgget_of, msgsnd as msgsnd_of, msgrcv as msgrcv_of,
+};
+ghost use Rattle.sysv_calls.specs.Needs.{IsReserved, takes_memory};
+
+use crate::memory::{Needs, needed_by};
+use bitflags::Flags;
+use ipc_base::{Errno, GetFlags, Id, Pid};
+use ipc_state::{IPC_PRIVATE, LAST_NUMBER, State};
+use ipc_wire::{Body, Call};
+use std::alloc::AllocError;
+
+/// How a call ends: the body of its reply, or the error.
+pub type Answer = Result<Body<Vec<u8>>, Errno>;
+
+/// Takes the memory that the attempt of a call may need, which a read-only call never does. Refused, the
+/// state is as before.
+pub fn reserve(state: &mut State, call: &Call<'_>) -> Result<(), AllocError>
+    ensures state { state.new.state ≡ state.old.state }
+    ensures limits { state.new.limits ≡ state.old.limits }
+    ensures ok { OnOk result (IsReserved state.new.room (plain_call call.now)) }
+    ensures memory { takes_memory (plain_call call.now) ≡ false → IsOk result }
+{
+    match needed_by(call) {
+        Needs::Nothing => Ok(()),
+        Needs::Place => state.reserve_queue(),
+        Needs::Text { id, len } => state.reserve_text(id, len),
+    }
+}
+
+/// The attempt of a call by a process, whose memory is reserved. It takes none.
+pub fn attempt(state: &mut State, pid: Pid, call: &Call<'_>) -> Answer
+    requires { IsReserved state.old.room (plain_call call.now) }
+    ensures finish { finish_of state.new.state result
+        ≡ attempt_of state.old.limits state.old.state pid.0 (plain_call call.now) }
+    ensures limits { state.new.limits ≡ state.old.limits }
+{
+    match call {
+        Call::Msgget { key, flags } => msgget(state, *key, *flags),
+        Call::Msgsnd {
+            id,
+            mtype,
+            text,
+            ..
+        } => msgsnd(state, pid, *id, *mtype, text),
+        Call::Msgrcv {
+            id,
+            size,
+            mtype,
+            ..
+        } => msgrcv(state, pid, *id, *size, *mtype),
+    }
+}
+
+/// msgget(2).
+fn msgget(state: &mut State, key: i32, flags: GetFlags) -> Answer
+    requires { state.old.room.queue ≡ true }
+    ensures finish { finish_of state.new.state result
+        ≡ ended state.old.state (msgget_of state.old.limits state.old.state key flags.0) }
+    ensures limits { state.new.limits ≡ state.old.limits }
+{
+    if let Some(id) = state.queue_of_key(key) {
+        if flags.contains(GetFlags::IPC_CREAT) && flags.contains(GetFlags::IPC_EXCL) {
+            return Err(Errno::EEXIST);
+        }
+        return Ok(Body::Number(id.0));
+    }
+    if key != IPC_PRIVATE && !flags.contains(GetFlags::IPC_CREAT) {
+        return Err(Errno::ENOENT);
+    }
+    if state.has_all_queues() {
+        return Err(Errno::ENOSPC);
+    }
+    Ok(Body::Number(state.add_queue(key).0))
+}
+
+/// msgsnd of msgop(2).
+fn msgsnd(state: &mut State, pid: Pid, id: Id, mtype: i64, text: &[u8]) -> Answer
+    requires { HasTextRoom state.old.room.texts id.0 (length text.now) }
+    ensures finish { finish_of state.new.state result
+        ≡ ended state.old.state (msgsnd_of state.old.limits state.old.state pid.0 id.0 mtype text.now) }
+    ensures limits { state.new.limits ≡ state.old.limits }
+{
+    if mtype <= 0 || text.len() > state.limits().msgmax as usize {
+        return Err(Errno::EINVAL);
+    }
+    let Some(queue) = state.queue(id) else {
+        return Err(Errno::EINVAL);
+    };
+    if !queue.fits(text.len()) {
+        return Err(Errno::EAGAIN);
+    }
+    state.send(id, mtype, text, pid);
+    Ok(Body::Empty)
+}
+
+/// msgrcv of msgop(2).
+fn msgrcv(state: &mut State, pid: Pid, id: Id, size: u32, mtype: i64) -> Answer
+    ensures finish { finish_of state.new.state result
+        ≡ ended state.old.state (msgrcv_of state.old.state pid.0 id.0 size mtype) }
+    ensures limits { state.new.limits ≡ state.old.limits }
+{
+    if size > LAST_NUMBER {
+        return Err(Errno::EINVAL);
+    }
+    let Some(queue) = state.queue(id) else {
+        return Err(Errno::EINVAL);
+    };
+    let Some(at) = queue.select(mtype, false) else {
+        return Err(Errno::ENOMSG);
+    };
+    if queue.message(at).text.len() > size as usize {
+        return Err(Errno::E2BIG);
+    }
+    let message = state.take(id, at, pid);
+    Ok(Body::Message {
+        mtype: message.mtype,
+        text: message.text,
+    })
+}
