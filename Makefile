@@ -4,18 +4,31 @@
 .PHONY: help run test memory program bench
 
 help:
-	@echo "make run    proves and builds what is needed, and runs examples/first_queue.script"
+	@echo "make run    proves and builds what is needed, and runs examples/first_queue.script; some minutes the first"
+	@echo "            time. It may be stopped: crates that are proved stay proved, and the next run goes on after them"
 	@echo "make test   the gate: every proof from nothing, the edits that must fail, the tests, the program; and then"
-	@echo "            what 'make memory' runs, on what the gate has built"
+	@echo "            what 'make memory' runs, on what the gate has built. It takes about half an hour on four cores"
 	@echo "make memory the engine's tests and the program, with each allocation refused in turn"
 	@echo "make bench  lines per second and peak memory of long scripts"
 
 run: program
 	crates/ipcd/out/ipcd replay --small < examples/first_queue.script
 
-# A first build proves every crate below the program, which takes some minutes.
+# The crates below the program, lowest first: those that crates.txt names before it. A crate that is proved, and of which
+# nothing has changed, takes a moment. What rt says of a crate is shown if the crate fails.
+BELOW := $(shell sed -n -e '/^ipcd:/q' -e 's/^\([a-z_]*\):.*/\1/p' crates.txt)
+CRATES := $(words $(BELOW) ipcd)
+
 program:
-	@echo "proving and building crates/ipcd"
+	@echo "proving and building ipcd and the crates below it: some minutes the first time."
+	@echo "It may be stopped: crates that are proved stay proved, and the next run goes on after them."
+	@number=0; for crate in $(BELOW); do \
+		number=$$((number + 1)); \
+		echo "proving $$crate ($$number of $(CRATES))"; \
+		(cd crates/$$crate && rt lib > out.log 2>&1) || { cat crates/$$crate/out.log; exit 1; }; \
+		rm -f crates/$$crate/out.log; \
+	done
+	@echo "proving and building ipcd ($(CRATES) of $(CRATES))"
 	@cd crates/ipcd && rt run -- replay --small < /dev/null > out.log 2>&1 || { cat out.log; exit 1; }
 	@rm -f crates/ipcd/out.log
 
