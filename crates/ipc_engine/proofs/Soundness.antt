@@ -50,4 +50,5 @@ module _ (limits : Limits) where
   pub after-fits : (now : Limits) (s : State) (os : List PlainOutcome) (e : PlainEvent) → now ≡ limits → os ≡ (step limits s e).outcomes
       → IsSound limits s → All (λ (o : PlainOutcome). FitsBody now o.body) os
   after-fits now s os e same is h =
-      subst (λ (l : Limits). All (λ (o : PlainOutcome). FitsBody l o.body) os) (sym same) (subst (λ (us : List PlainOutcome). All Fits us) (sym is) (step-fits s e h))
+      subst (λ (l : Limits). All (λ (o : PlainOutcome). FitsBody l o.body) os) (sym same)
+      (subst (λ (us : List PlainOutcome). All Fits us) (sym is) (step-fits s e h))

@@ -17,7 +17,8 @@ use Rattle.ipc_state.specs.Finish.{Finish, Done}
 use Rattle.ipc_state.specs.Objects.{last_number}
 use Rattle.ipc_state.specs.Sound.{IsSound, IsSoundQueue, FitsBody}
 use Rattle.ipc_state.specs.State.{State, queue_of, with_queue, with_new_queue}
-use Rattle.ipc_state.proofs.CallerLemmas.{EndsSound, Ends, IsGood, after-refuse, after-orelse, by-if_some, answered, read, ended-sound, ended-keeps, with_new_queue-sound, with_queue-sound, queue-sound, sent-sound, taken-sound}
+use Rattle.ipc_state.proofs.CallerLemmas.{EndsSound, Ends, IsGood, after-refuse, after-orelse, by-if_some, answered, read, ended-sound, ended-keeps}
+use Rattle.ipc_state.proofs.CallerLemmas.{with_new_queue-sound, with_queue-sound, queue-sound, sent-sound, taken-sound}
 use Rattle.sysv_calls.specs.Calls.{msgget, msgsnd, msgrcv, message_at, attempt}
 
 not_false : (b : Bool) → not b ≡ false → b ≡ true

@@ -1,6 +1,7 @@
 -- What each call answers and leaves: msgget(2) and msgop(2), in this server's profile. Refusals stand in the order
 -- in which they are tested. A call that would have to wait is refused, with or without IPC_NOWAIT.
-use Rattle.std.specs.Prelude.{ℕ, ℤ, pos, Bool, false, not, ◌&&◌, List, [], length, nat_lt, ◌==◌, int_lt, slice_get, unwrap_or}
+use Rattle.std.specs.Prelude.{ℕ, ℤ, pos, Bool, false, not, ◌&&◌, List, [], length, nat_lt, ◌==◌, int_lt, slice_get}
+use Rattle.std.specs.Prelude.{unwrap_or}
 use Rattle.std.specs.Ordering.{int_eq}
 use Rattle.std.specs.Int.RustNames.{bit_and}
 use Rattle.ipc_base.specs.declared.errno.Errno.TheVariants.{ENOENT, EEXIST, EINVAL, ENOSPC, EAGAIN, ENOMSG, E2BIG}

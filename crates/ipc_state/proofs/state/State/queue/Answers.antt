@@ -6,12 +6,9 @@ use Rattle.sysv_msg.specs.Queue.{Kept, Queue}
 use Rattle.ipc_state.specs.Held.{Held}
 use Rattle.ipc_state.specs.Sound.{IsSound, IsSoundQueue}
 use Rattle.ipc_state.specs.State.{State, queue_of}
-use Rattle.ipc_state.specs.Tables.{objects_of}
+use Rattle.ipc_state.specs.Tables.{objects_of, queue_in}
 use Rattle.ipc_state.proofs.CallerLemmas.{queue-sound}
 use Rattle.ipc_state.proofs.state.State.queue.Goals as goal
-
-abbrev queue_in : Kept → Queue
-queue_in k = k.queue
 
 found-sound : (limits : Limits) (s : State) (id : ℕ) (o : Option Kept) → option_map queue_in o ≡ queue_of s id → IsSound limits s
     → IfSome o (λ k. IsSoundQueue limits k.queue)
