@@ -1,5 +1,5 @@
 -- How the state is kept: each part of the tables as a value of the definitions.
-use Rattle.std.specs.Prelude.{ℕ, ℤ, ◌<◌, Bool, ◌&&◌, nat_lt, List, map, Option, vec_len, vec_capacity}
+use Rattle.std.specs.Prelude.{ℕ, ℤ, Bool, ◌&&◌, nat_lt, List, map, Option, vec_len, vec_capacity}
 use Rattle.ipc_base.specs.declared.identity.Cred.{Cred}
 use Rattle.ipc_base.specs.declared.identity.Moment.{Moment}
 use Rattle.std.specs.Global.{Vec}

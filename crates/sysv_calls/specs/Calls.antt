@@ -28,13 +28,13 @@ excl = 1024
 abbrev pub msgget : Limits → State → ℤ → ℕ → Attempt Done
 msgget limits s key flags =
     if_some (keyed s.msg key)
-      (λ id. do
-        refuse EEXIST (has flags creat && has flags excl)
-        answer s (Number id))
-      (do
-        refuse ENOENT (not (int_eq key (pos 0)) && not (has flags creat))
-        refuse ENOSPC (is_full limits.msgmni s.msg)
-        answer (with_new_queue limits s key) (Number s.msg.next))
+    (λ id. do
+      refuse EEXIST (has flags creat && has flags excl)
+      answer s (Number id))
+    (do
+      refuse ENOENT (not (int_eq key (pos 0)) && not (has flags creat))
+      refuse ENOSPC (is_full limits.msgmni s.msg)
+      answer (with_new_queue limits s key) (Number s.msg.next))
 
 -- msgsnd of msgop(2)
 abbrev pub msgsnd : Limits → State → ℕ → ℕ → ℤ → List ℕ → Attempt Done

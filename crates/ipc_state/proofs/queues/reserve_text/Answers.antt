@@ -1,10 +1,8 @@
-use Rattle.std.proofs.Common.{◌≡◌, Option, Some, None, sym, subst, ap, ◌∙◌, ℕ}
+use Rattle.std.proofs.Common.{◌≡◌, Option, Some, None, sym, subst, ◌∙◌, ℕ}
 use Rattle.std.specs.Prelude.{IfSome}
 use Rattle.std.proofs.lemmas.Result.{on_ok_weaker}
-use Rattle.sysv_msg.specs.Queue.{Queue, Kept}
-use Rattle.ipc_state.specs.Held.{HasTextRoom}
 use Rattle.ipc_state.specs.Tables.{queue_in, room_in}
-use Rattle.ipc_state.proofs.Places.{place_of, with_entry, missing, put_same, put_there}
+use Rattle.ipc_state.proofs.Places.{place_of, missing, put_same, put_there}
 use Rattle.ipc_state.proofs.queues.reserve_text.Goals as goal
 
 pub returns-in_default-clause-ok : goal.returns-in_default-clause-ok

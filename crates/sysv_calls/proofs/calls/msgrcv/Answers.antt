@@ -2,7 +2,7 @@ use Rattle.std.proofs.Common.{◌≡◌, ℤ, [], true, false, Option, Some, Non
 use Rattle.std.specs.Prelude.{nat_lt, unwrap_or}
 use Rattle.std.specs.Int.{w64, cast_signed as to_z, cast_unsigned as of_z}
 use Rattle.std.proofs.lemmas.Int.{to_z-of_z}
-use Rattle.sysv_msg.specs.Queue.{Queue, PlainMessage, pick, plain, taken}
+use Rattle.sysv_msg.specs.Queue.{PlainMessage, pick, plain, taken}
 use Rattle.ipc_wire.specs.declared.reply.Body.TheVariants.{Message}
 use Rattle.ipc_state.specs.Finish.{done}
 use Rattle.ipc_state.specs.Objects.{last_number}

@@ -1,7 +1,7 @@
-use Rattle.std.proofs.Common.{◌≡◌, ℕ, ℤ, false, None, sym, subst, ap, ◌∙◌}
+use Rattle.std.proofs.Common.{◌≡◌, ℤ, false, None, sym, subst, ap, ◌∙◌}
 use Rattle.std.specs.Int.{w32, cast_signed as to_z, cast_unsigned as of_z}
 use Rattle.std.proofs.lemmas.Int.{to_z-of_z}
-use Rattle.sysv_msg.specs.Queue.{Queue, Kept, new_queue}
+use Rattle.sysv_msg.specs.Queue.{Queue, new_queue}
 use Rattle.ipc_state.specs.Held.{Held}
 use Rattle.ipc_state.specs.Objects.{Objects, keyed, is_full, with_new, objects_map}
 use Rattle.ipc_state.specs.Sound.{IsSound}

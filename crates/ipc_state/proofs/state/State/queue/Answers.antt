@@ -2,7 +2,7 @@ use Rattle.std.proofs.Common.{◌≡◌, ℕ, Option, Some, None, sym, subst, ap
 use Rattle.std.specs.Prelude.{option_map, option_copied, IfSome}
 use Rattle.ipc_base.specs.declared.limits.Limits.{Limits}
 use Rattle.ipc_base.proofs.CallerLemmas.{at-map}
-use Rattle.sysv_msg.specs.Queue.{Kept, Queue}
+use Rattle.sysv_msg.specs.Queue.{Kept}
 use Rattle.ipc_state.specs.Held.{Held}
 use Rattle.ipc_state.specs.Sound.{IsSound, IsSoundQueue}
 use Rattle.ipc_state.specs.State.{State, queue_of}

@@ -1,8 +1,8 @@
-use Rattle.std.proofs.Common.{◌≡◌, ℕ, ℤ, pos, ◌≤◌, false, Some, length, sym, subst, ap, ◌∙◌}
+use Rattle.std.proofs.Common.{◌≡◌, ℤ, pos, ◌≤◌, Some, length, sym, subst, ap, ◌∙◌}
 use Rattle.std.specs.Prelude.{int_lt, IsTrue, IsSome}
 use Rattle.std.specs.Int.{w64, cast_signed as to_z, cast_unsigned as of_z}
 use Rattle.std.proofs.lemmas.Int.{to_z-of_z}
-use Rattle.sysv_msg.specs.Queue.{Queue, PlainMessage, sent, full}
+use Rattle.sysv_msg.specs.Queue.{Queue, PlainMessage, sent}
 use Rattle.ipc_state.specs.Held.{Held}
 use Rattle.ipc_state.specs.Objects.{Objects}
 use Rattle.ipc_state.specs.Sound.{IsSound}

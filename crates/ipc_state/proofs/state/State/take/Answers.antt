@@ -1,4 +1,4 @@
-use Rattle.std.proofs.Common.{◌≡◌, ℕ, ◌<◌, Some, length, sym, subst, ap, ◌∙◌}
+use Rattle.std.proofs.Common.{◌≡◌, Some, sym, subst, ap, ◌∙◌}
 use Rattle.std.specs.Prelude.{IsSome}
 use Rattle.sysv_msg.specs.Queue.{Queue, taken}
 use Rattle.ipc_state.specs.Held.{Held}
@@ -24,5 +24,5 @@ invariant_of-self c =
     ap (λ (o : Objects Queue). record s { msg = o }) (c.take.ensures.queues some.0 some.1) in (
       c.self.invariant.0,
       subst (λ (n : State). IsSound t.limits n) (sym is)
-      (with_queue-sound t.limits s id (taken some.0 c.args.at c.args.pid.0 t.clock.0) good c.self.invariant.1),
+          (with_queue-sound t.limits s id (taken some.0 c.args.at c.args.pid.0 t.clock.0) good c.self.invariant.1),
     )
