@@ -15,7 +15,8 @@ pub step-sound : (limits : Limits) (s : State) (e : PlainEvent) → IsSound limi
 step-sound = soundness.step-sound
 
 -- no body of a reply is longer than the longest one
-pub step-fits : (limits : Limits) (s : State) (e : PlainEvent) → IsSound limits s → All (λ (o : PlainOutcome). FitsBody limits o.body) (step limits s e).outcomes
+pub step-fits : (limits : Limits) (s : State) (e : PlainEvent) → IsSound limits s
+    → All (λ (o : PlainOutcome). FitsBody limits o.body) (step limits s e).outcomes
 step-fits = soundness.step-fits
 
 -- a request leaves the processes as they are

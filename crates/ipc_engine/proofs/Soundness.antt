@@ -1,5 +1,5 @@
 -- A step leads from a sound state to a sound state, and its replies fit.
-use Rattle.std.proofs.Common.{◌≡◌, ℕ, false, List, [], ◌∷◌, sym, subst, arith}
+use Rattle.std.proofs.Common.{◌≡◌, ℕ, List, [], sym, subst, arith}
 use Rattle.std.specs.Prelude.{All}
 use Rattle.std.proofs.lemmas.List.Elements.{All-nil, All-cons}
 use Rattle.ipc_base.specs.declared.limits.Limits.{Limits}
@@ -50,4 +50,5 @@ module _ (limits : Limits) where
   pub after-fits : (now : Limits) (s : State) (os : List PlainOutcome) (e : PlainEvent) → now ≡ limits → os ≡ (step limits s e).outcomes
       → IsSound limits s → All (λ (o : PlainOutcome). FitsBody now o.body) os
   after-fits now s os e same is h =
-      subst (λ (l : Limits). All (λ (o : PlainOutcome). FitsBody l o.body) os) (sym same) (subst (λ (us : List PlainOutcome). All Fits us) (sym is) (step-fits s e h))
+      subst (λ (l : Limits). All (λ (o : PlainOutcome). FitsBody l o.body) os) (sym same)
+      (subst (λ (us : List PlainOutcome). All Fits us) (sym is) (step-fits s e h))

@@ -1,10 +1,10 @@
 -- What a caller sees of the machine, and what it may ask.
-use Rattle.std.specs.Prelude.{◌≡◌, ℕ, Bool, true, false, List}
+use Rattle.std.specs.Prelude.{◌≡◌, Bool, true, false, List}
 use Rattle.ipc_base.specs.declared.limits.Limits.{Limits}
 use Rattle.ipc_wire.specs.Request.{PlainKind, Hello, Calls}
 use Rattle.ipc_state.specs.State.{State, is_process}
 use Rattle.ipc_state.specs.Held.{Room}
-use Rattle.sysv_calls.specs.Needs.{IsReserved, takes_memory as call_takes_memory}
+use Rattle.sysv_calls.specs.Needs.{Needs, Nothing, needs, is_something, Has}
 use Rattle.ipc_engine.specs.Event.{PlainEvent, Connect, Call, Tick, Exit, PlainOutcome}
 
 -- the limits that it keeps, the state, and the replies of the last event
@@ -20,9 +20,13 @@ IsForProcess s (Call pid request moment) = is_process s pid ≡ true
 IsForProcess s (Tick moment) = Unit {0}
 IsForProcess s (Exit pid moment) = is_process s pid ≡ true
 
+-- what a request of a process may need of memory
+abbrev pub kind_needs : PlainKind → Needs
+kind_needs (Hello cred) = Nothing
+kind_needs (Calls call) = needs call
+
 abbrev pub kind_takes_memory : PlainKind → Bool
-kind_takes_memory (Hello cred) = false
-kind_takes_memory (Calls call) = call_takes_memory call
+kind_takes_memory kind = is_something (kind_needs kind)
 
 -- whether an event may need memory, and so may be refused
 abbrev pub takes_memory : PlainEvent → Bool
@@ -33,5 +37,4 @@ takes_memory (Exit pid moment) = false
 
 -- what a request of a process needs is there
 abbrev pub IsReadyFor : Room → PlainKind → Type 0
-IsReadyFor room (Hello cred) = Unit {0}
-IsReadyFor room (Calls call) = IsReserved room call
+IsReadyFor room kind = Has room (kind_needs kind)

@@ -32,11 +32,16 @@ asked limits s pid (Calls call) = attempt limits s pid call
 
 -- the reply to a call that has ended so
 abbrev pub replied : ℕ → ℕ → Finish → Step
-replied pid serial f = record { state = f.state; outcomes = record { pid = pid; serial = serial; errno = f.errno; body = f.body } ∷ [] }
+replied pid serial f =
+    record {
+      state = f.state;
+      outcomes = record { pid = pid; serial = serial; errno = f.errno; body = f.body } ∷ [];
+    }
 
 abbrev pub step : Limits → State → PlainEvent → Step
 step limits s (Connect cred serial moment) = connect limits (at_moment s moment) cred serial
-step limits s (Call pid request moment) = replied pid request.serial (asked limits (at_moment s moment) pid request.kind)
+step limits s (Call pid request moment) =
+    replied pid request.serial (asked limits (at_moment s moment) pid request.kind)
 step limits s (Tick moment) = record { state = at_moment s moment; outcomes = [] }
 step limits s (Exit pid moment) = record { state = exit (at_moment s moment) pid; outcomes = [] }
 

@@ -8,7 +8,8 @@ use Rattle.ipc_engine.specs.declared.event.Event.{Event}
 use Rattle.ipc_engine.specs.declared.event.Event.TheVariants.{Connect, Call, Tick, Exit}
 use Rattle.ipc_engine.specs.declared.event.Outcome.{Outcome}
 use Rattle.ipc_state.specs.State.{State}
-use Rattle.ipc_engine.specs.Event.{PlainEvent, Connect as Connects, Call as Calls, Tick as Ticks, Exit as Exits, PlainOutcome}
+use Rattle.ipc_engine.specs.Event.{PlainEvent, Connect as Connects, Call as Calls, Tick as Ticks, Exit as Exits}
+use Rattle.ipc_engine.specs.Event.{PlainOutcome}
 use Rattle.ipc_engine.specs.Step.{Step}
 
 abbrev pub plain_event : Event → PlainEvent

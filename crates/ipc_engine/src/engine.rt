@@ -1,7 +1,20 @@
 //! The machine: one step for each event.
 
 ghost use Rattle.std.specs.Prelude.{
-    ◌≡◌, ◌<◌, ◌≤◌, true, false, [], ◌∷◌, map, IsOk, OnOk, OnErr, IfOk, All, vec_capacity,
+  ◌≡◌,
+  ◌<◌,
+  ◌≤◌,
+  true,
+  false,
+  [],
+  ◌∷◌,
+  map,
+  IsOk,
+  OnOk,
+  OnErr,
+  IfOk,
+  All,
+  vec_capacity,
 };
 ghost use Rattle.ipc_base.specs.Limits.{ArePassed};
 ghost use Rattle.ipc_wire.specs.Request.{plain_kind};

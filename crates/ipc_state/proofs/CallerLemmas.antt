@@ -1,7 +1,7 @@
 -- What the crates above cite: each change of the state leads from a sound state to a sound state, and so does a call
 -- whose steps do.
-use Rattle.std.proofs.Common.{◌≡◌, ℕ, suc, ℤ, pos, ◌+◌, ◌<◌, ◌≤◌, Bool, true, false, [], ◌∷◌, ◌++◌, length, Option, Some, None, refl, arith}
-use Rattle.std.specs.Prelude.{nat_eq, nat_lt, nat_le, int_lt, ◌||◌, All, IsTrue, Ok, Err}
+use Rattle.std.proofs.Common.{◌≡◌, ℕ, suc, ℤ, pos, ◌+◌, ◌<◌, ◌≤◌, Bool, true, false, [], length, Option, Some, None, refl, arith}
+use Rattle.std.specs.Prelude.{nat_eq, nat_lt, nat_le, int_lt, IsTrue, Ok, Err}
 use Rattle.std.proofs.lemmas.Bool.Decides.{nat_tests}
 use Rattle.std.proofs.lemmas.List.{map-append, length-append}
 use Rattle.std.proofs.lemmas.List.Elements.{All-nil, All-push, All-append, All-take, All-drop}

@@ -1,5 +1,5 @@
 -- The objects of a kind stay sound as one comes or changes.
-use Rattle.std.proofs.Common.{◌≡◌, ◌≢◌, ℕ, ℤ, pos, ◌+◌, ◌<◌, ◌≤◌, Bool, true, false, List, [], ◌∷◌, ◌++◌, length, map, Option, Some, None, refl, ap, ◌∙◌, arith}
+use Rattle.std.proofs.Common.{◌≡◌, ◌≢◌, ℕ, ℤ, pos, ◌+◌, ◌<◌, ◌≤◌, Bool, true, false, List, [], ◌∷◌, ◌++◌, length, Option, Some, None, refl, ap, ◌∙◌, arith}
 use Rattle.std.specs.Prelude.{nat_eq, nat_lt, nat_le, ◌||◌, if◌then◌else◌, All, IsSome}
 use Rattle.std.specs.List.{IsDistinct}
 use Rattle.std.specs.Ordering.{int_eq}
@@ -10,7 +10,8 @@ use Rattle.std.proofs.lemmas.List.{map-append, length-append}
 use Rattle.std.proofs.lemmas.List.Elements.{All-nil, All-push, All-weaker}
 use Rattle.std.proofs.lemmas.Map.Keys.{IsDistinct-push, IsDistinct-from_apart}
 use Rattle.ipc_base.specs.Table.{value_at, with_value, keys_of, values_of, IsRising}
-use Rattle.ipc_base.proofs.CallerLemmas.{choice, rising-push, rising-weaker, length-with_value, keys_of-with_value, All-with_value, All-value_at, is_some-with_value, is_some-append, is_some-push, no_key}
+use Rattle.ipc_base.proofs.CallerLemmas.{choice, rising-push, rising-weaker, length-with_value, keys_of-with_value, All-with_value, All-value_at}
+use Rattle.ipc_base.proofs.CallerLemmas.{is_some-with_value, is_some-append, is_some-push, no_key}
 use Rattle.ipc_state.specs.Objects.{Objects, no_objects, object_of, keyed, is_full, with_object, with_new, objects_map, AreSound, last_number}
 
 -- a test of two parts that fails, fails in each
@@ -57,10 +58,12 @@ module _ {X : Type 0} (most : ℕ) (IsSoundOne : X → Type 0) where
       → AreSound most IsSoundOne o → AreSound most IsSoundOne (with_new o key x)
   with_new-sound o key x unused room good h =
       let more : List (ℕ × X) = o.entries ++ (o.next, x) ∷ [] in
-      let fewer : length o.entries < most = let both = neither (nat_le most (length o.entries)) (nat_lt last_number o.next) room in grind (arith, nat_tests) in
-      let left : o.next ≤ last_number = let both = neither (nat_le most (length o.entries)) (nat_lt last_number o.next) room in grind (arith, nat_tests) in
+      let both = neither (nat_le most (length o.entries)) (nat_lt last_number o.next) room in
+      let fewer : length o.entries < most = grind (arith, nat_tests) in
+      let left : o.next ≤ last_number = grind (arith, nat_tests) in
       let old_names : All (IsNamed more) o.keys =
-      All-weaker (IsNamed o.entries) (IsNamed more) (λ k n. (n.0, is_some-append nat_eq o.entries ((o.next, x) ∷ []) k.1 n.1)) o.keys h.names in
+      All-weaker (IsNamed o.entries) (IsNamed more)
+      (λ k n. (n.0, is_some-append nat_eq o.entries ((o.next, x) ∷ []) k.1 n.1)) o.keys h.names in
       record {
         ids = rw map-append (rising-push 1 (keys_of o.entries) o.next h.ids);
         next = omega arith;

@@ -5,8 +5,8 @@ use Rattle.ipc_base.specs.declared.limits.Limits.{Limits}
 use Rattle.ipc_base.specs.Table.{value_at}
 use Rattle.ipc_state.specs.State.{State}
 
--- whether there is room for one process more, and for one queue with its key; for each queue, by identifier, of how many
--- bytes the message is that it has room for
+-- whether there is room for one process more, and for one queue with its key; for each queue, by identifier, of how
+-- many bytes the message is that it has room for
 pub record Room : Type 0 where
   pub process : Bool
   pub queue : Bool

@@ -1,6 +1,7 @@
 -- The objects of one kind (sysvipc(7)): each has an identifier, counted from 1 and never given twice, and some have a
 -- key. IPC_PRIVATE, which is 0, is the key of none.
-use Rattle.std.specs.Prelude.{◌≢◌, ℕ, ℤ, pos, ◌+◌, ◌≤◌, Bool, ◌||◌, if◌then◌else◌, List, [], ◌∷◌, ◌++◌, length, map, nat_eq, nat_le, nat_lt, Option, None, All, IsSome}
+use Rattle.std.specs.Prelude.{◌≢◌, ℕ, ℤ, pos, ◌+◌, ◌≤◌, Bool, ◌||◌, if◌then◌else◌, List, [], ◌∷◌, ◌++◌, length, map}
+use Rattle.std.specs.Prelude.{nat_eq, nat_le, nat_lt, Option, None, All, IsSome}
 use Rattle.std.specs.List.{IsDistinct}
 use Rattle.std.specs.Ordering.{int_eq}
 use Rattle.ipc_base.specs.Table.{value_at, with_value, keys_of, values_of, IsRising}
@@ -49,9 +50,9 @@ with_new o key x =
 abbrev pub objects_map : {X Y : Type 0} → (X → Y) → Objects X → Objects Y
 objects_map see o = record { next = o.next; keys = o.keys; entries = map (λ e. (e.0, see e.1)) o.entries }
 
--- What holds of the objects of a kind, where something holds of each: no more than the limit, identifiers rise from 1 to
--- below the next, which is at most one past the last; no key stands twice, none is IPC_PRIVATE, each names an object that
--- is there, and no two the same.
+-- What holds of the objects of a kind, when something holds of each: there are no more than the limit says; identifiers
+-- rise from 1 to below the next, which is at most one past the last; no key stands twice, none is IPC_PRIVATE, each
+-- names an object that is there, and no two the same.
 pub record AreSound {X : Type 0} (most : ℕ) (IsSoundOne : X → Type 0) (o : Objects X) : Type 0 where
   pub ids : IsRising 1 (keys_of o.entries) o.next
   pub next : o.next ≤ last_number + 1

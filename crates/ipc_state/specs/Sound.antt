@@ -1,6 +1,6 @@
 -- What holds of the state after every event: numbers rise and are never given twice, no limit is passed, each key
 -- is the key of one object that is there, and no queue holds more than it may.
-use Rattle.std.specs.Prelude.{ℕ, ◌+◌, ◌≤◌, pos, int_lt, length, All, IsTrue}
+use Rattle.std.specs.Prelude.{◌+◌, ◌≤◌, pos, int_lt, length, All, IsTrue}
 use Rattle.ipc_base.specs.declared.limits.Limits.{Limits}
 use Rattle.ipc_base.specs.Limits.{longest_body}
 use Rattle.ipc_base.specs.Table.{keys_of, IsRising}

@@ -1,5 +1,5 @@
 -- How the state is kept: each part of the tables as a value of the definitions.
-use Rattle.std.specs.Prelude.{ℕ, ℤ, ◌<◌, Bool, ◌&&◌, nat_lt, List, map, Option, vec_len, vec_capacity}
+use Rattle.std.specs.Prelude.{ℕ, ℤ, Bool, ◌&&◌, nat_lt, List, map, Option, vec_len, vec_capacity}
 use Rattle.ipc_base.specs.declared.identity.Cred.{Cred}
 use Rattle.ipc_base.specs.declared.identity.Moment.{Moment}
 use Rattle.std.specs.Global.{Vec}
@@ -29,11 +29,17 @@ abbrev pub has_place : {T : Type 0} → Tables T → Bool
 has_place o = nat_lt (vec_len o.entries) (vec_capacity o.entries) && nat_lt (vec_len o.keys) (vec_capacity o.keys)
 
 -- the queues, and the room in each
+abbrev pub queue_in : Kept → Queue
+queue_in k = k.queue
+
+abbrev pub room_in : Kept → Option ℕ
+room_in k = k.room
+
 abbrev pub queues_of : Tables Kept → Objects Queue
-queues_of o = objects_map (λ k. k.queue) (objects_of o)
+queues_of o = objects_map queue_in (objects_of o)
 
 abbrev pub texts_of : Tables Kept → List (ℕ × Option ℕ)
-texts_of o = (objects_map (λ k. k.room) (objects_of o)).entries
+texts_of o = (objects_map room_in (objects_of o)).entries
 
 abbrev pub state_of : Moment → ℕ → Vec Process → Tables Kept → State
 state_of clock next_pid processes queues =

@@ -1,7 +1,15 @@
 //! The objects of one kind, as plain lists: at most some dozens, found from the front.
 
 ghost use Rattle.std.specs.Prelude.{
-    ◌≡◌, ◌==◌, ◌<◌, ◌^◌, true, position, option_map, option_copied, OnOk,
+  ◌≡◌,
+  ◌==◌,
+  ◌<◌,
+  ◌^◌,
+  true,
+  position,
+  option_map,
+  option_copied,
+  OnOk,
 };
 ghost use Rattle.std.specs.Ordering.{int_eq};
 ghost use Rattle.ipc_state.specs.Objects.{no_objects, object_of, keyed, with_new, is_full as is_full_of};

@@ -12,7 +12,11 @@ use std::alloc::AllocError;
 use sysv_msg::{Message, MsgQueue};
 
 /// Takes the memory for one message of `len` bytes, if the queue is there.
-pub(crate) fn reserve_text(queues: &mut Objects<MsgQueue>, id: Id, len: usize) -> Result<(), AllocError>
+pub(crate) fn reserve_text(
+    queues: &mut Objects<MsgQueue>,
+    id: Id,
+    len: usize,
+) -> Result<(), AllocError>
     ensures queues { queues_of queues.new ≡ queues_of queues.old }
     ensures ok { OnOk result (HasTextRoom (texts_of queues.new) id.0 len) }
 {
@@ -24,7 +28,14 @@ pub(crate) fn reserve_text(queues: &mut Objects<MsgQueue>, id: Id, len: usize) -
 }
 
 /// Sends a message to a queue that is there. It takes no memory.
-pub(crate) fn send(queues: &mut Objects<MsgQueue>, id: Id, mtype: i64, text: &[u8], pid: Pid, now: Moment)
+pub(crate) fn send(
+    queues: &mut Objects<MsgQueue>,
+    id: Id,
+    mtype: i64,
+    text: &[u8],
+    pid: Pid,
+    now: Moment,
+)
     requires there { IsSome (object_of (queues_of queues.old) id.0) }
     requires room { HasTextRoom (texts_of queues.old) id.0 (length text.now) }
     ensures { (q : Queue) → object_of (queues_of queues.old) id.0 ≡ Some q
@@ -37,7 +48,13 @@ pub(crate) fn send(queues: &mut Objects<MsgQueue>, id: Id, mtype: i64, text: &[u
 }
 
 /// Takes the message at a place of a queue that is there.
-pub(crate) fn take(queues: &mut Objects<MsgQueue>, id: Id, at: usize, pid: Pid, now: Moment) -> Message
+pub(crate) fn take(
+    queues: &mut Objects<MsgQueue>,
+    id: Id,
+    at: usize,
+    pid: Pid,
+    now: Moment,
+) -> Message
     requires there { IsSome (object_of (queues_of queues.old) id.0) }
     requires within { (q : Queue) → object_of (queues_of queues.old) id.0 ≡ Some q → at < length q.messages }
     ensures queues { (q : Queue) → object_of (queues_of queues.old) id.0 ≡ Some q

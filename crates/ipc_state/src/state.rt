@@ -1,8 +1,23 @@
 //! The state between two events. It is sound at all times.
 
 ghost use Rattle.std.specs.Prelude.{
-    ◌≡◌, ◌<◌, ◌≤◌, true, false, pos, int_lt, length, slice_get, None, Some, option_map, option_copied,
-    IsTrue, IsSome, IfSome, OnOk,
+  ◌≡◌,
+  ◌<◌,
+  ◌≤◌,
+  true,
+  false,
+  pos,
+  int_lt,
+  length,
+  slice_get,
+  None,
+  Some,
+  option_map,
+  option_copied,
+  IsTrue,
+  IsSome,
+  IfSome,
+  OnOk,
 };
 ghost use Rattle.ipc_base.specs.Limits.{ArePassed};
 ghost use Rattle.sysv_msg.specs.Queue.{Queue, plain, sent, taken, full};
@@ -10,7 +25,15 @@ ghost use Rattle.ipc_state.specs.Held.{HasTextRoom};
 ghost use Rattle.ipc_state.specs.Objects.{keyed, is_full};
 ghost use Rattle.ipc_state.specs.Sound.{IsSound, IsSoundQueue};
 ghost use Rattle.ipc_state.specs.State.{
-    start, at_moment, is_process, has_all_processes, with_process, exit, queue_of, with_queue, with_new_queue,
+  start,
+  at_moment,
+  is_process,
+  has_all_processes,
+  with_process,
+  exit,
+  queue_of,
+  with_queue,
+  with_new_queue,
 };
 
 use crate::objects::{LAST_NUMBER, Objects};

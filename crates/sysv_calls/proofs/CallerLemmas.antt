@@ -1,8 +1,7 @@
 -- What the crates above cite of the calls: from a sound state each ends in one, with a body that fits, and the
 -- processes stay.
-use Rattle.std.proofs.Common.{◌≡◌, ℕ, ℤ, pos, ◌<◌, ◌≤◌, Bool, true, false, not, ◌&&◌, List, [], length, Option, Some, None, refl, arith}
-use Rattle.std.specs.Prelude.{nat_lt, int_lt, All, IsTrue}
-use Rattle.std.specs.Ordering.{int_eq}
+use Rattle.std.proofs.Common.{◌≡◌, ℕ, ℤ, pos, ◌<◌, ◌≤◌, Bool, true, false, not, List, [], length, refl, arith}
+use Rattle.std.specs.Prelude.{nat_lt, int_lt}
 use Rattle.std.proofs.lemmas.Bool.{ltb-false}
 use Rattle.std.proofs.lemmas.List.Elements.{All-get_or}
 use Rattle.std.proofs.lemmas.List.Quantifiers.{position-Some}
@@ -12,12 +11,12 @@ use Rattle.ipc_base.specs.declared.errno.Errno.TheVariants.{ENOENT, EEXIST, EINV
 use Rattle.ipc_base.proofs.CallerLemmas.{message-is_bounded}
 use Rattle.ipc_wire.specs.Request.{PlainCall, Msgget, Msgsnd, Msgrcv}
 use Rattle.ipc_wire.specs.declared.reply.Body.TheVariants.{Empty, Number, Message}
-use Rattle.sysv_msg.specs.Queue.{Queue, PlainMessage, pick, is_allowed, full, sent, taken}
-use Rattle.ipc_state.specs.Finish.{Finish, Done}
+use Rattle.sysv_msg.specs.Queue.{Queue, PlainMessage, is_allowed, sent, taken}
 use Rattle.ipc_state.specs.Objects.{last_number}
 use Rattle.ipc_state.specs.Sound.{IsSound, IsSoundQueue, FitsBody}
-use Rattle.ipc_state.specs.State.{State, queue_of, with_queue, with_new_queue}
-use Rattle.ipc_state.proofs.CallerLemmas.{EndsSound, Ends, IsGood, after-refuse, after-orelse, by-if_some, answered, read, ended-sound, ended-keeps, with_new_queue-sound, with_queue-sound, queue-sound, sent-sound, taken-sound}
+use Rattle.ipc_state.specs.State.{State, with_queue, with_new_queue}
+use Rattle.ipc_state.proofs.CallerLemmas.{EndsSound, Ends, after-refuse, after-orelse, by-if_some, answered, read, ended-sound, ended-keeps}
+use Rattle.ipc_state.proofs.CallerLemmas.{with_new_queue-sound, with_queue-sound, queue-sound, sent-sound, taken-sound}
 use Rattle.sysv_calls.specs.Calls.{msgget, msgsnd, msgrcv, message_at, attempt}
 
 not_false : (b : Bool) → not b ≡ false → b ≡ true

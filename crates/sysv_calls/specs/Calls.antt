@@ -1,6 +1,7 @@
 -- What each call answers and leaves: msgget(2) and msgop(2), in this server's profile. Refusals stand in the order
 -- in which they are tested. A call that would have to wait is refused, with or without IPC_NOWAIT.
-use Rattle.std.specs.Prelude.{ℕ, ℤ, pos, Bool, false, not, ◌&&◌, List, [], length, nat_lt, ◌==◌, int_lt, slice_get, unwrap_or}
+use Rattle.std.specs.Prelude.{ℕ, ℤ, pos, Bool, false, not, ◌&&◌, List, [], length, nat_lt, ◌==◌, int_lt, slice_get}
+use Rattle.std.specs.Prelude.{unwrap_or}
 use Rattle.std.specs.Ordering.{int_eq}
 use Rattle.std.specs.Int.RustNames.{bit_and}
 use Rattle.ipc_base.specs.declared.errno.Errno.TheVariants.{ENOENT, EEXIST, EINVAL, ENOSPC, EAGAIN, ENOMSG, E2BIG}
@@ -27,13 +28,13 @@ excl = 1024
 abbrev pub msgget : Limits → State → ℤ → ℕ → Attempt Done
 msgget limits s key flags =
     if_some (keyed s.msg key)
-      (λ id. do
-        refuse EEXIST (has flags creat && has flags excl)
-        answer s (Number id))
-      (do
-        refuse ENOENT (not (int_eq key (pos 0)) && not (has flags creat))
-        refuse ENOSPC (is_full limits.msgmni s.msg)
-        answer (with_new_queue limits s key) (Number s.msg.next))
+    (λ id. do
+      refuse EEXIST (has flags creat && has flags excl)
+      answer s (Number id))
+    (do
+      refuse ENOENT (not (int_eq key (pos 0)) && not (has flags creat))
+      refuse ENOSPC (is_full limits.msgmni s.msg)
+      answer (with_new_queue limits s key) (Number s.msg.next))
 
 -- msgsnd of msgop(2)
 abbrev pub msgsnd : Limits → State → ℕ → ℕ → ℤ → List ℕ → Attempt Done

@@ -1,6 +1,6 @@
 -- What each call may need of memory. It is taken before the attempt, so that the attempt takes none.
 use Rattle.std.specs.Prelude.{◌≡◌, ℕ, Bool, true, false, length}
-use Rattle.ipc_wire.specs.Request.{PlainCall, Msgget, Msgsnd, Msgrcv}
+use Rattle.ipc_wire.specs.Request.{PlainCall, Msgget, Msgsnd}
 use Rattle.ipc_state.specs.Held.{Room, HasTextRoom}
 use Rattle.sysv_calls.specs.declared.memory.Needs.{Needs as Wants}
 use Rattle.sysv_calls.specs.declared.memory.Needs.TheVariants as wants

@@ -5,7 +5,10 @@ ghost use Rattle.ipc_wire.specs.Request.{plain_call};
 ghost use Rattle.ipc_state.specs.Held.{HasTextRoom};
 ghost use Rattle.ipc_state.specs.Finish.{finish_of, ended};
 ghost use Rattle.sysv_calls.specs.Calls.{
-    attempt as attempt_of, msgget as msgget_of, msgsnd as msgsnd_of, msgrcv as msgrcv_of,
+  attempt as attempt_of,
+  msgget as msgget_of,
+  msgsnd as msgsnd_of,
+  msgrcv as msgrcv_of,
 };
 ghost use Rattle.sysv_calls.specs.Needs.{IsReserved, takes_memory};
 

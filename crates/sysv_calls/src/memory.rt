@@ -14,10 +14,7 @@ pub(crate) enum Needs {
     /// Room for one queue more and its key.
     Place,
     /// Room for a message of `len` bytes in a queue.
-    Text {
-        id: Id,
-        len: usize,
-    },
+    Text { id: Id, len: usize },
 }
 
 /// The table of needs, by call.

@@ -1,9 +1,8 @@
-use Rattle.std.proofs.Common.{◌≡◌, ◌≢◌, true, ◌+◌, [], ◌∷◌, ◌++◌, length, None, arith}
-use Rattle.std.specs.Prelude.{nat_eq, nat_le, nat_lt, ◌||◌, All}
+use Rattle.std.proofs.Common.{◌≡◌, ◌≢◌, true, [], ◌∷◌, None, arith}
+use Rattle.std.specs.Prelude.{nat_eq, All}
 use Rattle.std.specs.Cmp.{nat_eq_equiv}
 use Rattle.std.proofs.lemmas.List.Elements.{All-nil, All-cons}
-use Rattle.ipc_base.specs.declared.identity.Cred.{Cred}
-use Rattle.ipc_state.specs.State.{State, is_process, at_moment, has_all_processes, with_process}
+use Rattle.ipc_state.specs.State.{is_process, at_moment, has_all_processes, with_process}
 use Rattle.ipc_engine.specs.Event.{PlainOutcome}
 use Rattle.ipc_engine.specs.Step.{Step}
 use Rattle.ipc_base.proofs.CallerLemmas.{choice, rising-found, is_some-append, is_some-push}

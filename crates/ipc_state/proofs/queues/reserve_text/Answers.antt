@@ -1,16 +1,9 @@
-use Rattle.std.proofs.Common.{◌≡◌, Option, Some, None, sym, subst, ap, ◌∙◌, ℕ}
+use Rattle.std.proofs.Common.{◌≡◌, Option, Some, None, sym, subst, ◌∙◌, ℕ}
 use Rattle.std.specs.Prelude.{IfSome}
 use Rattle.std.proofs.lemmas.Result.{on_ok_weaker}
-use Rattle.sysv_msg.specs.Queue.{Queue, Kept}
-use Rattle.ipc_state.specs.Held.{HasTextRoom}
-use Rattle.ipc_state.proofs.Places.{place_of, with_entry, missing, put_same, put_there}
+use Rattle.ipc_state.specs.Tables.{queue_in, room_in}
+use Rattle.ipc_state.proofs.Places.{place_of, missing, put_same, put_there}
 use Rattle.ipc_state.proofs.queues.reserve_text.Goals as goal
-
-abbrev queue_in : Kept → Queue
-queue_in k = k.queue
-
-abbrev room_in : Kept → Option ℕ
-room_in k = k.room
 
 pub returns-in_default-clause-ok : goal.returns-in_default-clause-ok
 returns-in_default-clause-ok c =
@@ -20,12 +13,14 @@ returns-in_default-clause-ok c =
 pub returns-clause-queues : goal.returns-clause-queues
 returns-clause-queues c =
     let at : place_of c.args.queues.now c.args.id.0 ≡ Some c.in-Some.place = sym c.place.ensures ∙ c.in-Some.is in
-    put_same queue_in c.args.queues.now c.args.id.0 c.in-Some.place c.index_mut-entry.result.now c.reserve.new.self at c.index_mut-entry.ensures.value c.reserve.ensures.queue
+    put_same queue_in c.args.queues.now c.args.id.0 c.in-Some.place c.index_mut-entry.result.now c.reserve.new.self at c.index_mut-entry.ensures.value
+    c.reserve.ensures.queue
 
 pub returns-clause-ok : goal.returns-clause-ok
 returns-clause-ok c =
     let at : place_of c.args.queues.now c.args.id.0 ≡ Some c.in-Some.place = sym c.place.ensures ∙ c.in-Some.is in
     on_ok_weaker c.reserve.result
     (λ room. subst (λ (o : Option (Option ℕ)). IfSome o (λ r. r ≡ Some c.args.len))
-    (sym (put_there room_in c.args.queues.now c.args.id.0 c.in-Some.place c.index_mut-entry.result.now c.reserve.new.self at c.index_mut-entry.ensures.value)) room)
+    (sym (put_there room_in c.args.queues.now c.args.id.0 c.in-Some.place c.index_mut-entry.result.now c.reserve.new.self at
+    c.index_mut-entry.ensures.value)) room)
     c.reserve.ensures.ok

@@ -1,18 +1,12 @@
-use Rattle.std.proofs.Common.{◌≡◌, true, Option, Some, None, length, is_some, sym, subst, ap, ◌∙◌, ℕ, ℤ}
-use Rattle.std.specs.Prelude.{IfSome, IsSome}
+use Rattle.std.proofs.Common.{◌≡◌, Option, Some, length, is_some, sym, subst, ap, ◌∙◌, ℕ, ℤ}
+use Rattle.std.specs.Prelude.{IfSome}
 use Rattle.std.specs.Int.{w64, cast_signed as to_z, cast_unsigned as of_z}
 use Rattle.std.proofs.lemmas.Int.{to_z-of_z}
-use Rattle.sysv_msg.specs.Queue.{Queue, Kept, sent, HasRoom}
+use Rattle.sysv_msg.specs.Queue.{Queue, sent}
 use Rattle.ipc_state.specs.Objects.{object_of, with_object}
-use Rattle.ipc_state.specs.Tables.{queues_of}
+use Rattle.ipc_state.specs.Tables.{queues_of, queue_in, room_in}
 use Rattle.ipc_state.proofs.Places.{place_of, has_place, found, put}
 use Rattle.ipc_state.proofs.queues.send.Goals as goal
-
-abbrev queue_in : Kept → Queue
-queue_in k = k.queue
-
-abbrev room_in : Kept → Option ℕ
-room_in k = k.room
 
 pub unwrap-place-requires : goal.unwrap-place-requires
 unwrap-place-requires c =

@@ -1,13 +1,10 @@
-use Rattle.std.proofs.Common.{◌≡◌, true, Option, Some, None, length, is_some, sym, subst, ap, ◌∙◌, ℕ}
+use Rattle.std.proofs.Common.{◌≡◌, Some, is_some, sym, subst, ap, ◌∙◌}
 use Rattle.std.specs.Prelude.{slice_get}
-use Rattle.sysv_msg.specs.Queue.{Queue, Kept, plain, taken}
+use Rattle.sysv_msg.specs.Queue.{Queue, plain, taken}
 use Rattle.ipc_state.specs.Objects.{object_of, with_object}
-use Rattle.ipc_state.specs.Tables.{queues_of}
+use Rattle.ipc_state.specs.Tables.{queues_of, queue_in}
 use Rattle.ipc_state.proofs.Places.{place_of, has_place, found, put}
 use Rattle.ipc_state.proofs.queues.take.Goals as goal
-
-abbrev queue_in : Kept → Queue
-queue_in k = k.queue
 
 pub unwrap-place-requires : goal.unwrap-place-requires
 unwrap-place-requires c =

@@ -2,7 +2,7 @@ use Rattle.std.proofs.Common.{◌≡◌, ℤ, [], true, false, Option, Some, Non
 use Rattle.std.specs.Prelude.{nat_lt, unwrap_or}
 use Rattle.std.specs.Int.{w64, cast_signed as to_z, cast_unsigned as of_z}
 use Rattle.std.proofs.lemmas.Int.{to_z-of_z}
-use Rattle.sysv_msg.specs.Queue.{Queue, PlainMessage, pick, plain, taken}
+use Rattle.sysv_msg.specs.Queue.{PlainMessage, pick, plain, taken}
 use Rattle.ipc_wire.specs.declared.reply.Body.TheVariants.{Message}
 use Rattle.ipc_state.specs.Finish.{done}
 use Rattle.ipc_state.specs.Objects.{last_number}
@@ -17,7 +17,8 @@ returns-in_default-select-clause-finish c =
     let small : nat_lt last_number c.args.size ≡ false = search rules in
     let found : queue_of s c.args.id.0 ≡ Some q = search rules in
     let e : to_z w64 (of_z w64 c.args.mtype) ≡ c.args.mtype = to_z-of_z w64 c.args.mtype c.ranges.mtype in
-    let none : pick q.messages c.args.mtype false ≡ None = ap (λ (n : ℤ). pick q.messages n false) (sym e) ∙ (sym c.select.ensures.picked ∙ c.in_default-select.is) in
+    let none : pick q.messages c.args.mtype false ≡ None =
+    ap (λ (n : ℤ). pick q.messages n false) (sym e) ∙ (sym c.select.ensures.picked ∙ c.in_default-select.is) in
     rw small (rw found (rw none refl))
 
 pub returns-then-len-size-clause-finish : goal.returns-then-len-size-clause-finish
@@ -28,8 +29,10 @@ returns-then-len-size-clause-finish c =
     let small : nat_lt last_number c.args.size ≡ false = search rules in
     let found : queue_of s c.args.id.0 ≡ Some q = search rules in
     let e : to_z w64 (of_z w64 c.args.mtype) ≡ c.args.mtype = to_z-of_z w64 c.args.mtype c.ranges.mtype in
-    let picked : pick q.messages c.args.mtype false ≡ Some at = ap (λ (n : ℤ). pick q.messages n false) (sym e) ∙ (sym c.select.ensures.picked ∙ c.in-Some-select.is) in
-    let is : message_at q at ≡ plain c.message.result.now = ap (λ (o : Option PlainMessage). unwrap_or o (record { mtype = pos 0; text = [] })) c.message.ensures in
+    let picked : pick q.messages c.args.mtype false ≡ Some at =
+    ap (λ (n : ℤ). pick q.messages n false) (sym e) ∙ (sym c.select.ensures.picked ∙ c.in-Some-select.is) in
+    let is : message_at q at ≡ plain c.message.result.now =
+    ap (λ (o : Option PlainMessage). unwrap_or o (record { mtype = pos 0; text = [] })) c.message.ensures in
     let longer : nat_lt c.args.size (length c.message.result.now.text.items) ≡ true = search rules in
     let long : nat_lt c.args.size (length (message_at q at).text) ≡ true = ap (λ (m : PlainMessage). nat_lt c.args.size (length m.text)) is ∙ longer in
     rw small (rw found (rw picked (rw long refl)))
@@ -43,9 +46,12 @@ returns-clause-finish c =
     let small : nat_lt last_number c.args.size ≡ false = search rules in
     let found : queue_of s c.args.id.0 ≡ Some q = search rules in
     let e : to_z w64 (of_z w64 c.args.mtype) ≡ c.args.mtype = to_z-of_z w64 c.args.mtype c.ranges.mtype in
-    let picked : pick q.messages c.args.mtype false ≡ Some at = ap (λ (n : ℤ). pick q.messages n false) (sym e) ∙ (sym c.select.ensures.picked ∙ c.in-Some-select.is) in
-    let is : message_at q at ≡ plain c.message.result.now = ap (λ (o : Option PlainMessage). unwrap_or o (record { mtype = pos 0; text = [] })) c.message.ensures in
-    let got_is : message_at q at ≡ plain got = ap (λ (o : Option PlainMessage). unwrap_or o (record { mtype = pos 0; text = [] })) (c.take-message.ensures.message q found) in
+    let picked : pick q.messages c.args.mtype false ≡ Some at =
+    ap (λ (n : ℤ). pick q.messages n false) (sym e) ∙ (sym c.select.ensures.picked ∙ c.in-Some-select.is) in
+    let is : message_at q at ≡ plain c.message.result.now =
+    ap (λ (o : Option PlainMessage). unwrap_or o (record { mtype = pos 0; text = [] })) c.message.ensures in
+    let got_is : message_at q at ≡ plain got =
+    ap (λ (o : Option PlainMessage). unwrap_or o (record { mtype = pos 0; text = [] })) (c.take-message.ensures.message q found) in
     let shorter : nat_lt c.args.size (length c.message.result.now.text.items) ≡ false = search rules in
     let short : nat_lt c.args.size (length (message_at q at).text) ≡ false = ap (λ (m : PlainMessage). nat_lt c.args.size (length m.text)) is ∙ shorter in
     let f : to_z w64 (of_z w64 got.mtype) ≡ got.mtype = to_z-of_z w64 got.mtype (search rules) in

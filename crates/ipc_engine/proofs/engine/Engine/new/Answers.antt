@@ -1,4 +1,4 @@
-use Rattle.std.proofs.Common.{◌<◌, vec_capacity, sym, subst, rules, arith}
+use Rattle.std.proofs.Common.{◌<◌, vec_capacity, sym, subst, rules}
 use Rattle.ipc_base.specs.declared.limits.Limits.{Limits}
 use Rattle.ipc_base.specs.Limits.{ArePassed}
 use Rattle.ipc_state.specs.State.{State}

@@ -17,7 +17,8 @@ invariant_of-self c =
     let is : state_of t.clock (t.next_pid + 1) c.push_reserved.new.self t.msg ≡ with_process s c.args.cred =
     ap (λ (ps : List (ℕ × Cred)). record s { next_pid = t.next_pid + 1; processes = ps })
     (ap (map process_row) c.push_reserved.ensures.items ∙ map-append process_row t.processes.items (process ∷ [])) in
-    let room : has_all_processes t.limits s ≡ false = subst (λ (m : Held). has_all_processes m.limits m.state ≡ false) (sym c.self.view_is) c.requires.more in (
+    let room : has_all_processes t.limits s ≡ false =
+    subst (λ (m : Held). has_all_processes m.limits m.state ≡ false) (sym c.self.view_is) c.requires.more in (
       c.self.invariant.0,
       subst (λ (n : State). IsSound t.limits n) (sym is) (with_process-sound t.limits s c.args.cred room c.self.invariant.1),
     )

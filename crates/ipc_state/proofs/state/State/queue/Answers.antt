@@ -2,16 +2,13 @@ use Rattle.std.proofs.Common.{◌≡◌, ℕ, Option, Some, None, sym, subst, ap
 use Rattle.std.specs.Prelude.{option_map, option_copied, IfSome}
 use Rattle.ipc_base.specs.declared.limits.Limits.{Limits}
 use Rattle.ipc_base.proofs.CallerLemmas.{at-map}
-use Rattle.sysv_msg.specs.Queue.{Kept, Queue}
+use Rattle.sysv_msg.specs.Queue.{Kept}
 use Rattle.ipc_state.specs.Held.{Held}
 use Rattle.ipc_state.specs.Sound.{IsSound, IsSoundQueue}
 use Rattle.ipc_state.specs.State.{State, queue_of}
-use Rattle.ipc_state.specs.Tables.{objects_of}
+use Rattle.ipc_state.specs.Tables.{objects_of, queue_in}
 use Rattle.ipc_state.proofs.CallerLemmas.{queue-sound}
 use Rattle.ipc_state.proofs.state.State.queue.Goals as goal
-
-abbrev queue_in : Kept → Queue
-queue_in k = k.queue
 
 found-sound : (limits : Limits) (s : State) (id : ℕ) (o : Option Kept) → option_map queue_in o ≡ queue_of s id → IsSound limits s
     → IfSome o (λ k. IsSoundQueue limits k.queue)

@@ -1,8 +1,8 @@
-use Rattle.std.proofs.Common.{◌≡◌, ℕ, ℤ, pos, ◌≤◌, false, Some, length, sym, subst, ap, ◌∙◌}
+use Rattle.std.proofs.Common.{◌≡◌, ℤ, pos, ◌≤◌, Some, length, sym, subst, ap, ◌∙◌}
 use Rattle.std.specs.Prelude.{int_lt, IsTrue, IsSome}
 use Rattle.std.specs.Int.{w64, cast_signed as to_z, cast_unsigned as of_z}
 use Rattle.std.proofs.lemmas.Int.{to_z-of_z}
-use Rattle.sysv_msg.specs.Queue.{Queue, PlainMessage, sent, full}
+use Rattle.sysv_msg.specs.Queue.{Queue, PlainMessage, sent}
 use Rattle.ipc_state.specs.Held.{Held}
 use Rattle.ipc_state.specs.Objects.{Objects}
 use Rattle.ipc_state.specs.Sound.{IsSound}
@@ -22,9 +22,11 @@ invariant_of-self c =
     let there : IsSome (queue_of s id) = subst (λ (h : Held). IsSome (queue_of h.state id)) (sym c.self.view_is) c.requires.there in
     let some = some_of (queue_of s id) there in
     let now : queue_of c.args.self.now.state id ≡ Some some.0 = ap (λ (h : Held). queue_of h.state id) (sym c.self.view_is) ∙ some.1 in
-    let short : length c.args.text.now ≤ t.limits.msgmax = subst (λ (h : Held). length c.args.text.now ≤ h.limits.msgmax) (sym c.self.view_is) c.requires.short in
+    let short : length c.args.text.now ≤ t.limits.msgmax =
+    subst (λ (h : Held). length c.args.text.now ≤ h.limits.msgmax) (sym c.self.view_is) c.requires.short in
     let above : IsTrue (int_lt (pos 0) m.mtype) = subst (λ (n : ℤ). IsTrue (int_lt (pos 0) n)) (sym e) c.requires.above in
-    let good = sent-sound t.limits some.0 m c.args.pid.0 t.clock.0 (c.requires.fits some.0 now) above short (queue-sound t.limits s id some.0 some.1 c.self.invariant.1) in
+    let before = queue-sound t.limits s id some.0 some.1 c.self.invariant.1 in
+    let good = sent-sound t.limits some.0 m c.args.pid.0 t.clock.0 (c.requires.fits some.0 now) above short before in
     let is : state_of t.clock t.next_pid t.processes c.send.new.queues ≡ with_queue s id (sent some.0 m c.args.pid.0 t.clock.0) =
     ap (λ (o : Objects Queue). record s { msg = o }) (c.send.ensures some.0 some.1) in (
       c.self.invariant.0,
