@@ -9,7 +9,7 @@ help:
 	@echo "            the program; and then what 'make memory' runs, on what the gate has built"
 	@echo "make imports  that no crate names what is another's own, nor one that carries requests a call"
 	@echo "make memory the engine's tests and the program, with each allocation refused in turn"
-	@echo "make bench  lines per second and peak memory of long scripts"
+	@echo "make bench  lines per second and peak memory of long scripts, and processor time of several kinds of scripts"
 
 run: program
 	crates/ipcd/out/ipcd replay --small < examples/first_queue.script
@@ -40,6 +40,6 @@ test: imports
 	rt ci
 	@$(REFUSE_EACH)
 
-# Scripts of 50,000 and of 100,000 sends, with as many receives, five runs of each. It needs awk.
+# Five runs of each script. It needs awk.
 bench: program
 	@sh bench/replay.sh crates/ipcd/out/ipcd
