@@ -1,15 +1,17 @@
 # ipcd: the commands of this repository. They need the Rattle toolchain's `rt` on the path, `bench` needs awk too,
 # and `memory` awk and a C compiler: without that one it says so and refuses nothing.
 
-.PHONY: help run test memory program bench
+.PHONY: help run test imports memory program bench
 
 help:
 	@echo "make run    proves and builds what is needed, and runs examples/first_queue.script; some minutes the first"
 	@echo "            time. It may be stopped: crates that are proved stay proved, and the next run goes on after them"
-	@echo "make test   the gate: every proof from nothing, the edits that must fail, the tests, the program; and then"
-	@echo "            what 'make memory' runs, on what the gate has built. It takes about half an hour on four cores"
+	@echo "make test   what 'make imports' runs; the gate: every proof from nothing, the edits that must fail, the tests,"
+	@echo "            the program; and then what 'make memory' runs, on what the gate has built. It takes about half"
+	@echo "            an hour on four cores"
+	@echo "make imports  that no crate names what is another's own, nor one that carries requests a call"
 	@echo "make memory the engine's tests and the program, with each allocation refused in turn"
-	@echo "make bench  lines per second and peak memory of long scripts"
+	@echo "make bench  lines per second and peak memory of long scripts, and processor time of several kinds of scripts"
 
 run: program
 	crates/ipcd/out/ipcd replay --small < examples/first_queue.script
@@ -44,10 +46,14 @@ $(ENGINE_TESTS): $(wildcard crates/*/src/*.rt)
 	@cd crates/ipc_engine && rt test > out.log 2>&1 || { cat out.log; exit 1; }
 	@rm -f crates/ipc_engine/out.log
 
-test:
+# It takes no time, and so it comes first.
+imports:
+	@sh tests/imports.sh
+
+test: imports
 	rt ci
 	@$(REFUSE_EACH)
 
-# Scripts of 50,000 and of 100,000 sends, with as many receives, five runs of each. It needs awk.
+# Five runs of each script. It needs awk.
 bench: program
 	@sh bench/replay.sh crates/ipcd/out/ipcd

@@ -1,50 +1,37 @@
 #!/bin/sh
-# What a line of a script costs: lines per second and peak memory of `replay`, for a script and for one twice as long.
+# What scripts cost `replay`: lines per second and peak memory, for a script and for one twice as long; and processor
+# time, for long and empty texts, for lines of several requests, and for ticks with many connections.
 #
 #     sh bench/replay.sh PROGRAM [RUNS]
 #
-# Sixteen connections say HELLO and get one queue. Then, in rounds, each sends a message of four bytes of a type of its
-# own, and each receives its message. Every run is compared with the output that the protocol asks for.
-# It needs a POSIX shell and awk. The peak is GNU time's, or else what Linux says in /proc, or else not known.
+# Every run is compared with the output that the protocol asks for: bench/scripts.awk writes both.
+# It needs a POSIX shell and awk. The peak is GNU time's, or else what Linux says in /proc, or else not known. Processor
+# time is what the shell's `times` says of its children, mostly in hundredths of a second.
 
 set -eu
+# numbers with a point, whatever the locale
+LC_ALL=C
+export LC_ALL
 
 program=${1:?usage: sh bench/replay.sh PROGRAM [RUNS]}
 runs=${2:-5}
 folder=${TMPDIR:-/tmp}/ipcd-bench.$$
+scripts=$(dirname "$0")/scripts.awk
 
 fail() {
 	echo "bench: $1" >&2
 	exit 1
 }
 
-# Writes the script of so many sends and as many receives, and the output that it is to have.
+# Writes a script of a kind, a count and a size, and the output that it is to have.
 generate() {
-	awk -v messages="$1" -v script="$folder/script" -v wanted="$folder/wanted" '
-		function request(conn, hex) { print "0 data " conn " " hex > script }
-		function reply(conn, hex) { print conn " " hex > wanted }
-		BEGIN {
-			for (conn = 1; conn <= 16; conn++) {
-				print "0 open " conn > script
-				request(conn, "0000000d0000000101000003e800000064")
-				reply(conn, sprintf("0000000a000000010000%08x", conn))
-				request(conn, "0000000d000000020a000004d200000380")
-				reply(conn, "0000000a00000002000000000001")
-			}
-			for (round = 1; round <= messages / 16; round++) {
-				serial = sprintf("%08x", round)
-				for (conn = 1; conn <= 16; conn++) {
-					message = sprintf("%016x%04x%04x", 1 + conn, round, conn)
-					request(conn, "00000019" serial "0b0000000100000000" message)
-					reply(conn, "00000006" serial "0000")
-				}
-				for (conn = 1; conn <= 16; conn++) {
-					message = sprintf("%016x%04x%04x", 1 + conn, round, conn)
-					request(conn, "00000019" serial "0c000000010000000000000004" substr(message, 1, 16))
-					reply(conn, "00000012" serial "0000" message)
-				}
-			}
-		}'
+	awk -v kind="$1" -v count="$2" -v size="$3" -v script="$folder/script" -v wanted="$folder/wanted" -f "$scripts"
+	lines=$(lines_of "$folder/script")
+	replies=$(lines_of "$folder/wanted")
+}
+
+lines_of() {
+	awk 'END { print NR }' "$1"
 }
 
 # Seconds since some moment.
@@ -81,7 +68,7 @@ watch() {
 
 # Fails where a run did not print what it should.
 check() {
-	printed=$(awk 'END { print NR }' "$folder/output")
+	printed=$(lines_of "$folder/output")
 	[ "$printed" -eq "$replies" ] || fail "$printed lines printed, not $replies"
 	cmp -s "$folder/output" "$folder/wanted" || fail "the lines printed are not those that the script asks for"
 }
@@ -102,9 +89,7 @@ median() {
 
 # Runs a script of so many sends and as many receives, and prints each run and the medians.
 measure() {
-	generate "$1"
-	lines=$((2 * $1 + 48))
-	replies=$((2 * $1 + 32))
+	generate rounds "$1" 4
 	echo "$1 sends and $1 receives, $lines lines"
 	: > "$folder/rates"
 	: > "$folder/peaks"
@@ -126,6 +111,59 @@ measure() {
 	echo "    median: $(median "$folder/rates") lines per second, peak memory $(median "$folder/peaks")"
 }
 
+# The processor time of the children, in microseconds, between two outputs of `times`.
+spent() {
+	awk '
+		function seconds(word,    part) {
+			split(word, part, "m")
+			return 60 * part[1] + part[2]
+		}
+		FNR == 2 { total[FILENAME] = seconds($1) + seconds($2) }
+		END { printf "%d\n", 1000000 * (total[ARGV[2]] - total[ARGV[1]]) }' "$1" "$2"
+}
+
+# Sets `taken` to the processor time of all runs of a script, in microseconds.
+process() {
+	generate "$1" "$2" "$3"
+	taken=0
+	number=0
+	while [ "$number" -lt "$runs" ]; do
+		number=$((number + 1))
+		times > "$folder/before"
+		"$program" replay < "$folder/script" > "$folder/output" || fail "the program ended with status $?"
+		times > "$folder/after"
+		check
+		taken=$((taken + $(spent "$folder/before" "$folder/after")))
+	done
+}
+
+# Prints a time in microseconds, shared among so many in each run.
+share() {
+	awk -v taken="$1" -v many="$2" -v runs="$runs" -v each="$3" -v what="$4" 'BEGIN {
+		printf "    %s: %.2f microseconds a %s\n", what, taken / many / runs, each
+	}'
+}
+
+# Sends and receives of texts of so many bytes.
+texts() {
+	process texts "$1" "$2"
+	share "$taken" "$lines" line "texts of $2 bytes, $1 sends and $1 receives"
+}
+
+# Sends and receives on one connection, so many requests in a line.
+pieces() {
+	process pieces "$1" "$2"
+	share "$taken" $((2 * $1)) request "$2 to a line, $1 sends and $1 receives"
+}
+
+# Ticks with so many connections open, without what it takes to open them.
+ticks() {
+	process ticks 0 "$2"
+	opened=$taken
+	process ticks "$1" "$2"
+	share $((taken - opened)) "$1" tick "open connections $2, $1 ticks"
+}
+
 [ -x "$program" ] || fail "there is no program $program"
 mkdir "$folder"
 trap 'rm -rf "$folder"' EXIT
@@ -140,3 +178,13 @@ if [ -r /proc/loadavg ]; then
 fi
 measure 50000
 measure 100000
+echo "processor time, the mean of $runs runs"
+texts 50000 0
+texts 50000 4
+texts 1000 8192
+pieces 100000 1
+pieces 100000 16
+pieces 100000 100
+ticks 1000000 1
+ticks 100000 64
+ticks 1000 1000
