@@ -98,4 +98,4 @@ for name in $carriers; do
 done
 [ -z "$found" ] || fail "a crate that carries requests names a call:
 $found"
-echo "imports: $count files name of other crates what they may"
+echo "imports: $count files, none names what it may not"
