@@ -17,7 +17,7 @@ use Rattle.ipc_state.specs.Sound.{IsSound, IsSoundQueue, FitsBody}
 use Rattle.ipc_state.specs.State.{State, with_queue, with_new_queue}
 use Rattle.ipc_state.proofs.CallerLemmas.{EndsSound, Ends, after-refuse, after-orelse, by-if_some, answered, read, ended-sound, ended-keeps}
 use Rattle.ipc_state.proofs.CallerLemmas.{with_new_queue-sound, with_queue-sound, queue-sound, sent-sound, taken-sound}
-use Rattle.sysv_calls.specs.Calls.{msgget, msgsnd, msgrcv, message_at, attempt}
+use Rattle.sysv_calls.specs.Calls.{msgget, msgsnd, msgrcv, message_at, call_of, attempt}
 
 not_false : (b : Bool) → not b ≡ false → b ≡ true
 not_false true h = refl
@@ -62,14 +62,15 @@ module _ (limits : Limits) (s : State) where
         kept = refl;
       })))))
 
+  call-ends : (pid : ℕ) (call : PlainCall) → Ends limits s (call_of limits s pid call)
+  call-ends pid (Msgget key flags) = msgget-ends key flags
+  call-ends pid (Msgsnd id flags mtype text) = msgsnd-ends pid id mtype text
+  call-ends pid (Msgrcv id flags size mtype) = msgrcv-ends pid id size mtype
+
 -- from a sound state a call ends in one, and its body fits
 pub attempt-sound : (limits : Limits) (s : State) (pid : ℕ) (call : PlainCall) → IsSound limits s → EndsSound limits (attempt limits s pid call)
-attempt-sound limits s pid (Msgget key flags) = ended-sound limits s (msgget limits s key flags) (msgget-ends limits s key flags)
-attempt-sound limits s pid (Msgsnd id flags mtype text) = ended-sound limits s (msgsnd limits s pid id mtype text) (msgsnd-ends limits s pid id mtype text)
-attempt-sound limits s pid (Msgrcv id flags size mtype) = ended-sound limits s (msgrcv s pid id size mtype) (msgrcv-ends limits s pid id size mtype)
+attempt-sound limits s pid call = ended-sound limits s (call_of limits s pid call) (call-ends limits s pid call)
 
 -- a call leaves the processes as they are
 pub attempt-keeps : (limits : Limits) (s : State) (pid : ℕ) (call : PlainCall) → (attempt limits s pid call).state.processes ≡ s.processes
-attempt-keeps limits s pid (Msgget key flags) = ended-keeps limits s (msgget limits s key flags) (msgget-ends limits s key flags)
-attempt-keeps limits s pid (Msgsnd id flags mtype text) = ended-keeps limits s (msgsnd limits s pid id mtype text) (msgsnd-ends limits s pid id mtype text)
-attempt-keeps limits s pid (Msgrcv id flags size mtype) = ended-keeps limits s (msgrcv s pid id size mtype) (msgrcv-ends limits s pid id size mtype)
+attempt-keeps limits s pid call = ended-keeps limits s (call_of limits s pid call) (call-ends limits s pid call)

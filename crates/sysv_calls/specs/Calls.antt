@@ -58,8 +58,12 @@ msgrcv s pid id size mtype = do
   refuse E2BIG (nat_lt size (length (message_at q at).text))
   answer (with_queue s id (taken q at pid s.clock)) (Message (message_at q at).mtype (message_at q at).text)
 
--- the attempt of a call by a process
+-- each call by a process
+abbrev pub call_of : Limits → State → ℕ → PlainCall → Attempt Done
+call_of limits s pid (Msgget key flags) = msgget limits s key flags
+call_of limits s pid (Msgsnd id flags mtype text) = msgsnd limits s pid id mtype text
+call_of limits s pid (Msgrcv id flags size mtype) = msgrcv s pid id size mtype
+
+-- its attempt
 abbrev pub attempt : Limits → State → ℕ → PlainCall → Finish
-attempt limits s pid (Msgget key flags) = ended s (msgget limits s key flags)
-attempt limits s pid (Msgsnd id flags mtype text) = ended s (msgsnd limits s pid id mtype text)
-attempt limits s pid (Msgrcv id flags size mtype) = ended s (msgrcv s pid id size mtype)
+attempt limits s pid call = ended s (call_of limits s pid call)
