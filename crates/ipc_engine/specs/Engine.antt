@@ -1,8 +1,8 @@
 -- What a caller sees of the machine, and what it may ask.
-use Rattle.std.specs.Prelude.{◌≡◌, Bool, true, false, List}
+use Rattle.std.specs.Prelude.{◌≡◌, Bool, true, false, not, List}
 use Rattle.ipc_base.specs.declared.limits.Limits.{Limits}
 use Rattle.ipc_wire.specs.Request.{PlainKind, Hello, Calls}
-use Rattle.ipc_state.specs.State.{State, is_process}
+use Rattle.ipc_state.specs.State.{State, is_process, has_all_processes}
 use Rattle.ipc_state.specs.Held.{Room}
 use Rattle.sysv_calls.specs.Needs.{Needs, Nothing, needs, is_something, Has}
 use Rattle.ipc_engine.specs.Event.{PlainEvent, Connect, Call, Tick, Exit, PlainOutcome}
@@ -29,11 +29,15 @@ abbrev pub kind_takes_memory : PlainKind → Bool
 kind_takes_memory kind = is_something (kind_needs kind)
 
 -- whether an event may need memory, and so may be refused
-abbrev pub takes_memory : PlainEvent → Bool
-takes_memory (Connect cred serial moment) = true
-takes_memory (Call pid request moment) = kind_takes_memory request.kind
-takes_memory (Tick moment) = false
-takes_memory (Exit pid moment) = false
+abbrev pub takes_memory : Limits → State → PlainEvent → Bool
+takes_memory limits s (Connect cred serial moment) = not (has_all_processes limits s)
+takes_memory limits s (Call pid request moment) = kind_takes_memory request.kind
+takes_memory limits s (Tick moment) = false
+takes_memory limits s (Exit pid moment) = false
+
+-- what a HELLO needs is there
+abbrev pub IsReadyForHello : Limits → State → Room → Type 0
+IsReadyForHello limits s room = has_all_processes limits s ≡ false → room.process ≡ true
 
 -- what a request of a process needs is there
 abbrev pub IsReadyFor : Room → PlainKind → Type 0

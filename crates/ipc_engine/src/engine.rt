@@ -9,6 +9,7 @@ ghost use Rattle.std.specs.Prelude.{
   [],
   ◌∷◌,
   map,
+  not,
   IsOk,
   OnOk,
   OnErr,
@@ -20,8 +21,8 @@ ghost use Rattle.ipc_base.specs.Limits.{ArePassed};
 ghost use Rattle.ipc_wire.specs.Request.{plain_kind};
 ghost use Rattle.ipc_state.specs.Finish.{finish_of};
 ghost use Rattle.ipc_state.specs.Sound.{IsSound, FitsBody};
-ghost use Rattle.ipc_state.specs.State.{State as PlainState, is_process, start};
-ghost use Rattle.ipc_engine.specs.Engine.{kind_takes_memory, IsReadyFor};
+ghost use Rattle.ipc_state.specs.State.{State as PlainState, has_all_processes, is_process, start};
+ghost use Rattle.ipc_engine.specs.Engine.{kind_takes_memory, IsReadyFor, IsReadyForHello};
 ghost use Rattle.ipc_engine.specs.Step.{step as step_on, asked, connect as connect_step, replied};
 ghost use Rattle.ipc_engine.specs.View.{plain_event, plain_outcome, step_of};
 
@@ -100,9 +101,9 @@ impl Engine {
         &self.outcomes
     }
 
-    /// One step on an event: `outcomes` are its replies. Refused for want of memory, which only a HELLO,
-    /// msgget(2) and msgsnd(2) take, nothing has changed, the clock included. The state is sound before and
-    /// after, and no body of a reply is longer than `Limits::longest_reply` says.
+    /// One step on an event: `outcomes` are its replies. Refused for want of memory, which only a HELLO that
+    /// gets a process, msgget(2) and msgsnd(2) take, nothing has changed, the clock included. The state is sound
+    /// before and after, and no body of a reply is longer than `Limits::longest_reply` says.
     pub fn step(&mut self, event: Event<'_>) -> Result<(), AllocError>
         requires { IsForProcess self.old.state (plain_event event) }
         ensures state { OnOk result (self.new.state
@@ -111,7 +112,8 @@ impl Engine {
             ≡ (step_on self.old.limits self.old.state (plain_event event.entry)).outcomes) }
         ensures limits { self.new.limits ≡ self.old.limits }
         ensures err { OnErr result (self.new ≡ self.old) }
-        ensures memory { takes_memory (plain_event event.entry) ≡ false → IsOk result }
+        ensures memory { takes_memory self.old.limits self.old.state (plain_event event.entry) ≡ false
+            → IsOk result }
         ensures was_sound { IsSound self.old.limits self.old.state }
         ensures sound { IsSound self.new.limits self.new.state }
         ensures fits { OnOk result (All (λ o. FitsBody self.new.limits o.body) self.new.outcomes) }
@@ -122,7 +124,7 @@ impl Engine {
                 serial,
                 moment,
             } => {
-                self.state.reserve_process()?;
+                reserve_hello(&mut self.state)?;
                 self.state.begin(moment);
                 let outcome = connect(&mut self.state, cred, serial);
                 answer(&mut self.outcomes, outcome);
@@ -161,9 +163,22 @@ fn answer(outcomes: &mut Vec<Outcome>, outcome: Outcome)
     outcomes.push(outcome).unwrap();
 }
 
+/// Takes the memory that a HELLO needs: none where no process can be added.
+fn reserve_hello(state: &mut State) -> Result<(), AllocError>
+    ensures state { state.new.state ≡ state.old.state }
+    ensures limits { state.new.limits ≡ state.old.limits }
+    ensures ok { OnOk result (IsReadyForHello state.new.limits state.new.state state.new.room) }
+    ensures memory { not (has_all_processes state.old.limits state.old.state) ≡ false → IsOk result }
+{
+    if state.has_all_processes() {
+        return Ok(());
+    }
+    state.reserve_process()
+}
+
 /// The reply to a HELLO: a new process, or ENFILE where none can be added. It takes no memory.
 fn connect(state: &mut State, cred: Cred, serial: u32) -> Outcome
-    requires { state.old.room.process ≡ true }
+    requires { IsReadyForHello state.old.limits state.old.state state.old.room }
     ensures step { step_of state.new.state result ≡ connect_step state.old.limits state.old.state cred serial }
     ensures limits { state.new.limits ≡ state.old.limits }
 {

@@ -7,8 +7,8 @@ use Rattle.ipc_engine.specs.View.{plain_outcome}
 use Rattle.ipc_engine.proofs.Soundness.{after-sound, after-fits}
 use Rattle.ipc_engine.proofs.engine.Engine.step.Goals as goal
 
-pub returns-in_ok-reserve_process-in-Connect-clause-sound : goal.returns-in_ok-reserve_process-in-Connect-clause-sound
-returns-in_ok-reserve_process-in-Connect-clause-sound c =
+pub returns-in_ok-reserve_hello-in-Connect-clause-sound : goal.returns-in_ok-reserve_hello-in-Connect-clause-sound
+returns-in_ok-reserve_hello-in-Connect-clause-sound c =
     let old = c.self.inside.state in
     let new = c.connect-outcome.new.state in
     let event = Connect c.in-Connect.cred c.in-Connect.serial c.in-Connect.moment.0 in
