@@ -1,6 +1,7 @@
 -- The objects of one kind (sysvipc(7)): each has an identifier, counted from 1 and never given twice, and some have a
 -- key. IPC_PRIVATE, which is 0, is the key of none.
-use Rattle.std.specs.Prelude.{◌≢◌, ℕ, ℤ, pos, ◌+◌, ◌≤◌, Bool, ◌||◌, if◌then◌else◌, List, [], ◌∷◌, ◌++◌, length, map}
+use Rattle.std.specs.Prelude.{◌≢◌, ℕ, ℤ, pos, ◌+◌, ◌≤◌, Bool, ◌||◌, if◌then◌else◌, List}
+use Rattle.std.specs.Prelude.{[], ◌∷◌, ◌++◌, length, map}
 use Rattle.std.specs.Prelude.{nat_eq, nat_le, nat_lt, Option, None, All, IsSome}
 use Rattle.std.specs.List.{IsDistinct}
 use Rattle.std.specs.Ordering.{int_eq}

@@ -1,6 +1,7 @@
 -- The state of the server between two events (sysvipc(7)): what it knows of processes and objects. All of it
 -- lasts; nothing in it tells how it is kept.
-use Rattle.std.specs.Prelude.{ℕ, ℤ, ◌+◌, Bool, ◌||◌, List, [], ◌∷◌, ◌++◌, length, max, nat_eq, nat_le, nat_lt, Option}
+use Rattle.std.specs.Prelude.{ℕ, ℤ, ◌+◌, Bool, ◌||◌, List, [], ◌∷◌, ◌++◌, length, max, nat_eq}
+use Rattle.std.specs.Prelude.{nat_le, nat_lt, Option}
 use Rattle.std.specs.Prelude.{is_some}
 use Rattle.ipc_base.specs.declared.identity.Cred.{Cred}
 use Rattle.ipc_base.specs.declared.limits.Limits.{Limits}

@@ -36,7 +36,8 @@ module _ (limits : Limits) (s : State) where
   msgsnd-ends : (pid id : ℕ) (mtype : ℤ) (text : List ℕ) → Ends limits s (msgsnd limits s pid id mtype text)
   msgsnd-ends pid id mtype text =
       let m : PlainMessage = record { mtype = mtype; text = text } in
-      after-refuse EINVAL (λ above. after-refuse EINVAL (λ short. after-orelse EINVAL (λ q is. after-refuse EAGAIN (λ fits. answered (with_queue s id (sent q m pid s.clock)) Empty (record {
+      after-refuse EINVAL (λ above. after-refuse EINVAL (λ short. after-orelse EINVAL (λ q is. after-refuse EAGAIN (λ fits.
+      answered (with_queue s id (sent q m pid s.clock)) Empty (record {
         state = λ h. with_queue-sound limits s id (sent q m pid s.clock)
             (sent-sound limits q m pid s.clock fits (not_false (int_lt (pos 0) mtype) above) (ltb-false _ _ short) (queue-sound limits s id q is h)) h;
         body = λ _. omega arith;

@@ -1,7 +1,7 @@
 -- What each call answers and leaves: msgget(2) and msgop(2), in this server's profile. Refusals stand in the order
 -- in which they are tested. A call that would have to wait is refused, with or without IPC_NOWAIT.
-use Rattle.std.specs.Prelude.{ℕ, ℤ, pos, Bool, false, not, ◌&&◌, List, [], length, nat_lt, ◌==◌, int_lt, slice_get}
-use Rattle.std.specs.Prelude.{unwrap_or}
+use Rattle.std.specs.Prelude.{ℕ, ℤ, pos, Bool, false, not, ◌&&◌, List, [], length, nat_lt, ◌==◌, int_lt}
+use Rattle.std.specs.Prelude.{slice_get, unwrap_or}
 use Rattle.std.specs.Ordering.{int_eq}
 use Rattle.std.specs.Int.RustNames.{bit_and}
 use Rattle.ipc_base.specs.declared.errno.Errno.TheVariants.{ENOENT, EEXIST, EINVAL, ENOSPC, EAGAIN, ENOMSG, E2BIG}
@@ -11,7 +11,8 @@ use Rattle.ipc_wire.specs.declared.reply.Body.TheVariants.{Empty, Number, Messag
 use Rattle.sysv_msg.specs.Queue.{Queue, PlainMessage, pick, full, sent, taken}
 use Rattle.ipc_state.specs.Objects.{keyed, is_full, last_number}
 use Rattle.ipc_state.specs.State.{State, queue_of, with_queue, with_new_queue}
-use Rattle.ipc_state.specs.Finish.{Finish, Attempt, Done, ended, answer, refuse, if_some, ◌orelse◌, ◌>>◌, ◌>>=◌}
+use Rattle.ipc_state.specs.Finish.{Finish, Attempt, Done, ended, answer, refuse, if_some, ◌orelse◌, ◌>>◌}
+use Rattle.ipc_state.specs.Finish.{◌>>=◌}
 
 -- whether a flag is among the flags
 abbrev pub has : ℕ → ℕ → Bool
