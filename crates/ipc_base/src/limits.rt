@@ -2,7 +2,12 @@
 
 ghost use Rattle.std.specs.Prelude.{◌≡◌, ◌≤◌, IfErr, OnOk, position, not};
 ghost use Rattle.ipc_base.specs.Limits.{
-    tests, standard_limits, small_limits, ArePassed, longest_reply, is_within as passes_within,
+  tests,
+  standard_limits,
+  small_limits,
+  ArePassed,
+  longest_reply,
+  is_within as passes_within,
 };
 
 use thiserror::Error;

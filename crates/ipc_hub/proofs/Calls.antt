@@ -1,7 +1,7 @@
 -- Each call of the hub takes what the code's hub stands for to the call of the definitions.
 use Rattle.std.proofs.Common.{◌≡◌, ◌≢◌, ℕ, suc, ◌+◌, ◌<◌, ◌≤◌, Bool, true, false, List, [], ◌∷◌, ◌++◌, length, map, drop, get_or, is_some, Option, Some, None}
 use Rattle.std.proofs.Common.{refl, sym, ap, ◌∙◌, subst, arith, inl, inr}
-use Rattle.std.specs.Prelude.{nat_eq, vec_len, IfSome}
+use Rattle.std.specs.Prelude.{nat_eq, IfSome}
 use Rattle.std.specs.List.{IsDistinct}
 use Rattle.std.specs.Cmp.{nat_eq_equiv}
 use Rattle.std.proofs.lemmas.Bool.{cases_eq}
@@ -13,7 +13,6 @@ use Rattle.ipc_base.specs.Limits.{ArePassed, longest_reply}
 use Rattle.ipc_wire.proofs.CallerLemmas.{first_short}
 use Rattle.ipc_engine.specs.Engine.{Machine}
 use Rattle.ipc_base.specs.Table.{value_at, with_value, without, keys_of}
-
 use Rattle.ipc_state.specs.State.{State}
 use Rattle.ipc_state.specs.State.{at_moment}
 use Rattle.ipc_engine.specs.Event.{Exit}
@@ -176,15 +175,21 @@ feed-stands limits confirmed old new engine h conn moment bytes c c' stands kept
     let now : Clients = tick limits h moment in
     let orderly = tick-orderly limits h moment stands.orderly in
     let done = takes limits confirmed now conn (record {
-      runs = record { keeps = keeps ∙ stands.keeps; state = state ∙ ap (λ (s : State). at_moment s moment) stands.state; orderly = orderly; later = omega
-          (arith, stands.known); range = stands.range };
+      runs = record {
+        keeps = keeps ∙ stands.keeps;
+        state = state ∙ ap (λ (s : State). at_moment s moment) stands.state;
+        orderly = orderly;
+        later = omega
+            (arith, stands.known);
+        range = stands.range;
+      };
       client = present limits confirmed old h conn c stands found;
     }) in
     let moved = take_in-moves limits now conn moment bytes done.0 stands.range orderly in (
       done.0,
       stands-after limits confirmed old new h (take_in limits now conn bytes moment done.0) conn c c' stands kept found
           (record { keys = moved.spares.keys; others = moved.spares.others }) done.1.runs.keeps done.1.runs.state row_is done.1.client done.1.runs.orderly
-              (omega (arith, done.1.runs.later)),
+          (omega (arith, done.1.runs.later)),
     )
 
 -- ---- hangup
@@ -288,7 +293,7 @@ hangup-stands limits confirmed old new engine h conn moment c c' stands kept fou
       clients = λ j. elim (cases_eq j conn) [
         | inl same ↦ rw same (rw row_is (rw empty (rw clients_are (rw none tt))))
         | inr apart ↦ rw row_is (rw (value_at-without (rows old) conn j apart)
-        (rw clients_are (rw (value_at-without now.clients conn j apart) (stands.clients j))))
+            (rw clients_are (rw (value_at-without now.clients conn j apart) (stands.clients j))))
       ];
       orderly = dropped-orderly limits now conn moment p orderly refl;
       range = stands.range;
@@ -428,12 +433,20 @@ consume-stands limits confirmed old new h conn n c c' stands kept found engine r
     (λ (f : Frame). 0 < length f.bytes) has-bytes cl.frames tidy.replies) fits in
     let all_fits : cl.consumed + n ≤ length (all_bytes cl.frames) = omega (arith, fits, confirmed-short confirmed cl.frames) in
     let to : consume h conn n ≡ with_client h conn d = consume-is h conn n cl here in
-    let spares : Spares conn h (with_client h conn d) = record { keys = keys_of-with_value nat_eq h.clients conn d; others =
-    λ j apart. other-with h.clients conn j d apart } in
+    let spares : Spares conn h (with_client h conn d) = record {
+      keys = keys_of-with_value nat_eq h.clients conn d;
+      others =
+          λ j apart. other-with h.clients conn j d apart;
+    } in
     let moved = orderly-change limits conn h (with_client h conn d) d stands.orderly spares (at-with h.clients conn d cl here)
     (omega arith) stands.orderly.sound
-    (record { input = tidy.input; marks = consumed-all (λ (f : Frame). f.mark ≤ h.accepted) cl.frames (cl.consumed + n) tidy.marks; replies = consumed-all
-        (λ (f : Frame). IsFrame f.bytes) cl.frames (cl.consumed + n) tidy.replies; consumed = consumed-bound cl.frames (cl.consumed + n) all_fits })
+    (record {
+      input = tidy.input;
+      marks = consumed-all (λ (f : Frame). f.mark ≤ h.accepted) cl.frames (cl.consumed + n) tidy.marks;
+      replies = consumed-all
+          (λ (f : Frame). IsFrame f.bytes) cl.frames (cl.consumed + n) tidy.replies;
+      consumed = consumed-bound cl.frames (cl.consumed + n) all_fits;
+    })
     (λ pid mine. (stands.orderly.connected conn pid (ap process_in here ∙ mine), λ j too. stands.orderly.own j conn pid too (ap process_in here ∙ mine)))
     (λ j pid apart other. stands.orderly.connected j pid other) in
     subst (λ (t : Clients). Stands limits confirmed new t) (sym to)

@@ -2,7 +2,6 @@
 use Rattle.std.proofs.Common.{◌≡◌, ◌≢◌, ℕ, is_some, ◌+◌, ◌≤◌, Bool, true, false, ◌&&◌, List, [], ◌∷◌, ◌++◌, length, Option, Some, None, refl, sym, ap, ◌∙◌}
 use Rattle.std.proofs.Common.{subst, arith, inl, inr}
 use Rattle.std.specs.Prelude.{nat_eq, nat_le, nat_lt, ◌||◌, drop, if◌then◌else◌, option_map, option_and_then, IfSome}
-use Rattle.std.specs.Int.{w64}
 use Rattle.std.proofs.lemmas.Bool.{cases_eq}
 use Rattle.std.proofs.lemmas.Bool.Decides.{nat_tests}
 use Rattle.std.specs.List.{IsDistinct}
@@ -11,10 +10,9 @@ use Rattle.std.proofs.lemmas.List.Elements.{All-weaker, All-push, All-head}
 use Rattle.std.proofs.lemmas.Grind.{flat_map-append}
 use Rattle.ipc_base.specs.declared.limits.Limits.{Limits}
 use Rattle.ipc_base.specs.Limits.{ArePassed}
-use Rattle.ipc_base.specs.Fields.{signed_bytes}
 use Rattle.ipc_wire.specs.Request.{PlainKind, PlainRequest, Hello, Calls}
 use Rattle.ipc_wire.specs.declared.reply.Body.TheVariants.{Empty, Number}
-use Rattle.ipc_wire.specs.Reply.{PlainBody, reply_bytes, body_bytes}
+use Rattle.ipc_wire.specs.Reply.{reply_bytes}
 use Rattle.ipc_wire.specs.Stream.{first, Ending}
 use Rattle.ipc_wire.specs.Stream.Ending.{Rest, Broken}
 use Rattle.ipc_wire.proofs.CallerLemmas.{first_short}
@@ -134,9 +132,14 @@ tidy-frame accepted mark c o le t frame =
       input = t.input;
       marks = All-push (λ (f : Frame). f.mark ≤ mark) c.frames _ (tidy-later accepted mark c le t).marks (omega arith);
       replies = All-push (λ (f : Frame). IsFrame f.bytes) c.frames _ t.replies frame;
-      consumed = omega (arith, t.consumed, length-append (all_bytes c.frames)
-          (all_bytes (record { mark = mark; bytes = reply_bytes (reply_of o) } ∷ [])), ap length
-              (flat_map-append (λ (f : Frame). f.bytes) c.frames (record { mark = mark; bytes = reply_bytes (reply_of o) } ∷ [])));
+      consumed = omega (
+        arith,
+        t.consumed,
+        length-append (all_bytes c.frames)
+            (all_bytes (record { mark = mark; bytes = reply_bytes (reply_of o) } ∷ [])),
+        ap length
+            (flat_map-append (λ (f : Frame). f.bytes) c.frames (record { mark = mark; bytes = reply_bytes (reply_of o) } ∷ [])),
+      );
     }
 
 -- ---- one reply to one process
@@ -188,7 +191,7 @@ call-moves limits h conn pid moment c request range o here mine =
     (asked-keeps limits (at_moment h.state moment) pid request.kind) in
     let tidy : IsTidy h.accepted c = rw here at (o.tidy conn) in
     orderly-change limits conn h (accept limits h e) (with_frame c mark reply) o
-        (record { keys = keys-map (delivered mark reply) h.clients; others = spares.1 }) spares.0
+    (record { keys = keys-map (delivered mark reply) h.clients; others = spares.1 }) spares.0
     (omega arith) (step-sound limits h.state e o.sound)
     (tidy-frame h.accepted mark c reply (omega arith) tidy (frame-fits limits reply range
     (All-head (λ (p : PlainOutcome). FitsBody limits p.body) reply [] (step-fits limits h.state e o.sound))))
@@ -206,7 +209,7 @@ refuse-moves limits h conn serial c range o here =
     let tidy : IsTidy h.accepted c = rw here at (o.tidy conn) in
     orderly-change limits conn h (refuse h conn c serial) now o
     (record { keys = keys_of-with_value nat_eq h.clients conn now; others = λ j apart. other-with h.clients conn j now apart })
-        (at-with h.clients conn now c here)
+    (at-with h.clients conn now c here)
     (omega arith) o.sound (tidy-frame h.accepted h.accepted c (refusal serial ENOMEM) (omega arith) tidy (bare-frame limits serial ENOMEM range))
     (λ pid is. (o.connected conn pid (ap process_in here ∙ is), λ j too. o.own j conn pid too (ap process_in here ∙ is)))
     (λ j pid apart is. o.connected j pid is)
@@ -229,7 +232,7 @@ greeted-moves limits h conn c s reply o here sound frame mine theirs =
     let framed = tidy-frame h.accepted mark c reply (omega arith) tidy frame in
     orderly-change limits conn h (greeted h conn c (record { state = s; outcomes = reply ∷ [] })) now o
     (record { keys = keys_of-with_value nat_eq h.clients conn now; others = λ j apart. other-with h.clients conn j now apart })
-        (at-with h.clients conn now c here)
+    (at-with h.clients conn now c here)
     (omega arith) sound (record { input = framed.input; marks = framed.marks; replies = framed.replies; consumed = framed.consumed }) mine theirs
 
 given : (n pid : ℕ) (b : Bool) → (if b then None else Some n) ≡ Some pid → n ≡ pid
@@ -275,7 +278,7 @@ broken-moves limits h conn serial accepted c s range o here later sound theirs =
     let framed = tidy-frame h.accepted accepted c (refusal serial EPROTO) later tidy (bare-frame limits serial EPROTO range) in
     orderly-change limits conn h (record { state = s; accepted = accepted; clients = with_value nat_eq h.clients conn now }) now o
     (record { keys = keys_of-with_value nat_eq h.clients conn now; others = λ j apart. other-with h.clients conn j now apart })
-        (at-with h.clients conn now c here)
+    (at-with h.clients conn now c here)
     later sound (record { input = first_short [] (omega arith); marks = framed.marks; replies = framed.replies; consumed = framed.consumed })
     (λ pid is. cc) theirs
 
@@ -303,6 +306,12 @@ break_off-moves limits h conn serial moment c range o here = break_off-by limits
 -- ---- requests
 
 module _ (limits : Limits) (range : ArePassed limits) where
+  may_greet : (h : Clients) (conn moment : ℕ) (c : Client) (request : PlainRequest) (cred : Cred) (b : Bool) → IsOrderly limits h
+      → client_at h conn ≡ Some c → c.process ≡ None
+      → Moves limits conn h (if b then refuse h conn c request.serial else greet limits h conn c (Connect cred request.serial moment))
+  may_greet h conn moment c request cred true o here mine = refuse-moves limits h conn request.serial c range o here
+  may_greet h conn moment c request cred false o here mine = greet-moves limits h conn request.serial moment cred c range o here
+
   may_refuse : (h : Clients) (conn pid moment : ℕ) (c : Client) (request : PlainRequest) (b : Bool) → IsOrderly limits h → client_at h conn ≡ Some c
       → c.process ≡ Some pid
       → Moves limits conn h (if b then refuse h conn c request.serial else accept limits h (Call pid request moment))
@@ -311,12 +320,12 @@ module _ (limits : Limits) (range : ArePassed limits) where
 
   answered-moves : (h : Clients) (conn moment : ℕ) (c : Client) (request : PlainRequest) (refused : Bool) (p : Option ℕ) (kind : PlainKind) → IsOrderly limits h
       → client_at h conn ≡ Some c → c.process ≡ p → Moves limits conn h (answered limits h conn c moment request refused p kind)
-  answered-moves h conn moment c request true None (Hello cred) o here mine = refuse-moves limits h conn request.serial c range o here
-  answered-moves h conn moment c request false None (Hello cred) o here mine = greet-moves limits h conn request.serial moment cred c range o here
+  answered-moves h conn moment c request refused None (Hello cred) o here mine =
+      may_greet h conn moment c request cred (refused && takes_memory limits h.state (Connect cred request.serial moment)) o here mine
   answered-moves h conn moment c request refused None (Calls call) o here mine = break_off-moves limits h conn request.serial moment c range o here
   answered-moves h conn moment c request refused (Some pid) (Hello cred) o here mine = break_off-moves limits h conn request.serial moment c range o here
   answered-moves h conn moment c request refused (Some pid) (Calls call) o here mine =
-      may_refuse h conn pid moment c request (refused && takes_memory (Call pid request moment)) o here mine
+      may_refuse h conn pid moment c request (refused && takes_memory limits h.state (Call pid request moment)) o here mine
 
   pub request-moves : (h : Clients) (conn moment : ℕ) (c : Client) (request : PlainRequest) (refused : Bool) → IsOrderly limits h → client_at h conn ≡ Some c
       → Moves limits conn h (on_request limits h conn c moment request refused)
@@ -349,7 +358,7 @@ module _ (limits : Limits) (range : ArePassed limits) where
       let tidy : IsTidy h.accepted c = rw here at (o.tidy conn) in
       orderly-change limits conn h (with_client h conn now) now o
       (record { keys = keys_of-with_value nat_eq h.clients conn now; others = λ j apart. other-with h.clients conn j now apart })
-          (at-with h.clients conn now c here)
+      (at-with h.clients conn now c here)
       (omega arith) o.sound (record { input = more; marks = tidy.marks; replies = tidy.replies; consumed = tidy.consumed })
       (λ pid is. (o.connected conn pid (ap process_in here ∙ is), λ j too. o.own j conn pid too (ap process_in here ∙ is)))
       (λ j pid apart is. o.connected j pid is)
@@ -358,7 +367,7 @@ module _ (limits : Limits) (range : ArePassed limits) where
       → Moves limits conn h (on_ending limits h conn moment ending)
   ending-moves h conn moment (Rest bytes) o waits =
       unless-moves h conn (λ c. with_client h conn (record c { input = bytes })) (client_at h conn) o refl
-          (λ c is. keep-moves h conn c bytes (waits bytes refl) o is)
+      (λ c is. keep-moves h conn c bytes (waits bytes refl) o is)
   ending-moves h conn moment (Broken serial) o waits =
       unless-moves h conn (λ c. break_off limits h conn c serial moment) (client_at h conn) o refl
       (λ c is. break_off-moves limits h conn serial moment c range o is)

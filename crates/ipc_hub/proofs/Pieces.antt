@@ -12,10 +12,11 @@ use Rattle.ipc_wire.specs.Stream.Ending.{Rest, Broken}
 use Rattle.ipc_wire.proofs.CallerLemmas.{first_takes, first_short}
 use Rattle.ipc_wire.proofs.CallerLemmas.{stream_step, stream_pieces as pieces}
 use Rattle.ipc_base.specs.Table.{value_at, with_value}
+use Rattle.ipc_base.specs.declared.identity.Cred.{Cred}
 use Rattle.ipc_engine.specs.Event.{Connect, Call, PlainOutcome}
 use Rattle.ipc_engine.specs.Step.{step}
 use Rattle.ipc_engine.specs.Engine.{takes_memory}
-use Rattle.ipc_hub.specs.Clients.{Client, Clients, client_at, with_client, with_frame, delivered, deliver, deliver_all, accept, hello_answered, leave}
+use Rattle.ipc_hub.specs.Clients.{greet, Client, Clients, client_at, with_client, with_frame, delivered, deliver, deliver_all, accept, hello_answered, leave}
 use Rattle.ipc_hub.specs.Clients.{break_off, refuse, answered, on_request, unless_ended, on_requests, on_ending, first_of, take_in, is_for, fitted, arriving}
 use Rattle.ipc_hub.specs.Orderly.{IsOrderly}
 use Rattle.ipc_base.proofs.CallerLemmas.{choice}
@@ -104,6 +105,12 @@ length-fitted zero xs = refl
 length-fitted (suc n) xs = ap suc (length-fitted n (drop 1 xs))
 
 module _ (limits : Limits) where
+  greet-keeps : (h : Clients) (conn moment : ℕ) (c : Client) (request : PlainRequest) (cred : Cred) (b : Bool) → KeepsNone h conn → c.input ≡ []
+      → KeepsNone (if b then refuse h conn c request.serial else greet limits h conn c (Connect cred request.serial moment)) conn
+  greet-keeps h conn moment c request cred true all none = put-keeps h.clients conn _ none
+  greet-keeps h conn moment c request cred false all none = put-keeps h.clients conn _
+      (hello-keeps c (h.accepted + 1) (step limits h.state (Connect cred request.serial moment)).outcomes none)
+
   call-keeps : (h : Clients) (conn pid moment : ℕ) (c : Client) (request : PlainRequest) (b : Bool) → KeepsNone h conn → c.input ≡ []
       → KeepsNone (if b then refuse h conn c request.serial else accept limits h (Call pid request moment)) conn
   call-keeps h conn pid moment c request true all none = put-keeps h.clients conn _ none
@@ -113,13 +120,12 @@ module _ (limits : Limits) where
   pub request-keeps_by : (h : Clients) (conn moment : ℕ) (c : Client) (request : PlainRequest) (refused : Bool) (p : Option ℕ) (kind : PlainKind)
       → KeepsNone h conn
       → c.input ≡ [] → KeepsNone (answered limits h conn c moment request refused p kind) conn
-  request-keeps_by h conn moment c request true None (Hello cred) all none = put-keeps h.clients conn _ none
-  request-keeps_by h conn moment c request false None (Hello cred) all none = put-keeps h.clients conn _
-      (hello-keeps c (h.accepted + 1) (step limits h.state (Connect cred request.serial moment)).outcomes none)
+  request-keeps_by h conn moment c request refused None (Hello cred) all none =
+      greet-keeps h conn moment c request cred (refused && takes_memory limits h.state (Connect cred request.serial moment)) all none
   request-keeps_by h conn moment c request refused None (Calls call) all none = put-keeps _ conn _ refl
   request-keeps_by h conn moment c request refused (Some pid) (Hello cred) all none = put-keeps _ conn _ refl
   request-keeps_by h conn moment c request refused (Some pid) (Calls call) all none =
-      call-keeps h conn pid moment c request (refused && takes_memory (Call pid request moment)) all none
+      call-keeps h conn pid moment c request (refused && takes_memory limits h.state (Call pid request moment)) all none
 
   unless-keeps : (h : Clients) (conn : ℕ) (act : Client → Clients) (r : Option Client) → KeepsNone h conn → client_at h conn ≡ r
       → ((c : Client) → client_at h conn ≡ Some c → KeepsNone (act c) conn) → KeepsNone (unless_ended h conn act) conn
@@ -235,7 +241,7 @@ module _ (limits : Limits) where
           let empty : record c { input = [] } ≡ c = ap (λ (i : List ℕ). record c { input = i }) (sym (none c is)) in
           let back : emptied (with_client h conn kept) conn kept ≡ h =
           ap (λ (es : List (ℕ × Client)). record h { clients = es }) (twice h.clients conn kept (record c { input = [] })
-              ∙ ap (λ (d : Client). with_value nat_eq h.clients conn d) empty ∙ own h.clients conn c is) in
+          ∙ ap (λ (d : Client). with_value nat_eq h.clients conn d) empty ∙ own h.clients conn c is) in
           ap (λ (t : Clients). take_in limits t conn more moment refused) same
           ∙ take_in-acts (with_client h conn kept) conn moment kept more refused (at-with h.clients conn kept c is) live
           ∙ ap (λ (t : Clients). settled t conn moment (stream_of (bytes ++ more)) refused) back

@@ -52,7 +52,19 @@ written v xs out bytes end same long room is =
     let rest : List ℕ = drop (length bytes) (take (length xs - end) free) in
     let behind : List ℕ = drop (length xs - end) free in
     let ws : List ℕ = take end xs ++ ((bytes ++ rest) ++ behind) in
-    let size : length ws ≡ v.len = omega (arith, v.ok.0, ap length same, length-append (take end xs) ((bytes ++ rest) ++ behind), length-append
-    (bytes ++ rest) behind, length-append bytes rest, length-take-le end xs long, length-drop end xs, length-drop (length bytes)
-    (take (length xs - end) free), length-take-le (length xs - end) free (omega (arith, length-drop end xs)), length-drop (length xs - end) free) in
+    let size : length ws ≡ v.len = omega (
+      arith,
+      v.ok.0,
+      ap length same,
+      length-append (take end xs) ((bytes ++ rest) ++ behind),
+      length-append
+          (bytes ++ rest) behind,
+      length-append bytes rest,
+      length-take-le end xs long,
+      length-drop end xs,
+      length-drop (length bytes)
+          (take (length xs - end) free),
+      length-take-le (length xs - end) free (omega (arith, length-drop end xs)),
+      length-drop (length xs - end) free,
+    ) in
     ap (λ (o : List ℕ). (with_items v (take end xs ++ (o ++ behind))).items) is ∙ with_items_is v ws size

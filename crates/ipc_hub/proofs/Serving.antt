@@ -15,11 +15,10 @@ use Rattle.ipc_base.specs.Limits.{ArePassed}
 use Rattle.ipc_wire.specs.Request.{PlainCall, PlainKind, PlainRequest, Hello, Calls}
 use Rattle.ipc_wire.specs.Reply.{PlainReply, reply_bytes, body_bytes, error_number}
 use Rattle.ipc_engine.specs.Engine.{Machine, takes_memory}
-
 use Rattle.ipc_state.specs.State.{State, is_process}
 use Rattle.ipc_state.specs.Objects.{last_number}
 use Rattle.ipc_engine.specs.Step.{asked}
-use Rattle.ipc_engine.specs.Event.{Connect, Call, PlainOutcome}
+use Rattle.ipc_engine.specs.Event.{PlainEvent, Connect, Call, PlainOutcome}
 use Rattle.ipc_engine.specs.Step.{Step, step}
 use Rattle.ipc_state.specs.State.{at_moment}
 use Rattle.ipc_engine.specs.View.{reply_of}
@@ -39,9 +38,14 @@ use Rattle.ipc_hub.proofs.Moves.{reply-spares, greet-moves, call-moves, refuse-m
 
 pub reply-length : (r : PlainReply) → length (reply_bytes r) ≡ 10 + length (body_bytes r.body)
 unfolding reply_bytes
-reply-length r = omega (arith, length-append (to_be_bytes w32 (6 + length (body_bytes r.body)))
-    (to_be_bytes w32 r.serial ++ to_be_bytes w16 (error_number r.errno) ++ body_bytes r.body), length-append (to_be_bytes w32 r.serial)
-    (to_be_bytes w16 (error_number r.errno) ++ body_bytes r.body), length-append (to_be_bytes w16 (error_number r.errno)) (body_bytes r.body))
+reply-length r = omega (
+  arith,
+  length-append (to_be_bytes w32 (6 + length (body_bytes r.body)))
+      (to_be_bytes w32 r.serial ++ to_be_bytes w16 (error_number r.errno) ++ body_bytes r.body),
+  length-append (to_be_bytes w32 r.serial)
+      (to_be_bytes w16 (error_number r.errno) ++ body_bytes r.body),
+  length-append (to_be_bytes w16 (error_number r.errno)) (body_bytes r.body),
+)
 
 not_yet : (confirmed : ℕ) (frames : List Frame) (f : Frame) → confirmed < f.mark
     → confirmed_bytes confirmed (frames ++ f ∷ []) ≡ confirmed_bytes confirmed frames
@@ -74,8 +78,17 @@ frames-gain limits confirmed mark accepted old new c o range has tidy later empt
 
 pub hello-asks : (limits : Limits) (h : Clients) (conn moment : ℕ) (c : Client) (request : PlainRequest) (cred : Cred) → c.process ≡ None
     → request.kind ≡ Hello cred
-    → (on_request limits h conn c moment request false ≡ greet limits h conn c (Connect cred request.serial moment)) × (on_request limits h conn c moment request true ≡ refuse h conn c request.serial)
-hello-asks limits h conn moment c request cred none said = (rw none (rw said refl), rw none (rw said refl))
+    → on_request limits h conn c moment request false ≡ greet limits h conn c (Connect cred request.serial moment)
+hello-asks limits h conn moment c request cred none said = rw none (rw said refl)
+
+pub hello-refuses : (limits : Limits) (h : Clients) (conn moment : ℕ) (c : Client) (request : PlainRequest) (cred : Cred) → c.process ≡ None
+    → request.kind ≡ Hello cred → takes_memory limits h.state (Connect cred request.serial moment) ≡ true
+    → on_request limits h conn c moment request true ≡ refuse h conn c request.serial
+hello-refuses limits h conn moment c request cred none said takes =
+    let hello : PlainEvent = Connect cred request.serial moment in
+    ap (λ (p : Option ℕ). answered limits h conn c moment request true p request.kind) none
+    ∙ ap (λ (k : PlainKind). answered limits h conn c moment request true None k) said
+    ∙ ap (λ (b : Bool). if b then refuse h conn c request.serial else greet limits h conn c hello) takes
 
 asks-call : (kind : PlainKind) → said_by kind ≡ None → (call : PlainCall) × (kind ≡ Calls call)
 asks-call (Hello cred) is = cc
@@ -91,7 +104,7 @@ call-asks limits h conn pid moment c request mine said = rw mine (rw (asks-call 
 
 pub call-refused : (limits : Limits) (h : Clients) (conn pid moment : ℕ) (c : Client) (request : PlainRequest) → c.process ≡ Some pid
     → said_by request.kind ≡ None
-    → takes_memory (Call pid request moment) ≡ true → on_request limits h conn c moment request true ≡ refuse h conn c request.serial
+    → takes_memory limits h.state (Call pid request moment) ≡ true → on_request limits h conn c moment request true ≡ refuse h conn c request.serial
 call-refused limits h conn pid moment c request mine said takes =
     let call = asks-call request.kind said in
     ap (λ (p : Option ℕ). answered limits h conn c moment request true p request.kind) mine
@@ -146,8 +159,14 @@ module _ (limits : Limits) (confirmed : ℕ) (h : Clients) (conn : ℕ) (c : Cli
         d,
         (
           record {
-            runs = record { keeps = keeps ∙ meets.runs.keeps; state = state; orderly = moved.orderly; later = omega
-                (arith, moved.later, meets.runs.later); range = meets.runs.range };
+            runs = record {
+              keeps = keeps ∙ meets.runs.keeps;
+              state = state;
+              orderly = moved.orderly;
+              later = omega
+                  (arith, moved.later, meets.runs.later);
+              range = meets.runs.range;
+            };
             found = at-with h.clients conn (hello_answered c mark (step limits h.state (Connect cred serial moment)).outcomes) c meets.found
                 ∙ ap (λ (os : List PlainOutcome). Some (hello_answered c mark os)) once.1;
             same = told.1;
@@ -162,8 +181,13 @@ module _ (limits : Limits) (confirmed : ℕ) (h : Clients) (conn : ℕ) (c : Cli
       → Answers old new process' (step limits h.state (Call pid request moment))
       → (d : Client) × (Meets limits confirmed engine' process new (accept limits h (Call pid request moment)) conn d × (d.ended ≡ c.ended))
   called-meets pid moment request process' mine state answers =
-      let o : PlainOutcome = record { pid = pid; serial = request.serial; errno = (asked limits (at_moment h.state moment) pid request.kind).errno; body =
-      (asked limits (at_moment h.state moment) pid request.kind).body } in
+      let o : PlainOutcome = record {
+        pid = pid;
+        serial = request.serial;
+        errno = (asked limits (at_moment h.state moment) pid request.kind).errno;
+        body =
+            (asked limits (at_moment h.state moment) pid request.kind).body;
+      } in
       let mark : ℕ = h.accepted + 1 in
       let d : Client = with_frame c mark o in
       let fits : FitsBody limits o.body = All-head (λ (p : PlainOutcome). FitsBody limits p.body) o []
@@ -174,8 +198,14 @@ module _ (limits : Limits) (confirmed : ℕ) (h : Clients) (conn : ℕ) (c : Cli
         d,
         (
           record {
-            runs = record { keeps = keeps ∙ meets.runs.keeps; state = state; orderly = moved.orderly; later = omega
-                (arith, moved.later, meets.runs.later); range = meets.runs.range };
+            runs = record {
+              keeps = keeps ∙ meets.runs.keeps;
+              state = state;
+              orderly = moved.orderly;
+              later = omega
+                  (arith, moved.later, meets.runs.later);
+              range = meets.runs.range;
+            };
             found = (reply-spares limits h conn mark c o meets.runs.orderly meets.found mine).0;
             same = meets.same;
             frames = has;
@@ -194,8 +224,14 @@ module _ (limits : Limits) (confirmed : ℕ) (h : Clients) (conn : ℕ) (c : Cli
         d,
         (
           record {
-            runs = record { keeps = keeps ∙ meets.runs.keeps; state = state
-                ∙ meets.runs.state; orderly = moved.orderly; later = omega (arith, moved.later, meets.runs.later); range = meets.runs.range };
+            runs = record {
+              keeps = keeps ∙ meets.runs.keeps;
+              state = state
+                  ∙ meets.runs.state;
+              orderly = moved.orderly;
+              later = omega (arith, moved.later, meets.runs.later);
+              range = meets.runs.range;
+            };
             found = at-with h.clients conn d c meets.found;
             same = meets.same;
             frames = has;
@@ -229,15 +265,30 @@ module _ (engine engine' : Machine) (process process' : Option Pid) (old new : O
       let served = greeted-meets limits confirmed h conn c engine engine' process old new meets empty keeps cred request.serial moment process'
       (state ∙ ap (λ (t : Step). t.state) same)
       (λ o once. answers o (ap (λ (t : Step). t.outcomes) same ∙ once)) in
-      (false, (served.0, (subst (λ (t : Clients). Meets limits confirmed engine' process' new t conn served.0) (sym asked.0) served.1.0, served.1.1)))
+      (false, (served.0, (subst (λ (t : Clients). Meets limits confirmed engine' process' new t conn served.0) (sym asked) served.1.0, served.1.1)))
 
-  pub hello-refused : (cred : Cred) → process ≡ None → process' ≡ process → said_by request.kind ≡ Some cred → engine'.state ≡ engine.state
+  takes-here : (e : PlainEvent) → takes_memory engine.limits engine.state e ≡ true → (limits : Limits) (h : Clients)
+      → engine.limits ≡ limits → engine.state ≡ h.state → takes_memory limits h.state e ≡ true
+  takes-here e takes limits h same same_state =
+      sym (ap (λ (l : Limits). takes_memory l engine.state e) same ∙ ap (λ (s : State). takes_memory limits s e) same_state) ∙ takes
+
+  pub hello-refused : (cred : Cred) → process ≡ None → process' ≡ process → said_by request.kind ≡ Some cred
+      → takes_memory engine.limits engine.state (Connect cred request.serial moment) ≡ true → engine'.state ≡ engine.state
       → GainsFrame old new (reply_of (refusal request.serial ENOMEM)) → IsServed engine process old engine' process' new request moment
-  hello-refused cred none kept said state gains limits confirmed h conn c meets empty =
-      let asked = hello-asks limits h conn moment c request cred (sym meets.same ∙ ap pid_of none) (asks-hello request.kind cred said) in
-      let served = refused-meets limits confirmed h conn c engine engine' process old new meets empty keeps request.serial state gains in
-      (true, (served.0, (subst (λ (t : Clients). Meets limits confirmed engine' process' new t conn served.0) (sym asked.1)
-      (subst (λ (p : Option Pid). Meets limits confirmed engine' p new (refuse h conn c request.serial) conn served.0) (sym kept) served.1.0), served.1.1)))
+  hello-refused cred none kept said takes state gains limits confirmed h conn c meets empty =
+      let asked = hello-refuses limits h conn moment c request cred (sym meets.same ∙ ap pid_of none) (asks-hello request.kind cred said)
+      (takes-here (Connect cred request.serial moment) takes limits h meets.runs.keeps meets.runs.state) in
+      let served = refused-meets limits confirmed h conn c engine engine' process old new meets empty keeps request.serial state gains in (
+        true,
+        (
+          served.0,
+          (
+            subst (λ (t : Clients). Meets limits confirmed engine' process' new t conn served.0) (sym asked)
+                (subst (λ (p : Option Pid). Meets limits confirmed engine' p new (refuse h conn c request.serial) conn served.0) (sym kept) served.1.0),
+            served.1.1,
+          ),
+        ),
+      )
 
   pub call-served : (pid : Pid) (answered_to : Option Pid) → process ≡ Some pid → process' ≡ process → said_by request.kind ≡ None
       → engine'.state ≡ (step (engine.limits) (engine.state) (Call pid.0 request moment)).state
@@ -251,20 +302,37 @@ module _ (engine engine' : Machine) (process process' : Option Pid) (old new : O
       ∙ ap (λ (s : State). step limits s (Call pid.0 request moment)) meets.runs.state in
       let served = called-meets limits confirmed h conn c engine engine' process old new meets empty keeps pid.0 moment request answered_to own
       (state ∙ ap (λ (t : Step). t.state) same)
-      (λ o once. answers o (ap (λ (t : Step). t.outcomes) same ∙ once)) in
-      (false, (served.0, (subst (λ (t : Clients). Meets limits confirmed engine' process' new t conn served.0) (sym asked)
-      (subst (λ (p : Option Pid). Meets limits confirmed engine' p new (accept limits h (Call pid.0 request moment)) conn served.0)
-      (sym kept) served.1.0), served.1.1)))
+      (λ o once. answers o (ap (λ (t : Step). t.outcomes) same ∙ once)) in (
+        false,
+        (
+          served.0,
+          (
+            subst (λ (t : Clients). Meets limits confirmed engine' process' new t conn served.0) (sym asked)
+                (subst (λ (p : Option Pid). Meets limits confirmed engine' p new (accept limits h (Call pid.0 request moment)) conn served.0)
+                (sym kept) served.1.0),
+            served.1.1,
+          ),
+        ),
+      )
 
-  pub call-not-served : (pid : Pid) → process ≡ Some pid → process' ≡ process → said_by request.kind ≡ None → takes_memory (Call pid.0 request moment) ≡ true
-      → engine'.state ≡ engine.state
+  pub call-not-served : (pid : Pid) → process ≡ Some pid → process' ≡ process → said_by request.kind ≡ None
+      → takes_memory engine.limits engine.state (Call pid.0 request moment) ≡ true → engine'.state ≡ engine.state
       → GainsFrame old new (reply_of (refusal request.serial ENOMEM)) → IsServed engine process old engine' process' new request moment
   call-not-served pid mine kept said takes state gains limits confirmed h conn c meets empty =
       let own : c.process ≡ Some pid.0 = sym meets.same ∙ ap pid_of mine in
-      let asked = call-refused limits h conn pid.0 moment c request own said takes in
-      let served = refused-meets limits confirmed h conn c engine engine' process old new meets empty keeps request.serial state gains in
-      (true, (served.0, (subst (λ (t : Clients). Meets limits confirmed engine' process' new t conn served.0) (sym asked)
-      (subst (λ (p : Option Pid). Meets limits confirmed engine' p new (refuse h conn c request.serial) conn served.0) (sym kept) served.1.0), served.1.1)))
+      let asked = call-refused limits h conn pid.0 moment c request own said
+      (takes-here (Call pid.0 request moment) takes limits h meets.runs.keeps meets.runs.state) in
+      let served = refused-meets limits confirmed h conn c engine engine' process old new meets empty keeps request.serial state gains in (
+        true,
+        (
+          served.0,
+          (
+            subst (λ (t : Clients). Meets limits confirmed engine' process' new t conn served.0) (sym asked)
+                (subst (λ (p : Option Pid). Meets limits confirmed engine' p new (refuse h conn c request.serial) conn served.0) (sym kept) served.1.0),
+            served.1.1,
+          ),
+        ),
+      )
 
 -- only an event that may need memory is refused for it
 pub refused-takes : {A E : Type 0} (takes : Bool) (r : Result A E) → is_ok r ≡ false → (takes ≡ false → IsOk r) → takes ≡ true
@@ -287,12 +355,20 @@ module _ (engine : Machine) (process : Option Pid) (old : Outbox) (request : Pla
   )
 
   pub none-misplaced : process ≡ None → said_by request.kind ≡ None → IsMisplaced engine process old engine process old request moment
-  none-misplaced none said =
-      (refl, refl, refl, λ limits confirmed h conn c meets refused. call-misplaced limits h conn moment c request refused
-      (sym meets.same ∙ ap pid_of none) said)
+  none-misplaced none said = (
+    refl,
+    refl,
+    refl,
+    λ limits confirmed h conn c meets refused. call-misplaced limits h conn moment c request refused
+        (sym meets.same ∙ ap pid_of none) said,
+  )
 
   pub some-misplaced : (pid : Pid) (cred : Cred) → process ≡ Some pid → said_by request.kind ≡ Some cred
       → IsMisplaced engine process old engine process old request moment
-  some-misplaced pid cred mine said =
-      (refl, refl, refl, λ limits confirmed h conn c meets refused. hello-misplaced limits h conn pid.0 moment c request cred refused
-      (sym meets.same ∙ ap pid_of mine) (asks-hello request.kind cred said))
+  some-misplaced pid cred mine said = (
+    refl,
+    refl,
+    refl,
+    λ limits confirmed h conn c meets refused. hello-misplaced limits h conn pid.0 moment c request cred refused
+        (sym meets.same ∙ ap pid_of mine) (asks-hello request.kind cred said),
+  )

@@ -1,6 +1,6 @@
 -- Bytes up to the end of a frame on a connection are the hub's taking in of those bytes.
-use Rattle.std.proofs.Common.{◌≡◌, ℕ, ◌+◌, ◌≤◌, Bool, true, false, List, [], ◌∷◌, ◌++◌, length, drop, Option, Some, None, refl, sym, ap, ◌∙◌, subst, arith}
-use Rattle.std.proofs.lemmas.List.{length-append, length-drop}
+use Rattle.std.proofs.Common.{◌≡◌, ℕ, ◌≤◌, Bool, true, false, List, [], ◌∷◌, ◌++◌, length, drop, Option, Some, None, refl, sym, ap, ◌∙◌, subst, arith}
+use Rattle.std.proofs.lemmas.List.{length-drop}
 use Rattle.ipc_base.specs.declared.limits.Limits.{Limits}
 use Rattle.ipc_base.specs.declared.errno.Errno.TheVariants.{EPROTO}
 use Rattle.ipc_wire.specs.Request.{PlainRequest}
@@ -9,7 +9,6 @@ use Rattle.ipc_wire.specs.Stream.PlainFrame.{More, Whole, Fault}
 use Rattle.ipc_wire.specs.Stream.Ending.{Rest}
 use Rattle.ipc_wire.proofs.CallerLemmas.{first_short, whole_last}
 use Rattle.ipc_engine.specs.Engine.{Machine}
-
 use Rattle.ipc_state.specs.State.{State, is_process}
 use Rattle.ipc_engine.specs.View.{reply_of}
 use Rattle.ipc_base.specs.declared.identity.Pid.{Pid}
@@ -77,8 +76,13 @@ breaks-off engine engine' c c' serial moment empty keeps state none input ended 
         range = meets.runs.range;
       };
       client = are-client limits confirmed c' (client_at (break_off limits h conn cl serial moment) conn) now found
-          (record { process = ap pid_of none; input = ap (λ v. v.items) input
-              ∙ cleared; ended = ended; outbox = record { waiting = has.waiting; visible = has.visible; seen = has.seen; room = has.room } });
+          (record {
+            process = ap pid_of none;
+            input = ap (λ v. v.items) input
+                ∙ cleared;
+            ended = ended;
+            outbox = record { waiting = has.waiting; visible = has.visible; seen = has.seen; room = has.room };
+          });
     }
 
 -- nothing of the client was touched
@@ -153,8 +157,14 @@ module _ (limits : Limits) (confirmed : ℕ) (engine : Machine) (c : Connection)
       let moved = take_in-moves limits h conn moment next [] serves.runs.range serves.runs.orderly in
       subst (λ (t : Clients). Serves limits confirmed engine c' t conn) (sym to)
       (record {
-        runs = record { keeps = serves.runs.keeps; state = serves.runs.state; orderly = subst
-            (λ (t : Clients). IsOrderly limits t) to moved.orderly; later = serves.runs.later; range = serves.runs.range };
+        runs = record {
+          keeps = serves.runs.keeps;
+          state = serves.runs.state;
+          orderly = subst
+              (λ (t : Clients). IsOrderly limits t) to moved.orderly;
+          later = serves.runs.later;
+          range = serves.runs.range;
+        };
         client = are-client limits confirmed c' (client_at h' conn) d (at-with bare.clients conn d e bare-found)
             (record {
               process = ap pid_of process ∙ same.process;

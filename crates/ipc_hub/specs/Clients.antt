@@ -126,11 +126,13 @@ refuse h conn c serial = with_client h conn (with_frame c h.accepted (refusal se
 -- whether memory was refused, which only an event that may need some can meet.
 abbrev pub answered : Limits → Clients → ℕ → Client → ℕ → PlainRequest → Bool → Option ℕ → PlainKind → Clients
 answered limits h conn c moment request refused None (Hello cred) =
-    if refused then refuse h conn c request.serial else greet limits h conn c (Connect cred request.serial moment)
+    let hello = Connect cred request.serial moment in
+    if refused && takes_memory limits h.state hello then refuse h conn c request.serial else greet limits h conn c hello
 answered limits h conn c moment request refused None (Calls call) = break_off limits h conn c request.serial moment
 answered limits h conn c moment request refused (Some pid) (Hello cred) = break_off limits h conn c request.serial moment
 answered limits h conn c moment request refused (Some pid) (Calls call) =
-    if refused && takes_memory (Call pid request moment) then refuse h conn c request.serial else accept limits h (Call pid request moment)
+    let call = Call pid request moment in
+    if refused && takes_memory limits h.state call then refuse h conn c request.serial else accept limits h call
 
 abbrev pub on_request : Limits → Clients → ℕ → Client → ℕ → PlainRequest → Bool → Clients
 on_request limits h conn c moment request refused = answered limits h conn c moment request refused c.process request.kind

@@ -1,5 +1,5 @@
 -- What a caller sees of the hub.
-use Rattle.std.specs.Prelude.{◌≡◌, vec_len, ℕ, Bool, false, nat_eq, List, [], map, Option, Some, None, is_some, IfSome}
+use Rattle.std.specs.Prelude.{◌≡◌, ℕ, Bool, false, nat_eq, List, [], map, Option, Some, None, is_some, IfSome}
 use Rattle.ipc_engine.specs.Engine.{Machine}
 use Rattle.ipc_base.specs.Table.{value_at, keys_of}
 use Rattle.ipc_hub.specs.declared.connection.Connection.{Connection}

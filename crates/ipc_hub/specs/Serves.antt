@@ -2,7 +2,6 @@
 use Rattle.std.specs.Prelude.{◌≡◌, ℕ, true, Bool, List, [], Option, Some, None}
 use Rattle.ipc_base.specs.declared.limits.Limits.{Limits}
 use Rattle.ipc_engine.specs.Engine.{Machine}
-
 use Rattle.ipc_state.specs.State.{State, is_process}
 use Rattle.ipc_state.specs.State.{at_moment, exit}
 use Rattle.ipc_hub.specs.declared.connection.Connection.{Connection}

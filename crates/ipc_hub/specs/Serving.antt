@@ -1,12 +1,11 @@
 -- What serving a request does to the engine, and to the process and the outbox of a connection.
-use Rattle.std.specs.Prelude.{◌≡◌, ℕ, ◌<◌, ◌≤◌, Bool, Option, Some, None, option_map}
+use Rattle.std.specs.Prelude.{◌≡◌, ℕ, ◌<◌, Bool, Option, Some, None, option_map}
 use Rattle.ipc_base.specs.declared.limits.Limits.{Limits}
 use Rattle.ipc_base.specs.declared.identity.Pid.{Pid}
 use Rattle.ipc_base.specs.Limits.{ArePassed}
 use Rattle.ipc_base.specs.declared.identity.Cred.{Cred}
 use Rattle.ipc_wire.specs.Request.{PlainKind, PlainRequest, Hello, Calls}
 use Rattle.ipc_engine.specs.Engine.{Machine}
-
 use Rattle.ipc_hub.specs.declared.outbox.Outbox.{Outbox}
 use Rattle.ipc_hub.specs.Clients.{Client, Clients, client_at, on_request, break_off}
 use Rattle.ipc_hub.specs.Orderly.{IsOrderly}

@@ -15,7 +15,9 @@ ghost use Rattle.ipc_hub.specs.Outbox.{GainsFrame};
 use crate::outbox::Outbox;
 use ipc_base::{Cred, Errno, Moment, Pid};
 use ipc_engine::{Engine, Event, Outcome};
-use ipc_wire::{Body, Frame, GREATEST_FRAME, Reply, Request, RequestKind, bytes_missing, read_frame};
+use ipc_wire::{
+    Body, Frame, GREATEST_FRAME, Reply, Request, RequestKind, bytes_missing, read_frame,
+};
 use std::alloc::{AllocError, Global};
 
 /// A connection. All its buffers are made with it.

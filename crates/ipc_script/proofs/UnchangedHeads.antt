@@ -97,13 +97,14 @@ module _ (limits : Limits) (conn moment : ℕ) where
     heads_request : (process : Option ℕ) (kind : PlainKind) → client_at h conn ≡ Some (client process)
         → heads (on_request limits h conn (client process) moment (record { serial = serial; kind = kind }) refused).clients ≡ heads h.clients
     heads_request None (Hello cred) at =
-        heads_choice h (refuse h conn (client None) serial) (greet limits h conn (client None) (Connect cred serial moment)) refused
+        heads_choice h (refuse h conn (client None) serial) (greet limits h conn (client None) (Connect cred serial moment))
+        (refused && takes_memory limits h.state (Connect cred serial moment))
         (heads_refuse h (client None) at serial) (heads_greet h (client None) at (Connect cred serial moment))
     heads_request None (Calls call) at = heads_break_off h (client None) at serial
     heads_request (Some pid) (Hello cred) at = heads_break_off h (client (Some pid)) at serial
     heads_request (Some pid) (Calls call) at =
         let request : PlainRequest = record { serial = serial; kind = Calls call } in
-        accepted_or_refused pid (Calls call) (refused && takes_memory (Call pid request moment)) at
+        accepted_or_refused pid (Calls call) (refused && takes_memory limits h.state (Call pid request moment)) at
 
   module _ (act : Client → Clients) (h : Clients) (each : (c : Client) → client_at h conn ≡ Some c → heads (act c).clients ≡ heads h.clients) where
     tried : (o : Option Client) → client_at h conn ≡ o → heads (unless_ended h conn act).clients ≡ heads h.clients

@@ -11,8 +11,12 @@ puts_both a b at mid next old between new p q =
     let kept : length (take at old) ≡ at = length-take-le at old (omega arith) in
     let front : length (take at old ++ a) ≡ mid = omega (arith, length-append (take at old) a) in
     let behind : List ℕ = drop (at + length a) old in
-    let whole : length between ≡ length old = ap length p.2 ∙ omega (arith, length-append (take at old ++ a) (drop (at + length a) old), length-drop
-    (at + length a) old) in
+    let whole : length between ≡ length old = ap length p.2 ∙ omega (
+      arith,
+      length-append (take at old ++ a) (drop (at + length a) old),
+      length-drop
+          (at + length a) old,
+    ) in
     let both : length (a ++ b) ≡ length a + length b = length-append a b in
     let before : take mid between ≡ take at old ++ a = ap (take mid) p.2 ∙ take_at (take at old ++ a) behind mid front in
     let after : drop mid between ≡ behind = ap (drop mid) p.2 ∙ drop_at (take at old ++ a) behind mid front in

@@ -87,8 +87,12 @@ text_back text used request fits least most e =
             used_is = found.1;
             text_is = sym (take-append-drop 4 text) ∙ sym (side (to_be_bytes w32 request.serial) (take 4 text) (opcode_of request.kind ∷ fields_of request.kind)
                 (drop 4 text) serial fields);
-            has = record { serial = (least_serial, most_serial); fields = spelled.fit; short = omega
-                (arith, ap length spelled.fields_are, length-drop 5 text) };
+            has = record {
+              serial = (least_serial, most_serial);
+              fields = spelled.fit;
+              short = omega
+                  (arith, ap length spelled.fields_are, length-drop 5 text);
+            };
           }
     ]
 

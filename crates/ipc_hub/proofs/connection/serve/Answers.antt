@@ -1,6 +1,6 @@
 use Rattle.std.proofs.Common.{refl, sym, ap, ◌∙◌}
 use Rattle.ipc_engine.specs.Engine.{Machine, takes_memory}
-use Rattle.ipc_engine.specs.Event.{Call}
+use Rattle.ipc_engine.specs.Event.{Connect, Call}
 use Rattle.ipc_wire.specs.Request.{plain_request}
 use Rattle.ipc_hub.proofs.Serving.{done, failed, refused-takes, hello-served, hello-refused, call-served, call-not-served, always-connected}
 use Rattle.ipc_hub.proofs.connection.serve.Goals as goal
@@ -24,6 +24,8 @@ returns-else-is_ok-clause-served c =
     hello-refused c.args.engine.now c.step.new.self c.args.process.now c.args.process.now c.args.outbox.now c.push.new.self
     (plain_request c.args.request.now) c.args.moment.0
     c.step.ensures.limits c.in-None-Some.cred c.in-None-Some.is-0 refl (sym c.hello_of.ensures ∙ c.in-None-Some.is-1)
+    (refused-takes (takes_memory c.args.engine.now.limits c.args.engine.now.state (Connect c.in-None-Some.cred c.args.request.now.serial c.args.moment.0))
+    c.step.result failure c.step.ensures.memory)
     (ap (λ (m : Machine). m.state) (failed c.step.result _ failure c.step.ensures.err))
     (rw c.refusal.ensures at c.push.ensures)
 
@@ -44,6 +46,8 @@ returns-else-is_ok-2-clause-served c =
     call-not-served c.args.engine.now c.step-in-Some-None.new.self c.args.process.now c.args.process.now c.args.outbox.now c.push-else-is_ok-2.new.self
     (plain_request c.args.request.now) c.args.moment.0
     c.step-in-Some-None.ensures.limits c.in-Some-None.pid c.in-Some-None.is-0 refl said
-    (refused-takes (takes_memory (Call c.in-Some-None.pid.0 (plain_request c.args.request.now) c.args.moment.0)) c.step-in-Some-None.result failure c.step-in-Some-None.ensures.memory)
+    (refused-takes (takes_memory c.args.engine.now.limits c.args.engine.now.state
+    (Call c.in-Some-None.pid.0 (plain_request c.args.request.now) c.args.moment.0))
+    c.step-in-Some-None.result failure c.step-in-Some-None.ensures.memory)
     (ap (λ (m : Machine). m.state) (failed c.step-in-Some-None.result _ failure c.step-in-Some-None.ensures.err))
     (rw c.refusal-else-is_ok-2.ensures at c.push-else-is_ok-2.ensures)

@@ -1,9 +1,7 @@
-use Rattle.std.proofs.Common.{◌≡◌, ◌+◌, ◌-◌, ◌++◌, ◌<◌, ◌≤◌, ℕ, List, true, false, take, drop, length, refl, sym, ap, subst, ◌∙◌, inl, inr, arith}
+use Rattle.std.proofs.Common.{◌≡◌, ◌-◌, ◌++◌, ℕ, List, true, false, take, drop, length, refl, sym, ap, subst, ◌∙◌, arith}
 use Rattle.std.proofs.Math.Seq.{take-add}
-use Rattle.std.proofs.lemmas.Bool.{cases_lt}
 use Rattle.std.proofs.lemmas.List.{take_all, length-drop}
-use Rattle.ipc_hub.specs.declared.outbox.Outbox.{Outbox}
-use Rattle.ipc_hub.specs.Outbox.{IsEmpty, HasRoom}
+use Rattle.ipc_hub.specs.Outbox.{HasRoom}
 use Rattle.ipc_hub.specs.Serves.{TakesIn}
 use Rattle.ipc_hub.proofs.Taking.{takes-none, takes-then, takes-dropped}
 use Rattle.ipc_hub.proofs.connection.Connection.feed.Goals.{else-not-self-via-then-not-self+else-not-has_room, else-not-self-via-else-not-self}

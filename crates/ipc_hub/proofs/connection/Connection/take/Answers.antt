@@ -77,6 +77,8 @@ returns-in-Fault-clause-bytes c idle limits confirmed h conn serves =
     let broke = c.break_off-in-Fault.ensures.ended (idle c.if-self.false) limits confirmed
     (bare limits confirmed c.args.engine.now was h conn next c.args.moment.0 few serves) conn
     (e limits confirmed c.args.engine.now was h conn next c.args.moment.0 few serves)
-    (meets-bare limits confirmed c.args.engine.now was h conn next c.args.moment.0 few serves) c.clear-in-Fault.ensures.items in
-    ([], takes-fault limits confirmed c.args.engine.now was h conn next c.args.moment.0 few serves c.break_off-in-Fault.new.engine
-    c.break_off-in-Fault.new.self c.in-Fault.serial c.if-self.false frame broke)
+    (meets-bare limits confirmed c.args.engine.now was h conn next c.args.moment.0 few serves) c.clear-in-Fault.ensures.items in (
+      [],
+      takes-fault limits confirmed c.args.engine.now was h conn next c.args.moment.0 few serves c.break_off-in-Fault.new.engine
+          c.break_off-in-Fault.new.self c.in-Fault.serial c.if-self.false frame broke,
+    )

@@ -1,5 +1,4 @@
-use Rattle.std.proofs.Common.{◌≡◌, ◌+◌, ◌++◌, ◌∷◌, [], refl, ap, ◌∙◌, arith, rules}
-use Rattle.ipc_base.specs.declared.limits.Limits.{Limits}
+use Rattle.std.proofs.Common.{◌≡◌, ◌++◌, ◌∷◌, [], refl, ap, ◌∙◌, arith, rules}
 use Rattle.ipc_hub.specs.Serving.{pid_of}
 use Rattle.ipc_hub.proofs.Calls.{connect-stands}
 use Rattle.ipc_base.proofs.CallerLemmas.{nobody}

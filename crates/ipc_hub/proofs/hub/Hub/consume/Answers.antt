@@ -1,5 +1,5 @@
 use Rattle.std.proofs.Common.{◌≤◌, map, length, drop, Option, refl, sym, ap, subst, ◌∙◌}
-use Rattle.std.specs.Prelude.{nat_eq, vec_len}
+use Rattle.std.specs.Prelude.{nat_eq}
 use Rattle.ipc_base.specs.Table.{value_at}
 use Rattle.ipc_base.proofs.CallerLemmas.{value_at_place, value_nowhere, set_at_place}
 use Rattle.ipc_hub.specs.declared.connection.Connection.{Connection}

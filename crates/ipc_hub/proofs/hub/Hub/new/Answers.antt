@@ -1,5 +1,4 @@
 use Rattle.std.proofs.Common.{◌∙◌, subst, ap}
-use Rattle.ipc_base.specs.declared.limits.Limits.{Limits}
 use Rattle.ipc_base.specs.Limits.{ArePassed, longest_reply}
 use Rattle.ipc_hub.proofs.Calls.{new-stands}
 use Rattle.ipc_hub.proofs.hub.Hub.new.Goals as goal

@@ -12,8 +12,12 @@ returns-then-write_reply c =
     let bytes = reply_bytes (plain_reply c.args.reply.now) in
     let long : old.end ≤ length xs = omega (arith, old.within, c.deref_mut.ensures.len) in
     let there = (c.write_reply.ensures.fits.0 c.if-write_reply.true).0 in
-    let fit : length bytes ≤ length xs - old.end = omega (arith, there, length-take-le (length xs - old.end) (drop old.end xs)
-    (omega (arith, length-drop old.end xs))) in
+    let fit : length bytes ≤ length xs - old.end = omega (
+      arith,
+      there,
+      length-take-le (length xs - old.end) (drop old.end xs)
+          (omega (arith, length-drop old.end xs)),
+    ) in
     let items = written old.buffer xs c.write_reply.new.out bytes old.end c.deref_mut.ensures.value long fit
     (rw c.if-write_reply.true at c.write_reply.ensures.written) in
     record {
