@@ -1,7 +1,7 @@
 -- What the crates above cite of tables, of numbers that rise, and of limits that were checked.
-use Rattle.std.proofs.Common.{◌≡◌, ◌≢◌, ℕ, zero, suc, ◌+◌, ◌<◌, ◌≤◌, Bool, true, false, not, ◌&&◌, leb, eqb, cond, ◌⊎◌, inl, inr, List, [], ◌∷◌, ◌++◌, length}
+use Rattle.std.proofs.Common.{◌≡◌, ◌≢◌, ℕ, zero, suc, ◌+◌, ◌<◌, ◌≤◌, Bool, true, false, not, ◌&&◌, leb, cond, ◌⊎◌, inl, inr, List, [], ◌∷◌, ◌++◌, length}
 use Rattle.std.proofs.Common.{map, find, get_or, set, is_some, Option, Some, None, refl, sym, ap, subst, ◌∙◌, arith}
-use Rattle.std.specs.Prelude.{nat_eq, if◌then◌else◌, All, ◌||◌, option_map}
+use Rattle.std.specs.Prelude.{nat_eq, nat_lt, if◌then◌else◌, All, ◌||◌, option_map}
 use Rattle.std.specs.List.{list_any, remove, position, position_or_len, IsDistinct, AllByRecursion}
 use Rattle.std.specs.Cmp.{IsEquivalence}
 use Rattle.std.proofs.lemmas.Bool.{ltb-false, leb-true, eqb-true, eq-eqb}
@@ -12,7 +12,7 @@ use Rattle.std.proofs.lemmas.List.Sums.{fails_before_first}
 use Rattle.std.proofs.lemmas.Map.Keys.{IsDistinct-head, IsDistinct-tail, IsDistinct-cons}
 use Rattle.ipc_base.specs.declared.limits.Limits.{Limits}
 use Rattle.ipc_base.specs.Limits.{tests, is_within, ArePassed, longest_body, longest_reply}
-use Rattle.ipc_base.specs.Table.{value_at, with_value, without, keys_of, IsRising}
+use Rattle.ipc_base.specs.Table.{value_at, with_value, without, with_entry, keys_of, seen_as, EachValue, ArePaired, IsRising}
 
 -- ---- a table kept as a list of entries, each seen as a row of a key and a value
 
@@ -519,6 +519,151 @@ module _ {X : Type 0} where
       ]) in
       let entry : e ≡ f = ap (λ (i : ℕ). (i, e.1)) head ∙ ap (λ (x : X). (f.0, x)) value in
       ap (λ (y : ℕ × X). y ∷ es) entry ∙ ap (λ (t : List (ℕ × X)). f ∷ t) (same_table es fs keys (IsDistinct-tail nat_eq e.0 (keys_of es) d) rest)
+
+-- ---- what each value of a table is
+
+module _ {X : Type 0} (P : X → Type 0) where
+  pub each-at : (es : List (ℕ × X)) (k : ℕ) (x : X) → EachValue P es → value_at nat_eq es k ≡ Some x → P x
+  each-at [] k x each is = cc
+  each-at (e ∷ es) k x each is = by_test (nat_eq e.0 k) (λ t. rw t at is) (λ f. each-at es k x each.1 (rw f at is))
+    where
+      by_test : (b : Bool) → (b ≡ true → Some e.1 ≡ Some x) → (b ≡ false → P x) → P x
+      by_test true found other = let same : e.1 ≡ x = some_same (found refl) in subst P same each.0
+        where
+          some_same : Some e.1 ≡ Some x → e.1 ≡ x
+          some_same is = cc
+      by_test false found other = other refl
+
+  pub each-with : (es : List (ℕ × X)) (k : ℕ) (x : X) → EachValue P es → P x → EachValue P (with_value nat_eq es k x)
+  each-with [] k x each new = tt
+  each-with (e ∷ es) k x each new =
+      choice (EachValue P) (nat_eq e.0 k) ((e.0, x) ∷ es) (e ∷ with_value nat_eq es k x)
+      (λ _. (new, each.1)) (λ _. (each.0, each-with es k x each.1 new))
+
+  pub each-without : (es : List (ℕ × X)) (k : ℕ) → EachValue P es → EachValue P (without nat_eq es k)
+  each-without [] k each = tt
+  each-without (e ∷ es) k each =
+      choice (EachValue P) (nat_eq e.0 k) es (e ∷ without nat_eq es k) (λ _. each.1) (λ _. (each.0, each-without es k each.1))
+
+  pub each-entry : (es : List (ℕ × X)) (k : ℕ) (x : X) → EachValue P es → P x → EachValue P (with_entry es k x)
+  each-entry [] k x each new = (new, tt)
+  each-entry (e ∷ es) k x each new =
+      choice (EachValue P) (nat_lt k e.0) ((k, x) ∷ e ∷ es) (e ∷ with_entry es k x)
+      (λ _. (new, each)) (λ _. (each.0, each-entry es k x each.1 new))
+
+module _ {X Y : Type 0} (P Q : X → Type 0) (P' : Y → Type 0) where
+  -- each value seen in another way
+  pub each-seen : (es : List (ℕ × X)) (f : X → Y) → EachValue P es → EachValue Q es → ((x : X) → P x → Q x → P' (f x))
+      → EachValue P' (seen_as f es)
+  each-seen [] f each other does = tt
+  each-seen (e ∷ es) f each other does = (does e.1 each.0 other.0, each-seen es f each.1 other.1 does)
+
+module _ {X : Type 0} (P : X → Type 0) where
+  rising-missed : (n : ℕ) (es : List (ℕ × X)) (high k : ℕ) (x : X) → IsRising (n + 1) (keys_of es) high → value_at nat_eq es k ≡ Some x → n ≢ k
+  rising-missed n [] high k x rising is same = cc
+  rising-missed n (e ∷ es) high k x rising is same =
+      let missed : nat_eq e.0 k ≡ false = grind (arith, nat_tests, rising.0, same) in
+      rising-missed n es high k x (rising-lower (n + 1) (e.0 + 1) (keys_of es) high (omega (arith, rising.0)) rising.1) (rw missed at is) same
+
+  -- what the value at each key of numbers that rise is
+  pub each-by_key : (low : ℕ) (es : List (ℕ × X)) (high : ℕ) → IsRising low (keys_of es) high → ((k : ℕ) (x : X) → value_at nat_eq es k ≡ Some x → P x)
+      → EachValue P es
+  each-by_key low [] high rising at = tt
+  each-by_key low (e ∷ es) high rising at = (
+    at e.0 e.1 (rw (same_key e.0) refl),
+    each-by_key (e.0 + 1) es high rising.1 (λ k x is. at k x (rw (other_key e.0 k (rising-missed e.0 es high k x rising.1 is)) is)),
+  )
+
+-- ---- tables whose values are related
+
+module _ {X Y : Type 0} (R : X → Y → Type 0) where
+  pub paired-keys : (xs : List (ℕ × X)) (ys : List (ℕ × Y)) → ArePaired R xs ys → keys_of xs ≡ keys_of ys
+  paired-keys [] [] paired = refl
+  paired-keys [] (y ∷ ys) paired = absurd paired
+  paired-keys (x ∷ xs) [] paired = absurd paired
+  paired-keys (x ∷ xs) (y ∷ ys) paired =
+      ap (λ (k : ℕ). k ∷ keys_of xs) paired.0 ∙ ap (λ (ks : List ℕ). y.0 ∷ ks) (paired-keys xs ys paired.1.1)
+
+  -- a value has its partner
+  pub paired-at : (xs : List (ℕ × X)) (ys : List (ℕ × Y)) (k : ℕ) (x : X) → ArePaired R xs ys → value_at nat_eq xs k ≡ Some x
+      → (y : Y) × ((value_at nat_eq ys k ≡ Some y) × R x y)
+  paired-at [] ys k x paired is = cc
+  paired-at (e ∷ xs) [] k x paired is = absurd paired
+  paired-at (e ∷ xs) (f ∷ ys) k x paired is =
+      by_test (nat_eq e.0 k) (ap (λ (n : ℕ). nat_eq n k) (sym paired.0)) (λ t. rw t at is) (λ t. paired-at xs ys k x paired.1.1 (rw t at is))
+    where
+      by_test : (b : Bool) → nat_eq f.0 k ≡ b → (b ≡ true → Some e.1 ≡ Some x)
+          → (b ≡ false → (y : Y) × ((value_at nat_eq ys k ≡ Some y) × R x y))
+          → (y : Y) × ((value_at nat_eq (f ∷ ys) k ≡ Some y) × R x y)
+      by_test true t found other = let same : e.1 ≡ x = some_same (found refl) in (f.1, (rw t refl, subst (λ (z : X). R z f.1) same paired.1.0))
+        where
+          some_same : Some e.1 ≡ Some x → e.1 ≡ x
+          some_same is = cc
+      by_test false t found other = let rest = other refl in (rest.0, (rw t rest.1.0, rest.1.1))
+
+  pub paired-none : (xs : List (ℕ × X)) (ys : List (ℕ × Y)) (k : ℕ) → ArePaired R xs ys → value_at nat_eq xs k ≡ None
+      → value_at nat_eq ys k ≡ None
+  paired-none xs ys k paired none =
+      nobody (value_at nat_eq ys k) (sym (same_keys xs ys k (paired-keys xs ys paired)) ∙ ap is_some none)
+
+  pub paired-with : (xs : List (ℕ × X)) (ys : List (ℕ × Y)) (k : ℕ) (x : X) (y : Y) → ArePaired R xs ys → R x y
+      → ArePaired R (with_value nat_eq xs k x) (with_value nat_eq ys k y)
+  paired-with [] [] k x y paired new = tt
+  paired-with [] (f ∷ ys) k x y paired new = absurd paired
+  paired-with (e ∷ xs) [] k x y paired new = absurd paired
+  paired-with (e ∷ xs) (f ∷ ys) k x y paired new =
+      by_test (nat_eq f.0 k) refl (ap (λ (n : ℕ). nat_eq n k) paired.0) (paired-with xs ys k x y paired.1.1 new)
+    where
+      by_test : (b : Bool) → nat_eq f.0 k ≡ b → nat_eq e.0 k ≡ nat_eq f.0 k
+          → ArePaired R (with_value nat_eq xs k x) (with_value nat_eq ys k y)
+          → ArePaired R (with_value nat_eq (e ∷ xs) k x) (with_value nat_eq (f ∷ ys) k y)
+      by_test true t both rest = rw (both ∙ t) (rw t (paired.0, (new, paired.1.1)))
+      by_test false t both rest = rw (both ∙ t) (rw t (paired.0, (paired.1.0, rest)))
+
+  pub paired-without : (xs : List (ℕ × X)) (ys : List (ℕ × Y)) (k : ℕ) → ArePaired R xs ys
+      → ArePaired R (without nat_eq xs k) (without nat_eq ys k)
+  paired-without [] [] k paired = tt
+  paired-without [] (f ∷ ys) k paired = absurd paired
+  paired-without (e ∷ xs) [] k paired = absurd paired
+  paired-without (e ∷ xs) (f ∷ ys) k paired =
+      by_test (nat_eq f.0 k) refl (ap (λ (n : ℕ). nat_eq n k) paired.0) (paired-without xs ys k paired.1.1)
+    where
+      by_test : (b : Bool) → nat_eq f.0 k ≡ b → nat_eq e.0 k ≡ nat_eq f.0 k
+          → ArePaired R (without nat_eq xs k) (without nat_eq ys k)
+          → ArePaired R (without nat_eq (e ∷ xs) k) (without nat_eq (f ∷ ys) k)
+      by_test true t both rest = rw (both ∙ t) (rw t paired.1.1)
+      by_test false t both rest = rw (both ∙ t) (rw t (paired.0, (paired.1.0, rest)))
+
+  pub paired-entry : (xs : List (ℕ × X)) (ys : List (ℕ × Y)) (k : ℕ) (x : X) (y : Y) → ArePaired R xs ys → R x y
+      → ArePaired R (with_entry xs k x) (with_entry ys k y)
+  paired-entry [] [] k x y paired new = (refl, (new, tt))
+  paired-entry [] (f ∷ ys) k x y paired new = absurd paired
+  paired-entry (e ∷ xs) [] k x y paired new = absurd paired
+  paired-entry (e ∷ xs) (f ∷ ys) k x y paired new =
+      by_test (nat_lt k f.0) refl (ap (λ (n : ℕ). nat_lt k n) paired.0) (paired-entry xs ys k x y paired.1.1 new)
+    where
+      by_test : (b : Bool) → nat_lt k f.0 ≡ b → nat_lt k e.0 ≡ nat_lt k f.0
+          → ArePaired R (with_entry xs k x) (with_entry ys k y)
+          → ArePaired R (with_entry (e ∷ xs) k x) (with_entry (f ∷ ys) k y)
+      by_test true t both rest = rw (both ∙ t) (rw t (refl, (new, paired)))
+      by_test false t both rest = rw (both ∙ t) (rw t (paired.0, (paired.1.0, rest)))
+
+module _ {X Y : Type 0} (R Q : X → Y → Type 0) where
+  pub paired-weaker : (xs : List (ℕ × X)) (ys : List (ℕ × Y)) → ArePaired R xs ys → ((x : X) (y : Y) → R x y → Q x y) → ArePaired Q xs ys
+  paired-weaker [] [] paired each = tt
+  paired-weaker [] (y ∷ ys) paired each = absurd paired
+  paired-weaker (x ∷ xs) [] paired each = absurd paired
+  paired-weaker (x ∷ xs) (y ∷ ys) paired each = (paired.0, (each x.1 y.1 paired.1.0, paired-weaker xs ys paired.1.1 each))
+
+module _ {X Y V W : Type 0} (R : X → Y → Type 0) (Q : V → W → Type 0) where
+  -- both tables seen in another way
+  pub paired-seen : (xs : List (ℕ × X)) (ys : List (ℕ × Y)) (f : X → V) (g : Y → W) → ArePaired R xs ys
+      → ((x : X) (y : Y) → R x y → Q (f x) (g y)) → ArePaired Q (seen_as f xs) (seen_as g ys)
+  paired-seen [] [] f g paired each = tt
+  paired-seen [] (y ∷ ys) f g paired each = absurd paired
+  paired-seen (x ∷ xs) [] f g paired each = absurd paired
+  paired-seen (x ∷ xs) (y ∷ ys) f g paired each =
+      (paired.0, (each x.1 y.1 paired.1.0, paired-seen xs ys f g paired.1.1 each))
 
 -- ---- limits that were checked
 

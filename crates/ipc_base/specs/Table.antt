@@ -1,6 +1,6 @@
 -- A table: pairs of a key and a value, each key once. A table of objects, processes or connections is in the order of
 -- its keys: numbers rise and are never given again, and a connection is put in at its place.
-use Rattle.std.specs.Prelude.{ℕ, ◌+◌, ◌≤◌, Bool, List, [], ◌∷◌, if◌then◌else◌, map, nat_lt, Option, Some, None}
+use Rattle.std.specs.Prelude.{◌≡◌, ℕ, ◌+◌, ◌≤◌, Bool, List, [], ◌∷◌, if◌then◌else◌, map, nat_lt, Option, Some, None}
 use Rattle.std.specs.Coded.{×_prop, le_prop}
 
 -- the keys, and the values, in their order
@@ -29,6 +29,22 @@ without same (e ∷ es) k = if same e.0 k then es else e ∷ without same es k
 abbrev pub with_entry : {X : Type 0} → List (ℕ × X) → ℕ → X → List (ℕ × X)
 with_entry [] k x = (k, x) ∷ []
 with_entry (e ∷ es) k x = if nat_lt k e.0 then (k, x) ∷ e ∷ es else e ∷ with_entry es k x
+
+-- the table with each value seen in another way
+abbrev pub seen_as : {K X Y : Type 0} → (X → Y) → List (K × X) → List (K × Y)
+seen_as see table = map (λ e. (e.0, see e.1)) table
+
+-- each value of a table is such a one
+abbrev pub EachValue : {K X : Type 0} → (X → Type 0) → List (K × X) → Type 0
+EachValue P [] = Unit {0}
+EachValue P (e ∷ es) = P e.1 × EachValue P es
+
+-- two tables with the same keys in the same order, of which each two values are related
+abbrev pub ArePaired : {K X Y : Type 0} → (X → Y → Type 0) → List (K × X) → List (K × Y) → Type 0
+ArePaired R [] [] = Unit {0}
+ArePaired R [] (y ∷ ys) = ⊥
+ArePaired R (x ∷ xs) [] = ⊥
+ArePaired R (x ∷ xs) (y ∷ ys) = (x.0 ≡ y.0) × (R x.1 y.1 × ArePaired R xs ys)
 
 -- the numbers rise, each at least low and below high
 abbrev pub IsRising : ℕ → List ℕ → ℕ → Type 0

@@ -42,16 +42,6 @@ consumed-bytes (f ∷ fs) n = by_test (nat_le (length f.bytes) n) refl (consumed
     by_test true t rest = rw t (rest ∙ past f.bytes (all_bytes fs) n (grind (arith, nat_tests)))
     by_test false t rest = rw t refl
 
-pub consumed-bound : (frames : List Frame) (n : ℕ) → n ≤ length (all_bytes frames) → (consumed_from frames n).1 ≤ length (all_bytes (consumed_from frames n).0)
-consumed-bound [] n le = omega arith
-consumed-bound (f ∷ fs) n le = by_test (nat_le (length f.bytes) n) refl (consumed-bound fs (n - length f.bytes))
-  where
-    by_test : (b : Bool) → nat_le (length f.bytes) n ≡ b → (n - length f.bytes ≤ length (all_bytes fs)
-        → (consumed_from fs (n - length f.bytes)).1 ≤ length (all_bytes (consumed_from fs (n - length f.bytes)).0))
-        → (consumed_from (f ∷ fs) n).1 ≤ length (all_bytes (consumed_from (f ∷ fs) n).0)
-    by_test true t rest = rw t (rest (omega (arith, le, length-append f.bytes (all_bytes fs))))
-    by_test false t rest = rw t le
-
 module _ (confirmed : ℕ) where
   pub consumed-shown : (frames : List Frame) (n : ℕ) → All (λ f. 0 < length f.bytes) frames → n ≤ length (confirmed_bytes confirmed frames)
       → (drop (consumed_from frames n).1 (confirmed_bytes confirmed (consumed_from frames n).0) ≡ drop n (confirmed_bytes confirmed frames))

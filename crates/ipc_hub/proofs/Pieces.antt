@@ -2,50 +2,20 @@
 use Rattle.std.proofs.Common.{◌≡◌, ℕ, zero, suc, ◌+◌, ◌≤◌, Bool, true, false, ◌&&◌, List, [], ◌∷◌, ◌++◌, length, drop, Option, Some, None, refl, sym, ap, ◌∙◌}
 use Rattle.std.proofs.Common.{subst, arith, append_assoc, append-nil}
 use Rattle.std.specs.Prelude.{nat_eq, if◌then◌else◌, option_map}
-use Rattle.std.proofs.lemmas.List.{length-drop}
 use Rattle.ipc_base.specs.declared.limits.Limits.{Limits}
-use Rattle.ipc_base.specs.Limits.{ArePassed}
-use Rattle.ipc_wire.specs.Request.{PlainKind, PlainRequest, Hello, Calls}
-use Rattle.ipc_wire.specs.Stream.{PlainFrame, TakesBytes, first, Ending, Stream, begins_with, stream_of, continued}
-use Rattle.ipc_wire.specs.Stream.PlainFrame.{More, Whole, Fault}
+use Rattle.ipc_wire.specs.Request.{PlainRequest}
+use Rattle.ipc_wire.specs.Stream.{first, Ending, Stream, stream_of, continued}
+use Rattle.ipc_wire.specs.Stream.PlainFrame.{More}
 use Rattle.ipc_wire.specs.Stream.Ending.{Rest, Broken}
-use Rattle.ipc_wire.proofs.CallerLemmas.{first_takes, first_short}
-use Rattle.ipc_wire.proofs.CallerLemmas.{stream_step, stream_pieces as pieces}
+use Rattle.ipc_wire.proofs.CallerLemmas.{stream_begun, stream_pieces as pieces}
 use Rattle.ipc_base.specs.Table.{value_at, with_value}
-use Rattle.ipc_base.specs.declared.identity.Cred.{Cred}
-use Rattle.ipc_engine.specs.Event.{Connect, Call, PlainOutcome}
+use Rattle.ipc_engine.specs.Event.{PlainEvent, PlainOutcome}
 use Rattle.ipc_engine.specs.Step.{step}
 use Rattle.ipc_engine.specs.Engine.{takes_memory}
-use Rattle.ipc_hub.specs.Clients.{greet, Client, Clients, client_at, with_client, with_frame, delivered, deliver, deliver_all, accept, hello_answered, leave}
-use Rattle.ipc_hub.specs.Clients.{break_off, refuse, answered, on_request, unless_ended, on_requests, on_ending, first_of, take_in, is_for, fitted, arriving}
-use Rattle.ipc_hub.specs.Orderly.{IsOrderly}
-use Rattle.ipc_base.proofs.CallerLemmas.{choice}
-use Rattle.ipc_base.proofs.CallerLemmas.{at-with, twice, own, at-map}
-use Rattle.ipc_hub.proofs.Moves.{Moves, then_moves, unless-moves, requests-move, ending-moves, keep-moves, broken}
-
--- a stream of which the first frame is known
-pub begun : (bytes : List ℕ) (f : PlainFrame) → first bytes ≡ f → stream_of bytes ≡ begins_with f bytes (λ used. stream_of (drop used bytes))
-begun bytes f e = stream_step bytes ∙ ap (λ (g : PlainFrame). begins_with g bytes (λ used. stream_of (drop used bytes))) e
-
-waits_by : (n : ℕ) (bytes rest : List ℕ) (f : PlainFrame) → length bytes ≤ n → first bytes ≡ f → (stream_of bytes).ending ≡ Rest rest → first rest ≡ More
-waits_by n bytes rest More le e is =
-    let same : Rest bytes ≡ Rest rest = sym (ap (λ (s : Stream). s.ending) (begun bytes More e)) ∙ is in
-    let here : bytes ≡ rest = cc in
-    subst (λ (bs : List ℕ). first bs ≡ More) here e
-waits_by n bytes rest (Fault serial) le e is =
-    let never : Broken serial ≡ Rest rest = sym (ap (λ (s : Stream). s.ending) (begun bytes (Fault serial) e)) ∙ is in
-    cc
-waits_by zero bytes rest (Whole used request) le e is =
-    let takes : TakesBytes (Whole used request) (length bytes) = rw e at (first_takes bytes) in
-    absurd (omega (arith, takes.0, takes.1))
-waits_by (suc n) bytes rest (Whole used request) le e is =
-    let takes : TakesBytes (Whole used request) (length bytes) = rw e at (first_takes bytes) in
-    waits_by n (drop used bytes) rest (first (drop used bytes)) (omega (arith, takes.0, length-drop used bytes)) refl
-    (sym (ap (λ (s : Stream). s.ending) (begun bytes (Whole used request) e)) ∙ is)
-
--- what stands behind the requests of a stream is no whole frame
-pub rest-waits : (bytes rest : List ℕ) → (stream_of bytes).ending ≡ Rest rest → first rest ≡ More
-rest-waits bytes rest is = waits_by (length bytes) bytes rest (first bytes) (omega arith) refl is
+use Rattle.ipc_hub.specs.Clients.{Client, Clients, client_at, with_client, with_frame, delivered, deliver, deliver_all, is_for, accept, leave, over, break_off}
+use Rattle.ipc_hub.specs.Clients.{refuse, event_of, last_reply, greeted, welcomed, serve, on_request, unless_ended, on_requests, on_ending, first_of, take_in}
+use Rattle.ipc_hub.specs.Clients.{fitted, arriving}
+use Rattle.ipc_base.proofs.CallerLemmas.{choice, at-with, twice, own, at-map}
 
 -- ---- a connection that has ended, and one that has not
 
@@ -96,36 +66,42 @@ delivers-keep mark conn (o ∷ os) clients none =
     delivers-keep mark conn os (deliver mark clients o)
     (λ c is. delivered-keeps mark o (value_at nat_eq clients conn) none c (sym (at-map (delivered mark o) clients conn) ∙ is))
 
-hello-keeps : (c : Client) (mark : ℕ) (os : List PlainOutcome) → c.input ≡ [] → (hello_answered c mark os).input ≡ []
-hello-keeps c mark [] none = none
-hello-keeps c mark (o ∷ os) none = none
+welcome-keeps : (mark : ℕ) (reply : Option PlainOutcome) (c : Client) → c.input ≡ [] → (welcomed mark reply c).input ≡ []
+welcome-keeps mark reply c none = by_process c.process
+  where
+    by_reply : (r : Option PlainOutcome) → (greeted mark r c).input ≡ []
+    by_reply None = none
+    by_reply (Some o) = choice (λ (x : Client). x.input ≡ []) (nat_eq o.pid 0) (with_frame c mark o) (record c { process = Some o.pid }) (λ _. none) (λ _. none)
+
+    by_process : (p : Option ℕ) → (elim p as (λ _. Client) [ None ↦ greeted mark reply c | Some pid ↦ c ]).input ≡ []
+    by_process None = by_reply reply
+    by_process (Some pid) = none
 
 length-fitted : (n : ℕ) (xs : List Bool) → length (fitted n xs) ≡ n
 length-fitted zero xs = refl
 length-fitted (suc n) xs = ap suc (length-fitted n (drop 1 xs))
 
 module _ (limits : Limits) where
-  greet-keeps : (h : Clients) (conn moment : ℕ) (c : Client) (request : PlainRequest) (cred : Cred) (b : Bool) → KeepsNone h conn → c.input ≡ []
-      → KeepsNone (if b then refuse h conn c request.serial else greet limits h conn c (Connect cred request.serial moment)) conn
-  greet-keeps h conn moment c request cred true all none = put-keeps h.clients conn _ none
-  greet-keeps h conn moment c request cred false all none = put-keeps h.clients conn _
-      (hello-keeps c (h.accepted + 1) (step limits h.state (Connect cred request.serial moment)).outcomes none)
+  event-keeps : (h : Clients) (conn serial : ℕ) (c : Client) (e : PlainEvent) (b : Bool) → c.input ≡ []
+      → KeepsNone (if b then refuse h conn c serial else serve limits h conn c e) conn
+  event-keeps h conn serial c e true none = put-keeps h.clients conn _ none
+  event-keeps h conn serial c e false none =
+      let mark : ℕ = h.accepted + 1 in
+      let d : Client = welcomed mark (last_reply (step limits h.state e).outcomes) c in
+      delivers-keep mark conn (step limits h.state e).outcomes (with_value nat_eq h.clients conn d)
+      (put-keeps h.clients conn d (welcome-keeps mark (last_reply (step limits h.state e).outcomes) c none))
 
-  call-keeps : (h : Clients) (conn pid moment : ℕ) (c : Client) (request : PlainRequest) (b : Bool) → KeepsNone h conn → c.input ≡ []
-      → KeepsNone (if b then refuse h conn c request.serial else accept limits h (Call pid request moment)) conn
-  call-keeps h conn pid moment c request true all none = put-keeps h.clients conn _ none
-  call-keeps h conn pid moment c request false all none = delivers-keep (h.accepted + 1) conn
-      (step limits h.state (Call pid request moment)).outcomes h.clients all
-
-  pub request-keeps_by : (h : Clients) (conn moment : ℕ) (c : Client) (request : PlainRequest) (refused : Bool) (p : Option ℕ) (kind : PlainKind)
-      → KeepsNone h conn
-      → c.input ≡ [] → KeepsNone (answered limits h conn c moment request refused p kind) conn
-  request-keeps_by h conn moment c request refused None (Hello cred) all none =
-      greet-keeps h conn moment c request cred (refused && takes_memory limits h.state (Connect cred request.serial moment)) all none
-  request-keeps_by h conn moment c request refused None (Calls call) all none = put-keeps _ conn _ refl
-  request-keeps_by h conn moment c request refused (Some pid) (Hello cred) all none = put-keeps _ conn _ refl
-  request-keeps_by h conn moment c request refused (Some pid) (Calls call) all none =
-      call-keeps h conn pid moment c request (refused && takes_memory limits h.state (Call pid request moment)) all none
+  pub request-keeps : (h : Clients) (conn moment : ℕ) (c : Client) (request : PlainRequest) (refused : Bool) → c.input ≡ []
+      → KeepsNone (on_request limits h conn c moment request refused) conn
+  request-keeps h conn moment c request refused none = by_event (event_of c.process request moment)
+    where
+      by_event : (e : Option PlainEvent)
+          → KeepsNone (elim e as (λ _. Clients) [
+            | None ↦ break_off limits h conn c request.serial moment
+            | Some e' ↦ if refused && takes_memory limits h.state e' then refuse h conn c request.serial else serve limits h conn c e'
+          ]) conn
+      by_event None = put-keeps _ conn _ refl
+      by_event (Some e) = event-keeps h conn request.serial c e (refused && takes_memory limits h.state e) none
 
   unless-keeps : (h : Clients) (conn : ℕ) (act : Client → Clients) (r : Option Client) → KeepsNone h conn → client_at h conn ≡ r
       → ((c : Client) → client_at h conn ≡ Some c → KeepsNone (act c) conn) → KeepsNone (unless_ended h conn act) conn
@@ -142,7 +118,7 @@ module _ (limits : Limits) where
   requests-keep h conn moment (r ∷ rs) refused all =
       requests-keep (unless_ended h conn (λ c. on_request limits h conn c moment r (first_of refused))) conn moment rs (drop 1 refused)
       (unless-keeps h conn (λ c. on_request limits h conn c moment r (first_of refused)) (client_at h conn) all refl
-      (λ c is. request-keeps_by h conn moment c r (first_of refused) c.process r.kind all (all c is)))
+      (λ c is. request-keeps h conn moment c r (first_of refused) (all c is)))
 
   -- ---- requests one after the other
 
@@ -189,7 +165,7 @@ module _ (limits : Limits) where
       acts h conn (λ d. settled (emptied h conn d) conn moment (stream_of (d.input ++ bytes)) refused) c here live
 
   -- the clients stay as a process leaves
-  pub left_at : (h : Clients) (conn moment : ℕ) (p : Option ℕ) → client_at (leave limits h p moment) conn ≡ client_at h conn
+  left_at : (h : Clients) (conn moment : ℕ) (p : Option ℕ) → client_at (leave limits h p moment) conn ≡ client_at h conn
   left_at h conn moment None = refl
   left_at h conn moment (Some pid) = refl
 
@@ -207,10 +183,11 @@ module _ (limits : Limits) where
       by_end false live =
           let same : on_ending limits h conn moment (Broken serial) ≡ break_off limits h conn c serial moment = acts h conn
           (λ d. break_off limits h conn d serial moment) c is live in
-          let left : Clients = leave limits h c.process moment in
-          let now : Client = broken c left.accepted serial in
+          let bare : Clients = with_client h conn (over c) in
+          let left : Clients = leave limits bare c.process moment in
+          let there : client_at left conn ≡ Some (over c) = left_at bare conn moment c.process ∙ at-with h.clients conn (over c) c is in
           subst (λ (t : Clients). unless_ended t conn act ≡ t) (sym same)
-          (ended-stays (break_off limits h conn c serial moment) conn act now (at-with left.clients conn now c (left_at h conn moment c.process ∙ is)) refl)
+          (ended-stays (break_off limits h conn c serial moment) conn act _ (at-with left.clients conn _ (over c) there) refl)
 
   -- the rest of a stream that did not break, with more bytes
   rest-more : (h : Clients) (conn moment : ℕ) (bytes more : List ℕ) (refused : List Bool) (r : Option Client) → KeepsNone h conn → client_at h conn ≡ r
@@ -297,22 +274,8 @@ module _ (limits : Limits) where
       by_end false live =
           let e : Client = record c { input = [] } in
           let s : stream_of (c.input ++ []) ≡ record { requests = []; ending = Rest c.input } = ap stream_of (append-nil c.input)
-          ∙ begun c.input More (waits c refl) in
+          ∙ stream_begun c.input More (waits c refl) in
           take_in-acts h conn moment c [] [] is live
           ∙ ap (λ (t : Stream). settled (emptied h conn c) conn moment t []) s
           ∙ acts (emptied h conn c) conn (λ d. with_client (emptied h conn c) conn (record d { input = c.input })) e (at-with h.clients conn e c is) live
           ∙ ap (λ (es : List (ℕ × Client)). record h { clients = es }) (twice h.clients conn e c ∙ own h.clients conn c is)
-
-  -- bytes taken in leave the hub in order
-  pub take_in-moves : (h : Clients) (conn moment : ℕ) (bytes : List ℕ) (refused : List Bool) → ArePassed limits → IsOrderly limits h
-      → Moves limits conn h (take_in limits h conn bytes moment refused)
-  take_in-moves h conn moment bytes refused range o =
-      unless-moves limits range h conn (λ c. settled (emptied h conn c) conn moment (stream_of (c.input ++ bytes)) refused) (client_at h conn) o refl
-      (λ c is.
-      let s : Stream = stream_of (c.input ++ bytes) in
-      let empty = keep-moves limits range h conn c [] (first_short [] (omega arith)) o is in
-      let asked = requests-move limits range (emptied h conn c) conn moment s.requests refused empty.orderly in
-      let end = ending-moves limits range (on_requests limits (emptied h conn c) conn moment s.requests refused) conn moment s.ending asked.orderly
-      (rest-waits (c.input ++ bytes)) in
-      then_moves limits conn h (emptied h conn c) _ empty (then_moves limits conn (emptied h conn c)
-      (on_requests limits (emptied h conn c) conn moment s.requests refused) _ asked end))

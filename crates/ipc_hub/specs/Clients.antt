@@ -1,6 +1,6 @@
 -- The server as its clients see it: connections by number over the engine's state, bytes in, frames out. It is
 -- what each call of the hub is to do; nothing in it tells how bytes are kept or in what pieces they come.
-use Rattle.std.specs.Prelude.{ℕ, zero, suc, ◌+◌, ◌-◌, Bool, true, false, ◌&&◌, List, [], ◌∷◌, ◌++◌, length, map, drop}
+use Rattle.std.specs.Prelude.{ℕ, zero, suc, ◌+◌, ◌-◌, Bool, true, false, ◌&&◌, List, [], ◌∷◌, ◌++◌, length, drop}
 use Rattle.std.specs.Prelude.{nat_eq, nat_le, ◌==◌, if◌then◌else◌, Option, Some, None, option_and_then}
 use Rattle.std.specs.List.{flat_map}
 use Rattle.ipc_base.specs.declared.errno.Errno.TheVariants.{ENOMEM, EPROTO}
@@ -12,7 +12,7 @@ use Rattle.ipc_wire.specs.Reply.{reply_bytes}
 use Rattle.ipc_engine.specs.Engine.{takes_memory}
 use Rattle.ipc_wire.specs.Stream.{Ending, stream_of}
 use Rattle.ipc_wire.specs.Stream.Ending.{Rest, Broken}
-use Rattle.ipc_base.specs.Table.{value_at, with_value, without}
+use Rattle.ipc_base.specs.Table.{value_at, with_value, with_entry, without, seen_as}
 use Rattle.ipc_state.specs.State.{State}
 use Rattle.ipc_engine.specs.Event.{PlainEvent, Connect, Call, Tick, Exit, PlainOutcome}
 use Rattle.ipc_engine.specs.Step.{step}
@@ -61,7 +61,9 @@ with_client h conn c = record h { clients = with_value nat_eq h.clients conn c }
 -- ---- frames
 
 abbrev pub with_frame : Client → ℕ → PlainOutcome → Client
-with_frame c mark o = record c { frames = c.frames ++ record { mark = mark; bytes = reply_bytes (reply_of o) } ∷ [] }
+with_frame c mark o =
+    let frame : Frame = record { mark = mark; bytes = reply_bytes (reply_of o) } in
+    record c { frames = c.frames ++ frame ∷ [] }
 
 abbrev pub refusal : ℕ → Errno → PlainOutcome
 refusal serial e = record { pid = 0; serial = serial; errno = Some e; body = Empty }
@@ -75,7 +77,7 @@ abbrev pub delivered : ℕ → PlainOutcome → Client → Client
 delivered mark o c = if is_for o.pid c.process then with_frame c mark o else c
 
 abbrev pub deliver : ℕ → List (ℕ × Client) → PlainOutcome → List (ℕ × Client)
-deliver mark clients o = map (λ e. (e.0, delivered mark o e.1)) clients
+deliver mark clients o = seen_as (delivered mark o) clients
 
 abbrev pub deliver_all : ℕ → List (ℕ × Client) → List PlainOutcome → List (ℕ × Client)
 deliver_all mark clients [] = clients
@@ -87,55 +89,71 @@ deliver_all mark clients (o ∷ os) = deliver_all mark (deliver mark clients o) 
 abbrev pub accept : Limits → Clients → PlainEvent → Clients
 accept limits h e =
     let now = step limits h.state e in
-    record { state = now.state; accepted = h.accepted + 1; clients = deliver_all (h.accepted + 1) h.clients now.outcomes }
+    let mark = h.accepted + 1 in
+    record { state = now.state; accepted = mark; clients = deliver_all mark h.clients now.outcomes }
 
--- the process that a HELLO got, if it got one
-abbrev pub process_of : PlainOutcome → Option ℕ
-process_of o = if o.pid == 0 then None else Some o.pid
-
-abbrev pub hello_answered : Client → ℕ → List PlainOutcome → Client
-hello_answered c mark [] = c
-hello_answered c mark (o ∷ os) = record (with_frame c mark o) { process = process_of o }
-
--- a HELLO: its reply goes to the connection that said it
-abbrev pub greet : Limits → Clients → ℕ → Client → PlainEvent → Clients
-greet limits h conn c e =
-    let now = step limits h.state e in
-    record {
-      state = now.state;
-      accepted = h.accepted + 1;
-      clients = with_value nat_eq h.clients conn (hello_answered c (h.accepted + 1) now.outcomes);
-    }
-
--- the process of a connection leaves, if it has one
+-- the process of a connection that is over leaves, if it had one
 abbrev pub leave : Limits → Clients → Option ℕ → ℕ → Clients
 leave limits h None moment = h
 leave limits h (Some pid) moment = accept limits h (Exit pid moment)
 
 -- a fault of the frames: the process leaves, and an EPROTO frame is the last of the connection
+abbrev pub over : Client → Client
+over c = record c { process = None; input = []; ended = true }
+
 abbrev pub break_off : Limits → Clients → ℕ → Client → ℕ → ℕ → Clients
 break_off limits h conn c serial moment =
-    let left = leave limits h c.process moment in
-    with_client left conn (record (with_frame c left.accepted (refusal serial EPROTO)) { process = None; input = []; ended = true })
+    let left = leave limits (with_client h conn (over c)) c.process moment in
+    with_client left conn (with_frame (over c) left.accepted (refusal serial EPROTO))
 
 -- a request that was refused for memory is no event
 abbrev pub refuse : Clients → ℕ → Client → ℕ → Clients
 refuse h conn c serial = with_client h conn (with_frame c h.accepted (refusal serial ENOMEM))
 
--- A request of a client: a HELLO if it has no process, a call if it has one. Any other has no place here. Refused says
--- whether memory was refused, which only an event that may need some can meet.
-abbrev pub answered : Limits → Clients → ℕ → Client → ℕ → PlainRequest → Bool → Option ℕ → PlainKind → Clients
-answered limits h conn c moment request refused None (Hello cred) =
-    let hello = Connect cred request.serial moment in
-    if refused && takes_memory limits h.state hello then refuse h conn c request.serial else greet limits h conn c hello
-answered limits h conn c moment request refused None (Calls call) = break_off limits h conn c request.serial moment
-answered limits h conn c moment request refused (Some pid) (Hello cred) = break_off limits h conn c request.serial moment
-answered limits h conn c moment request refused (Some pid) (Calls call) =
-    let call = Call pid request moment in
-    if refused && takes_memory limits h.state call then refuse h conn c request.serial else accept limits h call
+-- the event that a request of a process, or of none, makes: a HELLO asks for a process, a call needs one
+abbrev pub event_of : Option ℕ → PlainRequest → ℕ → Option PlainEvent
+event_of process request moment = by_kind process request.kind
+  where
+    by_kind : Option ℕ → PlainKind → Option PlainEvent
+    by_kind None (Hello cred) = Some (Connect cred request.serial moment)
+    by_kind None (Calls call) = None
+    by_kind (Some pid) (Hello cred) = None
+    by_kind (Some pid) (Calls call) = Some (Call pid request moment)
 
+-- the reply to a request is the last one of its event
+abbrev pub last_reply : List PlainOutcome → Option PlainOutcome
+last_reply [] = None
+last_reply (o ∷ []) = Some o
+last_reply (o ∷ p ∷ os) = last_reply (p ∷ os)
+
+-- the connection that has said HELLO: it has the process that the reply names, or gets the reply that names none
+abbrev pub greeted : ℕ → Option PlainOutcome → Client → Client
+greeted mark None c = c
+greeted mark (Some o) c = if o.pid == 0 then with_frame c mark o else record c { process = Some o.pid }
+
+-- a connection without a process has said HELLO
+abbrev pub welcomed : ℕ → Option PlainOutcome → Client → Client
+welcomed mark reply c = by_process c.process
+  where
+    by_process : Option ℕ → Client
+    by_process None = greeted mark reply c
+    by_process (Some pid) = c
+
+-- the event of a connection: it is accepted, and a HELLO is answered to the connection that said it
+abbrev pub serve : Limits → Clients → ℕ → Client → PlainEvent → Clients
+serve limits h conn c e =
+    let reply = last_reply (step limits h.state e).outcomes in
+    accept limits (with_client h conn (welcomed (h.accepted + 1) reply c)) e
+
+-- A request of a client. If it makes no event, it has no place here. Refused says whether memory was refused, which
+-- only an event that may need some can meet.
 abbrev pub on_request : Limits → Clients → ℕ → Client → ℕ → PlainRequest → Bool → Clients
-on_request limits h conn c moment request refused = answered limits h conn c moment request refused c.process request.kind
+on_request limits h conn c moment request refused = by_event (event_of c.process request moment)
+  where
+    by_event : Option PlainEvent → Clients
+    by_event None = break_off limits h conn c request.serial moment
+    by_event (Some e) =
+        if refused && takes_memory limits h.state e then refuse h conn c request.serial else serve limits h conn c e
 
 -- what a connection does, unless it has ended
 abbrev pub unless_ended : Clients → ℕ → (Client → Clients) → Clients
@@ -159,12 +177,15 @@ fitted (suc n) bs = first_of bs ∷ fitted n (drop 1 bs)
 abbrev pub on_requests : Limits → Clients → ℕ → ℕ → List PlainRequest → List Bool → Clients
 on_requests limits h conn moment [] refused = h
 on_requests limits h conn moment (r ∷ rs) refused =
-    on_requests limits (unless_ended h conn (λ c. on_request limits h conn c moment r (first_of refused))) conn moment rs (drop 1 refused)
+    let now = unless_ended h conn (λ c. on_request limits h conn c moment r (first_of refused)) in
+    on_requests limits now conn moment rs (drop 1 refused)
 
 -- what stands behind the requests: the beginning of another, or a fault
 abbrev pub on_ending : Limits → Clients → ℕ → ℕ → Ending → Clients
-on_ending limits h conn moment (Rest bytes) = unless_ended h conn (λ c. with_client h conn (record c { input = bytes }))
-on_ending limits h conn moment (Broken serial) = unless_ended h conn (λ c. break_off limits h conn c serial moment)
+on_ending limits h conn moment (Rest bytes) =
+    unless_ended h conn (λ c. with_client h conn (record c { input = bytes }))
+on_ending limits h conn moment (Broken serial) =
+    unless_ended h conn (λ c. break_off limits h conn c serial moment)
 
 -- Bytes of a connection: with those that were no whole frame yet they are a stream, of which each request is
 -- answered; what is behind the requests is kept, or is a fault.
@@ -172,7 +193,8 @@ abbrev pub take_in : Limits → Clients → ℕ → List ℕ → ℕ → List Bo
 take_in limits h conn bytes moment refused =
     unless_ended h conn (λ c.
     let stream = stream_of (c.input ++ bytes) in
-    on_ending limits (on_requests limits (with_client h conn (record c { input = [] })) conn moment stream.requests refused) conn moment stream.ending)
+    let bare = with_client h conn (record c { input = [] }) in
+    on_ending limits (on_requests limits bare conn moment stream.requests refused) conn moment stream.ending)
 
 -- the requests that bytes complete on a connection
 abbrev pub arriving : Option Client → List ℕ → List PlainRequest
@@ -182,7 +204,7 @@ arriving (Some c) bytes = if c.ended then [] else (stream_of (c.input ++ bytes))
 -- ---- the calls
 
 abbrev pub connect : Clients → ℕ → Clients
-connect h conn = record h { clients = h.clients ++ (conn, start_client) ∷ [] }
+connect h conn = record h { clients = with_entry h.clients conn start_client }
 
 abbrev pub tick : Limits → Clients → ℕ → Clients
 tick limits h moment = accept limits h (Tick moment)
@@ -191,12 +213,11 @@ tick limits h moment = accept limits h (Tick moment)
 abbrev pub feed : Limits → Clients → ℕ → List ℕ → ℕ → List Bool → Clients
 feed limits h conn bytes moment refused = take_in limits (tick limits h moment) conn bytes moment refused
 
--- the client is gone
+-- the client is gone: time passes, its number is free, and its process leaves
 abbrev pub hangup : Limits → Clients → ℕ → ℕ → Clients
-hangup limits h conn moment = gone (tick limits h moment)
-  where
-    gone : Clients → Clients
-    gone now = let left = leave limits now (process_at now conn) moment in record left { clients = without nat_eq left.clients conn }
+hangup limits h conn moment =
+    let now = tick limits h moment in
+    leave limits (record now { clients = without nat_eq now.clients conn }) (process_at now conn) moment
 
 -- the frames and how much of the first is consumed, when so many bytes of them are
 abbrev pub consumed_from : List Frame → ℕ → List Frame × ℕ

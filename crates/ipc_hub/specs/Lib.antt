@@ -1,7 +1,3 @@
 pub mod Clients
-pub mod Orderly
-pub mod Outbox
-pub mod Serving
-pub mod Serves
-pub mod Hub
-pub mod Stands
+pub mod View
+pub mod Relations

@@ -1,28 +1,29 @@
-//! One connection: its process, the bytes that are no whole frame yet, and the frames that wait.
+//! One connection: bytes come in until they are a frame, and frames go out.
 
-ghost use Rattle.std.specs.Prelude.{◌≡◌, ◌<◌, ◌≤◌, ◌^◌, ◌∷◌, [], None, true, false, IfOk, length, map, take, vec_len};
-ghost use Rattle.std.specs.Prelude.{vec_capacity};
-ghost use Rattle.std.specs.Bool.{OnTrue, OnFalse};
-ghost use Rattle.ipc_wire.specs.Request.{plain_kind, plain_request};
-ghost use Rattle.ipc_wire.specs.Reply.{plain_reply};
-ghost use Rattle.ipc_wire.specs.Stream.{is_more, first};
-ghost use Rattle.ipc_engine.specs.View.{plain_outcome, reply_of};
-ghost use Rattle.ipc_hub.specs.Clients.{refusal as refusal_of, process_of};
-ghost use Rattle.ipc_hub.specs.Serving.{IsServed, IsMisplaced, pid_of, said_by};
-ghost use Rattle.ipc_engine.specs.Event.{PlainOutcome};
-ghost use Rattle.ipc_hub.specs.Outbox.{GainsFrame};
+ghost use Rattle.std.specs.Prelude.{◌≡◌, ◌+◌, ◌<◌, ◌≤◌, ◌^◌, ◌↔◌, ◌++◌, [], None, true, false, IfOk, IsTrue};
+ghost use Rattle.std.specs.Prelude.{length, take, option_map, vec_len, vec_capacity};
+ghost use Rattle.std.specs.Option.{option_copied};
+ghost use Rattle.ipc_wire.specs.Reply.{plain_reply, reply_bytes, body_bytes};
+ghost use Rattle.ipc_wire.specs.Stream.{first, missing};
+ghost use Rattle.ipc_wire.specs.Stream.PlainFrame.{More};
+ghost use Rattle.ipc_hub.specs.Relations.Delivery.{last_frame};
 
 use crate::outbox::Outbox;
-use ipc_base::{Cred, Errno, Moment, Pid};
-use ipc_engine::{Engine, Event, Outcome};
-use ipc_wire::{
-    Body, Frame, GREATEST_FRAME, Reply, Request, RequestKind, bytes_missing, read_frame,
-};
+use ipc_base::Pid;
+use ipc_engine::Outcome;
+use ipc_wire::{GREATEST_FRAME, Reply, bytes_missing};
 use std::alloc::{AllocError, Global};
+
+/// The bytes of frames that may wait before a request is left untaken: some 400 short replies, so that a client
+/// that sends ahead is served many requests at a time.
+const AHEAD: usize = 4096;
+
+/// The bytes of the last frame of a connection that the server ends.
+const LAST_FRAME: usize = 10;
 
 /// A connection. All its buffers are made with it.
 #[derive(Drop)]
-pub(crate) struct Connection {
+pub struct Connection {
     pub(crate) number: u32,
     /// Its process, once it has said HELLO and until it ends.
     pub(crate) process: Option<Pid>,
@@ -31,193 +32,128 @@ pub(crate) struct Connection {
     pub(crate) outbox: Outbox,
     /// The server has ended it: what comes is dropped.
     pub(crate) ended: bool,
-    ghost partial: { is_more (first input.items) ≡ true },
     ghost room: { 8452 ≤ vec_capacity input },
 }
 
 impl Connection {
-    ghost use Rattle.ipc_hub.specs.Outbox.{waiting, visible, IsEmpty, HasRoom};
-    ghost use Rattle.ipc_hub.specs.Serves.{TakesIn, Leaves, BreaksOff};
+    ghost use Rattle.ipc_engine.specs.View.{plain_outcome};
+    ghost use Rattle.ipc_hub.specs.Relations.Rows.{pid_of, view_of};
+    ghost use Rattle.ipc_hub.specs.Relations.Delivery.{
+      IsShort,
+      HasRoomIn,
+      HasRoomToGreet,
+      pushed,
+      put_for,
+      answered,
+    };
 
-    /// A connection without a process; the longest reply has `reply` bytes.
+    /// A connection without a process. A reply of `reply` bytes has room in it, some others before it, and the last
+    /// frame behind it.
     pub(crate) fn new(alloc: Global, number: u32, reply: u32) -> Result<Connection, AllocError>
         ensures number { IfOk result (λ c. c.number ≡ number) }
-        ensures process { IfOk result (λ c. c.process ≡ None) }
-        ensures input { IfOk result (λ c. c.input.items ≡ []) }
-        ensures waiting { IfOk result (λ c. waiting c.outbox ≡ []) }
-        ensures visible { IfOk result (λ c. visible c.outbox ≡ []) }
-        ensures room { IfOk result (λ c. c.outbox.reply ≡ reply) }
-        ensures ended { IfOk result (λ c. c.ended ≡ false) }
+        ensures new { IfOk result (λ c. c.process ≡ None) }
     {
         Ok(Connection {
             number,
             process: None,
             input: Vec::with_capacity(alloc, GREATEST_FRAME)?,
-            outbox: Outbox::new(alloc, reply)?,
+            outbox: Outbox::new(alloc, AHEAD + reply as usize + LAST_FRAME)?,
             ended: false,
         })
     }
 
-    /// Takes bytes of a piece while the longest reply has room, and answers each request that they complete;
-    /// an ended connection takes and drops all. Answers how many bytes it took.
-    pub(crate) fn feed(&mut self, engine: &mut Engine, piece: &[u8], moment: Moment) -> usize
-        ensures number { self.new.number ≡ self.old.number }
-        ensures bytes { TakesIn engine.old self.old engine.new self.new (take result piece.now) moment.0 }
-        ensures within { result ≤ length piece.now }
-        ensures whole { IsEmpty self.new.outbox → result ≡ length piece.now }
-        ensures starts { IsEmpty self.old.outbox → 0 < length piece.now → 0 < result }
-        ensures dropped { self.old.ended ≡ true → result ≡ length piece.now }
+    /// The number under which it was made.
+    pub fn number(&self) -> u32
+        ensures { result ≡ self.now.number }
     {
-        if self.ended {
-            return piece.len();
-        }
-        let mut taken = 0;
-        while taken < piece.len() {
-            if !self.ended && !self.outbox.has_room() {
-                return taken;
-            }
-            taken += self.take(engine, &piece[taken..], moment);
-        }
-        taken
+        self.number
     }
 
-    /// Takes bytes of a piece, up to the end of a frame at most, and answers the request if it is whole. Answers
-    /// how many bytes it took.
-    fn take(&mut self, engine: &mut Engine, piece: &[u8], moment: Moment) -> usize
-        requires { 0 < length piece.now }
-        ensures number { self.new.number ≡ self.old.number }
-        ensures bytes { (self.old.ended ≡ false → HasRoom self.old.outbox) →
-            TakesIn engine.old self.old engine.new self.new (take result piece.now) moment.0 }
-        ensures within { result ≤ length piece.now }
-        ensures some { 0 < result }
+    /// The bytes that its client may see.
+    pub fn output(&self) -> &[u8]
+        ensures { result.now ≡ (view_of self.now).outbox.visible }
     {
-        if self.ended {
-            return piece.len();
-        }
+        self.outbox.visible()
+    }
+
+    /// Whether the server has ended it.
+    pub fn ended(&self) -> bool
+        ensures { result ≡ self.now.ended }
+    {
+        self.ended
+    }
+
+    /// Whether a reply of so many bytes, and the last frame behind it, has room.
+    pub(crate) fn has_room(&self, reply: u32) -> bool
+        ensures { IsTrue result ↔ (reply + last_frame ≤ self.now.outbox.free) }
+    {
+        reply as usize + LAST_FRAME <= self.outbox.free()
+    }
+
+    /// Takes bytes of a piece, up to the end of a frame at most. Answers how many.
+    pub(crate) fn fill(&mut self, piece: &[u8]) -> usize
+        requires { first self.old.input.items ≡ More }
+        ensures number { self.new.number ≡ self.old.number }
+        ensures view { view_of self.new
+            ≡ record (view_of self.old) { input = self.old.input.items ++ take result piece.now } }
+        ensures within { result ≤ length piece.now }
+        ensures few { length (take result piece.now) ≤ missing self.old.input.items }
+        ensures some { 0 < length piece.now → 0 < result }
+    {
         let count = piece.len().min(bytes_missing(&self.input));
         self.input.extend_from_slice(&piece[..count]).unwrap();
-        match read_frame(&self.input) {
-            Frame::More => {}
-            Frame::Whole { request, .. } => {
-                let serial = request.serial;
-                let served = serve(
-                    engine,
-                    &mut self.process,
-                    &mut self.outbox,
-                    &request,
-                    moment,
-                );
-                self.input.clear();
-                if !served {
-                    self.break_off(engine, serial, moment);
-                }
-            }
-            Frame::Fault { serial } => {
-                self.input.clear();
-                self.break_off(engine, serial, moment);
-            }
-        }
         count
     }
 
-    /// The process leaves, and an EPROTO frame is the last of the connection.
-    fn break_off(&mut self, engine: &mut Engine, serial: u32, moment: Moment)
+    /// Takes a reply.
+    pub(crate) fn push(&mut self, reply: &Reply<'_>)
+        requires room { length (reply_bytes (plain_reply reply.now)) ≤ self.old.outbox.free }
+        requires length { 6 + length (body_bytes (plain_reply reply.now).body) < 2 ^ 32 }
         ensures number { self.new.number ≡ self.old.number }
-        ensures ended { HasRoom self.old.outbox → BreaksOff engine.old self.old engine.new self.new serial moment.0 }
+        ensures view { view_of self.new ≡ pushed (plain_reply reply.now) (view_of self.old) }
     {
-        self.leave(engine, moment);
-        self.outbox.push(&refusal(serial, Errno::EPROTO));
+        self.outbox.push(reply);
+    }
+
+    /// Takes a reply, if it is for its process.
+    pub(crate) fn hear(&mut self, outcome: &Outcome)
+        requires short { IsShort (plain_outcome outcome.now) }
+        requires room { HasRoomIn (plain_outcome outcome.now) (view_of self.old) }
+        ensures number { self.new.number ≡ self.old.number }
+        ensures view { view_of self.new ≡ put_for (plain_outcome outcome.now) (view_of self.old) }
+    {
+        if self.process == Some(outcome.pid) {
+            self.push(&outcome.reply());
+        }
+    }
+
+    /// Is told the reply to its request. If it had no process, the request was a HELLO: it has the process that the
+    /// reply names, or takes the reply if that names none.
+    pub(crate) fn hear_own(&mut self, reply: Option<&Outcome>)
+        requires room { self.old.process ≡ None
+            → HasRoomToGreet (option_map plain_outcome (option_copied reply)) (view_of self.old) }
+        ensures number { self.new.number ≡ self.old.number }
+        ensures view { view_of self.new
+            ≡ answered (option_map plain_outcome (option_copied reply.entry)) (view_of self.old) }
+    {
+        if let (None, Some(outcome)) = (self.process, reply) {
+            if outcome.pid.0 == 0 {
+                self.push(&outcome.reply());
+            } else {
+                self.process = Some(outcome.pid);
+            }
+        }
+    }
+
+    /// The server ends it: what comes is dropped. Answers its process, if it had one.
+    pub(crate) fn close(&mut self) -> Option<Pid>
+        ensures process { pid_of result ≡ pid_of self.old.process }
+        ensures number { self.new.number ≡ self.old.number }
+        ensures view { view_of self.new
+            ≡ record (view_of self.old) { process = None; input = []; ended = true } }
+    {
+        self.input.clear();
         self.ended = true;
-    }
-
-    /// The process leaves, if there is one.
-    pub(crate) fn leave(&mut self, engine: &mut Engine, moment: Moment)
-        ensures { Leaves engine.old self.old engine.new self.new moment.0 }
-    {
-        if let Some(pid) = self.process
-            && engine.connected(pid)
-        {
-            engine.step(Event::Exit { pid, moment }).unwrap();
-        }
-        self.process = None;
-    }
-}
-
-/// Answers a request that has a place here: a HELLO without a process, or another call with one.
-fn serve(
-    engine: &mut Engine,
-    process: &mut Option<Pid>,
-    outbox: &mut Outbox,
-    request: &Request<'_>,
-    moment: Moment,
-) -> bool
-    ensures served { OnTrue result (IsServed engine.old process.old outbox.old engine.new process.new outbox.new (plain_request request.now) moment.0) }
-    ensures misplaced { OnFalse result (IsMisplaced engine.old process.old outbox.old engine.new process.new outbox.new (plain_request request.now) moment.0) }
-{
-    let serial = request.serial;
-    match (*process, hello_of(&request.kind)) {
-        (None, Some(cred)) => {
-            let hello = Event::Connect {
-                cred,
-                serial,
-                moment,
-            };
-            if engine.step(hello).is_ok() {
-                *process = answer(outbox, engine.outcomes());
-            } else {
-                outbox.push(&refusal(serial, Errno::ENOMEM));
-            }
-            true
-        }
-        (Some(pid), None) => {
-            if !engine.connected(pid) {
-                return false;
-            }
-            let call = Event::Call {
-                pid,
-                request: *request,
-                moment,
-            };
-            if engine.step(call).is_ok() {
-                answer(outbox, engine.outcomes());
-            } else {
-                outbox.push(&refusal(serial, Errno::ENOMEM));
-            }
-            true
-        }
-        (None, None) | (Some(_), Some(_)) => false,
-    }
-}
-
-/// Who says HELLO, if the request is one.
-fn hello_of(kind: &RequestKind<'_>) -> Option<Cred>
-    ensures { result ≡ said_by (plain_kind kind.now) }
-{
-    match kind {
-        RequestKind::Hello(cred) => Some(*cred),
-        RequestKind::Call(_) => None,
-    }
-}
-
-/// Puts the reply of a request, which has one. Answers for which process it is, if it is for one.
-fn answer(outbox: &mut Outbox, outcomes: &[Outcome]) -> Option<Pid>
-    ensures { (o : PlainOutcome) → map plain_outcome outcomes.now ≡ o ∷ [] → GainsFrame outbox.old outbox.new (reply_of o) × (pid_of result ≡ process_of o) }
-{
-    let outcome = outcomes.first()?;
-    outbox.push(&outcome.reply());
-    if outcome.pid.0 == 0 {
-        return None;
-    }
-    Some(outcome.pid)
-}
-
-/// A reply without a body.
-fn refusal(serial: u32, errno: Errno) -> Reply<'static>
-    ensures { plain_reply result ≡ reply_of (refusal_of serial errno) }
-{
-    Reply {
-        serial,
-        errno: Some(errno),
-        body: Body::Empty,
+        self.process.take()
     }
 }

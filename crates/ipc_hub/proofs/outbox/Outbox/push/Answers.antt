@@ -1,53 +1,32 @@
-use Rattle.std.proofs.Common.{◌≡◌, ◌+◌, ◌-◌, ◌≤◌, ◌++◌, true, false, [], List, ℕ, take, drop, length, refl, sym, ap, ◌∙◌, arith}
-use Rattle.std.specs.Prelude.{slice_range}
-use Rattle.std.proofs.lemmas.List.{length-take-le, length-drop}
+use Rattle.std.proofs.Common.{ℕ, List, ◌+◌, ◌-◌, ◌≤◌, ◌++◌, take, drop, length, ap, ◌∙◌, arith}
+use Rattle.std.proofs.lemmas.List.{length-take-le, length-drop, drop-append-le}
 use Rattle.ipc_wire.specs.Reply.{plain_reply, reply_bytes}
-use Rattle.ipc_hub.proofs.Ranges.{range-front, range-grown, written}
+use Rattle.ipc_hub.specs.View.{Outgoing}
+use Rattle.ipc_hub.proofs.Buffers.{front-grown, front-stays, written}
+use Rattle.ipc_hub.proofs.Views.{same-outgoing}
 use Rattle.ipc_hub.proofs.outbox.Outbox.push.Goals as goal
 
-pub returns-then-write_reply : goal.returns-then-write_reply
-returns-then-write_reply c =
-    let old = c.args.self.now in
+pub returns : goal.returns
+returns c =
     let xs = c.deref_mut.result.now in
+    let end = c.self.inside.end in
+    let released = c.self.inside.released in
     let bytes = reply_bytes (plain_reply c.args.reply.now) in
-    let long : old.end ≤ length xs = omega (arith, old.within, c.deref_mut.ensures.len) in
-    let there = (c.write_reply.ensures.fits.0 c.if-write_reply.true).0 in
-    let fit : length bytes ≤ length xs - old.end = omega (
-      arith,
-      there,
-      length-take-le (length xs - old.end) (drop old.end xs)
-          (omega (arith, length-drop old.end xs)),
-    ) in
-    let items = written old.buffer xs c.write_reply.new.out bytes old.end c.deref_mut.ensures.value long fit
-    (rw c.if-write_reply.true at c.write_reply.ensures.written) in
-    record {
-      waiting = λ room fits.
-          rw c.reply_len.ensures
-          (ap (λ (ws : List ℕ). slice_range ws old.consumed (old.end + length bytes)) items
-          ∙ range-grown xs bytes (drop (length bytes) (take (length xs - old.end) (drop old.end xs)))
-          (drop (length xs - old.end) (drop old.end xs)) old.consumed old.end (omega (arith, old.in_order, old.released_is_written)) long
-          ∙ ap (λ (ws : List ℕ). slice_range ws old.consumed old.end ++ bytes) c.deref_mut.ensures.value);
-      visible = ap (λ (ws : List ℕ). slice_range ws old.consumed old.released) items
-          ∙ range-front xs _ old.consumed old.released old.end old.in_order old.released_is_written long
-          ∙ ap (λ (ws : List ℕ). slice_range ws old.consumed old.released) c.deref_mut.ensures.value;
-      room = refl;
-    }
-
-pub returns-else-write_reply : goal.returns-else-write_reply
-returns-else-write_reply c =
-    let old = c.args.self.now in
-    let xs = c.deref_mut.result.now in
-    let long : old.end ≤ length xs = omega (arith, old.within, c.deref_mut.ensures.len) in
-    let free = length-take-le (length xs - old.end) (drop old.end xs) (omega (arith, length-drop old.end xs)) in
-    let items = written old.buffer xs c.write_reply.new.out [] old.end c.deref_mut.ensures.value long (omega arith)
-    (rw c.if-write_reply.false at c.write_reply.ensures.unchanged) in
-    record {
-      waiting = λ room fits.
-          let done = c.write_reply.ensures.fits.1 (omega (arith, room, free, c.deref_mut.ensures.len), fits) in
-          let never : true ≡ false = sym done ∙ c.if-write_reply.false in
-          cc;
-      visible = ap (λ (ws : List ℕ). slice_range ws old.consumed old.released) items
-          ∙ range-front xs _ old.consumed old.released old.end old.in_order old.released_is_written long
-          ∙ ap (λ (ws : List ℕ). slice_range ws old.consumed old.released) c.deref_mut.ensures.value;
-      room = refl;
-    }
+    let long : end ≤ length xs = omega (arith, c.self.invariant.1, c.deref_mut.ensures.len) in
+    let free : List ℕ = take (length xs - end) (drop end xs) in
+    let fit : length bytes ≤ length xs - end = omega (arith, c.requires.room, ap (λ (o : Outgoing). o.free) c.self.view_is, c.deref_mut.ensures.len) in
+    let there : length bytes ≤ length free = omega (arith, fit, length-take-le (length xs - end) (drop end xs) (omega (arith, length-drop end xs))) in
+    let done = c.write_reply.ensures.fits.1 (there, c.requires.length) in
+    let items = written c.self.inside.buffer xs c.write_reply.new.out bytes end c.deref_mut.ensures.value long fit (rw done at c.write_reply.ensures.written) in
+    let rest : List ℕ = drop (length bytes) free in
+    let behind : List ℕ = drop (length xs - end) (drop end xs) in
+    same-outgoing _ _
+    (ap (take released) items ∙ front-stays xs ((bytes ++ rest) ++ behind) released end c.self.invariant.0 long
+    ∙ ap (take released) c.deref_mut.ensures.value ∙ ap (λ (o : Outgoing). o.visible) c.self.view_is)
+    (ap (λ (ws : List ℕ). drop released (take (end + c.reply_len.result) ws)) items
+    ∙ ap (λ (n : ℕ). drop released (take (end + n) (take end xs ++ ((bytes ++ rest) ++ behind)))) c.reply_len.ensures
+    ∙ ap (drop released) (front-grown xs bytes rest behind end long)
+    ∙ drop-append-le released (take end xs) bytes (omega (arith, c.self.invariant.0, length-take-le end xs long))
+    ∙ ap (λ (ws : List ℕ). drop released (take end ws) ++ bytes) c.deref_mut.ensures.value
+    ∙ ap (λ (o : Outgoing). o.waiting ++ bytes) c.self.view_is)
+    (omega (arith, c.reply_len.ensures, ap (λ (o : Outgoing). o.free) c.self.view_is))

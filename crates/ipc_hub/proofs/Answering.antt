@@ -1,0 +1,215 @@
+-- A request is answered: the replies have room, the hub's connections go on, and they match the clients of the definitions.
+use Rattle.std.proofs.Common.{◌≡◌, ◌≢◌, ℕ, ◌+◌, ◌<◌, ◌≤◌, ◌^◌, Bool, true, false, List, [], ◌∷◌, length, Option, Some, None, refl, sym, ap, ◌∙◌, subst, arith, ◌⊎◌, inl, inr}
+use Rattle.std.specs.Prelude.{nat_eq, option_and_then, if◌then◌else◌}
+use Rattle.std.proofs.lemmas.Bool.{cases_eq, eqb-true}
+use Rattle.ipc_base.specs.Limits.{longest_reply}
+use Rattle.ipc_base.specs.Table.{value_at, with_value, keys_of, EachValue, ArePaired}
+use Rattle.ipc_base.specs.declared.limits.Limits.{Limits}
+use Rattle.ipc_base.proofs.CallerLemmas.{choice, test_cases, at-with, other-with, keys_of-with_value, each-at, each-with, each-by_key, paired-with, paired-weaker}
+use Rattle.ipc_wire.specs.Reply.{reply_bytes}
+use Rattle.ipc_state.specs.State.{State, is_process}
+use Rattle.ipc_engine.specs.Event.{PlainEvent, PlainOutcome}
+use Rattle.ipc_engine.specs.Step.{Step, step}
+use Rattle.ipc_engine.specs.View.{reply_of}
+use Rattle.ipc_hub.specs.Clients.{Client, Clients, client_at, is_for, last_reply, welcomed, serve, accept, with_client, with_frame}
+use Rattle.ipc_hub.specs.View.{ConnectionView, HubView}
+use Rattle.ipc_hub.specs.Relations.Delivery.{last_frame, pushed, put_all, given, answered, with_answer, IsShort, AllShort, HasRoom, HasRoomIn, HaveRoom, HasRoomToGreet, HasRoomToAnswer}
+use Rattle.ipc_hub.specs.Relations.Invariant.{process_in, AreOwn, IsKept, HubInvariant, GoesOn}
+use Rattle.ipc_hub.specs.Relations.Matches.{ClientMatches, HubMatches, IsAhead}
+use Rattle.ipc_hub.proofs.Deliveries.{push-matches, matches-later, accept-matches}
+use Rattle.ipc_hub.proofs.Keeping.{kept-pushed, put-each, put-keys, put-processes, process-with}
+use Rattle.ipc_hub.proofs.Ending.{client-there}
+use Rattle.ipc_hub.proofs.Requests.{Answers}
+
+-- ---- the connection that asked
+
+-- the process that it has after the reply
+told-process : (o : PlainOutcome) (v : ConnectionView) (pid : ℕ) → (answered (Some o) v).process ≡ Some pid
+    → (v.process ≡ Some pid) ⊎ ((v.process ≡ None) × ((o.pid ≡ pid) × (nat_eq o.pid 0 ≡ false)))
+told-process o v pid = by_process v.process
+  where
+    by_test : (b : Bool) → nat_eq o.pid 0 ≡ b → (if b then None else Some o.pid) ≡ Some pid → (o.pid ≡ pid) × (nat_eq o.pid 0 ≡ false)
+    by_test true t never = cc
+    by_test false t same = (cc, t)
+
+    by_process : (p : Option ℕ) → (answered (Some o) (record v { process = p })).process ≡ Some pid
+        → (p ≡ Some pid) ⊎ ((p ≡ None) × ((o.pid ≡ pid) × (nat_eq o.pid 0 ≡ false)))
+    by_process (Some q) is = inl is
+    by_process None is =
+        inr (refl, by_test (nat_eq o.pid 0) refl
+        (choice_field (nat_eq o.pid 0) ∙ is))
+      where
+        choice_field : (b : Bool) → (if b then None else Some o.pid)
+            ≡ (if b then pushed (reply_of o) (record v { process = None }) else record v { process = Some o.pid }).process
+        choice_field true = refl
+        choice_field false = refl
+
+told-kept : (limits : Limits) (o : PlainOutcome) (v : ConnectionView) → IsKept limits v → HasRoom o v → IsKept limits (answered (Some o) v)
+told-kept limits o v k room = by_process v.process
+  where
+    by_process : (p : Option ℕ) → IsKept limits (answered (Some o) (record v { process = p }))
+    by_process None =
+        choice (IsKept limits) (nat_eq o.pid 0) _ _ (λ _. kept-pushed limits o (record v { process = None })
+        (record { input = k.input; last = k.last; size = k.size }) (omega (arith, room)) (λ _. room))
+        (λ _. record { input = k.input; last = k.last; size = k.size })
+    by_process (Some pid) = record { input = k.input; last = k.last; size = k.size }
+
+told-room : (o : PlainOutcome) (v : ConnectionView) → HasRoom o v → HasRoomIn o (answered (Some o) v)
+told-room o v room = by_process v.process
+  where
+    by_process : (p : Option ℕ) → HasRoomIn o (answered (Some o) (record v { process = p }))
+    by_process None =
+        choice (HasRoomIn o) (nat_eq o.pid 0) (pushed (reply_of o) (record v { process = None })) (record v { process = Some o.pid })
+        (λ _ never. let bad : false ≡ true = never in cc) (λ _ _. room)
+    by_process (Some pid) = λ _. room
+
+for-process : (pid : ℕ) (p : Option ℕ) → is_for pid p ≡ true → p ≡ Some pid
+for-process pid None is = cc
+for-process pid (Some q) is = ap Some (eqb-true q pid is)
+
+-- ---- the hub
+
+module _ (h : HubView) (conn : ℕ) (v : ConnectionView) (now : Step) (inv : HubInvariant h) (found : value_at nat_eq h.connections conn ≡ Some v)
+    (room : longest_reply h.limits + last_frame ≤ v.outbox.free) (a : Answers h.limits h.state v.process now) where
+  abbrev table : List (ℕ × ConnectionView)
+  table = with_value nat_eq h.connections conn (answered (Some a.o) v)
+
+  mine : process_in h.connections conn ≡ v.process
+  mine = ap (option_and_then (λ (c : ConnectionView). c.process)) found
+
+  has : HasRoom a.o v
+  has = omega (arith, a.fits, room)
+
+  -- no other connection has the process that is answered
+  apart-from : (k : ℕ) → k ≢ conn → process_in h.connections k ≢ Some a.o.pid
+  apart-from k apart is = by_process v.process refl
+    where
+      by_process : (p : Option ℕ) → v.process ≡ p → ⊥
+      by_process None none = a.fresh none a.o.pid (inv.own.connected k a.o.pid is) refl
+      by_process (Some pid) some = apart (inv.own.one k conn pid (is ∙ ap Some (a.own pid some)) (mine ∙ some))
+
+  rising : keys_of table ≡ keys_of h.connections
+  rising = keys_of-with_value nat_eq h.connections conn (answered (Some a.o) v)
+
+  each-room : EachValue (HasRoomIn a.o) table
+  each-room = each-by_key (HasRoomIn a.o) 0 table (2 ^ 32) (rw rising inv.rising) (λ k x is.
+      elim (cases_eq k conn) [
+        | inl same ↦ subst (HasRoomIn a.o) (one (answered (Some a.o) v) x (sym (at-with h.connections conn (answered (Some a.o) v) v found) ∙ (rw same at is)))
+            (told-room a.o v has)
+        | inr apart ↦ λ for. absurd (apart-from k apart
+            (ap (option_and_then (λ (c : ConnectionView). c.process)) (sym (other-with h.connections conn k (answered (Some a.o) v) apart) ∙ is) ∙ for-process a.o.pid x.process for))
+      ])
+    where
+      one : (x y : ConnectionView) → Some x ≡ Some y → x ≡ y
+      one x y is = cc
+
+  all-room : HaveRoom (a.o ∷ []) table
+  all-room = (a.short, (each-room, tt))
+
+  pub answer-room : HasRoomToAnswer now.outcomes (conn, v) h.connections
+  answer-room = subst (λ (os : List PlainOutcome). HasRoomToAnswer os (conn, v) h.connections) (sym a.one)
+      (record { own = λ _. (a.short, has); all = all-room })
+
+  own : AreOwn now.state table
+  own =
+      record {
+        connected = λ k pid is. elim (process-with h.connections conn k pid v (answered (Some a.o) v) found is) [
+          | inl here ↦ elim (told-process a.o v pid here.1) [
+            | inl before ↦ a.stay pid (inv.own.connected conn pid (mine ∙ before))
+            | inr new ↦ subst (λ (n : ℕ). is_process now.state n ≡ true) new.1.0 (a.there new.0 new.1.1)
+          ]
+          | inr there ↦ a.stay pid (inv.own.connected k pid there.1)
+        ];
+        one = λ k j pid is too.
+            elim (process-with h.connections conn k pid v (answered (Some a.o) v) found is) [
+              | inl here ↦ elim (process-with h.connections conn j pid v (answered (Some a.o) v) found too) [
+                | inl here' ↦ here.0 ∙ sym here'.0
+                | inr there' ↦ absurd (alone j pid there'.0 here.1 there'.1)
+              ]
+              | inr there ↦ elim (process-with h.connections conn j pid v (answered (Some a.o) v) found too) [
+                | inl here' ↦ absurd (alone k pid there.0 here'.1 there.1)
+                | inr there' ↦ inv.own.one k j pid there.1 there'.1
+              ]
+            ];
+      }
+    where
+      alone : (j pid : ℕ) → j ≢ conn → (answered (Some a.o) v).process ≡ Some pid → process_in h.connections j ≡ Some pid → ⊥
+      alone j pid apart told is =
+          elim (told-process a.o v pid told) [
+            | inl before ↦ apart (inv.own.one j conn pid is (mine ∙ before))
+            | inr new ↦ apart-from j apart (is ∙ ap Some (sym new.1.0))
+          ]
+
+  pub answer-goes-on : (new : HubView) → new.limits ≡ h.limits → new.state ≡ now.state
+      → new.connections ≡ put_all now.outcomes (with_answer now.outcomes (conn, v) h.connections) → GoesOn h new
+  answer-goes-on new limits state rows =
+      let rows' : new.connections ≡ put_all (a.o ∷ []) table =
+      rows ∙ ap (λ (os : List PlainOutcome). put_all os (with_answer os (conn, v) h.connections)) a.one in
+      let kept : IsKept h.limits v = each-at (IsKept h.limits) h.connections conn v inv.each found in
+      let processes : (k : ℕ) → process_in new.connections k ≡ process_in table k =
+      λ k. ap (λ (t : List (ℕ × ConnectionView)). process_in t k) rows' ∙ put-processes (a.o ∷ []) table k in
+      let keys : keys_of new.connections ≡ keys_of h.connections = ap keys_of rows' ∙ put-keys (a.o ∷ []) table ∙ rising in
+      record {
+        limits = limits;
+        numbers = keys;
+        invariant = record {
+          own = record {
+            connected = λ k pid is. ap (λ (s : State). is_process s pid) state ∙ own.connected k pid (sym (processes k) ∙ is);
+            one = λ k j pid is too. own.one k j pid (sym (processes k) ∙ is) (sym (processes j) ∙ too);
+          };
+          each = rw limits (rw rows' (put-each h.limits (a.o ∷ []) table
+              (each-with (IsKept h.limits) h.connections conn (answered (Some a.o) v) inv.each (told-kept h.limits a.o v kept has)) all-room));
+          rising = rw keys inv.rising;
+        };
+      }
+
+-- ---- the clients
+
+told-matches : (confirmed accepted mark : ℕ) (o : PlainOutcome) (v : ConnectionView) (c : Client) → confirmed < mark → accepted ≤ mark → IsShort o
+    → ClientMatches confirmed accepted v c → ClientMatches confirmed mark (answered (Some o) v) (welcomed mark (Some o) c)
+told-matches confirmed accepted mark o v c later le short m =
+    subst (λ (p : Option ℕ). ClientMatches confirmed mark (answered (Some o) (record v { process = p })) (welcomed mark (Some o) c)) (sym m.process)
+    (by_process c.process (record { process = refl; input = m.input; ended = m.ended; kept = m.kept; visible = m.visible; seen = m.seen; frames = m.frames }))
+  where
+    by_process : (p : Option ℕ) → ClientMatches confirmed accepted (record v { process = p }) (record c { process = p })
+        → ClientMatches confirmed mark (answered (Some o) (record v { process = p })) (welcomed mark (Some o) (record c { process = p }))
+    by_process None was = by_test (nat_eq o.pid 0)
+      where
+        after : ClientMatches confirmed mark (record v { process = None }) (record c { process = None })
+        after = matches-later confirmed accepted mark _ _ le was
+
+        by_test : (b : Bool) → ClientMatches confirmed mark
+            (if b then pushed (reply_of o) (record v { process = None }) else record v { process = Some o.pid })
+            (if b then with_frame (record c { process = None }) mark o else record c { process = Some o.pid })
+        by_test true = push-matches confirmed accepted mark _ _ o later le short was
+        by_test false =
+            record { process = refl; input = after.input; ended = after.ended; kept = after.kept; visible = after.visible; seen = after.seen; frames = after.frames }
+    by_process (Some pid) was = matches-later confirmed accepted mark _ _ le was
+
+-- an event of a connection
+pub serve-matches : (limits : Limits) (confirmed : ℕ) (old new : HubView) (h : Clients) (conn : ℕ) (v : ConnectionView) (c : Client) (e : PlainEvent)
+    → HubMatches limits confirmed old h → value_at nat_eq old.connections conn ≡ Some v → client_at h conn ≡ Some c
+    → (a : Answers old.limits old.state v.process (step old.limits old.state e))
+    → new.limits ≡ old.limits → new.state ≡ (step old.limits old.state e).state
+    → new.connections ≡ put_all (step old.limits old.state e).outcomes
+    (with_answer (step old.limits old.state e).outcomes (conn, v) old.connections)
+    → IsAhead limits confirmed new (serve limits h conn c e)
+serve-matches limits confirmed old new h conn v c e m found here a same state rows =
+    let mark : ℕ = h.accepted + 1 in
+    let was : Step = step old.limits old.state e in
+    let mine = client-there limits confirmed old h conn v c m found here in
+    let now : Step = step limits h.state e in
+    let at : was ≡ now = λ i. step (m.same i) (m.state i) e in
+    let last : last_reply now.outcomes ≡ Some a.o = ap (λ (s : Step). last_reply s.outcomes) (sym at) ∙ ap last_reply a.one in
+    let d : Client = welcomed mark (Some a.o) c in
+    let table : List (ℕ × ConnectionView) = with_value nat_eq old.connections conn (answered (Some a.o) v) in
+    let clients : List (ℕ × Client) = with_value nat_eq h.clients conn d in
+    let told : with_answer was.outcomes (conn, v) old.connections ≡ table = ap (λ (os : List PlainOutcome). with_answer os (conn, v) old.connections) a.one in
+    let paired : ArePaired (ClientMatches confirmed mark) table clients =
+    paired-with (ClientMatches confirmed mark) old.connections h.clients conn (answered (Some a.o) v) d
+    (paired-weaker (ClientMatches confirmed h.accepted) (ClientMatches confirmed mark) old.connections h.clients m.clients
+    (λ x y. matches-later confirmed h.accepted mark x y (omega arith)))
+    (told-matches confirmed h.accepted mark a.o v c (omega (arith, m.known)) (omega arith) a.short mine) in
+    let short : AllShort was.outcomes = subst AllShort (sym a.one) (a.short, tt) in
+    subst (λ (r : Option PlainOutcome). IsAhead limits confirmed new (accept limits (with_client h conn (welcomed mark r c)) e)) (sym last)
+    (accept-matches limits confirmed mark old new h e table clients m (omega arith) paired same state (rows ∙ ap (put_all was.outcomes) told) short)

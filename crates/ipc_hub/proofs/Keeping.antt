@@ -1,0 +1,158 @@
+-- What holds of the hub's connections goes on holding when replies are put into their outboxes.
+use Rattle.std.proofs.Common.{◌≡◌, ◌≢◌, ℕ, ◌+◌, ◌-◌, ◌≤◌, Bool, true, false, List, [], ◌∷◌, ◌++◌, length, Option, Some, None, refl, sym, ap, ◌∙◌, subst, arith, ◌⊎◌, inl, inr}
+use Rattle.std.specs.Prelude.{nat_eq, if◌then◌else◌, option_map, option_and_then}
+use Rattle.std.proofs.lemmas.Bool.{cases_eq}
+use Rattle.std.proofs.lemmas.List.{length-append}
+use Rattle.ipc_base.specs.Limits.{longest_reply}
+use Rattle.ipc_base.specs.Table.{value_at, with_value, keys_of, seen_as, EachValue, IsRising}
+use Rattle.ipc_base.specs.declared.limits.Limits.{Limits}
+use Rattle.ipc_base.proofs.CallerLemmas.{choice, each-seen, each-with, at-map, keys-map, at-with, other-with, keys_of-with_value}
+use Rattle.ipc_wire.specs.Reply.{reply_bytes}
+use Rattle.ipc_engine.specs.Event.{PlainOutcome}
+use Rattle.ipc_engine.specs.View.{reply_of}
+use Rattle.ipc_state.specs.State.{State, is_process}
+use Rattle.ipc_hub.specs.Clients.{is_for}
+use Rattle.ipc_hub.specs.View.{ConnectionView, HubView, kept}
+use Rattle.ipc_hub.specs.Relations.Delivery.{last_frame, pushed, put_for, put_all, HasRoom, HasRoomIn, HaveRoom, AllShort}
+use Rattle.ipc_hub.specs.Relations.Invariant.{process_in, AreOwn, IsKept, HubInvariant, GoesOn, LeavesOthers, IsNobodys, IsConnected}
+
+-- ---- one connection
+
+pub kept-pushed : (limits : Limits) (o : PlainOutcome) (v : ConnectionView) → IsKept limits v → length (reply_bytes (reply_of o)) ≤ v.outbox.free
+    → (v.ended ≡ false → HasRoom o v) → IsKept limits (pushed (reply_of o) v)
+kept-pushed limits o v k fits room =
+    let bytes : List ℕ = reply_bytes (reply_of o) in
+    record {
+      input = k.input;
+      last = λ live. omega (arith, room live);
+      size = omega (
+        arith,
+        k.size,
+        fits,
+        length-append v.outbox.visible v.outbox.waiting,
+        length-append v.outbox.visible (v.outbox.waiting ++ bytes),
+        length-append v.outbox.waiting bytes,
+      );
+    }
+
+put-kept : (limits : Limits) (o : PlainOutcome) (v : ConnectionView) → IsKept limits v → HasRoomIn o v → IsKept limits (put_for o v)
+put-kept limits o v k room =
+    choice (IsKept limits) (is_for o.pid v.process) (pushed (reply_of o) v) v 
+    (λ is. kept-pushed limits o v k (omega (arith, room is)) (λ _. room is)) (λ _. k)
+
+put-process : (o : PlainOutcome) (r : Option ConnectionView)
+    → option_and_then (λ (v : ConnectionView). v.process) (option_map (put_for o) r) ≡ option_and_then (λ (v : ConnectionView). v.process) r
+put-process o None = refl
+put-process o (Some v) =
+    choice (λ (w : ConnectionView). w.process ≡ v.process) (is_for o.pid v.process) (pushed (reply_of o) v) v (λ _. refl) (λ _. refl)
+
+put-none : (o : PlainOutcome) (v : ConnectionView) → v.process ≡ None → put_for o v ≡ v
+put-none o v none = rw none refl
+
+-- ---- all connections
+
+pub put-each : (limits : Limits) (os : List PlainOutcome) (table : List (ℕ × ConnectionView)) → EachValue (IsKept limits) table → HaveRoom os table
+    → EachValue (IsKept limits) (put_all os table)
+put-each limits [] table each room = each
+put-each limits (o ∷ os) table each room =
+    put-each limits os (seen_as (put_for o) table)
+    (each-seen (IsKept limits) (HasRoomIn o) (IsKept limits) table (put_for o) each room.1.0 (put-kept limits o)) room.1.1
+
+pub put-keys : (os : List PlainOutcome) (table : List (ℕ × ConnectionView)) → keys_of (put_all os table) ≡ keys_of table
+put-keys [] table = refl
+put-keys (o ∷ os) table = put-keys os (seen_as (put_for o) table) ∙ keys-map (put_for o) table
+
+pub put-processes : (os : List PlainOutcome) (table : List (ℕ × ConnectionView)) (conn : ℕ) → process_in (put_all os table) conn ≡ process_in table conn
+put-processes [] table conn = refl
+put-processes (o ∷ os) table conn =
+    put-processes os (seen_as (put_for o) table) conn
+    ∙ ap (option_and_then (λ (v : ConnectionView). v.process)) (at-map (put_for o) table conn) ∙ put-process o (value_at nat_eq table conn)
+
+pub put-others : (os : List PlainOutcome) (table : List (ℕ × ConnectionView)) → LeavesOthers table (put_all os table)
+put-others [] table conn v is none = is
+put-others (o ∷ os) table conn v is none =
+    put-others os (seen_as (put_for o) table) conn v
+    (at-map (put_for o) table conn ∙ ap (option_map (put_for o)) is ∙ ap Some (put-none o v none)) none
+
+pub room-short : (os : List PlainOutcome) (table : List (ℕ × ConnectionView)) → HaveRoom os table → AllShort os
+room-short [] table room = tt
+room-short (o ∷ os) table room = (room.0, room-short os (seen_as (put_for o) table) room.1.1)
+
+-- ---- the hub
+
+-- each connection has the process that it had, or none, and these are connected
+pub own-less : (s s' : State) (table table' : List (ℕ × ConnectionView)) → AreOwn s table
+    → ((conn pid : ℕ) → process_in table' conn ≡ Some pid → (process_in table conn ≡ Some pid) × (is_process s' pid ≡ true)) → AreOwn s' table'
+own-less s s' table table' own less =
+    record {
+      connected = λ conn pid is. (less conn pid is).1;
+      one = λ conn other pid is too. own.one conn other pid (less conn pid is).0 (less other pid too).0;
+    }
+
+-- replies to processes of which none has left
+pub delivery-goes-on : (old new : HubView) (os : List PlainOutcome) → HubInvariant old → HaveRoom os old.connections → new.limits ≡ old.limits
+    → new.connections ≡ put_all os old.connections
+    → ((conn pid : ℕ) → process_in old.connections conn ≡ Some pid → is_process new.state pid ≡ true) → GoesOn old new
+delivery-goes-on old new os inv room same rows stay =
+    let keys : keys_of new.connections ≡ keys_of old.connections = ap keys_of rows ∙ put-keys os old.connections in
+    let processes : (conn : ℕ) → process_in new.connections conn ≡ process_in old.connections conn =
+    λ conn. ap (λ (t : List (ℕ × ConnectionView)). process_in t conn) rows ∙ put-processes os old.connections conn in
+    record {
+      limits = same;
+      numbers = keys;
+      invariant = record {
+        own = own-less old.state new.state old.connections new.connections inv.own
+            (λ conn pid is. (sym (processes conn) ∙ is, stay conn pid (sym (processes conn) ∙ is)));
+        each = rw same (rw rows (put-each old.limits os old.connections inv.each room));
+        rising = rw keys inv.rising;
+      };
+    }
+
+-- ---- one connection of the hub is changed
+
+abbrev pub with_connection : HubView → ℕ → ConnectionView → HubView
+with_connection h conn v = record h { connections = with_value nat_eq h.connections conn v }
+
+-- whose process a process is after it
+pub process-with : (table : List (ℕ × ConnectionView)) (conn k pid : ℕ) (was v : ConnectionView) → value_at nat_eq table conn ≡ Some was
+    → process_in (with_value nat_eq table conn v) k ≡ Some pid
+    → ((k ≡ conn) × (v.process ≡ Some pid)) ⊎ ((k ≢ conn) × (process_in table k ≡ Some pid))
+process-with table conn k pid was v found is =
+    elim (cases_eq k conn) [
+      | inl same ↦ inl (same, sym (ap (option_and_then (λ (c : ConnectionView). c.process)) (at-with table conn v was found)) ∙ rw same at is)
+      | inr apart ↦ inr (apart, sym (ap (option_and_then (λ (c : ConnectionView). c.process)) (other-with table conn k v apart)) ∙ is)
+    ]
+
+-- it has the process that it had, or none
+pub change-invariant : (h : HubView) (conn : ℕ) (was v : ConnectionView) → HubInvariant h → value_at nat_eq h.connections conn ≡ Some was
+    → ((pid : ℕ) → v.process ≡ Some pid → was.process ≡ Some pid) → IsKept h.limits v → HubInvariant (with_connection h conn v)
+change-invariant h conn was v inv found less kept =
+    record {
+      own = own-less h.state h.state h.connections (with_value nat_eq h.connections conn v) inv.own
+          (λ k pid is.
+          let before : process_in h.connections k ≡ Some pid =
+          elim (process-with h.connections conn k pid was v found is) [
+            | inl here ↦ ap (process_in h.connections) here.0 ∙ ap (option_and_then (λ (c : ConnectionView). c.process)) found ∙ less pid here.1
+            | inr there ↦ there.1
+          ] in
+          (before, inv.own.connected k pid before));
+      each = each-with (IsKept h.limits) h.connections conn v inv.each kept;
+      rising = rw (keys_of-with_value nat_eq h.connections conn v) inv.rising;
+    }
+
+-- nobody has the process that it had if it has none now
+pub change-nobodys : (h : HubView) (conn : ℕ) (was v : ConnectionView) → HubInvariant h → value_at nat_eq h.connections conn ≡ Some was
+    → v.process ≡ None → IsNobodys (with_value nat_eq h.connections conn v) was.process
+change-nobodys h conn was v inv found none k pid mine is =
+    elim (process-with h.connections conn k pid was v found is) [
+      | inl here ↦ let never : None ≡ Some pid = sym none ∙ here.1 in cc
+      | inr there ↦ there.0 (inv.own.one k conn pid there.1 (ap (option_and_then (λ (c : ConnectionView). c.process)) found ∙ mine))
+    ]
+
+-- the process of a connection is connected
+pub connected-at : (h : HubView) (conn : ℕ) (v : ConnectionView) → HubInvariant h → value_at nat_eq h.connections conn ≡ Some v → IsConnected h.state v.process
+connected-at h conn v inv found = by_process v.process (ap (option_and_then (λ (c : ConnectionView). c.process)) found)
+  where
+    by_process : (p : Option ℕ) → process_in h.connections conn ≡ p → IsConnected h.state p
+    by_process None mine = tt
+    by_process (Some pid) mine = inv.own.connected conn pid mine

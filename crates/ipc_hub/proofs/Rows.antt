@@ -1,0 +1,113 @@
+-- The connections of the code as rows: one by one, and each seen in another way.
+use Rattle.std.proofs.Common.{◌≡◌, ℕ, zero, suc, ◌+◌, ◌<◌, ◌≤◌, List, [], ◌∷◌, length, get_or, set, refl, sym, ap, ◌∙◌, inl, inr, arith}
+use Rattle.std.proofs.lemmas.Bool.{cases_eq}
+use Rattle.std.proofs.lemmas.List.{get_or-set_same, get_or-set_other, get_or_default, length-set}
+use Rattle.std.specs.Prelude.{nat_eq, nat_lt, if◌then◌else◌, Bool, true, false, Some, None, position}
+use Rattle.std.specs.List.{position_or_len}
+use Rattle.std.proofs.lemmas.Bool.Decides.{nat_tests}
+use Rattle.ipc_base.specs.Table.{seen_as, EachValue, IsRising, keys_of, value_at, with_value}
+use Rattle.ipc_base.proofs.CallerLemmas.{value_at_place, set_at_place, same_key, other_key}
+use Rattle.ipc_hub.specs.declared.connection.Connection.{Connection}
+use Rattle.ipc_hub.specs.View.{ConnectionView}
+use Rattle.ipc_hub.specs.Relations.Rows.{view_of, row, rows, IsThere}
+
+-- what each row is, the one at a place is
+pub each-get : (P : ConnectionView → Type 0) (cs : List Connection) (k : ℕ) (d : Connection) → EachValue P (rows cs) → k < length cs
+    → P (view_of (get_or cs k d))
+each-get P [] k d each within = absurd (omega arith)
+each-get P (c ∷ cs) zero d each within = each.0
+each-get P (c ∷ cs) (suc k) d each within = each-get P cs k d each.1 (omega arith)
+
+-- rows that are each seen in another way
+pub rows-seen : (f : ConnectionView → ConnectionView) (old new : List Connection) → length new ≡ length old
+    → ((k : ℕ) (d : Connection) → k < length old → row (get_or new k d) ≡ ((get_or old k d).number, f (view_of (get_or old k d))))
+    → rows new ≡ seen_as f (rows old)
+rows-seen f [] [] count each = refl
+rows-seen f [] (n ∷ new) count each = absurd (omega (arith, count))
+rows-seen f (o ∷ old) [] count each = absurd (omega (arith, count))
+rows-seen f (o ∷ old) (n ∷ new) count each =
+    ap (λ (e : ℕ × ConnectionView). e ∷ rows new) (each 0 o (omega arith))
+    ∙ ap (λ (es : List (ℕ × ConnectionView)). (o.number, f (view_of o)) ∷ es)
+    (rows-seen f old new (omega (arith, count)) (λ k d within. each (suc k) d (omega (arith, within))))
+
+-- a loop has seen the first connections in another way, and those to come are as they were
+pub record SeenUpTo (f : ConnectionView → ConnectionView) (i : ℕ) (initial now : List Connection) : Type 0 where
+  pub count : length now ≡ length initial
+  pub done : (k : ℕ) (d : Connection) → k < i → row (get_or now k d) ≡ ((get_or initial k d).number, f (view_of (get_or initial k d)))
+  pub rest : (k : ℕ) (d : Connection) → i ≤ k → get_or now k d ≡ get_or initial k d
+
+pub seen-none : (f : ConnectionView → ConnectionView) (initial : List Connection) → SeenUpTo f 0 initial initial
+seen-none f initial = record { count = refl; done = λ k d within. absurd (omega (arith, within)); rest = λ k d past. refl }
+
+pub seen-next : (f : ConnectionView → ConnectionView) (i : ℕ) (initial now : List Connection) (was new : Connection) → SeenUpTo f i initial now
+    → i < length initial → was ≡ get_or now i was → row new ≡ (was.number, f (view_of was)) → SeenUpTo f (i + 1) initial (set now i new)
+seen-next f i initial now was new seen within is changed =
+    let here : i < length now = omega (arith, within, seen.count) in
+    record {
+      count = length-set now i new ∙ seen.count;
+      done = λ k d le. elim (cases_eq k i) [
+        | inl same ↦ rw same (rw (get_or-set_same now i new d here)
+            (rw (sym (seen.rest i d (omega arith)) ∙ get_or_default now i d was here ∙ sym is) changed))
+        | inr apart ↦ rw (get_or-set_other now i k new d apart) (seen.done k d (omega (arith, le, apart)))
+      ];
+      rest = λ k d past. get_or-set_other now i k new d (λ same. omega (arith, past, same)) ∙ seen.rest k d (omega (arith, past));
+    }
+
+pub seen-all : (f : ConnectionView → ConnectionView) (i : ℕ) (initial now : List Connection) → SeenUpTo f i initial now → length initial ≤ i
+    → rows now ≡ seen_as f (rows initial)
+seen-all f i initial now seen all = rows-seen f initial now seen.count (λ k d within. seen.done k d (omega (arith, within, all)))
+
+-- ---- the connection at a place
+
+number-above : (low : ℕ) (cs : List Connection) (high k : ℕ) (d : Connection) → IsRising low (keys_of (rows cs)) high → k < length cs
+    → low ≤ (get_or cs k d).number
+number-above low [] high k d rising within = absurd (omega (arith, within))
+number-above low (c ∷ cs) high zero d rising within = rising.0
+number-above low (c ∷ cs) high (suc k) d rising within =
+    omega (arith, rising.0, number-above (c.number + 1) cs high k d rising.1 (omega (arith, within)))
+
+first-place : (low : ℕ) (cs : List Connection) (high k n : ℕ) (d : Connection) → IsRising low (keys_of (rows cs)) high → k < length cs
+    → n ≡ (get_or cs k d).number → position_or_len (λ (c : Connection). nat_eq c.number n) cs ≡ k
+first-place low [] high k n d rising within is = absurd (omega (arith, within))
+first-place low (c ∷ cs) high zero n d rising within is = rw is (rw (same_key c.number) refl)
+first-place low (c ∷ cs) high (suc k) n d rising within is =
+    let above = number-above (c.number + 1) cs high k d rising.1 (omega (arith, within)) in
+    let other : nat_eq c.number n ≡ false = other_key c.number n (λ same. omega (arith, same, is, above)) in
+    rw other (ap (λ (m : ℕ). 1 + m) (first-place (c.number + 1) cs high k n d rising.1 (omega (arith, within)) is) ∙ omega arith)
+
+-- where the numbers rise, a connection is the first that has its number
+pub there : (cs : List Connection) (low place high : ℕ) (was : Connection) → IsRising low (keys_of (rows cs)) high → place < length cs
+    → was ≡ get_or cs place was → IsThere cs place was
+there cs low place high was rising within is =
+    let first = first-place low cs high place was.number was rising within (ap (λ (c : Connection). c.number) is) in
+    let inside : nat_lt place (length cs) ≡ true = grind (arith, nat_tests) in
+    record { same = is; first = ap (λ (k : ℕ). if nat_lt k (length cs) then Some k else None) first ∙ ap (λ (b : Bool). if b then Some place else None) inside }
+
+-- there is one connection at a place
+pub the-same : (cs : List Connection) (place : ℕ) (c was : Connection) → IsThere cs place c → place < length cs → c ≡ get_or cs place was
+the-same cs place c was at within = at.same ∙ sym (get_or_default cs place was c within)
+
+pub at-there : (cs : List Connection) (place : ℕ) (c : Connection) → IsThere cs place c → value_at nat_eq (rows cs) c.number ≡ Some (view_of c)
+at-there cs place c at = value_at_place row nat_eq c.number cs place c at.first at.same
+
+pub set-there : (cs : List Connection) (place : ℕ) (c was new : Connection) (v : ConnectionView) → IsThere cs place c → place < length cs
+    → new.number ≡ (get_or cs place was).number → view_of new ≡ v → rows (set cs place new) ≡ with_value nat_eq (rows cs) c.number v
+set-there cs place c was new v at within same is =
+    set_at_place row nat_eq c.number cs place c new at.first at.same (same ∙ ap (λ (d : Connection). d.number) (sym (the-same cs place c was at within)))
+    ∙ ap (with_value nat_eq (rows cs) c.number) is
+
+-- with the same numbers in a row, the same number stands at a place
+pub same-number : (cs ds : List Connection) (k : ℕ) (c d : Connection) → keys_of (rows ds) ≡ keys_of (rows cs) → k < length cs
+    → (get_or ds k d).number ≡ (get_or cs k c).number
+same-number [] ds k c d same within = absurd (omega (arith, within))
+same-number (x ∷ cs) [] k c d same within = cc
+same-number (x ∷ cs) (y ∷ ds) zero c d same within = cc
+same-number (x ∷ cs) (y ∷ ds) (suc k) c d same within =
+    let rest : keys_of (rows ds) ≡ keys_of (rows cs) = cc in
+    same-number cs ds k c d rest (omega (arith, within))
+
+pub same-length : (cs ds : List Connection) → keys_of (rows ds) ≡ keys_of (rows cs) → length ds ≡ length cs
+same-length [] [] same = refl
+same-length [] (y ∷ ds) same = cc
+same-length (x ∷ cs) [] same = cc
+same-length (x ∷ cs) (y ∷ ds) same = let rest : keys_of (rows ds) ≡ keys_of (rows cs) = cc in ap suc (same-length cs ds rest)

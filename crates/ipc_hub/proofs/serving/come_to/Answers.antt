@@ -1,0 +1,37 @@
+use Rattle.std.proofs.Common.{◌≡◌, ◌⊎◌, inl, inr, true, false, Some, None, refl, sym, ap, ◌∙◌, rules}
+use Rattle.std.specs.Prelude.{option_map}
+use Rattle.ipc_base.proofs.CallerLemmas.{test_cases}
+use Rattle.ipc_wire.specs.Request.{plain_request}
+use Rattle.ipc_wire.specs.Stream.{plain_frame, first}
+use Rattle.ipc_wire.specs.Stream.PlainFrame.{Whole}
+use Rattle.ipc_engine.specs.Engine.{takes_memory}
+use Rattle.ipc_engine.specs.View.{plain_event}
+use Rattle.ipc_hub.specs.Clients.{event_of}
+use Rattle.ipc_hub.specs.Relations.Rows.{pid_of}
+use Rattle.ipc_hub.proofs.serving.come_to.Goals as goal
+
+pub returns-in_default : goal.returns-in_default
+returns-in_default c =
+    let whole : first c.args.connection.now.input.items ≡ Whole c.in-Whole.used (plain_request c.in-Whole.request) = search rules in
+    let none : event_of (pid_of c.args.connection.now.process) (plain_request c.in-Whole.request) c.args.moment.0 ≡ None =
+    sym c.event_of.ensures ∙ ap (option_map plain_event) c.in_default.is in
+    (refl, inr (record { used = c.in-Whole.used; request = plain_request c.in-Whole.request; whole = whole; event = none }, refl))
+
+pub returns-in-Err : goal.returns-in-Err
+returns-in-Err c =
+    let e = plain_event c.in-Some.event in
+    let whole : first c.args.connection.now.input.items ≡ Whole c.in-Whole.used (plain_request c.in-Whole.request) = search rules in
+    let made : event_of (pid_of c.args.connection.now.process) (plain_request c.in-Whole.request) c.args.moment.0 ≡ Some e =
+    sym c.event_of.ensures ∙ ap (option_map plain_event) c.in-Some.is in
+    let takes : takes_memory c.args.engine.now.limits c.args.engine.now.state e ≡ true =
+    elim (test_cases (takes_memory c.args.engine.now.limits c.args.engine.now.state e)) [
+      | inl does ↦ does
+      | inr never ↦ absurd (search rules)
+    ] in
+    record {
+      event = e;
+      made = record { used = c.in-Whole.used; request = plain_request c.in-Whole.request; whole = whole; event = made };
+      serial = refl;
+      takes = takes;
+      same = search rules;
+    }

@@ -1,0 +1,10 @@
+use Rattle.std.proofs.Common.{sym, subst}
+use Rattle.ipc_wire.specs.Stream.{first}
+use Rattle.ipc_hub.specs.View.{ConnectionView}
+use Rattle.ipc_hub.specs.Relations.Requests.{ComesTo}
+use Rattle.ipc_hub.proofs.serving.receive.Goals as goal
+
+pub returns-clause-comes : goal.returns-clause-comes
+returns-clause-comes c =
+    subst (λ (v : ConnectionView). ComesTo c.args.engine.now c.ask-asked.new.engine v.process (first v.input) c.args.moment.0 c.ask-asked.result)
+    c.fill-count.ensures.view c.ask-asked.ensures.comes

@@ -1,0 +1,33 @@
+use Rattle.std.proofs.Common.{◌≡◌, ◌^◌, get_or, length, sym, ap, ◌∙◌, arith}
+use Rattle.ipc_base.specs.declared.errno.Errno.TheVariants.{ENOMEM}
+use Rattle.ipc_wire.specs.Reply.{PlainReply, reply_bytes, plain_reply}
+use Rattle.ipc_wire.proofs.CallerLemmas.{length-reply_bytes}
+use Rattle.ipc_engine.specs.View.{reply_of}
+use Rattle.ipc_hub.specs.Clients.{refusal}
+use Rattle.ipc_hub.specs.declared.connection.Connection.{Connection}
+use Rattle.ipc_hub.specs.Relations.Rows.{view_of}
+use Rattle.ipc_hub.specs.Relations.Delivery.{pushed}
+use Rattle.ipc_hub.proofs.Rows.{there, the-same, set-there}
+use Rattle.ipc_hub.proofs.serving.refuse.Goals as goal
+
+pub push-requires-clause-room : goal.push-requires-clause-room
+push-requires-clause-room c =
+    let cs = c.args.connections.now in
+    let was = c.index-connections-place.result in
+    let at = there cs 0 c.args.place (2 ^ 32) was c.requires.rising c.requires.place c.index-connections-place.is in
+    omega (
+      arith,
+      c.requires.room was at,
+      length-reply_bytes (reply_of (refusal c.args.serial ENOMEM)),
+      ap (λ (r : PlainReply). length (reply_bytes r)) c.refusal.ensures,
+      ap (λ (d : Connection). d.outbox.free) c.index-connections-place.is,
+    )
+
+pub returns : goal.returns
+returns c d at =
+    let cs = c.args.connections.now in
+    let was = c.index-connections-place.result in
+    let now : Connection = get_or cs c.args.place was in
+    set-there cs c.args.place d was c.push.new.self (pushed (reply_of (refusal c.args.serial ENOMEM)) (view_of d)) at c.requires.place c.push.ensures.number
+    (c.push.ensures.view ∙ ap (λ (r : PlainReply). pushed r (view_of now)) c.refusal.ensures
+    ∙ ap (λ (e : Connection). pushed (reply_of (refusal c.args.serial ENOMEM)) (view_of e)) (sym (the-same cs c.args.place d was at c.requires.place)))

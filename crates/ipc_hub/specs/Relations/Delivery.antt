@@ -1,0 +1,79 @@
+-- Replies put into the outboxes of their processes.
+use Rattle.std.specs.Prelude.{◌≡◌, ℕ, ◌+◌, ◌-◌, ◌<◌, ◌≤◌, ◌^◌, ◌==◌, true, List, [], ◌∷◌, ◌++◌, length, if◌then◌else◌}
+use Rattle.std.specs.Prelude.{Option, Some, None, nat_eq}
+use Rattle.ipc_base.specs.Table.{seen_as, with_value, EachValue}
+use Rattle.ipc_wire.specs.Reply.{PlainReply, reply_bytes, body_bytes}
+use Rattle.ipc_engine.specs.Event.{PlainOutcome}
+use Rattle.ipc_engine.specs.View.{reply_of}
+use Rattle.ipc_hub.specs.Clients.{is_for, last_reply}
+use Rattle.ipc_hub.specs.View.{Outgoing, ConnectionView}
+
+-- the bytes of a frame without a body, such as the last one of a connection that the server ends
+abbrev pub last_frame : ℕ
+last_frame = 10
+
+-- an outbox with a frame more
+abbrev pub with_bytes : Outgoing → List ℕ → Outgoing
+with_bytes o bytes = record { visible = o.visible; waiting = o.waiting ++ bytes; free = o.free - length bytes }
+
+-- a connection with a reply more
+abbrev pub pushed : PlainReply → ConnectionView → ConnectionView
+pushed r c = record c { outbox = with_bytes c.outbox (reply_bytes r) }
+
+-- a reply, if it is for the process of the connection
+abbrev pub put_for : PlainOutcome → ConnectionView → ConnectionView
+put_for o c = if is_for o.pid c.process then pushed (reply_of o) c else c
+
+abbrev pub put_all : List PlainOutcome → List (ℕ × ConnectionView) → List (ℕ × ConnectionView)
+put_all [] table = table
+put_all (o ∷ os) table = put_all os (seen_as (put_for o) table)
+
+-- what is done to the connection that has said HELLO, if it had no process
+abbrev pub given : Option PlainOutcome → ConnectionView → ConnectionView
+given None c = c
+given (Some o) c = if o.pid == 0 then pushed (reply_of o) c else record c { process = Some o.pid }
+
+abbrev pub answered : Option PlainOutcome → ConnectionView → ConnectionView
+answered reply c = by_process c.process
+  where
+    by_process : Option ℕ → ConnectionView
+    by_process None = given reply c
+    by_process (Some pid) = c
+
+-- a reply is not too long for its length field
+abbrev pub IsShort : PlainOutcome → Type 0
+IsShort o = 6 + length (body_bytes o.body) < 2 ^ 32
+
+-- so are all of an event
+abbrev pub AllShort : List PlainOutcome → Type 0
+AllShort [] = Unit {0}
+AllShort (o ∷ os) = IsShort o × AllShort os
+
+-- a reply has room in the outbox, and the last frame behind it
+abbrev pub HasRoom : PlainOutcome → ConnectionView → Type 0
+HasRoom o c = length (reply_bytes (reply_of o)) + last_frame ≤ c.outbox.free
+
+-- a reply has room in the outbox of its process
+abbrev pub HasRoomIn : PlainOutcome → ConnectionView → Type 0
+HasRoomIn o c = is_for o.pid c.process ≡ true → HasRoom o c
+
+-- so has each of some replies, one after the other
+abbrev pub HaveRoom : List PlainOutcome → List (ℕ × ConnectionView) → Type 0
+HaveRoom [] table = Unit {0}
+HaveRoom (o ∷ os) table =
+    IsShort o × (EachValue (HasRoomIn o) table × HaveRoom os (seen_as (put_for o) table))
+
+-- the reply to a HELLO has room in the connection that said it
+abbrev pub HasRoomToGreet : Option PlainOutcome → ConnectionView → Type 0
+HasRoomToGreet None c = Unit {0}
+HasRoomToGreet (Some o) c = IsShort o × HasRoom o c
+
+-- the table in which a connection has been told the reply to its request
+abbrev pub with_answer : List PlainOutcome → ℕ × ConnectionView → List (ℕ × ConnectionView) → List (ℕ × ConnectionView)
+with_answer os e table = with_value nat_eq table e.0 (answered (last_reply os) e.1)
+
+-- the replies to the request of a connection, and the others of its event, have room
+pub record HasRoomToAnswer (os : List PlainOutcome) (e : ℕ × ConnectionView) (table : List (ℕ × ConnectionView))
+    : Type 0 where
+  pub own : e.1.process ≡ None → HasRoomToGreet (last_reply os) e.1
+  pub all : HaveRoom os (with_answer os e table)

@@ -1,0 +1,54 @@
+-- What holds of a hub after every call, and while it serves its connections.
+use Rattle.std.specs.Prelude.{◌≡◌, ◌≢◌, ℕ, ◌+◌, ◌≤◌, ◌^◌, true, false, List, length, nat_eq, Option, Some, None}
+use Rattle.std.specs.Prelude.{option_and_then}
+use Rattle.ipc_base.specs.Limits.{longest_reply}
+use Rattle.ipc_base.specs.Table.{value_at, keys_of, EachValue, IsRising}
+use Rattle.ipc_base.specs.declared.limits.Limits.{Limits}
+use Rattle.ipc_wire.specs.Stream.{first}
+use Rattle.ipc_wire.specs.Stream.PlainFrame.{More}
+use Rattle.ipc_state.specs.State.{State, is_process}
+use Rattle.ipc_hub.specs.View.{ConnectionView, HubView, kept}
+use Rattle.ipc_hub.specs.Relations.Delivery.{last_frame}
+
+-- the process of the connection that a number has
+abbrev pub process_in : List (ℕ × ConnectionView) → ℕ → Option ℕ
+process_in table conn = option_and_then (λ c. c.process) (value_at nat_eq table conn)
+
+-- each process of a connection is connected, and no other connection has it
+pub record AreOwn (s : State) (table : List (ℕ × ConnectionView)) : Type 0 where
+  pub connected : (conn pid : ℕ) → process_in table conn ≡ Some pid → is_process s pid ≡ true
+  pub one : (conn other pid : ℕ) → process_in table conn ≡ Some pid → process_in table other ≡ Some pid → conn ≡ other
+
+-- The bytes kept of a request are no whole frame. A connection that has not ended has room for its last frame. The
+-- longest reply and that frame have room in an empty outbox.
+pub record IsKept (limits : Limits) (c : ConnectionView) : Type 0 where
+  pub input : first c.input ≡ More
+  pub last : c.ended ≡ false → last_frame ≤ c.outbox.free
+  pub size : longest_reply limits + last_frame ≤ length (kept c.outbox) + c.outbox.free
+
+pub record HubInvariant (h : HubView) : Type 0 where
+  pub own : AreOwn h.state h.connections
+  pub each : EachValue (IsKept h.limits) h.connections
+  -- the numbers of the connections rise
+  pub rising : IsRising 0 (keys_of h.connections) (2 ^ 32)
+
+-- the same connections go on
+pub record GoesOn (old new : HubView) : Type 0 where
+  pub limits : new.limits ≡ old.limits
+  pub numbers : keys_of new.connections ≡ keys_of old.connections
+  pub invariant : HubInvariant new
+
+-- the process, if there is one, is connected
+abbrev pub IsConnected : State → Option ℕ → Type 0
+IsConnected s None = Unit {0}
+IsConnected s (Some pid) = is_process s pid ≡ true
+
+-- no connection has the process
+abbrev pub IsNobodys : List (ℕ × ConnectionView) → Option ℕ → Type 0
+IsNobodys table process = (conn pid : ℕ) → process ≡ Some pid → process_in table conn ≢ Some pid
+
+-- the connections without a process are as they were
+abbrev pub LeavesOthers : List (ℕ × ConnectionView) → List (ℕ × ConnectionView) → Type 0
+LeavesOthers old new =
+    (conn : ℕ) (c : ConnectionView) → value_at nat_eq old conn ≡ Some c → c.process ≡ None
+    → value_at nat_eq new conn ≡ Some c

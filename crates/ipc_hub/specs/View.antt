@@ -1,0 +1,52 @@
+-- What a caller sees of the hub: its limits, the state of its machine, and its connections by number, which rise.
+use Rattle.std.specs.Prelude.{◌≡◌, ℕ, Bool, false, nat_eq, List, [], ◌++◌, Option, is_some, option_map}
+use Rattle.std.specs.Prelude.{unwrap_or, IfSome}
+use Rattle.ipc_base.specs.declared.limits.Limits.{Limits}
+use Rattle.ipc_base.specs.Table.{value_at}
+use Rattle.ipc_state.specs.State.{State}
+
+-- the bytes of frames that a connection keeps
+pub record Outgoing : Type 0 where
+  -- those that the client may see
+  pub visible : List ℕ
+  -- those behind them, which wait to be released
+  pub waiting : List ℕ
+  -- how many more have room
+  pub free : ℕ
+
+pub record ConnectionView : Type 0 where
+  -- its process, once it has said HELLO and until it ends
+  pub process : Option ℕ
+  -- its bytes that are no whole frame yet
+  pub input : List ℕ
+  pub outbox : Outgoing
+  -- the server has ended it: what comes is dropped
+  pub ended : Bool
+
+pub record HubView : Type 0 where
+  pub limits : Limits
+  pub state : State
+  pub connections : List (ℕ × ConnectionView)
+
+-- the connection that has the number
+abbrev pub connection_of : HubView → ℕ → Option ConnectionView
+connection_of h conn = value_at nat_eq h.connections conn
+
+abbrev pub is_connected : HubView → ℕ → Bool
+is_connected h conn = is_some (connection_of h conn)
+
+-- the bytes that the client of a connection may see; none where no connection has the number
+abbrev pub output_of : HubView → ℕ → List ℕ
+output_of h conn = unwrap_or (option_map (λ c. c.outbox.visible) (connection_of h conn)) []
+
+-- whether the server has ended a connection; not so where none has the number
+abbrev pub ended_of : HubView → ℕ → Bool
+ended_of h conn = unwrap_or (option_map (λ c. c.ended) (connection_of h conn)) false
+
+-- the bytes that an outbox keeps
+abbrev pub kept : Outgoing → List ℕ
+kept o = o.visible ++ o.waiting
+
+-- no frame of the connection is kept
+abbrev pub HasNoFrame : HubView → ℕ → Type 0
+HasNoFrame h conn = IfSome (connection_of h conn) (λ c. kept c.outbox ≡ [])
