@@ -551,6 +551,44 @@ module _ {X : Type 0} (P : X → Type 0) where
       choice (EachValue P) (nat_lt k e.0) ((k, x) ∷ e ∷ es) (e ∷ with_entry es k x)
       (λ _. (new, each)) (λ _. (each.0, each-entry es k x each.1 new))
 
+-- ---- a table of numbers that rise, with an entry more
+
+module _ {X : Type 0} where
+  pub entry-other : (es : List (ℕ × X)) (k j : ℕ) (x : X) → j ≢ k → value_at nat_eq (with_entry es k x) j ≡ value_at nat_eq es j
+  entry-other [] k j x apart = rw (other_key k j (λ e. apart (sym e))) refl
+  entry-other (e ∷ es) k j x apart =
+      choice (λ (t : List (ℕ × X)). value_at nat_eq t j ≡ value_at nat_eq (e ∷ es) j) (nat_lt k e.0) ((k, x) ∷ e ∷ es) (e ∷ with_entry es k x)
+      (λ _. rw (other_key k j (λ f. apart (sym f))) refl)
+      (λ _. ap (λ (r : Option X). if nat_eq e.0 j then Some e.1 else r) (entry-other es k j x apart))
+
+  pub entry-at : (es : List (ℕ × X)) (k : ℕ) (x : X) → value_at nat_eq es k ≡ None → value_at nat_eq (with_entry es k x) k ≡ Some x
+  entry-at [] k x none = rw (same_key k) refl
+  entry-at (e ∷ es) k x none =
+      by_test (nat_eq e.0 k) refl (λ f. entry-at es k x (rw f at none))
+    where
+      by_test : (b : Bool) → nat_eq e.0 k ≡ b → (nat_eq e.0 k ≡ false → value_at nat_eq (with_entry es k x) k ≡ Some x)
+          → value_at nat_eq (with_entry (e ∷ es) k x) k ≡ Some x
+      by_test true t rest = let found : Some e.1 ≡ None = rw t at none in cc
+      by_test false f rest =
+          choice (λ (t : List (ℕ × X)). value_at nat_eq t k ≡ Some x) (nat_lt k e.0) ((k, x) ∷ e ∷ es) (e ∷ with_entry es k x)
+          (λ _. rw (same_key k) refl) (λ _. rw f (rest f))
+
+  pub rising-entry : (low : ℕ) (es : List (ℕ × X)) (high k : ℕ) (x : X) → IsRising low (keys_of es) high → low ≤ k → k < high
+      → value_at nat_eq es k ≡ None → IsRising low (keys_of (with_entry es k x)) high
+  rising-entry low [] high k x rising le lt none = (le, omega (arith, lt))
+  rising-entry low (e ∷ es) high k x rising le lt none =
+      let apart : nat_eq e.0 k ≡ false = missed (nat_eq e.0 k) none in
+      choice (λ (t : List (ℕ × X)). IsRising low (keys_of t) high) (nat_lt k e.0) ((k, x) ∷ e ∷ es) (e ∷ with_entry es k x)
+      (λ before. (le, (grind (arith, nat_tests, before), rising.1)))
+      (λ behind. (
+        rising.0,
+        rising-entry (e.0 + 1) es high k x rising.1 (grind (arith, nat_tests, behind, apart)) lt (rw apart at none),
+      ))
+    where
+      missed : (b : Bool) → (if b then Some e.1 else value_at nat_eq es k) ≡ None → b ≡ false
+      missed true is = cc
+      missed false is = refl
+
 module _ {X Y : Type 0} (P Q : X → Type 0) (P' : Y → Type 0) where
   -- each value seen in another way
   pub each-seen : (es : List (ℕ × X)) (f : X → Y) → EachValue P es → EachValue Q es → ((x : X) → P x → Q x → P' (f x))
