@@ -27,16 +27,16 @@ pub const GREATEST_LENGTH: u32 = 8448;
 pub const GREATEST_FRAME: usize = 4 + GREATEST_LENGTH as usize;
 
 /// The opcode of HELLO.
-pub const HELLO: u8 = 0x01;
+const HELLO: u8 = 0x01;
 
 /// The opcode of msgget(2).
-pub const MSGGET: u8 = 0x0a;
+const MSGGET: u8 = 0x0a;
 
 /// The opcode of msgsnd(2).
-pub const MSGSND: u8 = 0x0b;
+const MSGSND: u8 = 0x0b;
 
 /// The opcode of msgrcv(2).
-pub const MSGRCV: u8 = 0x0c;
+const MSGRCV: u8 = 0x0c;
 
 /// What stands at the front of the bytes. It takes no memory: the text of a message stays where it is.
 #[tactic(auto, unfolding(crate::specs::Stream::first, crate::specs::Stream::u32_at))]
