@@ -6,7 +6,8 @@ use Rattle.std.specs.List.{AllByRecursion}
 use Rattle.std.proofs.lemmas.Bool.{eqb-true, leb-true, le-leb, eq-eqb}
 use Rattle.std.proofs.lemmas.List.{length-append, length-drop, drop_at}
 use Rattle.ipc_wire.specs.Fields.{Values, total, values_of, values_bytes, AreInRange}
-use Rattle.ipc_wire.specs.Request.{PlainKind, Hello, Calls, Msgget, Msgsnd, Msgrcv}
+use Rattle.ipc_wire.specs.Request.{PlainKind, Hello, Calls}
+use Rattle.ipc_wire.specs.Request as requests
 use Rattle.ipc_wire.specs.Spelling.{opcode_of, fields_of}
 use Rattle.ipc_wire.specs.Stream.{fits_row, made_by, made_by_some, kind_of}
 use Rattle.ipc_wire.specs.Table.{Row, Parts, rows, row_among, row_of, parts_of}
@@ -26,9 +27,9 @@ record HasRow (kind : PlainKind) : Type 0 where
 
 has_row : (kind : PlainKind) → HasRow kind
 has_row (Hello cred) = record { row = refl; made = refl; rest = refl }
-has_row (Calls (Msgget key flags)) = record { row = refl; made = refl; rest = refl }
-has_row (Calls (Msgsnd id flags mtype text)) = record { row = refl; made = refl; rest = refl }
-has_row (Calls (Msgrcv id flags size mtype)) = record { row = refl; made = refl; rest = refl }
+has_row (Calls (requests.Msgget key flags)) = record { row = refl; made = refl; rest = refl }
+has_row (Calls (requests.Msgsnd id flags mtype text)) = record { row = refl; made = refl; rest = refl }
+has_row (Calls (requests.Msgrcv id flags size mtype)) = record { row = refl; made = refl; rest = refl }
 
 -- the requests of a row are taken apart into what made them
 abbrev Undoes : Row → Type 0

@@ -1,7 +1,8 @@
 -- The table of requests: a row for each has its opcode, what stands behind it, and the request that this makes.
 use Rattle.std.specs.Prelude.{ℕ, Bool, true, false, List, [], ◌∷◌, ◌==◌, if◌then◌else◌, Option, Some, None}
 use Rattle.ipc_wire.specs.Fields.{Kind, U32, I32, I64, Values}
-use Rattle.ipc_wire.specs.Request.{PlainKind, Hello, Calls, Msgget, Msgsnd, Msgrcv}
+use Rattle.ipc_wire.specs.Request.{PlainKind, Hello, Calls}
+use Rattle.ipc_wire.specs.Request as requests
 
 -- a row: the opcode, the fields, whether the rest of the frame follows them as bytes, and the request
 pub record Row : Type 0 where
@@ -27,7 +28,7 @@ msgget =
       opcode = 0x0a;
       fields = I32 ∷ U32 ∷ [];
       has_rest = false;
-      make = λ v rest. Calls (Msgget v.0 v.1.0);
+      make = λ v rest. Calls (requests.Msgget v.0 v.1.0);
     }
 
 -- id, flags, type; the rest is the text
@@ -37,7 +38,7 @@ msgsnd =
       opcode = 0x0b;
       fields = U32 ∷ U32 ∷ I64 ∷ [];
       has_rest = true;
-      make = λ v rest. Calls (Msgsnd v.0 v.1.0 v.1.1.0 rest);
+      make = λ v rest. Calls (requests.Msgsnd v.0 v.1.0 v.1.1.0 rest);
     }
 
 -- id, flags, size, type
@@ -47,7 +48,7 @@ msgrcv =
       opcode = 0x0c;
       fields = U32 ∷ U32 ∷ U32 ∷ I64 ∷ [];
       has_rest = false;
-      make = λ v rest. Calls (Msgrcv v.0 v.1.0 v.1.1.0 v.1.1.1.0);
+      make = λ v rest. Calls (requests.Msgrcv v.0 v.1.0 v.1.1.0 v.1.1.1.0);
     }
 
 abbrev pub rows : List Row
@@ -69,8 +70,8 @@ pub record Parts : Type 0 where
 
 abbrev pub parts_of : PlainKind → Parts
 parts_of (Hello cred) = record { row = hello; values = (cred.uid, (cred.gid, tt)); rest = [] }
-parts_of (Calls (Msgget key flags)) = record { row = msgget; values = (key, (flags, tt)); rest = [] }
-parts_of (Calls (Msgsnd id flags mtype text)) =
+parts_of (Calls (requests.Msgget key flags)) = record { row = msgget; values = (key, (flags, tt)); rest = [] }
+parts_of (Calls (requests.Msgsnd id flags mtype text)) =
     record { row = msgsnd; values = (id, (flags, (mtype, tt))); rest = text }
-parts_of (Calls (Msgrcv id flags size mtype)) =
+parts_of (Calls (requests.Msgrcv id flags size mtype)) =
     record { row = msgrcv; values = (id, (flags, (size, (mtype, tt)))); rest = [] }

@@ -11,7 +11,7 @@ ghost use Rattle.ipc_wire.specs.Stream.{
   kind_of,
   made_by,
 };
-ghost use Rattle.ipc_wire.specs.Table.{hello, msgget, msgsnd, msgrcv};
+ghost use Rattle.ipc_wire.specs.Table as table;
 ghost use Rattle.ipc_wire.specs.Stream.PlainFrame.{More};
 
 use crate::request::{Call, Frame, Request, RequestKind};
@@ -115,7 +115,7 @@ fn read_kind(opcode: u8, fields: &[u8]) -> Option<RequestKind<'_>>
 
 #[tactic(auto, unfolding(crate::specs::Fields::number_of))]
 fn read_hello(fields: &[u8]) -> Option<RequestKind<'_>>
-    ensures { option_map plain_kind result ≡ made_by hello fields.now }
+    ensures { option_map plain_kind result ≡ made_by table.hello fields.now }
 {
     let mut cursor = Cursor::new(fields);
     let uid = cursor.u32()?;
@@ -128,7 +128,7 @@ fn read_hello(fields: &[u8]) -> Option<RequestKind<'_>>
 
 #[tactic(auto, unfolding(crate::specs::Fields::number_of))]
 fn read_msgget(fields: &[u8]) -> Option<RequestKind<'_>>
-    ensures { option_map plain_kind result ≡ made_by msgget fields.now }
+    ensures { option_map plain_kind result ≡ made_by table.msgget fields.now }
 {
     let mut cursor = Cursor::new(fields);
     let key = cursor.i32()?;
@@ -141,7 +141,7 @@ fn read_msgget(fields: &[u8]) -> Option<RequestKind<'_>>
 
 #[tactic(auto, unfolding(crate::specs::Fields::number_of))]
 fn read_msgsnd(fields: &[u8]) -> Option<RequestKind<'_>>
-    ensures { option_map plain_kind result ≡ made_by msgsnd fields.now }
+    ensures { option_map plain_kind result ≡ made_by table.msgsnd fields.now }
 {
     let mut cursor = Cursor::new(fields);
     let id = Id(cursor.u32()?);
@@ -158,7 +158,7 @@ fn read_msgsnd(fields: &[u8]) -> Option<RequestKind<'_>>
 
 #[tactic(auto, unfolding(crate::specs::Fields::number_of))]
 fn read_msgrcv(fields: &[u8]) -> Option<RequestKind<'_>>
-    ensures { option_map plain_kind result ≡ made_by msgrcv fields.now }
+    ensures { option_map plain_kind result ≡ made_by table.msgrcv fields.now }
 {
     let mut cursor = Cursor::new(fields);
     let id = Id(cursor.u32()?);

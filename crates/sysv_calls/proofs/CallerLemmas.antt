@@ -10,7 +10,8 @@ use Rattle.ipc_base.specs.declared.identity.Cred.{Cred}
 use Rattle.ipc_base.specs.declared.limits.Limits.{Limits}
 use Rattle.ipc_base.specs.declared.errno.Errno.TheVariants.{ENOENT, EEXIST, EINVAL, ENOSPC, EAGAIN, ENOMSG, E2BIG}
 use Rattle.ipc_base.proofs.CallerLemmas.{message-is_bounded}
-use Rattle.ipc_wire.specs.Request.{PlainCall, Msgget, Msgsnd, Msgrcv}
+use Rattle.ipc_wire.specs.Request.{PlainCall}
+use Rattle.ipc_wire.specs.Request as requests
 use Rattle.ipc_wire.specs.declared.reply.Body.TheVariants.{Empty, Number, Message}
 use Rattle.sysv_msg.specs.Queue.{Queue, PlainMessage, is_allowed, sent, taken}
 use Rattle.ipc_state.specs.Objects.{Entry, last_number}
@@ -19,14 +20,15 @@ use Rattle.ipc_state.specs.Sound.{IsSound, IsSoundQueue, FitsBody}
 use Rattle.ipc_state.specs.State.{State, cred_of, with_queue, with_new_queue}
 use Rattle.ipc_state.proofs.CallerLemmas.{EndsSound, Ends, after-refuse, after-orelse, by-if_some, answered, read, ended-sound, ended-keeps}
 use Rattle.ipc_state.proofs.CallerLemmas.{with_new_queue-sound, with_queue-sound, queue-sound, sent-sound, taken-sound}
-use Rattle.sysv_calls.specs.Calls.{msgget, msgsnd, msgrcv, message_at, call_of, attempt}
+use Rattle.sysv_calls.specs.Calls.{message_at, call_of, attempt}
+use Rattle.sysv_calls.specs.Calls as defined
 
 not_false : (b : Bool) → not b ≡ false → b ≡ true
 not_false true h = refl
 not_false false h = cc
 
 module _ (limits : Limits) (s : State) where
-  msgget-ends : (cred : Cred) (key : ℤ) (flags : ℕ) → Ends limits s (msgget limits s cred key flags)
+  msgget-ends : (cred : Cred) (key : ℤ) (flags : ℕ) → Ends limits s (defined.msgget limits s cred key flags)
   msgget-ends cred key flags =
       by-if_some (λ id _. after-refuse EEXIST (λ _. read (Number id) (λ _. omega arith)))
       (λ unused. after-refuse ENOENT (λ _. after-refuse ENOSPC (λ room. answered (with_new_queue limits s key (perm_of cred flags)) (Number s.msg.next) (record {
@@ -35,7 +37,7 @@ module _ (limits : Limits) (s : State) where
         kept = refl;
       }))))
 
-  msgsnd-ends : (pid id : ℕ) (mtype : ℤ) (text : List ℕ) → Ends limits s (msgsnd limits s pid id mtype text)
+  msgsnd-ends : (pid id : ℕ) (mtype : ℤ) (text : List ℕ) → Ends limits s (defined.msgsnd limits s pid id mtype text)
   msgsnd-ends pid id mtype text =
       let m : PlainMessage = record { mtype = mtype; text = text } in
       after-refuse EINVAL (λ above. after-refuse EINVAL (λ short. after-orelse EINVAL (λ e is. after-refuse EAGAIN (λ fits.
@@ -56,7 +58,7 @@ module _ (limits : Limits) (s : State) where
       rw unwrap_or-slice_get (All-get_or (λ (m : PlainMessage). length m.text ≤ limits.msgmax) q.messages at none inside good.texts) in
       omega (arith, message-is_bounded limits (length (message_at q at).text) short)
 
-  msgrcv-ends : (pid id size : ℕ) (mtype : ℤ) → Ends limits s (msgrcv s pid id size mtype)
+  msgrcv-ends : (pid id size : ℕ) (mtype : ℤ) → Ends limits s (defined.msgrcv s pid id size mtype)
   msgrcv-ends pid id size mtype =
       after-refuse EINVAL {b = nat_lt last_number size} (λ _. after-orelse EINVAL (λ e is. after-orelse ENOMSG (λ at picked. after-refuse E2BIG (λ _.
       let q : Queue = e.object in
@@ -69,9 +71,9 @@ module _ (limits : Limits) (s : State) where
       })))))
 
   call-ends : (pid : ℕ) (call : PlainCall) → Ends limits s (call_of limits s pid call)
-  call-ends pid (Msgget key flags) = msgget-ends (cred_of s pid) key flags
-  call-ends pid (Msgsnd id flags mtype text) = msgsnd-ends pid id mtype text
-  call-ends pid (Msgrcv id flags size mtype) = msgrcv-ends pid id size mtype
+  call-ends pid (requests.Msgget key flags) = msgget-ends (cred_of s pid) key flags
+  call-ends pid (requests.Msgsnd id flags mtype text) = msgsnd-ends pid id mtype text
+  call-ends pid (requests.Msgrcv id flags size mtype) = msgrcv-ends pid id size mtype
 
 -- from a sound state a call ends in one, and its body fits
 pub attempt-sound : (limits : Limits) (s : State) (pid : ℕ) (call : PlainCall) → IsSound limits s → EndsSound limits (attempt limits s pid call)

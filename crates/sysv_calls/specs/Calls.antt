@@ -7,7 +7,8 @@ use Rattle.std.specs.Int.RustNames.{bit_and}
 use Rattle.ipc_base.specs.declared.errno.Errno.TheVariants.{ENOENT, EEXIST, EINVAL, ENOSPC, EAGAIN, ENOMSG, E2BIG}
 use Rattle.ipc_base.specs.declared.identity.Cred.{Cred}
 use Rattle.ipc_base.specs.declared.limits.Limits.{Limits}
-use Rattle.ipc_wire.specs.Request.{PlainCall, Msgget, Msgsnd, Msgrcv}
+use Rattle.ipc_wire.specs.Request.{PlainCall}
+use Rattle.ipc_wire.specs.Request as requests
 use Rattle.ipc_wire.specs.declared.reply.Body.TheVariants.{Empty, Number, Message}
 use Rattle.sysv_msg.specs.Queue.{Queue, PlainMessage, pick, full, sent, taken}
 use Rattle.ipc_state.specs.Objects.{keyed, is_full, last_number}
@@ -64,9 +65,9 @@ msgrcv s pid id size mtype = do
 
 -- each call by a process
 abbrev pub call_of : Limits → State → ℕ → PlainCall → Attempt Done
-call_of limits s pid (Msgget key flags) = msgget limits s (cred_of s pid) key flags
-call_of limits s pid (Msgsnd id flags mtype text) = msgsnd limits s pid id mtype text
-call_of limits s pid (Msgrcv id flags size mtype) = msgrcv s pid id size mtype
+call_of limits s pid (requests.Msgget key flags) = msgget limits s (cred_of s pid) key flags
+call_of limits s pid (requests.Msgsnd id flags mtype text) = msgsnd limits s pid id mtype text
+call_of limits s pid (requests.Msgrcv id flags size mtype) = msgrcv s pid id size mtype
 
 -- its attempt
 abbrev pub attempt : Limits → State → ℕ → PlainCall → Finish

@@ -5,12 +5,7 @@ ghost use Rattle.ipc_wire.specs.Request.{plain_call};
 ghost use Rattle.ipc_state.specs.Held.{HasTextRoom};
 ghost use Rattle.ipc_state.specs.Finish.{finish_of, ended};
 ghost use Rattle.ipc_state.specs.State.{is_process, cred_of};
-ghost use Rattle.sysv_calls.specs.Calls.{
-  attempt as attempt_of,
-  msgget as msgget_of,
-  msgsnd as msgsnd_of,
-  msgrcv as msgrcv_of,
-};
+ghost use Rattle.sysv_calls.specs.Calls as defined;
 ghost use Rattle.sysv_calls.specs.Needs.{IsReserved, takes_memory};
 
 use crate::memory::{Needs, needed_by};
@@ -43,7 +38,7 @@ pub fn attempt(state: &mut State, pid: Pid, call: &Call<'_>) -> Answer
     requires room { IsReserved state.old.room (plain_call call.now) }
     requires process { is_process state.old.state pid.0 ≡ true }
     ensures finish { finish_of state.new.state result
-        ≡ attempt_of state.old.limits state.old.state pid.0 (plain_call call.now) }
+        ≡ defined.attempt state.old.limits state.old.state pid.0 (plain_call call.now) }
     ensures limits { state.new.limits ≡ state.old.limits }
 {
     match call {
@@ -68,7 +63,7 @@ fn msgget(state: &mut State, pid: Pid, key: i32, flags: GetFlags) -> Answer
     requires room { state.old.room.queue ≡ true }
     requires process { is_process state.old.state pid.0 ≡ true }
     ensures finish { finish_of state.new.state result ≡ ended state.old.state
-        (msgget_of state.old.limits state.old.state (cred_of state.old.state pid.0) key flags.0) }
+        (defined.msgget state.old.limits state.old.state (cred_of state.old.state pid.0) key flags.0) }
     ensures limits { state.new.limits ≡ state.old.limits }
 {
     if let Some(id) = state.queue_of_key(key) {
@@ -91,7 +86,7 @@ fn msgget(state: &mut State, pid: Pid, key: i32, flags: GetFlags) -> Answer
 fn msgsnd(state: &mut State, pid: Pid, id: Id, mtype: i64, text: &[u8]) -> Answer
     requires { HasTextRoom state.old.room.texts id.0 (length text.now) }
     ensures finish { finish_of state.new.state result
-        ≡ ended state.old.state (msgsnd_of state.old.limits state.old.state pid.0 id.0 mtype text.now) }
+        ≡ ended state.old.state (defined.msgsnd state.old.limits state.old.state pid.0 id.0 mtype text.now) }
     ensures limits { state.new.limits ≡ state.old.limits }
 {
     if mtype <= 0 || text.len() > state.limits().msgmax as usize {
@@ -110,7 +105,7 @@ fn msgsnd(state: &mut State, pid: Pid, id: Id, mtype: i64, text: &[u8]) -> Answe
 /// msgrcv of msgop(2).
 fn msgrcv(state: &mut State, pid: Pid, id: Id, size: u32, mtype: i64) -> Answer
     ensures finish { finish_of state.new.state result
-        ≡ ended state.old.state (msgrcv_of state.old.state pid.0 id.0 size mtype) }
+        ≡ ended state.old.state (defined.msgrcv state.old.state pid.0 id.0 size mtype) }
     ensures limits { state.new.limits ≡ state.old.limits }
 {
     if size > LAST_NUMBER {
