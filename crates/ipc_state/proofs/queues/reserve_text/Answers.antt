@@ -3,7 +3,7 @@ use Rattle.std.specs.Prelude.{IfSome}
 use Rattle.std.proofs.lemmas.Result.{on_ok_weaker}
 use Rattle.sysv_msg.specs.Queue.{Kept}
 use Rattle.ipc_state.specs.Objects.{Entry}
-use Rattle.ipc_state.specs.Tables.{queue_in, queue_entry, room_in}
+use Rattle.ipc_state.specs.Tables.{queue_in, room_in}
 use Rattle.ipc_state.proofs.Places.{place_of, missing, put_there, put_alike}
 use Rattle.ipc_state.proofs.queues.reserve_text.Goals as goal
 
@@ -19,7 +19,7 @@ pub returns-clause-queues : goal.returns-clause-queues
 returns-clause-queues c =
     let entry = c.index_mut-entry.result.now in
     let at : place_of c.args.queues.now c.args.id.0 ≡ Some c.in-Some.place = sym c.place.ensures ∙ c.in-Some.is in
-    put_alike queue_in c.args.queues.now c.args.id.0 c.in-Some.place entry (queue_entry entry) c.reserve.new.self at c.index_mut-entry.ensures.value
+    put_alike queue_in c.args.queues.now c.args.id.0 c.in-Some.place entry c.reserve.new.self at c.index_mut-entry.ensures.value
     c.reserve.ensures.queue
 
 pub returns-clause-ok : goal.returns-clause-ok

@@ -1,28 +1,15 @@
-use Rattle.std.proofs.Common.{◌≡◌, ℤ, false, None, refl, sym, subst, ap, ◌∙◌}
+use Rattle.std.proofs.Common.{◌≡◌, false, None, sym, subst, ap, ◌∙◌}
 use Rattle.std.specs.Int.{w32, cast_signed as to_z, cast_unsigned as of_z}
 use Rattle.std.proofs.lemmas.Int.{to_z-of_z}
-use Rattle.sysv_msg.specs.Queue.{Queue, Kept}
-use Rattle.ipc_state.specs.declared.perm.Perm.{Perm}
+use Rattle.sysv_msg.specs.Queue.{Queue}
 use Rattle.ipc_state.specs.Held.{Held}
-use Rattle.ipc_state.specs.Objects.{Objects, Entry, keyed, is_full, with_new, objects_map}
+use Rattle.ipc_state.specs.Objects.{Objects, keyed, is_full}
 use Rattle.ipc_state.specs.Sound.{IsSound}
 use Rattle.ipc_state.specs.State.{State, with_new_queue}
 use Rattle.ipc_state.specs.Tables.{state_of, objects_of, queue_in}
-use Rattle.ipc_state.proofs.SoundObjects.{map-with_new}
+use Rattle.ipc_state.proofs.Places.{added}
 use Rattle.ipc_state.proofs.CallerLemmas.{with_new_queue-sound}
 use Rattle.ipc_state.proofs.state.State.add_queue.Goals as goal
-
--- the objects with one more, as the calls below say it, and as the definition has it
-added : (s : State) (o new : Objects Kept) (key given : ℤ) (perm : Perm) (k : Kept) (q : Queue) → s.msg ≡ objects_map queue_in o
-    → new ≡ with_new o (record { key = given; perm = perm; object = k }) → given ≡ key → k.queue ≡ q
-    → objects_map queue_in new ≡ with_new s.msg (record { key = key; perm = perm; object = q })
-added s o new key given perm k q was is same empty =
-    let e : Entry Kept = record { key = given; perm = perm; object = k } in
-    let made : ℤ → Queue → Entry Queue = λ (n : ℤ) (p : Queue). record { key = n; perm = perm; object = p } in
-    ap (objects_map queue_in) is
-    ∙ (map-with_new queue_in o e
-    ∙ (ap (λ (n : ℤ). with_new (objects_map queue_in o) (made n k.queue)) same
-    ∙ (ap (λ (p : Queue). with_new (objects_map queue_in o) (made key p)) empty ∙ ap (λ (b : Objects Queue). with_new b (made key q)) (sym was))))
 
 pub invariant_of-self : goal.invariant_of-self
 invariant_of-self c =
@@ -31,7 +18,7 @@ invariant_of-self c =
     let e : to_z w32 (of_z w32 c.args.key) ≡ c.args.key = to_z-of_z w32 c.args.key c.ranges.key in
     let is : state_of t.clock t.next_pid t.processes c.add.new.self ≡ with_new_queue t.limits s c.args.key c.args.perm =
     ap (λ (o : Objects Queue). record s { msg = o })
-    (added s (objects_of t.msg) (objects_of c.add.new.self) c.args.key _ c.args.perm c.new-queue.result _ refl c.add.ensures.objects e c.new-queue.ensures.queue) in
+    (added queue_in (objects_of t.msg) (objects_of c.add.new.self) c.args.key _ c.args.perm c.new-queue.result _ c.add.ensures.objects e c.new-queue.ensures.queue) in
     let unused : keyed s.msg c.args.key ≡ None = subst (λ (m : Held). keyed m.state.msg c.args.key ≡ None) (sym c.self.view_is) c.requires.unused in
     let room : is_full t.limits.msgmni s.msg ≡ false =
     subst (λ (m : Held). is_full m.limits.msgmni m.state.msg ≡ false) (sym c.self.view_is) c.requires.more in (
@@ -45,5 +32,5 @@ returns-clause-state c =
     let s : State = state_of t.clock t.next_pid t.processes t.msg in
     let e : to_z w32 (of_z w32 c.args.key) ≡ c.args.key = to_z-of_z w32 c.args.key c.ranges.key in
     ap (λ (o : Objects Queue). record s { msg = o })
-    (added s (objects_of t.msg) (objects_of c.add.new.self) c.args.key _ c.args.perm c.new-queue.result _ refl c.add.ensures.objects e c.new-queue.ensures.queue)
+    (added queue_in (objects_of t.msg) (objects_of c.add.new.self) c.args.key _ c.args.perm c.new-queue.result _ c.add.ensures.objects e c.new-queue.ensures.queue)
     ∙ ap (λ (m : Held). with_new_queue m.limits m.state c.args.key c.args.perm) c.self.view_is
