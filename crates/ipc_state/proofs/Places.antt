@@ -7,7 +7,7 @@ use Rattle.ipc_base.specs.Table.{value_at, with_value}
 use Rattle.ipc_state.specs.declared.objects.Entry.{Entry as Row}
 use Rattle.ipc_state.specs.declared.objects.Objects.{Objects as Tables}
 use Rattle.ipc_state.specs.declared.perm.Perm.{Perm}
-use Rattle.ipc_state.specs.Objects.{Objects, Entry, entry_of, with_entry, with_new, entry_map, objects_map, AreSound}
+use Rattle.ipc_state.specs.Objects.{Objects, Entry, holding, entry_of, with_entry, with_new, entry_map, objects_map, AreSound}
 use Rattle.ipc_state.specs.Tables.{objects_of, entry_in, entry_row}
 use Rattle.ipc_state.proofs.SoundObjects.{map-with_new, entry-sound}
 
@@ -16,11 +16,11 @@ abbrev pub place_of : {T : Type 0} → Tables T → ℕ → Option ℕ
 place_of {T} o id = position (λ (e : Row T). nat_eq e.id.0 id) o.entries.items
 
 -- an entry with another object, and the tables with that at its place
-abbrev pub holding : {T : Type 0} → Row T → T → Row T
-holding e x = record { id = e.id; key = e.key; perm = e.perm; object = x }
+abbrev pub row_with : {T : Type 0} → Row T → T → Row T
+row_with e x = record { id = e.id; key = e.key; perm = e.perm; object = x }
 
 abbrev pub with_object : {T : Type 0} → Tables T → ℕ → Row T → T → Tables T
-with_object o place e x = record o { entries = with_item o.entries place (holding e x) }
+with_object o place e x = record o { entries = with_item o.entries place (row_with e x) }
 
 module _ {T Y : Type 0} (see : Entry T → Y) where
   abbrev pub seen : Tables T → List (ℕ × Y)
@@ -37,7 +37,8 @@ module _ {T Y : Type 0} (see : Entry T → Y) where
     pub missing : place_of o id ≡ None → value_at nat_eq (seen o) id ≡ None
     missing none = ap (λ (es : List (ℕ × Y)). value_at nat_eq es id) (rows o.entries.items) ∙ value_nowhere row nat_eq id o.entries.items none
 
-    pub found : (place : ℕ) (e : Row T) → place_of o id ≡ Some place → e ≡ get_or o.entries.items place e → value_at nat_eq (seen o) id ≡ Some (see (entry_in e))
+    pub found : (place : ℕ) (e : Row T) → place_of o id ≡ Some place → e ≡ get_or o.entries.items place e
+        → value_at nat_eq (seen o) id ≡ Some (see (entry_in e))
     found place e at is =
         ap (λ (es : List (ℕ × Y)). value_at nat_eq es id) (rows o.entries.items) ∙ value_at_place row nat_eq id o.entries.items place e at is
 
@@ -45,24 +46,24 @@ module _ {T Y : Type 0} (see : Entry T → Y) where
     has_place = ap (λ (es : List (ℕ × Y)). is_some (value_at nat_eq es id)) (rows o.entries.items) ∙ is_some_value row nat_eq id o.entries.items
 
     pub put : (place : ℕ) (e : Row T) (x : T) → place_of o id ≡ Some place → e ≡ get_or o.entries.items place e
-        → seen (with_object o place e x) ≡ with_value nat_eq (seen o) id (see (entry_in (holding e x)))
+        → seen (with_object o place e x) ≡ with_value nat_eq (seen o) id (see (entry_in (row_with e x)))
     put place e x at is =
         rows (with_object o place e x).entries.items
-        ∙ (set_at_place row nat_eq id o.entries.items place e (holding e x) at is refl
-        ∙ ap (λ (es : List (ℕ × Y)). with_value nat_eq es id (see (entry_in (holding e x)))) (sym (rows o.entries.items)))
+        ∙ (set_at_place row nat_eq id o.entries.items place e (row_with e x) at is refl
+        ∙ ap (λ (es : List (ℕ × Y)). with_value nat_eq es id (see (entry_in (row_with e x)))) (sym (rows o.entries.items)))
 
     pub put_same : (place : ℕ) (e : Row T) (x : T) → place_of o id ≡ Some place → e ≡ get_or o.entries.items place e
-        → see (entry_in (holding e x)) ≡ see (entry_in e) → seen (with_object o place e x) ≡ seen o
+        → see (entry_in (row_with e x)) ≡ see (entry_in e) → seen (with_object o place e x) ≡ seen o
     put_same place e x at is same =
         rows (with_object o place e x).entries.items
-        ∙ (set_same_at_place row nat_eq id o.entries.items place e (holding e x) at is (ap (λ (y : Y). (e.id.0, y)) same) ∙ sym (rows o.entries.items))
+        ∙ (set_same_at_place row nat_eq id o.entries.items place e (row_with e x) at is (ap (λ (y : Y). (e.id.0, y)) same) ∙ sym (rows o.entries.items))
 
     -- what stands there then
     pub put_there : (place : ℕ) (e : Row T) (x : T) → place_of o id ≡ Some place → e ≡ get_or o.entries.items place e
-        → value_at nat_eq (seen (with_object o place e x)) id ≡ Some (see (entry_in (holding e x)))
+        → value_at nat_eq (seen (with_object o place e x)) id ≡ Some (see (entry_in (row_with e x)))
     put_there place e x at is =
         ap (λ (es : List (ℕ × Y)). value_at nat_eq es id) (put place e x at is)
-        ∙ at-with (seen o) id (see (entry_in (holding e x))) (see (entry_in e)) (found place e at is)
+        ∙ at-with (seen o) id (see (entry_in (row_with e x))) (see (entry_in e)) (found place e at is)
 
 -- ---- the objects of a kind, each seen in some way
 
@@ -105,11 +106,11 @@ module _ {T X : Type 0} (see : T → X) where
     -- another object at the place is another at the identifier
     pub put_object : (x : T) (y : X) → place_of o id ≡ Some place → e ≡ get_or o.entries.items place e
         → entry_of (objects_map see (objects_of o)) id ≡ Some f → see x ≡ y
-        → objects_map see (objects_of (with_object o place e x)) ≡ with_entry (objects_map see (objects_of o)) id (record f { object = y })
+        → objects_map see (objects_of (with_object o place e x)) ≡ with_entry (objects_map see (objects_of o)) id (holding f y)
     put_object x y at is has same =
         let before : Objects X = objects_map see (objects_of o) in
-        let new : entry_as (holding e x) ≡ record f { object = y } =
-        ap (λ (g : Entry X). record g { object = see x }) (found_is at is has) ∙ ap (λ (z : X). record f { object = z }) same in
+        let new : entry_as (row_with e x) ≡ holding f y =
+        ap (λ (g : Entry X). holding g (see x)) (found_is at is has) ∙ ap (holding f) same in
         ap (λ (es : List (ℕ × Entry X)). record before { entries = es })
         (put (entry_map see) o id place e x at is ∙ ap (λ (g : Entry X). with_value nat_eq before.entries id g) new)
 

@@ -39,7 +39,8 @@ found_new : (ks : List (ℤ × ℕ)) (key : ℤ) (n : ℕ) → value_at int_eq k
 found_new [] key n none = rw (int_eq_equiv.refl key) refl
 found_new (k ∷ ks) key n none = by_test (int_eq k.0 key) none (found_new ks key n)
   where
-    by_test : (b : Bool) → cond b (Some k.1) (value_at int_eq ks key) ≡ None → (value_at int_eq ks key ≡ None → value_at int_eq (ks ++ (key, n) ∷ []) key ≡ Some n)
+    by_test : (b : Bool) → cond b (Some k.1) (value_at int_eq ks key) ≡ None
+        → (value_at int_eq ks key ≡ None → value_at int_eq (ks ++ (key, n) ∷ []) key ≡ Some n)
         → cond b (Some k.1) (value_at int_eq (ks ++ (key, n) ∷ []) key) ≡ Some n
     by_test true none later = cc
     by_test false none later = later none

@@ -1,5 +1,6 @@
--- The objects of one kind (sysvipc(7)): each has an identifier, counted from 1 and never given twice, a key, and who may
--- use it. A key names one object at most; IPC_PRIVATE, which is 0, names none, and any number of objects may have it.
+-- The objects of one kind (sysvipc(7)): each has an identifier, counted from 1 and never given twice, a key, and who
+-- may use it. A key names one object at most; IPC_PRIVATE, which is 0, names none, and any number of objects may have
+-- it.
 use Rattle.std.specs.Prelude.{◌≡◌, ◌≢◌, ℕ, ℤ, pos, ◌+◌, ◌≤◌, Bool, ◌||◌, if◌then◌else◌, List}
 use Rattle.std.specs.Prelude.{[], ◌∷◌, ◌++◌, length, map}
 use Rattle.std.specs.Prelude.{nat_eq, nat_le, nat_lt, Option, Some, None, All}
@@ -44,6 +45,10 @@ keyed o key = if int_eq key (pos 0) then None else value_at int_eq (keys_in o) k
 -- no object can be added: there are as many as the limit says, or no identifier is left
 abbrev pub is_full : {X : Type 0} → ℕ → Objects X → Bool
 is_full most o = nat_le most (length o.entries) || nat_lt last_number o.next
+
+-- an entry with another object
+abbrev pub holding : {X : Type 0} → Entry X → X → Entry X
+holding e x = record e { object = x }
 
 -- with another entry at an identifier that there is
 abbrev pub with_entry : {X : Type 0} → Objects X → ℕ → Entry X → Objects X

@@ -22,7 +22,7 @@ ghost use Rattle.std.specs.Prelude.{
 ghost use Rattle.ipc_base.specs.Limits.{ArePassed};
 ghost use Rattle.sysv_msg.specs.Queue.{Queue, plain, sent, taken, full};
 ghost use Rattle.ipc_state.specs.Held.{HasTextRoom};
-ghost use Rattle.ipc_state.specs.Objects.{Entry as PlainEntry, keyed, is_full};
+ghost use Rattle.ipc_state.specs.Objects.{Entry as PlainEntry, holding, keyed, is_full};
 ghost use Rattle.ipc_state.specs.Sound.{IsSound, IsSoundQueue, HasNumbers};
 ghost use Rattle.ipc_state.specs.State.{
   start,
@@ -228,9 +228,8 @@ impl State {
             → full e.object (length text.now) ≡ false }
         requires room { HasTextRoom self.old.room.texts id.0 (length text.now) }
         ensures state { (e : PlainEntry Queue) → queue_of self.old.state id.0 ≡ Some e
-            → self.new.state ≡ with_queue self.old.state id.0 (record e {
-              object = sent e.object (record { mtype = mtype; text = text.now }) pid.0 self.old.state.clock;
-            }) }
+            → self.new.state ≡ with_queue self.old.state id.0
+            (holding e (sent e.object (record { mtype = mtype; text = text.now }) pid.0 self.old.state.clock)) }
         ensures limits { self.new.limits ≡ self.old.limits }
     {
         queues::send(&mut self.msg, id, mtype, text, pid, self.clock);
@@ -243,7 +242,7 @@ impl State {
             → at < length e.object.messages }
         ensures state { (e : PlainEntry Queue) → queue_of self.old.state id.0 ≡ Some e
             → self.new.state ≡ with_queue self.old.state id.0
-            (record e { object = taken e.object at pid.0 self.old.state.clock }) }
+            (holding e (taken e.object at pid.0 self.old.state.clock)) }
         ensures message { (e : PlainEntry Queue) → queue_of self.old.state id.0 ≡ Some e
             → slice_get e.object.messages at ≡ Some (plain result) }
         ensures limits { self.new.limits ≡ self.old.limits }

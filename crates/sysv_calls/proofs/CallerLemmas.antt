@@ -14,7 +14,7 @@ use Rattle.ipc_wire.specs.Request.{PlainCall}
 use Rattle.ipc_wire.specs.Request as requests
 use Rattle.ipc_wire.specs.declared.reply.Body.TheVariants.{Empty, Number, Message}
 use Rattle.sysv_msg.specs.Queue.{Queue, PlainMessage, is_allowed, sent, taken}
-use Rattle.ipc_state.specs.Objects.{Entry, last_number}
+use Rattle.ipc_state.specs.Objects.{Entry, holding, last_number}
 use Rattle.ipc_state.specs.Perm.{perm_of}
 use Rattle.ipc_state.specs.Sound.{IsSound, IsSoundQueue, FitsBody}
 use Rattle.ipc_state.specs.State.{State, cred_of, with_queue, with_new_queue}
@@ -31,7 +31,8 @@ module _ (limits : Limits) (s : State) where
   msgget-ends : (cred : Cred) (key : ℤ) (flags : ℕ) → Ends limits s (defined.msgget limits s cred key flags)
   msgget-ends cred key flags =
       by-if_some (λ id _. after-refuse EEXIST (λ _. read (Number id) (λ _. omega arith)))
-      (λ unused. after-refuse ENOENT (λ _. after-refuse ENOSPC (λ room. answered (with_new_queue limits s key (perm_of cred flags)) (Number s.msg.next) (record {
+      (λ unused. after-refuse ENOENT (λ _. after-refuse ENOSPC (λ room.
+      answered (with_new_queue limits s key (perm_of cred flags)) (Number s.msg.next) (record {
         state = λ h. with_new_queue-sound limits s key (perm_of cred flags) unused room h;
         body = λ _. omega arith;
         kept = refl;
@@ -41,7 +42,7 @@ module _ (limits : Limits) (s : State) where
   msgsnd-ends pid id mtype text =
       let m : PlainMessage = record { mtype = mtype; text = text } in
       after-refuse EINVAL (λ above. after-refuse EINVAL (λ short. after-orelse EINVAL (λ e is. after-refuse EAGAIN (λ fits.
-      let new : Entry Queue = record e { object = sent e.object m pid s.clock } in
+      let new : Entry Queue = holding e (sent e.object m pid s.clock) in
       answered (with_queue s id new) Empty (record {
         state = λ h. with_queue-sound limits s id e new is refl
             (sent-sound limits e.object m pid s.clock fits (not_false (int_lt (pos 0) mtype) above) (ltb-false _ _ short) (queue-sound limits s id e is h)) h;
@@ -62,7 +63,7 @@ module _ (limits : Limits) (s : State) where
   msgrcv-ends pid id size mtype =
       after-refuse EINVAL {b = nat_lt last_number size} (λ _. after-orelse EINVAL (λ e is. after-orelse ENOMSG (λ at picked. after-refuse E2BIG (λ _.
       let q : Queue = e.object in
-      let new : Entry Queue = record e { object = taken q at pid s.clock } in
+      let new : Entry Queue = holding e (taken q at pid s.clock) in
       let inside : at < length q.messages = (position-Some (is_allowed q.messages mtype false) q.messages at (record { mtype = pos 0; text = [] }) picked).0 in
       answered (with_queue s id new) (Message (message_at q at).mtype (message_at q at).text) (record {
         state = λ h. with_queue-sound limits s id e new is refl (taken-sound limits q at pid s.clock inside (queue-sound limits s id e is h)) h;

@@ -11,7 +11,7 @@ use Rattle.ipc_wire.specs.Request.{PlainCall}
 use Rattle.ipc_wire.specs.Request as requests
 use Rattle.ipc_wire.specs.declared.reply.Body.TheVariants.{Empty, Number, Message}
 use Rattle.sysv_msg.specs.Queue.{Queue, PlainMessage, pick, full, sent, taken}
-use Rattle.ipc_state.specs.Objects.{keyed, is_full, last_number}
+use Rattle.ipc_state.specs.Objects.{holding, keyed, is_full, last_number}
 use Rattle.ipc_state.specs.Perm.{perm_of}
 use Rattle.ipc_state.specs.State.{State, cred_of, queue_of, with_queue, with_new_queue}
 use Rattle.ipc_state.specs.Finish.{Finish, Attempt, Done, ended, answer, refuse, if_some, ◌orelse◌, ◌>>◌}
@@ -47,7 +47,7 @@ msgsnd limits s pid id mtype text = do
   refuse EINVAL (nat_lt limits.msgmax (length text))
   e ← queue_of s id orelse EINVAL
   refuse EAGAIN (full e.object (length text))
-  answer (with_queue s id (record e { object = sent e.object (record { mtype = mtype; text = text }) pid s.clock })) Empty
+  answer (with_queue s id (holding e (sent e.object (record { mtype = mtype; text = text }) pid s.clock))) Empty
 
 -- the message at a place that a queue has
 abbrev pub message_at : Queue → ℕ → PlainMessage
@@ -60,7 +60,7 @@ msgrcv s pid id size mtype = do
   e ← queue_of s id orelse EINVAL
   at ← pick e.object.messages mtype false orelse ENOMSG
   refuse E2BIG (nat_lt size (length (message_at e.object at).text))
-  answer (with_queue s id (record e { object = taken e.object at pid s.clock }))
+  answer (with_queue s id (holding e (taken e.object at pid s.clock)))
       (Message (message_at e.object at).mtype (message_at e.object at).text)
 
 -- each call by a process

@@ -5,7 +5,7 @@ use Rattle.std.proofs.lemmas.Int.{to_z-of_z}
 use Rattle.sysv_msg.specs.Queue.{Queue, PlainMessage, pick, plain, taken}
 use Rattle.ipc_wire.specs.declared.reply.Body.TheVariants.{Message}
 use Rattle.ipc_state.specs.Finish.{done}
-use Rattle.ipc_state.specs.Objects.{Entry, last_number}
+use Rattle.ipc_state.specs.Objects.{Entry, holding, last_number}
 use Rattle.ipc_state.specs.State.{State, queue_of, with_queue}
 use Rattle.ipc_state.specs.Tables.{queue_entry}
 use Rattle.sysv_calls.specs.Calls.{message_at}
@@ -59,7 +59,7 @@ returns-clause-finish c =
     let shorter : nat_lt c.args.size (length c.message.result.now.text.items) ≡ false = search rules in
     let short : nat_lt c.args.size (length (message_at q at).text) ≡ false = ap (λ (m : PlainMessage). nat_lt c.args.size (length m.text)) is ∙ shorter in
     let f : to_z w64 (of_z w64 got.mtype) ≡ got.mtype = to_z-of_z w64 got.mtype (search rules) in
-    let new : State = with_queue s c.args.id.0 (record e { object = taken q at c.args.pid.0 s.clock }) in
+    let new : State = with_queue s c.args.id.0 (holding e (taken q at c.args.pid.0 s.clock)) in
     ap (λ (t : State). done t (Message (to_z w64 (of_z w64 got.mtype)) got.text.items)) (c.take-message.ensures.state e found)
     ∙ (ap (λ (z : ℤ). done new (Message z got.text.items)) f
     ∙ (ap (λ (m : PlainMessage). done new (Message m.mtype m.text)) (sym got_is)

@@ -18,7 +18,8 @@ invariant_of-self c =
     let e : to_z w32 (of_z w32 c.args.key) ≡ c.args.key = to_z-of_z w32 c.args.key c.ranges.key in
     let is : state_of t.clock t.next_pid t.processes c.add.new.self ≡ with_new_queue t.limits s c.args.key c.args.perm =
     ap (λ (o : Objects Queue). record s { msg = o })
-    (added queue_in (objects_of t.msg) (objects_of c.add.new.self) c.args.key _ c.args.perm c.new-queue.result _ c.add.ensures.objects e c.new-queue.ensures.queue) in
+    (added queue_in (objects_of t.msg) (objects_of c.add.new.self) c.args.key _ c.args.perm c.new-queue.result _ c.add.ensures.objects e
+    c.new-queue.ensures.queue) in
     let unused : keyed s.msg c.args.key ≡ None = subst (λ (m : Held). keyed m.state.msg c.args.key ≡ None) (sym c.self.view_is) c.requires.unused in
     let room : is_full t.limits.msgmni s.msg ≡ false =
     subst (λ (m : Held). is_full m.limits.msgmni m.state.msg ≡ false) (sym c.self.view_is) c.requires.more in (
@@ -32,5 +33,6 @@ returns-clause-state c =
     let s : State = state_of t.clock t.next_pid t.processes t.msg in
     let e : to_z w32 (of_z w32 c.args.key) ≡ c.args.key = to_z-of_z w32 c.args.key c.ranges.key in
     ap (λ (o : Objects Queue). record s { msg = o })
-    (added queue_in (objects_of t.msg) (objects_of c.add.new.self) c.args.key _ c.args.perm c.new-queue.result _ c.add.ensures.objects e c.new-queue.ensures.queue)
+    (added queue_in (objects_of t.msg) (objects_of c.add.new.self) c.args.key _ c.args.perm c.new-queue.result _ c.add.ensures.objects e
+    c.new-queue.ensures.queue)
     ∙ ap (λ (m : Held). with_new_queue m.limits m.state c.args.key c.args.perm) c.self.view_is
