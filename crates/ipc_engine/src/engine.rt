@@ -214,7 +214,8 @@ fn reserve_kind(state: &mut State, kind: &RequestKind<'_>) -> Result<(), AllocEr
 
 /// How a request of a process ends, whose memory is reserved. It takes none.
 fn ask(state: &mut State, pid: Pid, kind: &RequestKind<'_>) -> Answer
-    requires { IsReadyFor state.old.room (plain_kind kind.now) }
+    requires room { IsReadyFor state.old.room (plain_kind kind.now) }
+    requires process { is_process state.old.state pid.0 ≡ true }
     ensures finish { finish_of state.new.state result
         ≡ asked state.old.limits state.old.state pid.0 (plain_kind kind.now) }
     ensures limits { state.new.limits ≡ state.old.limits }

@@ -49,18 +49,10 @@ impl Outcome {
     pub fn reply(&self) -> Reply<'_>
         ensures { plain_reply result ≡ reply_of (plain_outcome self.now) }
     {
-        let body = match &self.body {
-            Body::Empty => Body::Empty,
-            Body::Number(number) => Body::Number(*number),
-            Body::Message { mtype, text } => Body::Message {
-                mtype: *mtype,
-                text: text.as_slice(),
-            },
-        };
         Reply {
             serial: self.serial,
             errno: self.errno,
-            body,
+            body: self.body.borrowed(),
         }
     }
 }

@@ -10,15 +10,17 @@ use Rattle.std.proofs.lemmas.List.Sums.{sum_by-append, sum_by-remove}
 use Rattle.ipc_base.specs.declared.limits.Limits.{Limits}
 use Rattle.ipc_base.specs.declared.identity.Cred.{Cred}
 use Rattle.ipc_base.specs.Table.{keys_of}
-use Rattle.ipc_base.proofs.CallerLemmas.{rising-push, rising-without, length-without}
+use Rattle.ipc_base.specs.Limits.{ArePassed}
+use Rattle.ipc_base.proofs.CallerLemmas.{rising-push, rising-without, length-without, passed-bounds}
 use Rattle.sysv_msg.specs.Queue.{Queue, PlainMessage, new_queue, full, byte_count, sent, taken}
-use Rattle.ipc_state.specs.Objects.{keyed, is_full, last_number}
+use Rattle.ipc_state.specs.Objects.{Entry, keyed, is_full, last_number}
+use Rattle.ipc_state.specs.declared.perm.Perm.{Perm}
 use Rattle.ipc_state.specs.State.{State, start, at_moment, has_all_processes, with_process, exit, queue_of, with_queue, with_new_queue}
 use Rattle.ipc_base.specs.declared.errno.Errno.{Errno}
-use Rattle.ipc_state.specs.Sound.{IsSound, IsSoundQueue, FitsBody}
+use Rattle.ipc_state.specs.Sound.{IsSound, IsSoundQueue, HasNumbers, FitsBody}
 use Rattle.ipc_wire.specs.Reply.{PlainBody}
 use Rattle.ipc_state.specs.Finish.{Finish, Attempt, Done, ended, answer, refuse, ◌orelse◌, ◌>>◌, ◌>>=◌, if_some}
-use Rattle.ipc_state.proofs.SoundObjects.{neither, no_objects-sound, with_new-sound, with_object-sound, object-sound}
+use Rattle.ipc_state.proofs.SoundObjects.{neither, no_objects-sound, with_new-sound, with_entry-sound, entry-sound}
 
 -- a message has a type above 0
 abbrev IsTyped : PlainMessage → Type 0
@@ -66,27 +68,36 @@ module _ (limits : Limits) where
   new_queue-sound : (moment : ℕ) → IsSoundQueue limits (new_queue limits.msgmnb moment)
   new_queue-sound moment = record { bytes = omega arith; count = omega arith; qbytes = omega arith; types = All-nil _; texts = All-nil _ }
 
-  pub with_new_queue-sound : (s : State) (key : ℤ) → keyed s.msg key ≡ None → is_full limits.msgmni s.msg ≡ false
-      → IsSound limits s → IsSound limits (with_new_queue limits s key)
-  with_new_queue-sound s key unused room h =
+  pub with_new_queue-sound : (s : State) (key : ℤ) (perm : Perm) → keyed s.msg key ≡ None → is_full limits.msgmni s.msg ≡ false
+      → IsSound limits s → IsSound limits (with_new_queue limits s key perm)
+  with_new_queue-sound s key perm unused room h =
+      let e : Entry Queue = record { key = key; perm = perm; object = new_queue limits.msgmnb s.clock } in
       record {
         pids = h.pids;
         next_pid = h.next_pid;
         processes = h.processes;
-        msg = with_new-sound limits.msgmni (IsSoundQueue limits) s.msg key (new_queue limits.msgmnb s.clock) unused room (new_queue-sound s.clock) h.msg;
+        msg = with_new-sound limits.msgmni (IsSoundQueue limits) s.msg e unused room (new_queue-sound s.clock) h.msg;
       }
 
-  pub with_queue-sound : (s : State) (id : ℕ) (q : Queue) → IsSoundQueue limits q → IsSound limits s → IsSound limits (with_queue s id q)
-  with_queue-sound s id q good h =
+  -- another queue in the place of one that is there, under the same key
+  pub with_queue-sound : (s : State) (id : ℕ) (e f : Entry Queue) → queue_of s id ≡ Some e → f.key ≡ e.key → IsSoundQueue limits f.object
+      → IsSound limits s → IsSound limits (with_queue s id f)
+  with_queue-sound s id e f is same good h =
       record {
         pids = h.pids;
         next_pid = h.next_pid;
         processes = h.processes;
-        msg = with_object-sound limits.msgmni (IsSoundQueue limits) s.msg id q good h.msg;
+        msg = with_entry-sound limits.msgmni (IsSoundQueue limits) s.msg id e f is same good h.msg;
       }
 
-  pub queue-sound : (s : State) (id : ℕ) (q : Queue) → queue_of s id ≡ Some q → IsSound limits s → IsSoundQueue limits q
-  queue-sound s id q is h = object-sound limits.msgmni (IsSoundQueue limits) s.msg id q is h.msg
+  pub queue-sound : (s : State) (id : ℕ) (e : Entry Queue) → queue_of s id ≡ Some e → IsSound limits s → IsSoundQueue limits e.object
+  queue-sound s id e is h = entry-sound limits.msgmni (IsSoundQueue limits) s.msg id e is h.msg
+
+  -- under limits that were checked
+  pub queue-numbers : (q : Queue) → ArePassed limits → IsSoundQueue limits q → HasNumbers q
+  queue-numbers q passed h =
+      let b = passed-bounds limits passed in
+      record { bytes = omega (arith, h.bytes, b.msgmnb); count = omega (arith, h.count, b.msgmnb); qbytes = omega (arith, h.qbytes, b.msgmnb) }
 
   pub sent-sound : (q : Queue) (m : PlainMessage) (pid moment : ℕ) → full q (length m.text) ≡ false → IsTrue (int_lt (pos 0) m.mtype)
       → length m.text ≤ limits.msgmax → IsSoundQueue limits q → IsSoundQueue limits (sent q m pid moment)

@@ -5,7 +5,7 @@ use Rattle.ipc_base.specs.declared.limits.Limits.{Limits}
 use Rattle.ipc_base.specs.Table.{value_at}
 use Rattle.ipc_state.specs.State.{State}
 
--- whether there is room for one process more, and for one queue with its key; for each queue, by identifier, of how
+-- whether there is room for one process more, and for one queue; for each queue, by identifier, of how
 -- many bytes the message is that it has room for
 pub record Room : Type 0 where
   pub process : Bool

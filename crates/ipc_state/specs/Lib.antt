@@ -1,3 +1,4 @@
+pub mod Perm
 pub mod Objects
 pub mod State
 pub mod Sound

@@ -1,6 +1,6 @@
 -- What holds of the state after every event: numbers rise and are never given twice, no limit is passed, each key
 -- is the key of one object that is there, and no queue holds more than it may.
-use Rattle.std.specs.Prelude.{◌+◌, ◌≤◌, pos, int_lt, length, All, IsTrue}
+use Rattle.std.specs.Prelude.{◌+◌, ◌^◌, ◌<◌, ◌≤◌, pos, int_lt, length, All, IsTrue}
 use Rattle.ipc_base.specs.declared.limits.Limits.{Limits}
 use Rattle.ipc_base.specs.Limits.{longest_body}
 use Rattle.ipc_base.specs.Table.{keys_of, IsRising}
@@ -17,6 +17,12 @@ pub record IsSoundQueue (limits : Limits) (q : Queue) : Type 0 where
   pub qbytes : q.qbytes ≤ limits.msgmnb
   pub types : All (λ m. IsTrue (int_lt (pos 0) m.mtype)) q.messages
   pub texts : All (λ m. length m.text ≤ limits.msgmax) q.messages
+
+-- each number of a queue fits in a field of four bytes
+pub record HasNumbers (q : Queue) : Type 0 where
+  pub bytes : byte_count q.messages < 2 ^ 32
+  pub count : length q.messages < 2 ^ 32
+  pub qbytes : q.qbytes < 2 ^ 32
 
 pub record IsSound (limits : Limits) (s : State) : Type 0 where
   -- pids rise from 1 to below the next one, which is at most one past the last

@@ -2,12 +2,13 @@
 -- lasts; nothing in it tells how it is kept.
 use Rattle.std.specs.Prelude.{ℕ, ℤ, ◌+◌, Bool, ◌||◌, List, [], ◌∷◌, ◌++◌, length, max, nat_eq}
 use Rattle.std.specs.Prelude.{nat_le, nat_lt, Option}
-use Rattle.std.specs.Prelude.{is_some}
+use Rattle.std.specs.Prelude.{is_some, unwrap_or}
 use Rattle.ipc_base.specs.declared.identity.Cred.{Cred}
 use Rattle.ipc_base.specs.declared.limits.Limits.{Limits}
 use Rattle.sysv_msg.specs.Queue.{Queue, new_queue}
 use Rattle.ipc_base.specs.Table.{value_at, without}
-use Rattle.ipc_state.specs.Objects.{Objects, no_objects, object_of, with_object, with_new, last_number}
+use Rattle.ipc_state.specs.Objects.{Objects, Entry, no_objects, entry_of, with_entry, with_new, last_number}
+use Rattle.ipc_state.specs.declared.perm.Perm.{Perm}
 
 pub record State : Type 0 where
   -- the greatest moment so far
@@ -31,6 +32,10 @@ at_moment s moment = record s { clock = max s.clock moment }
 abbrev pub is_process : State → ℕ → Bool
 is_process s pid = is_some (value_at nat_eq s.processes pid)
 
+-- the user and the group of a process; those of nobody where no process has the number
+abbrev pub cred_of : State → ℕ → Cred
+cred_of s pid = unwrap_or (value_at nat_eq s.processes pid) (record { uid = 65534; gid = 65534 })
+
 -- no process can be added: there are as many as the limit says, or no number is left
 abbrev pub has_all_processes : Limits → State → Bool
 has_all_processes limits s = nat_le limits.processes (length s.processes) || nat_lt last_number s.next_pid
@@ -44,13 +49,14 @@ abbrev pub exit : State → ℕ → State
 exit s pid = record s { processes = without nat_eq s.processes pid }
 
 -- the queue that an identifier has
-abbrev pub queue_of : State → ℕ → Option Queue
-queue_of s id = object_of s.msg id
+abbrev pub queue_of : State → ℕ → Option (Entry Queue)
+queue_of s id = entry_of s.msg id
 
 -- the state with another queue at an identifier that it has
-abbrev pub with_queue : State → ℕ → Queue → State
-with_queue s id q = record s { msg = with_object s.msg id q }
+abbrev pub with_queue : State → ℕ → Entry Queue → State
+with_queue s id e = record s { msg = with_entry s.msg id e }
 
--- the state with a new queue, and its key unless that is IPC_PRIVATE
-abbrev pub with_new_queue : Limits → State → ℤ → State
-with_new_queue limits s key = record s { msg = with_new s.msg key (new_queue limits.msgmnb s.clock) }
+-- the state with a new queue
+abbrev pub with_new_queue : Limits → State → ℤ → Perm → State
+with_new_queue limits s key perm =
+    record s { msg = with_new s.msg (record { key = key; perm = perm; object = new_queue limits.msgmnb s.clock }) }

@@ -1,32 +1,32 @@
 -- How the state is kept: each part of the tables as a value of the definitions.
-use Rattle.std.specs.Prelude.{ℕ, ℤ, Bool, ◌&&◌, nat_lt, List, map, Option, vec_len, vec_capacity}
+use Rattle.std.specs.Prelude.{ℕ, Bool, nat_lt, List, map, Option, vec_len, vec_capacity}
 use Rattle.ipc_base.specs.declared.identity.Cred.{Cred}
 use Rattle.ipc_base.specs.declared.identity.Moment.{Moment}
 use Rattle.std.specs.Global.{Vec}
 use Rattle.sysv_msg.specs.Queue.{Queue, Kept}
-use Rattle.ipc_state.specs.declared.objects.Key.{Key}
-use Rattle.ipc_state.specs.declared.objects.Entry.{Entry}
+use Rattle.ipc_state.specs.declared.objects.Entry.{Entry as Row}
 use Rattle.ipc_state.specs.declared.objects.Objects.{Objects as Tables}
 use Rattle.ipc_state.specs.declared.processes.Process.{Process}
-use Rattle.ipc_state.specs.Objects.{Objects, objects_map}
+use Rattle.ipc_state.specs.Objects.{Objects, Entry, entry_map, objects_map}
 use Rattle.ipc_state.specs.State.{State}
 use Rattle.ipc_state.specs.Held.{Room}
 
 abbrev pub process_row : Process → ℕ × Cred
 process_row p = (p.pid.0, p.cred)
 
-abbrev pub key_row : Key → ℤ × ℕ
-key_row k = (k.key, k.id.0)
+-- an object with its key and who may use it
+abbrev pub entry_in : {T : Type 0} → Row T → Entry T
+entry_in e = record { key = e.key; perm = e.perm; object = e.object }
 
-abbrev pub entry_row : {T : Type 0} → Entry T → ℕ × T
-entry_row e = (e.id.0, e.object)
+abbrev pub entry_row : {T : Type 0} → Row T → ℕ × Entry T
+entry_row e = (e.id.0, entry_in e)
 
 abbrev pub objects_of : {T : Type 0} → Tables T → Objects T
-objects_of o = record { next = o.next; keys = map key_row o.keys.items; entries = map entry_row o.entries.items }
+objects_of o = record { next = o.next; entries = map entry_row o.entries.items }
 
--- room for one object and one key more
+-- room for one object more
 abbrev pub has_place : {T : Type 0} → Tables T → Bool
-has_place o = nat_lt (vec_len o.entries) (vec_capacity o.entries) && nat_lt (vec_len o.keys) (vec_capacity o.keys)
+has_place o = nat_lt (vec_len o.entries) (vec_capacity o.entries)
 
 -- the queues, and the room in each
 abbrev pub queue_in : Kept → Queue
@@ -38,8 +38,12 @@ room_in k = k.room
 abbrev pub queues_of : Tables Kept → Objects Queue
 queues_of o = objects_map queue_in (objects_of o)
 
+-- a queue with its key and who may use it
+abbrev pub queue_entry : Row Kept → Entry Queue
+queue_entry e = entry_map queue_in (entry_in e)
+
 abbrev pub texts_of : Tables Kept → List (ℕ × Option ℕ)
-texts_of o = (objects_map room_in (objects_of o)).entries
+texts_of o = map (λ e. (e.0, room_in e.1.object)) (objects_of o).entries
 
 abbrev pub state_of : Moment → ℕ → Vec Process → Tables Kept → State
 state_of clock next_pid processes queues =

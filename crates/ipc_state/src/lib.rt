@@ -2,9 +2,11 @@
 #![tactic(auto)]
 
 mod objects;
+mod perm;
 mod processes;
 mod queues;
 mod state;
 
-pub use objects::{IPC_PRIVATE, LAST_NUMBER};
+pub use objects::{Entry, IPC_PRIVATE, LAST_NUMBER};
+pub use perm::Perm;
 pub use state::State;

@@ -12,31 +12,27 @@ ghost use Rattle.std.specs.Prelude.{
   OnOk,
 };
 ghost use Rattle.std.specs.Ordering.{int_eq};
-ghost use Rattle.ipc_state.specs.Objects.{no_objects, object_of, keyed, with_new, is_full as is_full_of};
-ghost use Rattle.ipc_state.specs.Tables.{objects_of, has_place};
+ghost use Rattle.ipc_state.specs.Objects.{no_objects, entry_of, keyed, with_new, is_full as is_full_of};
+ghost use Rattle.ipc_state.specs.Tables.{objects_of, entry_in, has_place};
 
+use crate::perm::Perm;
 use ipc_base::Id;
 use std::alloc::{AllocError, Global};
 
-/// A key in use, and the identifier of its object.
+/// An object with its identifier, its key, and who may use it.
 #[derive(Drop)]
-pub(crate) struct Key {
-    pub(crate) key: i32,
-    pub(crate) id: Id,
+pub struct Entry<T> {
+    pub id: Id,
+    /// `IPC_PRIVATE` for none.
+    pub key: i32,
+    pub perm: Perm,
+    pub object: T,
 }
 
-/// An object and its identifier.
-#[derive(Drop)]
-pub(crate) struct Entry<T> {
-    pub(crate) id: Id,
-    pub(crate) object: T,
-}
-
-/// The objects of one kind, the next identifier, and the keys in use.
+/// The objects of one kind, and the next identifier.
 #[derive(Drop)]
 pub(crate) struct Objects<T> {
     pub(crate) next: u32,
-    pub(crate) keys: Vec<Key>,
     pub(crate) entries: Vec<Entry<T>>,
 }
 
@@ -53,17 +49,15 @@ impl<T> Objects<T> {
     {
         Objects {
             next: 1,
-            keys: Vec::new(alloc),
             entries: Vec::new(alloc),
         }
     }
 
-    /// Takes the memory for one object and one key more.
+    /// Takes the memory for one object more.
     pub(crate) fn reserve(&mut self) -> Result<(), AllocError>
         ensures objects { objects_of self.new ≡ objects_of self.old }
         ensures ok { OnOk result (has_place self.new ≡ true) }
     {
-        self.keys.reserve(1)?;
         self.entries.reserve(1)
     }
 
@@ -74,15 +68,22 @@ impl<T> Objects<T> {
         most as usize <= self.entries.len() || LAST_NUMBER < self.next
     }
 
-    /// The identifier that a key has.
+    /// The identifier that a key names.
     pub(crate) fn of_key(&self, key: i32) -> Option<Id>
         ensures { option_map (λ id. id.0) result ≡ keyed (objects_of self.now) key }
     {
         if key == IPC_PRIVATE {
             return None;
         }
-        let place = key_place(&self.keys, key)?;
-        Some(self.keys[place].id)
+        let place = self.key_place(key)?;
+        Some(self.entries[place].id)
+    }
+
+    /// The place of a key.
+    fn key_place(&self, key: i32) -> Option<usize>
+        ensures { result ≡ position (λ e. int_eq e.key key) self.now.entries.items }
+    {
+        self.entries.iter().position(|entry| entry.key == key)
     }
 
     /// The place of an identifier.
@@ -93,33 +94,29 @@ impl<T> Objects<T> {
     }
 
     /// The object that an identifier has.
-    pub(crate) fn get(&self, id: Id) -> Option<&T>
-        ensures { option_copied result ≡ object_of (objects_of self.now) id.0 }
+    pub(crate) fn get(&self, id: Id) -> Option<&Entry<T>>
+        ensures { option_map entry_in (option_copied result) ≡ entry_of (objects_of self.now) id.0 }
     {
         let place = self.place(id)?;
-        Some(&self.entries[place].object)
+        Some(&self.entries[place])
     }
 
-    /// Adds an object under the next identifier, and its key. It takes no memory.
-    pub(crate) fn add(&mut self, key: i32, object: T) -> Id
+    /// Adds an object under the next identifier. It takes no memory.
+    pub(crate) fn add(&mut self, key: i32, perm: Perm, object: T) -> Id
         requires place { has_place self.old ≡ true }
         requires number { self.old.next < 2 ^ 31 }
-        ensures objects { objects_of self.new ≡ with_new (objects_of self.old) key object }
+        ensures objects { objects_of self.new
+            ≡ with_new (objects_of self.old) (record { key = key; perm = perm; object = object }) }
         ensures id { result.0 ≡ self.old.next }
     {
         let id = Id(self.next);
         self.next += 1;
-        if key != IPC_PRIVATE {
-            self.keys.push_reserved(Key { key, id });
-        }
-        self.entries.push_reserved(Entry { id, object });
+        self.entries.push_reserved(Entry {
+            id,
+            key,
+            perm,
+            object,
+        });
         id
     }
-}
-
-/// The place of a key.
-fn key_place(keys: &[Key], key: i32) -> Option<usize>
-    ensures { result ≡ position (λ k. int_eq k.key key) keys.now }
-{
-    keys.iter().position(|entry| entry.key == key)
 }

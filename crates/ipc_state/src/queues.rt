@@ -2,7 +2,7 @@
 
 ghost use Rattle.std.specs.Prelude.{◌≡◌, ◌<◌, length, slice_get, Some, IsSome, OnOk};
 ghost use Rattle.sysv_msg.specs.Queue.{Queue, plain, sent, taken};
-ghost use Rattle.ipc_state.specs.Objects.{object_of, with_object};
+ghost use Rattle.ipc_state.specs.Objects.{Entry, holding, entry_of, with_entry};
 ghost use Rattle.ipc_state.specs.Held.{HasTextRoom};
 ghost use Rattle.ipc_state.specs.Tables.{queues_of, texts_of};
 
@@ -36,11 +36,11 @@ pub(crate) fn send(
     pid: Pid,
     now: Moment,
 )
-    requires there { IsSome (object_of (queues_of queues.old) id.0) }
+    requires there { IsSome (entry_of (queues_of queues.old) id.0) }
     requires room { HasTextRoom (texts_of queues.old) id.0 (length text.now) }
-    ensures { (q : Queue) → object_of (queues_of queues.old) id.0 ≡ Some q
-        → queues_of queues.new ≡ with_object (queues_of queues.old) id.0
-        (sent q (record { mtype = mtype; text = text.now }) pid.0 now.0) }
+    ensures { (e : Entry Queue) → entry_of (queues_of queues.old) id.0 ≡ Some e
+        → queues_of queues.new ≡ with_entry (queues_of queues.old) id.0
+        (holding e (sent e.object (record { mtype = mtype; text = text.now }) pid.0 now.0)) }
 {
     let place = queues.place(id).unwrap();
     let entry = &mut queues.entries[place];
@@ -55,12 +55,14 @@ pub(crate) fn take(
     pid: Pid,
     now: Moment,
 ) -> Message
-    requires there { IsSome (object_of (queues_of queues.old) id.0) }
-    requires within { (q : Queue) → object_of (queues_of queues.old) id.0 ≡ Some q → at < length q.messages }
-    ensures queues { (q : Queue) → object_of (queues_of queues.old) id.0 ≡ Some q
-        → queues_of queues.new ≡ with_object (queues_of queues.old) id.0 (taken q at pid.0 now.0) }
-    ensures message { (q : Queue) → object_of (queues_of queues.old) id.0 ≡ Some q
-        → slice_get q.messages at ≡ Some (plain result) }
+    requires there { IsSome (entry_of (queues_of queues.old) id.0) }
+    requires within { (e : Entry Queue) → entry_of (queues_of queues.old) id.0 ≡ Some e
+        → at < length e.object.messages }
+    ensures queues { (e : Entry Queue) → entry_of (queues_of queues.old) id.0 ≡ Some e
+        → queues_of queues.new ≡ with_entry (queues_of queues.old) id.0
+        (holding e (taken e.object at pid.0 now.0)) }
+    ensures message { (e : Entry Queue) → entry_of (queues_of queues.old) id.0 ≡ Some e
+        → slice_get e.object.messages at ≡ Some (plain result) }
 {
     let place = queues.place(id).unwrap();
     let entry = &mut queues.entries[place];

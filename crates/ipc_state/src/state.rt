@@ -22,12 +22,13 @@ ghost use Rattle.std.specs.Prelude.{
 ghost use Rattle.ipc_base.specs.Limits.{ArePassed};
 ghost use Rattle.sysv_msg.specs.Queue.{Queue, plain, sent, taken, full};
 ghost use Rattle.ipc_state.specs.Held.{HasTextRoom};
-ghost use Rattle.ipc_state.specs.Objects.{keyed, is_full};
-ghost use Rattle.ipc_state.specs.Sound.{IsSound, IsSoundQueue};
+ghost use Rattle.ipc_state.specs.Objects.{Entry as PlainEntry, holding, keyed, is_full};
+ghost use Rattle.ipc_state.specs.Sound.{IsSound, IsSoundQueue, HasNumbers};
 ghost use Rattle.ipc_state.specs.State.{
   start,
   at_moment,
   is_process,
+  cred_of,
   has_all_processes,
   with_process,
   exit,
@@ -35,8 +36,10 @@ ghost use Rattle.ipc_state.specs.State.{
   with_queue,
   with_new_queue,
 };
+ghost use Rattle.ipc_state.specs.Tables.{queue_entry};
 
-use crate::objects::{LAST_NUMBER, Objects};
+use crate::objects::{Entry, LAST_NUMBER, Objects};
+use crate::perm::Perm;
 use crate::processes::{Process, process_place, remove_process};
 use crate::queues;
 use ipc_base::{Cred, Id, Limits, Moment, Pid};
@@ -114,6 +117,15 @@ impl State {
         process_place(&self.processes, pid).is_some()
     }
 
+    /// The user and the group of a connected process.
+    pub fn cred(&self, pid: Pid) -> Cred
+        requires { is_process self.now.state pid.0 ≡ true }
+        ensures { result ≡ cred_of self.now.state pid.0 }
+    {
+        let place = process_place(&self.processes, pid).unwrap();
+        self.processes[place].cred
+    }
+
     /// Whether no process can be added: there are as many as the limit says, or no number is left.
     pub fn has_all_processes(&self) -> bool
         ensures { result ≡ has_all_processes self.now.limits self.now.state }
@@ -152,17 +164,18 @@ impl State {
         remove_process(&mut self.processes, pid);
     }
 
-    /// The identifier of the queue that a key has; IPC_PRIVATE has none.
+    /// The identifier of the queue that a key names; IPC_PRIVATE names none.
     pub fn queue_of_key(&self, key: i32) -> Option<Id>
         ensures { option_map (λ id. id.0) result ≡ keyed self.now.state.msg key }
     {
         self.msg.of_key(key)
     }
 
-    /// The queue that an identifier has. It is within the limits.
-    pub fn queue(&self, id: Id) -> Option<&MsgQueue>
-        ensures queue { option_map (λ k. k.queue) (option_copied result) ≡ queue_of self.now.state id.0 }
-        ensures sound { IfSome (option_copied result) (λ k. IsSoundQueue self.now.limits k.queue) }
+    /// The queue that an identifier has, with its key and who may use it. It is within the limits.
+    pub fn queue(&self, id: Id) -> Option<&Entry<MsgQueue>>
+        ensures queue { option_map queue_entry (option_copied result) ≡ queue_of self.now.state id.0 }
+        ensures sound { IfSome (option_copied result) (λ e. IsSoundQueue self.now.limits e.object.queue) }
+        ensures numbers { IfSome (option_copied result) (λ e. HasNumbers e.object.queue) }
     {
         self.msg.get(id)
     }
@@ -174,7 +187,7 @@ impl State {
         self.msg.is_full(self.limits.msgmni)
     }
 
-    /// Takes the memory for one queue more and its key. Refused, the state is as before.
+    /// Takes the memory for one queue more. Refused, the state is as before.
     pub fn reserve_queue(&mut self) -> Result<(), AllocError>
         ensures state { self.new.state ≡ self.old.state }
         ensures limits { self.new.limits ≡ self.old.limits }
@@ -183,18 +196,17 @@ impl State {
         self.msg.reserve()
     }
 
-    /// Adds a queue without messages under the next identifier, which it gives, and its key unless that
-    /// is IPC_PRIVATE. It takes no memory.
-    pub fn add_queue(&mut self, key: i32) -> Id
+    /// Adds a queue without messages under the next identifier, which it gives. It takes no memory.
+    pub fn add_queue(&mut self, key: i32, perm: Perm) -> Id
         requires room { self.old.room.queue ≡ true }
         requires unused { keyed self.old.state.msg key ≡ None }
         requires more { is_full self.old.limits.msgmni self.old.state.msg ≡ false }
-        ensures state { self.new.state ≡ with_new_queue self.old.limits self.old.state key }
+        ensures state { self.new.state ≡ with_new_queue self.old.limits self.old.state key perm }
         ensures id { result.0 ≡ self.old.state.msg.next }
         ensures limits { self.new.limits ≡ self.old.limits }
     {
         let queue = MsgQueue::new(self.alloc, self.limits.msgmnb, self.clock);
-        self.msg.add(key, queue)
+        self.msg.add(key, perm, queue)
     }
 
     /// Takes the memory for one message of `len` bytes in a queue, if it is there. Refused, the state is
@@ -212,12 +224,12 @@ impl State {
         requires above { IsTrue (int_lt (pos 0) mtype) }
         requires short { length text.now ≤ self.old.limits.msgmax }
         requires there { IsSome (queue_of self.old.state id.0) }
-        requires fits { (q : Queue) → queue_of self.old.state id.0 ≡ Some q
-            → full q (length text.now) ≡ false }
+        requires fits { (e : PlainEntry Queue) → queue_of self.old.state id.0 ≡ Some e
+            → full e.object (length text.now) ≡ false }
         requires room { HasTextRoom self.old.room.texts id.0 (length text.now) }
-        ensures state { (q : Queue) → queue_of self.old.state id.0 ≡ Some q
+        ensures state { (e : PlainEntry Queue) → queue_of self.old.state id.0 ≡ Some e
             → self.new.state ≡ with_queue self.old.state id.0
-            (sent q (record { mtype = mtype; text = text.now }) pid.0 self.old.state.clock) }
+            (holding e (sent e.object (record { mtype = mtype; text = text.now }) pid.0 self.old.state.clock)) }
         ensures limits { self.new.limits ≡ self.old.limits }
     {
         queues::send(&mut self.msg, id, mtype, text, pid, self.clock);
@@ -226,11 +238,13 @@ impl State {
     /// Takes the message at a position, counted from the oldest, out of a queue.
     pub fn take(&mut self, id: Id, at: usize, pid: Pid) -> Message
         requires there { IsSome (queue_of self.old.state id.0) }
-        requires within { (q : Queue) → queue_of self.old.state id.0 ≡ Some q → at < length q.messages }
-        ensures state { (q : Queue) → queue_of self.old.state id.0 ≡ Some q
-            → self.new.state ≡ with_queue self.old.state id.0 (taken q at pid.0 self.old.state.clock) }
-        ensures message { (q : Queue) → queue_of self.old.state id.0 ≡ Some q
-            → slice_get q.messages at ≡ Some (plain result) }
+        requires within { (e : PlainEntry Queue) → queue_of self.old.state id.0 ≡ Some e
+            → at < length e.object.messages }
+        ensures state { (e : PlainEntry Queue) → queue_of self.old.state id.0 ≡ Some e
+            → self.new.state ≡ with_queue self.old.state id.0
+            (holding e (taken e.object at pid.0 self.old.state.clock)) }
+        ensures message { (e : PlainEntry Queue) → queue_of self.old.state id.0 ≡ Some e
+            → slice_get e.object.messages at ≡ Some (plain result) }
         ensures limits { self.new.limits ≡ self.old.limits }
     {
         queues::take(&mut self.msg, id, at, pid, self.clock)

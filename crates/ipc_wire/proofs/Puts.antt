@@ -1,6 +1,9 @@
 -- Two fields put one after the other are one field.
-use Rattle.std.proofs.Common.{◌≡◌, ℕ, ◌+◌, ◌≤◌, Bool, true, false, List, ◌++◌, length, take, drop, sym, ap, ◌∙◌, append_assoc, arith}
-use Rattle.std.proofs.lemmas.List.{length-append, length-take-le, length-drop, take_at, drop_at, drop-drop}
+use Rattle.std.proofs.Common.{◌≡◌, ℕ, suc, ◌+◌, ◌<◌, ◌≤◌, Bool, true, false, List, [], ◌++◌, length, take, drop, get_or, sym, ap, ◌∙◌, append_assoc, arith}
+use Rattle.std.specs.List.{flat_map}
+use Rattle.std.proofs.Math.Seq.{take-suc}
+use Rattle.std.proofs.lemmas.List.{length-append, length-take-le, length-drop, take_at, drop_at, drop-drop, flat_map_more}
+use Rattle.std.proofs.lemmas.List.Folds.{length-flat_map-take}
 use Rattle.ipc_base.specs.Fields.{Puts}
 
 pub puts_both : (a b : List ℕ) (at mid next : ℕ) (old between new : List ℕ) → Puts a at mid old between true → Puts b mid next between new true
@@ -34,3 +37,21 @@ pub puts_room : (field : List ℕ) (at next : ℕ) (old new : List ℕ) (written
     → Puts field at next old new true
 puts_room field at next old new true p room = p
 puts_room field at next old new false p room = absurd (omega arith)
+
+-- a field put behind others is one more of them
+pub puts_next : {X : Type 0} (spell : X → List ℕ) (xs : List X) (i at next : ℕ) (d : X) (old new : List ℕ) (written : Bool) → i < length xs
+    → at ≡ length (flat_map spell (take i xs)) → take at old ≡ flat_map spell (take i xs) → length (flat_map spell xs) ≤ length old
+    → Puts (spell (get_or xs i d)) at next old new written
+    → (next ≡ length (flat_map spell (take (i + 1) xs))) × (take next new ≡ flat_map spell (take (i + 1) xs))
+puts_next spell xs i at next d old new written inside place bytes most p =
+    let one : List ℕ = spell (get_or xs i d) in
+    let after : suc i ≡ i + 1 = omega arith in
+    let q = puts_room one at next old new written p (omega (arith, length-flat_map-take spell xs i d inside)) in
+    let more : flat_map spell (take i xs) ++ one ≡ flat_map spell (take (i + 1) xs) =
+    flat_map_more spell [] (take i xs) (get_or xs i d) ∙ ap (flat_map spell) (sym (take-suc xs i d inside) ∙ ap (λ (n : ℕ). take n xs) after) in
+    let kept : length (take at old) ≡ at = length-take-le at old (omega arith) in
+    let front : length (take at old ++ one) ≡ next = omega (arith, length-append (take at old) one) in
+    let whole : take next new ≡ take at old ++ one =
+    ap (take next) q.2 ∙ take_at (take at old ++ one) (drop (at + length one) old) next front in
+    let is : take next new ≡ flat_map spell (take (i + 1) xs) = whole ∙ ap (λ (x : List ℕ). x ++ one) bytes ∙ more in
+    (omega (arith, length-append (flat_map spell (take i xs)) one, ap length more), is)

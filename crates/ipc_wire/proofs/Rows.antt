@@ -1,76 +1,67 @@
 -- The table both ways: a request has the row of its opcode, and a row's request is taken apart into what made it.
-use Rattle.std.proofs.Common.{◌≡◌, ℕ, ◌+◌, ◌≤◌, Bool, true, false, cond, eqb, leb, List, [], ◌∷◌, ◌++◌, length, drop, Option, Some, None, refl, sym, ap, subst}
-use Rattle.std.proofs.Common.{◌∙◌, arith}
-use Rattle.std.specs.Prelude.{◌==◌, if◌then◌else◌}
+use Rattle.std.proofs.Common.{◌≡◌, ℕ, ◌+◌, ◌≤◌, Bool, true, false, cond, eqb, leb, List, [], ◌∷◌, ◌++◌, length, drop, Option, Some, None, refl}
+use Rattle.std.proofs.Common.{sym, ap, subst, ◌∙◌, arith, rules}
+use Rattle.std.specs.Prelude.{if◌then◌else◌}
+use Rattle.std.specs.List.{AllByRecursion}
 use Rattle.std.proofs.lemmas.Bool.{eqb-true, leb-true, le-leb, eq-eqb}
 use Rattle.std.proofs.lemmas.List.{length-append, length-drop, drop_at}
 use Rattle.ipc_wire.specs.Fields.{Values, total, values_of, values_bytes, AreInRange}
-use Rattle.ipc_wire.specs.Request.{PlainKind, Hello, Calls, Msgget, Msgsnd, Msgrcv}
+use Rattle.ipc_wire.specs.Request.{PlainKind, Hello, Calls}
+use Rattle.ipc_wire.specs.Request as requests
 use Rattle.ipc_wire.specs.Spelling.{opcode_of, fields_of}
 use Rattle.ipc_wire.specs.Stream.{fits_row, made_by, made_by_some, kind_of}
-use Rattle.ipc_wire.specs.Table.{Row, Parts, hello, msgget, msgsnd, msgrcv, row_of, parts_of}
+use Rattle.ipc_wire.specs.Table.{Row, Parts, rows, row_among, row_of, parts_of}
 use Rattle.ipc_wire.proofs.Fields.{IsBytes, length_values, values_again, values_back, values_range}
 
--- ---- the lines that join a request and its row
+-- ---- a request and its row
 
+-- what stands behind the fields of a row
+abbrev rest_of : Row → List ℕ → List ℕ
+rest_of row rest = if row.has_rest then rest else []
+
+-- a request has a row, which makes it
 record HasRow (kind : PlainKind) : Type 0 where
-  row : row_of (parts_of kind).opcode ≡ Some (parts_of kind).row
+  row : row_of (parts_of kind).row.opcode ≡ Some (parts_of kind).row
   made : (parts_of kind).row.make (parts_of kind).values (parts_of kind).rest ≡ kind
-  none : (parts_of kind).row.has_rest ≡ false → (parts_of kind).rest ≡ []
+  rest : rest_of (parts_of kind).row (parts_of kind).rest ≡ (parts_of kind).rest
 
 has_row : (kind : PlainKind) → HasRow kind
-has_row (Hello cred) = record { row = refl; made = refl; none = λ _. refl }
-has_row (Calls (Msgget key flags)) = record { row = refl; made = refl; none = λ _. refl }
-has_row (Calls (Msgsnd id flags mtype text)) = record { row = refl; made = refl; none = λ e. cc }
-has_row (Calls (Msgrcv id flags size mtype)) = record { row = refl; made = refl; none = λ _. refl }
+has_row (Hello cred) = record { row = refl; made = refl; rest = refl }
+has_row (Calls (requests.Msgget key flags)) = record { row = refl; made = refl; rest = refl }
+has_row (Calls (requests.Msgsnd id flags mtype text)) = record { row = refl; made = refl; rest = refl }
+has_row (Calls (requests.Msgrcv id flags size mtype)) = record { row = refl; made = refl; rest = refl }
 
--- the row stands at the opcode: its requests are taken apart into what made them
-abbrev StandsAt : ℕ → Row → Type 0
-StandsAt opcode row =
-    (v : Values row.fields) (rest : List ℕ) → (row.has_rest ≡ false → rest ≡ [])
-    → parts_of (row.make v rest) ≡ record { opcode = opcode; row = row; values = v; rest = rest }
+-- the requests of a row are taken apart into what made them
+abbrev Undoes : Row → Type 0
+Undoes row = (v : Values row.fields) (rest : List ℕ) → parts_of (row.make v (rest_of row rest)) ≡ record { row = row; values = v; rest = rest_of row rest }
 
-abbrev parts : (opcode : ℕ) (row : Row) → Values row.fields → List ℕ → Parts
-parts opcode row v rest = record { opcode = opcode; row = row; values = v; rest = rest }
+each_undoes : AllByRecursion Undoes rows
+each_undoes = search rules
 
-at-hello : StandsAt 0x01 hello
-at-hello v rest none = ap (parts 0x01 hello v) (sym (none refl))
+-- the row of an opcode among rows that do
+record StandsAt (opcode : ℕ) (row : Row) : Type 0 where
+  at : row.opcode ≡ opcode
+  undoes : Undoes row
 
-at-msgget : StandsAt 0x0a msgget
-at-msgget v rest none = ap (parts 0x0a msgget v) (sym (none refl))
-
-at-msgsnd : StandsAt 0x0b msgsnd
-at-msgsnd v rest none = refl
-
-at-msgrcv : StandsAt 0x0c msgrcv
-at-msgrcv v rest none = ap (parts 0x0c msgrcv v) (sym (none refl))
-
--- the row is this one, or one that follows
-or_row : (n : ℕ) (known : Row) → StandsAt n known → (opcode : ℕ) (next : Option Row) (row : Row) → (next ≡ Some row → StandsAt opcode row)
-    → (if opcode == n then Some known else next) ≡ Some row → StandsAt opcode row
-or_row n known stands opcode next row later = by_test (eqb opcode n) refl
+row_stands : (rs : List Row) → AllByRecursion Undoes rs → (opcode : ℕ) (row : Row) → row_among rs opcode ≡ Some row → StandsAt opcode row
+row_stands [] each opcode row e = cc
+row_stands (r ∷ rs) each opcode row e = by_test (eqb opcode r.opcode) refl e (λ later. row_stands rs each.1 opcode row later)
   where
-    by_test : (b : Bool) → eqb opcode n ≡ b → cond b (Some known) next ≡ Some row → StandsAt opcode row
-    by_test true is e =
-        let same : known ≡ row = cc in
-        subst (λ (r : Row). StandsAt opcode r) same (subst (λ (o : ℕ). StandsAt o known) (sym (eqb-true opcode n is)) stands)
-    by_test false is e = later e
-
-row_stands : (opcode : ℕ) (row : Row) → row_of opcode ≡ Some row → StandsAt opcode row
-row_stands opcode row =
-    or_row 0x01 hello at-hello opcode _ row
-    (or_row 0x0a msgget at-msgget opcode _ row
-    (or_row 0x0b msgsnd at-msgsnd opcode _ row
-    (or_row 0x0c msgrcv at-msgrcv opcode _ row (λ e. cc))))
+    by_test : (b : Bool) → eqb opcode r.opcode ≡ b → cond b (Some r) (row_among rs opcode) ≡ Some row
+        → (row_among rs opcode ≡ Some row → StandsAt opcode row) → StandsAt opcode row
+    by_test true is e later =
+        let same : r ≡ row = cc in
+        subst (λ (known : Row). StandsAt opcode known) same (record { at = sym (eqb-true opcode r.opcode is); undoes = each.0 })
+    by_test false is e later = later e
 
 -- ---- what was spelled is read
 
-fits_again : (has_rest : Bool) (n len : ℕ) (rest : List ℕ) → len ≡ n + length rest → (has_rest ≡ false → rest ≡ [])
+fits_again : (has_rest : Bool) (n len : ℕ) (rest : List ℕ) → len ≡ n + length rest → (if has_rest then rest else []) ≡ rest
     → (if has_rest then leb n len else eqb len n) ≡ true
 fits_again true n len rest is none = le-leb n len (omega arith)
-fits_again false n len rest is none = eq-eqb len n (omega (arith, ap length (none refl)))
+fits_again false n len rest is none = eq-eqb len n (omega (arith, ap length none))
 
-row_again : (row : Row) (v : Values row.fields) (rest : List ℕ) → AreInRange row.fields v → (row.has_rest ≡ false → rest ≡ [])
+row_again : (row : Row) (v : Values row.fields) (rest : List ℕ) → AreInRange row.fields v → rest_of row rest ≡ rest
     → made_by row (values_bytes row.fields v ++ rest) ≡ Some (row.make v rest)
 row_again row v rest fits none =
     let bytes : List ℕ = values_bytes row.fields v ++ rest in
@@ -87,7 +78,7 @@ kind_again kind fits =
     let p : Parts = parts_of kind in
     let has = has_row kind in
     ap (λ (r : Option Row). made_by_some r (fields_of kind)) has.row
-    ∙ row_again p.row p.values p.rest fits has.none
+    ∙ row_again p.row p.values p.rest fits has.rest
     ∙ ap (λ (k : PlainKind). Some k) has.made
 
 -- ---- what is read was spelled
@@ -103,17 +94,17 @@ guard_some false x y e = absurd cc
 
 record Fitting (has_rest : Bool) (n : ℕ) (bytes : List ℕ) : Type 0 where
   enough : n ≤ length bytes
-  none : has_rest ≡ false → drop n bytes ≡ []
+  none : (if has_rest then drop n bytes else []) ≡ drop n bytes
 
 nothing : (xs : List ℕ) → length xs ≡ 0 → xs ≡ []
 nothing [] is = refl
 nothing (x ∷ xs) is = absurd (omega (arith, is))
 
 fitting : (has_rest : Bool) (n : ℕ) (bytes : List ℕ) → (if has_rest then leb n (length bytes) else eqb (length bytes) n) ≡ true → Fitting has_rest n bytes
-fitting true n bytes is = record { enough = leb-true _ _ is; none = λ e. cc }
+fitting true n bytes is = record { enough = leb-true _ _ is; none = refl }
 fitting false n bytes is =
     let same = eqb-true (length bytes) n is in
-    record { enough = omega (arith, same); none = λ e. nothing (drop n bytes) (omega (arith, length-drop n bytes, same)) }
+    record { enough = omega (arith, same); none = sym (nothing (drop n bytes) (omega (arith, length-drop n bytes, same))) }
 
 row_back : (opcode : ℕ) (row : Row) (bytes : List ℕ) (kind : PlainKind) → IsBytes bytes → row_of opcode ≡ Some row → made_by row bytes ≡ Some kind
     → Spelled opcode bytes kind
@@ -122,10 +113,12 @@ row_back opcode row bytes kind fits is e =
     let rest : List ℕ = drop (total row.fields) bytes in
     let g = guard_some (fits_row row bytes) (row.make v rest) kind e in
     let size = fitting row.has_rest (total row.fields) bytes g.0 in
-    let apart = row_stands opcode row is v rest size.none in
+    let stands = row_stands rows each_undoes opcode row is in
+    let apart : parts_of (row.make v rest) ≡ record { row = row; values = v; rest = rest } =
+    subst (λ (x : List ℕ). parts_of (row.make v x) ≡ record { row = row; values = v; rest = x }) size.none (stands.undoes v rest) in
     subst (λ (k : PlainKind). Spelled opcode bytes k) g.1
     (record {
-      opcode_is = ap (λ (p : Parts). p.opcode) apart;
+      opcode_is = ap (λ (p : Parts). p.row.opcode) apart ∙ stands.at;
       fields_are = ap (λ (p : Parts). values_bytes p.row.fields p.values ++ p.rest) apart ∙ values_back row.fields bytes fits size.enough;
       fit = subst (λ (p : Parts). AreInRange p.row.fields p.values) (sym apart) (values_range row.fields bytes fits);
     })

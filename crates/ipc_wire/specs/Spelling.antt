@@ -10,7 +10,7 @@ abbrev pub spelled : Parts → List ℕ
 spelled p = values_bytes p.row.fields p.values ++ p.rest
 
 abbrev pub opcode_of : PlainKind → ℕ
-opcode_of kind = (parts_of kind).opcode
+opcode_of kind = (parts_of kind).row.opcode
 
 abbrev pub fields_of : PlainKind → List ℕ
 fields_of kind = spelled (parts_of kind)

@@ -1,60 +1,77 @@
--- The table of requests: for each opcode what stands behind it, and the request that this makes.
+-- The table of requests: a row for each has its opcode, what stands behind it, and the request that this makes.
 use Rattle.std.specs.Prelude.{ℕ, Bool, true, false, List, [], ◌∷◌, ◌==◌, if◌then◌else◌, Option, Some, None}
 use Rattle.ipc_wire.specs.Fields.{Kind, U32, I32, I64, Values}
-use Rattle.ipc_wire.specs.Request.{PlainKind, Hello, Calls, Msgget, Msgsnd, Msgrcv}
+use Rattle.ipc_wire.specs.Request.{PlainKind, Hello, Calls}
+use Rattle.ipc_wire.specs.Request as requests
 
--- a row: the fields, whether the rest of the frame follows them as bytes, and the request
+-- a row: the opcode, the fields, whether the rest of the frame follows them as bytes, and the request
 pub record Row : Type 0 where
+  pub opcode : ℕ
   pub fields : List Kind
   pub has_rest : Bool
   pub make : Values fields → List ℕ → PlainKind
 
 -- uid, gid
 abbrev pub hello : Row
-hello = record { fields = U32 ∷ U32 ∷ []; has_rest = false; make = λ v rest. Hello (record { uid = v.0; gid = v.1.0 }) }
+hello =
+    record {
+      opcode = 0x01;
+      fields = U32 ∷ U32 ∷ [];
+      has_rest = false;
+      make = λ v rest. Hello (record { uid = v.0; gid = v.1.0 });
+    }
 
 -- key, flags
 abbrev pub msgget : Row
-msgget = record { fields = I32 ∷ U32 ∷ []; has_rest = false; make = λ v rest. Calls (Msgget v.0 v.1.0) }
+msgget =
+    record {
+      opcode = 0x0a;
+      fields = I32 ∷ U32 ∷ [];
+      has_rest = false;
+      make = λ v rest. Calls (requests.Msgget v.0 v.1.0);
+    }
 
 -- id, flags, type; the rest is the text
 abbrev pub msgsnd : Row
 msgsnd =
     record {
+      opcode = 0x0b;
       fields = U32 ∷ U32 ∷ I64 ∷ [];
       has_rest = true;
-      make = λ v rest. Calls (Msgsnd v.0 v.1.0 v.1.1.0 rest);
+      make = λ v rest. Calls (requests.Msgsnd v.0 v.1.0 v.1.1.0 rest);
     }
 
 -- id, flags, size, type
 abbrev pub msgrcv : Row
 msgrcv =
     record {
+      opcode = 0x0c;
       fields = U32 ∷ U32 ∷ U32 ∷ I64 ∷ [];
       has_rest = false;
-      make = λ v rest. Calls (Msgrcv v.0 v.1.0 v.1.1.0 v.1.1.1.0);
+      make = λ v rest. Calls (requests.Msgrcv v.0 v.1.0 v.1.1.0 v.1.1.1.0);
     }
 
--- the row of an opcode, if it has one
-abbrev pub row_of : ℕ → Option Row
-row_of opcode =
-    if opcode == 0x01 then Some hello
-    else if opcode == 0x0a then Some msgget
-    else if opcode == 0x0b then Some msgsnd
-    else if opcode == 0x0c then Some msgrcv
-    else None
+abbrev pub rows : List Row
+rows = hello ∷ msgget ∷ msgsnd ∷ msgrcv ∷ []
 
--- a request taken apart: its opcode and row, the numbers of the fields, and the rest
+-- the row of an opcode among rows, if it has one
+abbrev pub row_among : List Row → ℕ → Option Row
+row_among [] opcode = None
+row_among (row ∷ others) opcode = if opcode == row.opcode then Some row else row_among others opcode
+
+abbrev pub row_of : ℕ → Option Row
+row_of opcode = row_among rows opcode
+
+-- a request taken apart: its row, the numbers of the fields, and the rest
 pub record Parts : Type 0 where
-  pub opcode : ℕ
   pub row : Row
   pub values : Values row.fields
   pub rest : List ℕ
 
 abbrev pub parts_of : PlainKind → Parts
-parts_of (Hello cred) = record { opcode = 0x01; row = hello; values = (cred.uid, (cred.gid, tt)); rest = [] }
-parts_of (Calls (Msgget key flags)) = record { opcode = 0x0a; row = msgget; values = (key, (flags, tt)); rest = [] }
-parts_of (Calls (Msgsnd id flags mtype text)) =
-    record { opcode = 0x0b; row = msgsnd; values = (id, (flags, (mtype, tt))); rest = text }
-parts_of (Calls (Msgrcv id flags size mtype)) =
-    record { opcode = 0x0c; row = msgrcv; values = (id, (flags, (size, (mtype, tt)))); rest = [] }
+parts_of (Hello cred) = record { row = hello; values = (cred.uid, (cred.gid, tt)); rest = [] }
+parts_of (Calls (requests.Msgget key flags)) = record { row = msgget; values = (key, (flags, tt)); rest = [] }
+parts_of (Calls (requests.Msgsnd id flags mtype text)) =
+    record { row = msgsnd; values = (id, (flags, (mtype, tt))); rest = text }
+parts_of (Calls (requests.Msgrcv id flags size mtype)) =
+    record { row = msgrcv; values = (id, (flags, (size, (mtype, tt)))); rest = [] }

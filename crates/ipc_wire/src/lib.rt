@@ -3,6 +3,7 @@
 
 mod laws;
 mod reading;
+mod record;
 mod reply;
 mod request;
 mod writing;
@@ -11,10 +12,8 @@ pub use laws::{
     found_frame_stays, frame_is_bounded, read_request_is_spelled, spelled_request_is_read,
     stream_begins, stream_in_pieces,
 };
-pub use reading::{
-    GREATEST_FRAME, GREATEST_LENGTH, HELLO, LEAST_LENGTH, MSGGET, MSGRCV, MSGSND, bytes_missing,
-    read_frame,
-};
+pub use reading::{GREATEST_FRAME, GREATEST_LENGTH, LEAST_LENGTH, bytes_missing, read_frame};
+pub use record::{Field, Record};
 pub use reply::{Body, Reply};
 pub use request::{Call, Frame, Request, RequestKind};
 pub use writing::{reply_len, write_reply};

@@ -11,7 +11,7 @@ ghost use Rattle.ipc_wire.specs.Stream.{
   kind_of,
   made_by,
 };
-ghost use Rattle.ipc_wire.specs.Table.{hello, msgget, msgsnd, msgrcv};
+ghost use Rattle.ipc_wire.specs.Table as table;
 ghost use Rattle.ipc_wire.specs.Stream.PlainFrame.{More};
 
 use crate::request::{Call, Frame, Request, RequestKind};
@@ -27,16 +27,16 @@ pub const GREATEST_LENGTH: u32 = 8448;
 pub const GREATEST_FRAME: usize = 4 + GREATEST_LENGTH as usize;
 
 /// The opcode of HELLO.
-pub const HELLO: u8 = 0x01;
+const HELLO: u8 = 0x01;
 
 /// The opcode of msgget(2).
-pub const MSGGET: u8 = 0x0a;
+const MSGGET: u8 = 0x0a;
 
 /// The opcode of msgsnd(2).
-pub const MSGSND: u8 = 0x0b;
+const MSGSND: u8 = 0x0b;
 
 /// The opcode of msgrcv(2).
-pub const MSGRCV: u8 = 0x0c;
+const MSGRCV: u8 = 0x0c;
 
 /// What stands at the front of the bytes. It takes no memory: the text of a message stays where it is.
 #[tactic(auto, unfolding(crate::specs::Stream::first, crate::specs::Stream::u32_at))]
@@ -115,7 +115,7 @@ fn read_kind(opcode: u8, fields: &[u8]) -> Option<RequestKind<'_>>
 
 #[tactic(auto, unfolding(crate::specs::Fields::number_of))]
 fn read_hello(fields: &[u8]) -> Option<RequestKind<'_>>
-    ensures { option_map plain_kind result ≡ made_by hello fields.now }
+    ensures { option_map plain_kind result ≡ made_by table.hello fields.now }
 {
     let mut cursor = Cursor::new(fields);
     let uid = cursor.u32()?;
@@ -128,7 +128,7 @@ fn read_hello(fields: &[u8]) -> Option<RequestKind<'_>>
 
 #[tactic(auto, unfolding(crate::specs::Fields::number_of))]
 fn read_msgget(fields: &[u8]) -> Option<RequestKind<'_>>
-    ensures { option_map plain_kind result ≡ made_by msgget fields.now }
+    ensures { option_map plain_kind result ≡ made_by table.msgget fields.now }
 {
     let mut cursor = Cursor::new(fields);
     let key = cursor.i32()?;
@@ -141,7 +141,7 @@ fn read_msgget(fields: &[u8]) -> Option<RequestKind<'_>>
 
 #[tactic(auto, unfolding(crate::specs::Fields::number_of))]
 fn read_msgsnd(fields: &[u8]) -> Option<RequestKind<'_>>
-    ensures { option_map plain_kind result ≡ made_by msgsnd fields.now }
+    ensures { option_map plain_kind result ≡ made_by table.msgsnd fields.now }
 {
     let mut cursor = Cursor::new(fields);
     let id = Id(cursor.u32()?);
@@ -158,7 +158,7 @@ fn read_msgsnd(fields: &[u8]) -> Option<RequestKind<'_>>
 
 #[tactic(auto, unfolding(crate::specs::Fields::number_of))]
 fn read_msgrcv(fields: &[u8]) -> Option<RequestKind<'_>>
-    ensures { option_map plain_kind result ≡ made_by msgrcv fields.now }
+    ensures { option_map plain_kind result ≡ made_by table.msgrcv fields.now }
 {
     let mut cursor = Cursor::new(fields);
     let id = Id(cursor.u32()?);

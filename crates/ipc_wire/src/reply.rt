@@ -1,5 +1,9 @@
 //! Replies.
 
+ghost use Rattle.std.specs.Prelude.{◌≡◌};
+ghost use Rattle.ipc_wire.specs.Reply.{plain_body, body_of};
+
+use crate::record::Record;
 use ipc_base::Errno;
 
 /// What the server answers to the request with this serial; 0 where no request has one.
@@ -20,4 +24,23 @@ pub enum Body<T> {
     Number(u32),
     /// A message of msgrcv(2): its type and its text.
     Message { mtype: i64, text: T },
+    /// Numbers of fixed sizes.
+    Record(Record),
+}
+
+impl Body<Vec<u8>> {
+    /// The same body, with its text where it lies.
+    pub fn borrowed(&self) -> Body<&[u8]>
+        ensures { plain_body result ≡ body_of (λ text. text.items) self.now }
+    {
+        match self {
+            Body::Empty => Body::Empty,
+            Body::Number(number) => Body::Number(*number),
+            Body::Message { mtype, text } => Body::Message {
+                mtype: *mtype,
+                text: text.as_slice(),
+            },
+            Body::Record(record) => Body::Record(record.copied()),
+        }
+    }
 }

@@ -1,6 +1,9 @@
 //! Frames to the byte.
 
-use crate::{Body, Call, Frame, Reply, Request, RequestKind, read_frame, reply_len, write_reply};
+use crate::{
+    Body, Call, Field, Frame, Record, Reply, Request, RequestKind, read_frame, reply_len,
+    write_reply,
+};
 use ipc_base::{Cred, Errno, Id, MsgFlags};
 
 #[test]
@@ -102,6 +105,23 @@ fn a_message_is_written(rt: HostRuntime) {
     ];
     assert_eq!(rt; out, bytes);
     assert!(rt; !write_reply(&reply, &mut [0; 19]));
+}
+
+#[test]
+fn a_record_is_written(rt: HostRuntime) {
+    let record = Record::new(&[Field::I32(-2), Field::U32(0x0102), Field::U64(0x0304)]);
+    let reply = Reply {
+        serial: 5,
+        errno: None,
+        body: Body::Record(record),
+    };
+    let mut out = [0xff; 27];
+    assert!(rt; write_reply(&reply, &mut out));
+    let bytes = [
+        0, 0, 0, 0x16, 0, 0, 0, 5, 0, 0, 0xff, 0xff, 0xff, 0xfe, 0, 0, 1, 2, 0, 0, 0, 0, 0, 0, 3,
+        4, 0xff,
+    ];
+    assert_eq!(rt; out, bytes);
 }
 
 #[test]

@@ -20,10 +20,11 @@ fn body_len(body: &Body<&[u8]>) -> usize
     ensures exact { result ≡ length (body_bytes (plain_body body.now)) }
     ensures bound { result + 10 < 2 ^ 64 }
 {
-    match *body {
+    match body {
         Body::Empty => 0,
         Body::Number(_) => 4,
         Body::Message { text, .. } => 8 + text_len(text),
+        Body::Record(record) => record.as_slice().len(),
     }
 }
 
@@ -71,9 +72,10 @@ fn put_body(put: &mut Put, out: &mut [u8], body: &Body<&[u8]>) -> bool
     ensures done { IsTrue result }
     ensures bytes { Puts (body_bytes (plain_body body.now)) put.old put.new out.old out.new true }
 {
-    match *body {
+    match body {
         Body::Empty => put.bytes(out, &[]),
-        Body::Number(number) => put.u32(out, number),
-        Body::Message { mtype, text } => put.i64(out, mtype) && put.bytes(out, text),
+        Body::Number(number) => put.u32(out, *number),
+        Body::Message { mtype, text } => put.i64(out, *mtype) && put.bytes(out, text),
+        Body::Record(record) => put.bytes(out, record.as_slice()),
     }
 }

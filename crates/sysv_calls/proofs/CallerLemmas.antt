@@ -6,40 +6,46 @@ use Rattle.std.proofs.lemmas.Bool.{ltb-false}
 use Rattle.std.proofs.lemmas.List.Elements.{All-get_or}
 use Rattle.std.proofs.lemmas.List.Quantifiers.{position-Some}
 use Rattle.std.proofs.lemmas.Option.{unwrap_or-slice_get}
+use Rattle.ipc_base.specs.declared.identity.Cred.{Cred}
 use Rattle.ipc_base.specs.declared.limits.Limits.{Limits}
 use Rattle.ipc_base.specs.declared.errno.Errno.TheVariants.{ENOENT, EEXIST, EINVAL, ENOSPC, EAGAIN, ENOMSG, E2BIG}
 use Rattle.ipc_base.proofs.CallerLemmas.{message-is_bounded}
-use Rattle.ipc_wire.specs.Request.{PlainCall, Msgget, Msgsnd, Msgrcv}
+use Rattle.ipc_wire.specs.Request.{PlainCall}
+use Rattle.ipc_wire.specs.Request as requests
 use Rattle.ipc_wire.specs.declared.reply.Body.TheVariants.{Empty, Number, Message}
 use Rattle.sysv_msg.specs.Queue.{Queue, PlainMessage, is_allowed, sent, taken}
-use Rattle.ipc_state.specs.Objects.{last_number}
+use Rattle.ipc_state.specs.Objects.{Entry, holding, last_number}
+use Rattle.ipc_state.specs.Perm.{perm_of}
 use Rattle.ipc_state.specs.Sound.{IsSound, IsSoundQueue, FitsBody}
-use Rattle.ipc_state.specs.State.{State, with_queue, with_new_queue}
+use Rattle.ipc_state.specs.State.{State, cred_of, with_queue, with_new_queue}
 use Rattle.ipc_state.proofs.CallerLemmas.{EndsSound, Ends, after-refuse, after-orelse, by-if_some, answered, read, ended-sound, ended-keeps}
 use Rattle.ipc_state.proofs.CallerLemmas.{with_new_queue-sound, with_queue-sound, queue-sound, sent-sound, taken-sound}
-use Rattle.sysv_calls.specs.Calls.{msgget, msgsnd, msgrcv, message_at, call_of, attempt}
+use Rattle.sysv_calls.specs.Calls.{message_at, call_of, attempt}
+use Rattle.sysv_calls.specs.Calls as defined
 
 not_false : (b : Bool) → not b ≡ false → b ≡ true
 not_false true h = refl
 not_false false h = cc
 
 module _ (limits : Limits) (s : State) where
-  msgget-ends : (key : ℤ) (flags : ℕ) → Ends limits s (msgget limits s key flags)
-  msgget-ends key flags =
+  msgget-ends : (cred : Cred) (key : ℤ) (flags : ℕ) → Ends limits s (defined.msgget limits s cred key flags)
+  msgget-ends cred key flags =
       by-if_some (λ id _. after-refuse EEXIST (λ _. read (Number id) (λ _. omega arith)))
-      (λ unused. after-refuse ENOENT (λ _. after-refuse ENOSPC (λ room. answered (with_new_queue limits s key) (Number s.msg.next) (record {
-        state = λ h. with_new_queue-sound limits s key unused room h;
+      (λ unused. after-refuse ENOENT (λ _. after-refuse ENOSPC (λ room.
+      answered (with_new_queue limits s key (perm_of cred flags)) (Number s.msg.next) (record {
+        state = λ h. with_new_queue-sound limits s key (perm_of cred flags) unused room h;
         body = λ _. omega arith;
         kept = refl;
       }))))
 
-  msgsnd-ends : (pid id : ℕ) (mtype : ℤ) (text : List ℕ) → Ends limits s (msgsnd limits s pid id mtype text)
+  msgsnd-ends : (pid id : ℕ) (mtype : ℤ) (text : List ℕ) → Ends limits s (defined.msgsnd limits s pid id mtype text)
   msgsnd-ends pid id mtype text =
       let m : PlainMessage = record { mtype = mtype; text = text } in
-      after-refuse EINVAL (λ above. after-refuse EINVAL (λ short. after-orelse EINVAL (λ q is. after-refuse EAGAIN (λ fits.
-      answered (with_queue s id (sent q m pid s.clock)) Empty (record {
-        state = λ h. with_queue-sound limits s id (sent q m pid s.clock)
-            (sent-sound limits q m pid s.clock fits (not_false (int_lt (pos 0) mtype) above) (ltb-false _ _ short) (queue-sound limits s id q is h)) h;
+      after-refuse EINVAL (λ above. after-refuse EINVAL (λ short. after-orelse EINVAL (λ e is. after-refuse EAGAIN (λ fits.
+      let new : Entry Queue = holding e (sent e.object m pid s.clock) in
+      answered (with_queue s id new) Empty (record {
+        state = λ h. with_queue-sound limits s id e new is refl
+            (sent-sound limits e.object m pid s.clock fits (not_false (int_lt (pos 0) mtype) above) (ltb-false _ _ short) (queue-sound limits s id e is h)) h;
         body = λ _. omega arith;
         kept = refl;
       })))))
@@ -53,20 +59,22 @@ module _ (limits : Limits) (s : State) where
       rw unwrap_or-slice_get (All-get_or (λ (m : PlainMessage). length m.text ≤ limits.msgmax) q.messages at none inside good.texts) in
       omega (arith, message-is_bounded limits (length (message_at q at).text) short)
 
-  msgrcv-ends : (pid id size : ℕ) (mtype : ℤ) → Ends limits s (msgrcv s pid id size mtype)
+  msgrcv-ends : (pid id size : ℕ) (mtype : ℤ) → Ends limits s (defined.msgrcv s pid id size mtype)
   msgrcv-ends pid id size mtype =
-      after-refuse EINVAL {b = nat_lt last_number size} (λ _. after-orelse EINVAL (λ q is. after-orelse ENOMSG (λ at picked. after-refuse E2BIG (λ _.
+      after-refuse EINVAL {b = nat_lt last_number size} (λ _. after-orelse EINVAL (λ e is. after-orelse ENOMSG (λ at picked. after-refuse E2BIG (λ _.
+      let q : Queue = e.object in
+      let new : Entry Queue = holding e (taken q at pid s.clock) in
       let inside : at < length q.messages = (position-Some (is_allowed q.messages mtype false) q.messages at (record { mtype = pos 0; text = [] }) picked).0 in
-      answered (with_queue s id (taken q at pid s.clock)) (Message (message_at q at).mtype (message_at q at).text) (record {
-        state = λ h. with_queue-sound limits s id (taken q at pid s.clock) (taken-sound limits q at pid s.clock inside (queue-sound limits s id q is h)) h;
-        body = λ h. message_at-fits q at inside (queue-sound limits s id q is h);
+      answered (with_queue s id new) (Message (message_at q at).mtype (message_at q at).text) (record {
+        state = λ h. with_queue-sound limits s id e new is refl (taken-sound limits q at pid s.clock inside (queue-sound limits s id e is h)) h;
+        body = λ h. message_at-fits q at inside (queue-sound limits s id e is h);
         kept = refl;
       })))))
 
   call-ends : (pid : ℕ) (call : PlainCall) → Ends limits s (call_of limits s pid call)
-  call-ends pid (Msgget key flags) = msgget-ends key flags
-  call-ends pid (Msgsnd id flags mtype text) = msgsnd-ends pid id mtype text
-  call-ends pid (Msgrcv id flags size mtype) = msgrcv-ends pid id size mtype
+  call-ends pid (requests.Msgget key flags) = msgget-ends (cred_of s pid) key flags
+  call-ends pid (requests.Msgsnd id flags mtype text) = msgsnd-ends pid id mtype text
+  call-ends pid (requests.Msgrcv id flags size mtype) = msgrcv-ends pid id size mtype
 
 -- from a sound state a call ends in one, and its body fits
 pub attempt-sound : (limits : Limits) (s : State) (pid : ℕ) (call : PlainCall) → IsSound limits s → EndsSound limits (attempt limits s pid call)

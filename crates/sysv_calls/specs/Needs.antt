@@ -1,6 +1,7 @@
 -- What each call may need of memory. It is taken before the attempt, so that the attempt takes none.
 use Rattle.std.specs.Prelude.{◌≡◌, ℕ, Bool, true, false, length}
-use Rattle.ipc_wire.specs.Request.{PlainCall, Msgget, Msgsnd}
+use Rattle.ipc_wire.specs.Request.{PlainCall}
+use Rattle.ipc_wire.specs.Request as requests
 use Rattle.ipc_state.specs.Held.{Room, HasTextRoom}
 use Rattle.sysv_calls.specs.declared.memory.Needs.{Needs as Wants}
 use Rattle.sysv_calls.specs.declared.memory.Needs.TheVariants as wants
@@ -14,8 +15,8 @@ pub data Needs : Type 0 where
 
 -- the table: a call that it does not name needs nothing
 abbrev pub needs : PlainCall → Needs
-needs (Msgget key flags) = Place
-needs (Msgsnd id flags mtype text) = Text id (length text)
+needs (requests.Msgget key flags) = Place
+needs (requests.Msgsnd id flags mtype text) = Text id (length text)
 needs _ = Nothing
 
 abbrev pub is_something : Needs → Bool

@@ -4,18 +4,14 @@ ghost use Rattle.std.specs.Prelude.{◌≡◌, true, false, length, IsOk, OnOk};
 ghost use Rattle.ipc_wire.specs.Request.{plain_call};
 ghost use Rattle.ipc_state.specs.Held.{HasTextRoom};
 ghost use Rattle.ipc_state.specs.Finish.{finish_of, ended};
-ghost use Rattle.sysv_calls.specs.Calls.{
-  attempt as attempt_of,
-  msgget as msgget_of,
-  msgsnd as msgsnd_of,
-  msgrcv as msgrcv_of,
-};
+ghost use Rattle.ipc_state.specs.State.{is_process, cred_of};
+ghost use Rattle.sysv_calls.specs.Calls as defined;
 ghost use Rattle.sysv_calls.specs.Needs.{IsReserved, takes_memory};
 
 use crate::memory::{Needs, needed_by};
 use bitflags::Flags;
 use ipc_base::{Errno, GetFlags, Id, Pid};
-use ipc_state::{IPC_PRIVATE, LAST_NUMBER, State};
+use ipc_state::{IPC_PRIVATE, LAST_NUMBER, Perm, State};
 use ipc_wire::{Body, Call};
 use std::alloc::AllocError;
 
@@ -39,13 +35,14 @@ pub fn reserve(state: &mut State, call: &Call<'_>) -> Result<(), AllocError>
 
 /// The attempt of a call by a process, whose memory is reserved. It takes none.
 pub fn attempt(state: &mut State, pid: Pid, call: &Call<'_>) -> Answer
-    requires { IsReserved state.old.room (plain_call call.now) }
+    requires room { IsReserved state.old.room (plain_call call.now) }
+    requires process { is_process state.old.state pid.0 ≡ true }
     ensures finish { finish_of state.new.state result
-        ≡ attempt_of state.old.limits state.old.state pid.0 (plain_call call.now) }
+        ≡ defined.attempt state.old.limits state.old.state pid.0 (plain_call call.now) }
     ensures limits { state.new.limits ≡ state.old.limits }
 {
     match call {
-        Call::Msgget { key, flags } => msgget(state, *key, *flags),
+        Call::Msgget { key, flags } => msgget(state, pid, *key, *flags),
         Call::Msgsnd {
             id,
             mtype,
@@ -62,10 +59,11 @@ pub fn attempt(state: &mut State, pid: Pid, call: &Call<'_>) -> Answer
 }
 
 /// msgget(2).
-fn msgget(state: &mut State, key: i32, flags: GetFlags) -> Answer
-    requires { state.old.room.queue ≡ true }
-    ensures finish { finish_of state.new.state result
-        ≡ ended state.old.state (msgget_of state.old.limits state.old.state key flags.0) }
+fn msgget(state: &mut State, pid: Pid, key: i32, flags: GetFlags) -> Answer
+    requires room { state.old.room.queue ≡ true }
+    requires process { is_process state.old.state pid.0 ≡ true }
+    ensures finish { finish_of state.new.state result ≡ ended state.old.state
+        (defined.msgget state.old.limits state.old.state (cred_of state.old.state pid.0) key flags.0) }
     ensures limits { state.new.limits ≡ state.old.limits }
 {
     if let Some(id) = state.queue_of_key(key) {
@@ -80,23 +78,24 @@ fn msgget(state: &mut State, key: i32, flags: GetFlags) -> Answer
     if state.has_all_queues() {
         return Err(Errno::ENOSPC);
     }
-    Ok(Body::Number(state.add_queue(key).0))
+    let perm = Perm::new(state.cred(pid), flags.0);
+    Ok(Body::Number(state.add_queue(key, perm).0))
 }
 
 /// msgsnd of msgop(2).
 fn msgsnd(state: &mut State, pid: Pid, id: Id, mtype: i64, text: &[u8]) -> Answer
     requires { HasTextRoom state.old.room.texts id.0 (length text.now) }
     ensures finish { finish_of state.new.state result
-        ≡ ended state.old.state (msgsnd_of state.old.limits state.old.state pid.0 id.0 mtype text.now) }
+        ≡ ended state.old.state (defined.msgsnd state.old.limits state.old.state pid.0 id.0 mtype text.now) }
     ensures limits { state.new.limits ≡ state.old.limits }
 {
     if mtype <= 0 || text.len() > state.limits().msgmax as usize {
         return Err(Errno::EINVAL);
     }
-    let Some(queue) = state.queue(id) else {
+    let Some(entry) = state.queue(id) else {
         return Err(Errno::EINVAL);
     };
-    if !queue.fits(text.len()) {
+    if !entry.object.fits(text.len()) {
         return Err(Errno::EAGAIN);
     }
     state.send(id, mtype, text, pid);
@@ -106,15 +105,16 @@ fn msgsnd(state: &mut State, pid: Pid, id: Id, mtype: i64, text: &[u8]) -> Answe
 /// msgrcv of msgop(2).
 fn msgrcv(state: &mut State, pid: Pid, id: Id, size: u32, mtype: i64) -> Answer
     ensures finish { finish_of state.new.state result
-        ≡ ended state.old.state (msgrcv_of state.old.state pid.0 id.0 size mtype) }
+        ≡ ended state.old.state (defined.msgrcv state.old.state pid.0 id.0 size mtype) }
     ensures limits { state.new.limits ≡ state.old.limits }
 {
     if size > LAST_NUMBER {
         return Err(Errno::EINVAL);
     }
-    let Some(queue) = state.queue(id) else {
+    let Some(entry) = state.queue(id) else {
         return Err(Errno::EINVAL);
     };
+    let queue = &entry.object;
     let Some(at) = queue.select(mtype, false) else {
         return Err(Errno::ENOMSG);
     };

@@ -7,6 +7,7 @@ use Rattle.std.specs.Prelude.{List, [], ◌∷◌, ◌++◌, length, remove, pos
 use Rattle.std.specs.List.{list_all}
 use Rattle.std.specs.Ordering.{int_eq}
 use Rattle.sysv_msg.specs.declared.message.Message.{Message}
+use Rattle.sysv_msg.specs.declared.queue.QueueStat.{QueueStat}
 
 -- a message as a value: its type and the bytes of its text
 pub record PlainMessage : Type 0 where
@@ -64,6 +65,20 @@ sent q m pid moment = record q { messages = q.messages ++ m ∷ []; lspid = pid;
 -- the queue after this process received the message at this position at this moment
 abbrev pub taken : Queue → ℕ → ℕ → ℕ → Queue
 taken q at pid moment = record q { messages = remove q.messages at; lrpid = pid; rtime = moment }
+
+-- the numbers of a queue that msgctl(2) tells
+abbrev pub stat_of : Queue → QueueStat
+stat_of q =
+    record {
+      qnum = length q.messages;
+      bytes = byte_count q.messages;
+      qbytes = q.qbytes;
+      stime = record { 0 = q.stime };
+      rtime = record { 0 = q.rtime };
+      ctime = record { 0 = q.ctime };
+      lspid = record { 0 = q.lspid };
+      lrpid = record { 0 = q.lrpid };
+    }
 
 -- A queue, and the room reserved in it: with Some n a further message of n bytes takes no memory. There
 -- is memory for these bytes and no more.

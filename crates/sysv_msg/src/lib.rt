@@ -8,7 +8,7 @@ mod select;
 
 pub use laws::{picked_is_first_allowed, sent_is_within_qbytes, taken_still_fits};
 pub use message::Message;
-pub use queue::MsgQueue;
+pub use queue::{MsgQueue, QueueStat};
 
 #[cfg(test)]
 mod tests;

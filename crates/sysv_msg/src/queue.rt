@@ -10,6 +10,24 @@ use std::alloc::{AllocError, Global};
 use std::marker::Model;
 use std::mem;
 
+/// The numbers of a queue, as msgctl(2) tells them.
+#[derive(Clone, Copy, Debug, PartialEq, Eq)]
+pub struct QueueStat {
+    /// How many messages there are.
+    pub qnum: usize,
+    /// The bytes of all texts.
+    pub bytes: u128,
+    /// The most bytes, and also the most messages.
+    pub qbytes: u32,
+    /// When the last send was, the last receive, and the last change; 0 for never.
+    pub stime: Moment,
+    pub rtime: Moment,
+    pub ctime: Moment,
+    /// Who sent last, and who received last; 0 for nobody.
+    pub lspid: Pid,
+    pub lrpid: Pid,
+}
+
 /// A message queue: its messages, the oldest first, and what msgctl(2) tells of it. A contract sees it
 /// as a queue of plain messages and the room reserved for a further one. The memory of its texts is
 /// their bytes: the buffer of each has room for these and no more.
@@ -56,7 +74,7 @@ impl Model for MsgQueue {
 }
 
 impl MsgQueue {
-    ghost use Rattle.sysv_msg.specs.Queue.{plain, new_queue, full, sent, taken, pick, HasRoom};
+    ghost use Rattle.sysv_msg.specs.Queue.{plain, new_queue, full, sent, taken, stat_of, pick, HasRoom};
 
     /// A queue without messages that may hold `qbytes` bytes and as many messages. It takes no memory.
     pub fn new(alloc: Global, qbytes: u32, ctime: Moment) -> MsgQueue
@@ -155,6 +173,22 @@ impl MsgQueue {
         self.lrpid = pid;
         self.rtime = now;
         message
+    }
+
+    /// All its numbers.
+    pub fn stat(&self) -> QueueStat
+        ensures { result ≡ stat_of self.now.queue }
+    {
+        QueueStat {
+            qnum: self.messages.len(),
+            bytes: self.bytes,
+            qbytes: self.qbytes,
+            stime: self.stime,
+            rtime: self.rtime,
+            ctime: self.ctime,
+            lspid: self.lspid,
+            lrpid: self.lrpid,
+        }
     }
 
     /// How many messages there are.

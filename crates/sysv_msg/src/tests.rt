@@ -1,7 +1,7 @@
 //! Queues by hand: which message each type takes, when a queue is full, what stays, and how much room
 //! texts take.
 
-use crate::{Message, MsgQueue};
+use crate::{Message, MsgQueue, QueueStat};
 use ipc_base::{Moment, Pid};
 use std::alloc::{AllocError, Global};
 use std::process::Abort;
@@ -46,6 +46,17 @@ fn takes_what_is_left(rt: HostRuntime) -> Result<(), Fail> {
     let at = queue.select(3, true).ok_or("no message")?;
     assert!(rt; is_message(queue.message(at), 2, b"d"));
     assert_eq!(rt; queue.select(5, false), None);
+    let stat = QueueStat {
+        qnum: 3,
+        bytes: 3,
+        qbytes: 128,
+        stime: Moment(10),
+        rtime: Moment(11),
+        ctime: Moment(9),
+        lspid: Pid(1),
+        lrpid: Pid(2),
+    };
+    assert_eq!(rt; queue.stat(), stat);
     Ok(())
 }
 

@@ -1,0 +1,83 @@
+//! Records: numbers of fixed sizes side by side, as the body of a reply.
+
+ghost use Rattle.std.specs.Prelude.{◌≡◌, ◌≤◌, length};
+ghost use Rattle.std.specs.Bool.{OnTrue};
+ghost use Rattle.ipc_base.specs.Fields.{Puts};
+ghost use Rattle.ipc_wire.specs.Reply.{field_bytes, fields_bytes};
+
+use ipc_base::Put;
+use std::marker::Model;
+
+/// One number of a record.
+#[derive(Clone, Copy, Debug)]
+pub enum Field {
+    U32(u32),
+    I32(i32),
+    U64(u64),
+}
+
+/// The most bytes of a record: those of what msgctl(2) tells of a queue.
+const RECORD: usize = 68;
+
+/// A record. A contract sees it as its bytes.
+#[derive(Debug, Drop)]
+pub struct Record {
+    bytes: [u8; RECORD],
+    len: usize,
+}
+
+impl Model for Record {
+    ghost use Rattle.std.specs.Prelude.{◌≤◌, ℕ, List, take};
+
+    ghost Value = { List ℕ };
+
+    ghost view = { λ r. take r.len r.bytes };
+
+    ghost invariant = { λ r. r.len ≤ 68 };
+}
+
+impl Record {
+    /// These fields, side by side. It takes no memory.
+    pub fn new(fields: &[Field]) -> Record
+        requires { length (fields_bytes fields.now) ≤ 68 }
+        ensures { result ≡ fields_bytes fields.now }
+    {
+        let mut bytes = [0; RECORD];
+        let mut put = Put::new(0);
+        for field in fields {
+            put_field(&mut put, &mut bytes, *field);
+        }
+        Record {
+            bytes,
+            len: put.at(),
+        }
+    }
+
+    /// The bytes.
+    pub fn as_slice(&self) -> &[u8]
+        ensures { result.now ≡ self.now }
+    {
+        &self.bytes[..self.len]
+    }
+
+    /// The same record once more.
+    pub fn copied(&self) -> Record
+        ensures { result ≡ self.now }
+    {
+        Record {
+            bytes: self.bytes,
+            len: self.len,
+        }
+    }
+}
+
+/// Puts one number.
+fn put_field(put: &mut Put, out: &mut [u8], field: Field) -> bool
+    ensures { Puts (field_bytes field) put.old put.new out.old out.new result }
+{
+    match field {
+        Field::U32(number) => put.u32(out, number),
+        Field::I32(number) => put.i32(out, number),
+        Field::U64(number) => put.u64(out, number),
+    }
+}
