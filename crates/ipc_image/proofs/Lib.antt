@@ -1,0 +1,2 @@
+-- Lemmas on sizes.
+mod Bounds

@@ -1,0 +1,2 @@
+-- How large a device must be, and what its superblock says.
+pub mod Sizes
