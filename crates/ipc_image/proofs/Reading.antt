@@ -1,6 +1,6 @@
 -- What a sector that is a superblock holds, and what makes one of it.
-use Rattle.std.proofs.Common.{◌≡◌, ℕ, Bool, true, false, eqb, suc, ◌+◌, ◌-◌, ◌≤◌, ◌<◌, ◌^◌, List, [], ◌∷◌, ◌++◌, length, take, drop, get_or, refl, sym, ap, ◌∙◌, arith}
-use Rattle.std.specs.Prelude.{Result, Ok, Err, Option, Some, None, IfErr, OnOk, not, position}
+use Rattle.std.proofs.Common.{◌≡◌, ℕ, Bool, true, false, eqb, ◌≤◌, ◌<◌, ◌^◌, List, [], ◌∷◌, ◌++◌, length, take, drop, get_or, refl, sym, ap, ◌∙◌, arith}
+use Rattle.std.specs.Prelude.{Result, Ok, Err, Some, None, IfErr, OnOk, not, position}
 use Rattle.std.specs.Cmp.Lexicographic.{pointwise}
 use Rattle.std.specs.Result.{is_err}
 use Rattle.std.specs.List.{AllByRecursion, starts_with}
@@ -14,18 +14,17 @@ use Rattle.ipc_base.specs.declared.limits.BadLimits.{BadLimits}
 use Rattle.ipc_base.specs.Limits.{ArePassed, tests}
 use Rattle.ipc_base.proofs.CallerLemmas.{passed-bounds}
 use Rattle.ipc_image.specs.Sizes.{need_of}
-use Rattle.ipc_image.specs.Superblock.{magic, limit_fields, fields, named_bytes, superblock_bytes, IsFormatted, version_in, IsSuperblock}
+use Rattle.ipc_image.specs.Superblock.{magic, limit_fields, superblock_fields, named_bytes, superblock_bytes, IsFormatted, version_in, IsSuperblock}
 use Rattle.ipc_image.proofs.Numbers.{spelled, AreBelow, each_below, same_numbers, take_both}
 
 -- the numbers of a superblock are numbers of four bytes
 limits_fit : (l : Limits) → ArePassed l → AllByRecursion (λ n. n < 2 ^ 32) (limit_fields l)
-limits_fit l passed =
-    let b = passed-bounds l passed in
-    (omega arith, (omega arith, (omega arith, (omega arith, (omega arith, (omega arith, (omega arith, (omega arith, (omega arith, (omega arith, (omega arith, (omega arith, (omega arith, (omega arith, (omega arith, (omega arith, tt))))))))))))))))
+limits_fit l passed = let b = passed-bounds l passed in search arith
 
-fields_fit : (sectors : ℕ) (limits : Limits) → sectors < 2 ^ 32 → ArePassed limits → AreBelow (2 ^ 32) (fields sectors limits)
+fields_fit : (sectors : ℕ) (limits : Limits) → sectors < 2 ^ 32 → ArePassed limits → AreBelow (2 ^ 32) (superblock_fields sectors limits)
 fields_fit sectors limits fits passed =
-    each_below (2 ^ 32) (fields sectors limits) (omega arith) (omega arith, (omega arith, (omega arith, (omega arith, (omega arith, (omega arith, (omega arith, limits_fit limits passed)))))))
+    let rest = limits_fit limits passed in
+    each_below (2 ^ 32) (superblock_fields sectors limits) (omega arith) (search arith)
 
 -- a sector that begins as a superblock, and the numbers that were read of it
 pub record HasNumbers (sector found : List ℕ) : Type 0 where
@@ -63,18 +62,18 @@ module _ (sectors : ℕ) (limits : Limits) (sector : List ℕ) where
   unfolding named_bytes
   begins is = sym (take-take 8 100 sector (omega arith)) ∙ ap (take 8) is.named
 
-  numbers_of : IsSuperblock sectors limits sector → take 92 (drop 8 sector) ≡ spelled (fields sectors limits)
+  numbers_of : IsSuperblock sectors limits sector → take 92 (drop 8 sector) ≡ spelled (superblock_fields sectors limits)
   unfolding named_bytes
   numbers_of is = sym (drop-take 8 92 sector) ∙ ap (drop 8) is.named
 
   -- the numbers that are read of a superblock are its own
   pub numbers_are : (found : List ℕ) → HasNumbers sector found → sectors < 2 ^ 32 → IsSuperblock sectors limits sector
-      → found ≡ fields sectors limits
+      → found ≡ superblock_fields sectors limits
   numbers_are found has fits is =
-      same_numbers found (fields sectors limits) has.below (fields_fit sectors limits fits is.passed) has.count (has.spells ∙ numbers_of is)
+      same_numbers found (superblock_fields sectors limits) has.below (fields_fit sectors limits fits is.passed) has.count (has.spells ∙ numbers_of is)
 
   -- a sector with the numbers of a superblock is one
-  pub is_superblock : (found : List ℕ) → HasNumbers sector found → found ≡ fields sectors limits → ArePassed limits → need_of limits ≤ sectors
+  pub is_superblock : (found : List ℕ) → HasNumbers sector found → found ≡ superblock_fields sectors limits → ArePassed limits → need_of limits ≤ sectors
       → IsSuperblock sectors limits sector
   unfolding named_bytes
   is_superblock found has are passed room =
@@ -122,8 +121,8 @@ limits_in ns =
 pub one_superblock : (sectors others : ℕ) (limits more : Limits) (sector : List ℕ) → sectors < 2 ^ 32 → others < 2 ^ 32
     → IsSuperblock sectors limits sector → IsSuperblock others more sector → (sectors ≡ others) × (limits ≡ more)
 one_superblock sectors others limits more sector fits other-fits is other-is =
-    let same : fields sectors limits ≡ fields others more =
-    same_numbers (fields sectors limits) (fields others more) (fields_fit sectors limits fits is.passed)
+    let same : superblock_fields sectors limits ≡ superblock_fields others more =
+    same_numbers (superblock_fields sectors limits) (superblock_fields others more) (fields_fit sectors limits fits is.passed)
     (fields_fit others more other-fits other-is.passed) refl
     (sym (numbers_of sectors limits sector is) ∙ numbers_of others more sector other-is) in
     (ap (λ (ns : List ℕ). get_or ns 1 0) same, ap (λ (ns : List ℕ). limits_in ns) same)

@@ -1,6 +1,6 @@
--- How many sectors a device has at least. An image of all that the server keeps takes at most `area_of` sectors, with
--- its table. A device has room for two of them, the one that is there and the next one, so a save is never short of
--- sectors.
+-- How many sectors a device has at least. An image of all that the server keeps takes at most
+-- `area_of` sectors, with its table. A device has room for two of them, the one that is there and
+-- the next one, so a save is never short of sectors.
 use Rattle.std.specs.Prelude.{ℕ, ◌+◌, ◌*◌, ◌/◌}
 use Rattle.ipc_base.specs.declared.limits.Limits.{Limits}
 
@@ -31,10 +31,10 @@ object_sectors l =
     + l.queues * sectors (299 + l.maxmsg * (8 + l.msgsize))
     -- named semaphores, each with a name of at most 251 bytes
     + l.named_semaphores * sectors 271
-    -- shared memory segments: beside its bytes a segment takes less than a sector
+    -- shared memory segments: their bytes, and for each two sectors that are not full of them
     + (2 * l.segments + sectors l.segment_bytes)
 
--- the most entries that the table has: four for the parts of `process_sectors`, and one for each object
+-- the most entries that the table has: one for each part of `process_sectors` and for each object
 abbrev pub entries : Limits → ℕ
 entries l = 4 + l.msgmni + l.semmni + l.queues + l.named_semaphores + l.segments
 
@@ -42,10 +42,12 @@ entries l = 4 + l.msgmni + l.semmni + l.queues + l.named_semaphores + l.segments
 abbrev pub table_bytes : Limits → ℕ
 table_bytes l = 4 + 16 * entries l + 4 * (process_sectors l + object_sectors l)
 
--- the most sectors that an image takes. A sector of the table holds 508 bytes of it, beside the number of the next one
+-- the most sectors that an image takes: a sector of the table holds 508 bytes of it, and 4 that
+-- name the next one
 abbrev pub area_of : Limits → ℕ
 area_of l = process_sectors l + object_sectors l + (table_bytes l + 507) / 508
 
--- the least device: the superblock, the root, a sector that is kept free, the journal's 257, and two images
+-- the least device: the superblock, the root, a sector that is kept free, the journal's 257, and
+-- two images
 abbrev pub need_of : Limits → ℕ
 need_of l = 260 + 2 * area_of l

@@ -14,7 +14,7 @@ pub enum SuperblockFault {
         /// The version that it names.
         found: u32,
     },
-    /// The superblock is of this version, and does not fit the device or names limits that no server has.
+    /// The superblock does not fit the device, or its limits do not pass their check.
     #[error("the superblock is damaged")]
     Damaged,
 }

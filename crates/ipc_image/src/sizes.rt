@@ -2,13 +2,20 @@
 
 ghost use Rattle.std.specs.Prelude.{◌≡◌, ◌≤◌, ◌<◌, ◌+◌, ◌*◌, ◌^◌};
 ghost use Rattle.ipc_base.specs.Limits.{ArePassed};
-ghost use Rattle.ipc_image.specs.Sizes.{sectors, process_sectors, object_sectors, entries, area_of, need_of};
+ghost use Rattle.ipc_image.specs.Sizes.{
+  sectors,
+  process_sectors,
+  object_sectors,
+  entries,
+  area_of,
+  need_of,
+};
 
 use crate::places::OBJECTS;
 use ipc_base::Limits;
 
-/// How many sectors an image of all that is kept takes at most, with its table: 94 under small limits, 22785 under
-/// standard ones.
+/// How many sectors an image of all that is kept takes at most, with its table: 94 under small
+/// limits, 22785 under standard ones.
 pub fn area(limits: &Limits) -> u32
     requires { ArePassed limits.now }
     ensures exact { result ≡ area_of limits.now }
@@ -19,8 +26,8 @@ pub fn area(limits: &Limits) -> u32
     image + table.div_ceil(508)
 }
 
-/// How many sectors a device has at least: room for the image that is there and for the next one, so a save is
-/// never short of sectors. 448 under small limits, 45830 under standard ones.
+/// How many sectors a device has at least: room for the image that is there and for the next one,
+/// so a save is never short of sectors. 448 under small limits, 45830 under standard ones.
 pub fn need(limits: &Limits) -> u32
     requires { ArePassed limits.now }
     ensures exact { result ≡ need_of limits.now }

@@ -1,12 +1,13 @@
 //! The superblock: written, and read.
 
-ghost use Rattle.std.specs.Prelude.{◌≡◌, ◌≢◌, ◌↔◌, ◌≤◌, ◌<◌, ◌^◌, ℕ, slice_index, length, take, drop, Ok, IfOk, IsErrOf};
+ghost use Rattle.std.specs.Prelude.{◌≡◌, ◌≢◌, ◌↔◌, ◌≤◌, ◌<◌, ◌^◌, ℕ, length, slice_index};
+ghost use Rattle.std.specs.Prelude.{take, drop, Ok, IfOk, IsErrOf};
 ghost use Rattle.std.specs.Int.{w32, to_be_bytes};
 ghost use Rattle.std.specs.List.{flat_map};
 ghost use Rattle.ipc_base.specs.Limits.{ArePassed};
 ghost use Rattle.ipc_base.specs.declared.limits.Limits.{Limits as AnyLimits};
 ghost use Rattle.ipc_image.specs.Superblock.{
-  fields,
+  superblock_fields,
   superblock_bytes,
   IsFormatted,
   version_in,
@@ -27,11 +28,14 @@ const VERSION: u32 = 0;
 /// How many numbers follow: the version, six of the device, and the limits.
 const FIELDS: usize = 23;
 
-/// Makes the sector the superblock of a device of so many sectors, with these limits.
+/// Makes the sector the superblock of a device of so many sectors, with these limits. It tests
+/// neither: what limits that `check` refuses make, or fewer sectors than `need`, is read as
+/// `Damaged`.
 pub fn write_superblock(into: &mut [u8; 512], sectors: u32, limits: &Limits)
     ensures { into.new ≡ superblock_bytes sectors limits.now }
 {
     *into = [0; 512];
+    // The sector has room for each field.
     let mut put = Put::new(0);
     put.bytes(into, MAGIC);
     for field in fields_of(sectors, limits) {
@@ -39,14 +43,17 @@ pub fn write_superblock(into: &mut [u8; 512], sectors: u32, limits: &Limits)
     }
 }
 
-/// The limits of a device of so many sectors, from its sector 0. Bytes without a meaning are not looked at. A device
-/// of fewer than three sectors has no superblock: a caller tests that before it reads.
+/// The limits of a device of so many sectors, from its sector 0. Bytes without a meaning are not
+/// looked at. A device of fewer than three sectors is `NotFormatted` too: a caller tests that
+/// before it reads.
 pub fn read_superblock(sector: &[u8; 512], sectors: u32) -> Result<Limits, SuperblockFault>
     ensures ok { IfOk result (λ limits. IsSuperblock sectors limits sector.now) }
-    ensures only { (limits : AnyLimits) → IsSuperblock sectors limits sector.now → result ≡ Ok limits }
+    ensures only { (limits : AnyLimits) → IsSuperblock sectors limits sector.now
+        → result ≡ Ok limits }
     ensures passed { IfOk result (λ limits. ArePassed limits) }
-    // The faults, each if none before it is seen.
-    ensures not_formatted { IsErrOf result SuperblockFault.NotFormatted ↔ (¬ IsFormatted sector.now) }
+    // Which fault it is: the first of these.
+    ensures not_formatted { IsErrOf result SuperblockFault.NotFormatted
+        ↔ (¬ IsFormatted sector.now) }
     ensures version { (found : ℕ) → IsErrOf result (SuperblockFault.Version found)
         ↔ (IsFormatted sector.now × (version_in sector.now ≡ found) × (found ≢ 0)) }
     ensures damaged { IsErrOf result SuperblockFault.Damaged
@@ -67,7 +74,7 @@ pub fn read_superblock(sector: &[u8; 512], sectors: u32) -> Result<Limits, Super
     Ok(limits)
 }
 
-/// The numbers at the front of the bytes.
+/// As many numbers from the front of the bytes.
 fn read_fields(bytes: &[u8]) -> [u32; FIELDS]
     requires { 92 ≤ length bytes.now }
     ensures spelled { flat_map (to_be_bytes w32) result ≡ take 92 bytes.now }
@@ -86,7 +93,7 @@ fn read_fields(bytes: &[u8]) -> [u32; FIELDS]
 
 /// The numbers of a superblock.
 fn fields_of(sectors: u32, limits: &Limits) -> [u32; FIELDS]
-    ensures { result ≡ fields sectors limits.now }
+    ensures { result ≡ superblock_fields sectors limits.now }
 {
     [
         VERSION,
@@ -117,7 +124,8 @@ fn fields_of(sectors: u32, limits: &Limits) -> [u32; FIELDS]
 
 /// The limits among the numbers of a superblock.
 fn limits_of(found: &[u32; FIELDS]) -> Limits
-    ensures { (sectors : ℕ) (limits : AnyLimits) → found.now ≡ fields sectors limits → result ≡ limits }
+    ensures { (sectors : ℕ) (limits : AnyLimits)
+        → found.now ≡ superblock_fields sectors limits → result ≡ limits }
 {
     Limits {
         processes: found[7],

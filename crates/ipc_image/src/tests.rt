@@ -38,8 +38,8 @@ fn sector_of(named: &[u8; 100]) -> [u8; 512] {
 fn a_superblock_to_the_byte(rt: HostRuntime) {
     let mut sector = [0xee; 512];
     write_superblock(&mut sector, 448, &Limits::small());
-    assert_eq!(rt; &sector[..100], SMALL.as_slice());
-    assert!(rt; sector[100..].iter().all(|byte| *byte == 0));
+    assert!(rt; sector.starts_with(&SMALL));
+    assert!(rt; sector.iter().skip(100).all(|byte| *byte == 0));
     assert_eq!(rt; read_superblock(&sector, 448), Ok(Limits::small()));
 }
 
@@ -84,7 +84,9 @@ const FAULTS: [(usize, u8, SuperblockFault); 20] = [
 fn each_fault(rt: HostRuntime) {
     for (place, byte, fault) in FAULTS {
         let mut sector = sector_of(&SMALL);
-        sector[place] = byte;
+        if let Some(here) = sector.get_mut(place) {
+            *here = byte;
+        }
         assert_eq!(rt; read_superblock(&sector, 448), Err(fault));
     }
 }

@@ -1,5 +1,5 @@
 use Rattle.std.proofs.Common.{◌≡◌, ◌+◌, ◌*◌, ◌≤◌, ◌<◌, ◌^◌, ap, ◌∙◌, drop, length, arith, List, ℕ}
-use Rattle.std.proofs.lemmas.List.{drop-drop, length-drop}
+use Rattle.std.proofs.lemmas.List.{drop-drop}
 use Rattle.ipc_image.proofs.Numbers.{AreBelow, read_next, read_below, set_below}
 use Rattle.ipc_image.proofs.superblock.read_fields.Goals as goal
 

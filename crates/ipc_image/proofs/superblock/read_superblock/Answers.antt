@@ -1,9 +1,9 @@
-use Rattle.std.proofs.Common.{◌≡◌, ◌≢◌, ◌≤◌, ◌<◌, ◌^◌, ℕ, length, get_or, Ok, Err, List, refl, sym, ap, subst, ◌∙◌, arith}
+use Rattle.std.proofs.Common.{◌≡◌, ◌≢◌, ◌≤◌, ℕ, get_or, Ok, Err, List, refl, sym, ap, subst, ◌∙◌, arith}
 use Rattle.ipc_base.specs.declared.limits.Limits.{Limits}
 use Rattle.ipc_base.specs.Limits.{ArePassed}
 use Rattle.ipc_image.specs.Sizes.{need_of}
-use Rattle.ipc_image.specs.Superblock.{fields, version_in, IsSuperblock}
-use Rattle.ipc_image.proofs.Reading.{HasNumbers, has_numbers, not_formatted, begins, numbers_are, has_version, first_is_version, is_superblock}
+use Rattle.ipc_image.specs.Superblock.{superblock_fields, version_in, IsSuperblock}
+use Rattle.ipc_image.proofs.Reading.{has_numbers, not_formatted, begins, numbers_are, has_version, first_is_version, is_superblock}
 use Rattle.ipc_image.proofs.Reading.{differ, agree, refused, accepted}
 use Rattle.ipc_image.specs.declared.fault.SuperblockFault.TheVariants.{Version}
 use Rattle.ipc_image.proofs.superblock.read_superblock.Goals as goal
@@ -48,7 +48,7 @@ returns-then-ne c =
     let own = c.limits_of-limits.ensures c.args.sectors limits are in
     elim c.then-ne.branch [
       | then-ne-via-then-ne w ↦ differ found c.fields_of.result c.ne.result c.ne.ensures w.if-ne.true
-          (are ∙ ap (fields c.args.sectors) (sym own) ∙ sym c.fields_of.ensures)
+          (are ∙ ap (superblock_fields c.args.sectors) (sym own) ∙ sym c.fields_of.ensures)
       | then-ne-via-else-ne+then-is_err w ↦ refused c.limits_of-limits.result w.check.result w.check.ensures.first
           (sym w.is_err.ensures.value ∙ w.if-is_err.true) (subst ArePassed (sym own) is.passed)
       | then-ne-via-else-ne+else-is_err+then-need-sectors w ↦

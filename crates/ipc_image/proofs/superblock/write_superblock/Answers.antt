@@ -1,6 +1,5 @@
-use Rattle.std.proofs.Common.{◌≡◌, ◌+◌, ◌-◌, ◌*◌, ◌<◌, ◌++◌, length, ap, ◌∙◌, arith, ℕ, List, take, refl}
+use Rattle.std.proofs.Common.{◌≡◌, ◌+◌, ◌-◌, ◌*◌, ◌<◌, ◌++◌, length, ap, ◌∙◌, arith, ℕ, List, take}
 use Rattle.std.specs.Prelude.{replicate}
-use Rattle.std.proofs.lemmas.List.{take_all}
 use Rattle.ipc_image.specs.Superblock.{magic, named_bytes}
 use Rattle.ipc_image.proofs.Numbers.{spelled, put_next}
 use Rattle.ipc_image.proofs.superblock.write_superblock.Goals as goal
