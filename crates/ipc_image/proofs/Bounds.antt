@@ -1,14 +1,12 @@
 -- The sizes under limits that passed their check: none of their sums and products overflows.
-use Rattle.std.proofs.Common.{ℕ, ◌+◌, ◌*◌, ◌≤◌, arith}
+use Rattle.std.proofs.Common.{◌+◌, ◌*◌, ◌≤◌, arith}
 use Rattle.std.proofs.lemmas.Nat.{mul-le}
 use Rattle.ipc_base.specs.declared.limits.Limits.{Limits}
 use Rattle.ipc_base.specs.Limits.{ArePassed}
 use Rattle.ipc_base.proofs.CallerLemmas.{passed-bounds}
 use Rattle.ipc_image.specs.Sizes.{sectors, process_sectors, object_sectors}
 
-pub sectors-le : (bytes most : ℕ) → bytes ≤ most → sectors bytes ≤ sectors most
-sectors-le bytes most le = omega arith
-
+-- what is used of them
 pub record Bounds (l : Limits) : Type 0 where
   pub descriptors : l.processes * (16 + 16 * l.descriptors) ≤ 33792
   pub adjustments : 12 * l.processes * l.semmns ≤ 393216

@@ -7,7 +7,8 @@ use Rattle.ipc_image.proofs.Reading.{has_numbers, not_formatted, begins, numbers
 use Rattle.ipc_image.proofs.Reading.{differ, agree, refused, accepted}
 use Rattle.ipc_image.specs.declared.fault.SuperblockFault.TheVariants.{Version}
 use Rattle.ipc_image.proofs.superblock.read_superblock.Goals as goal
-use Rattle.ipc_image.proofs.superblock.read_superblock.Goals.{then-ne-via-then-ne, then-ne-via-else-ne+then-is_err, then-ne-via-else-ne+else-is_err+then-need-sectors}
+use Rattle.ipc_image.proofs.superblock.read_superblock.Goals.{then-ne-via-then-ne, then-ne-via-else-ne+then-is_err}
+use Rattle.ipc_image.proofs.superblock.read_superblock.Goals.{then-ne-via-else-ne+else-is_err+then-need-sectors}
 
 pub returns-then-not-starts_with-clause-only : goal.returns-then-not-starts_with-clause-only
 returns-then-not-starts_with-clause-only c =
