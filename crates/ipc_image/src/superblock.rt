@@ -29,8 +29,8 @@ const VERSION: u32 = 0;
 const FIELDS: usize = 23;
 
 /// Makes the sector the superblock of a device of so many sectors, with these limits. It tests
-/// neither: what limits that `check` refuses make, or fewer sectors than `need`, is read as
-/// `Damaged`.
+/// neither: if `check` refuses the limits, or the sectors are fewer than `need`, the sector is
+/// read as `Damaged`.
 pub fn write_superblock(into: &mut [u8; 512], sectors: u32, limits: &Limits)
     ensures { into.new ≡ superblock_bytes sectors limits.now }
 {
