@@ -42,6 +42,8 @@ impl Connection {
       IsShort,
       HasRoomIn,
       HasRoomToGreet,
+      released,
+      consumed,
       pushed,
       put_for,
       answered,
@@ -143,6 +145,23 @@ impl Connection {
                 self.process = Some(outcome.pid);
             }
         }
+    }
+
+    /// Lets the frames that wait be seen.
+    pub(crate) fn release(&mut self)
+        ensures number { self.new.number ≡ self.old.number }
+        ensures view { view_of self.new ≡ released (view_of self.old) }
+    {
+        self.outbox.release();
+    }
+
+    /// Its client has taken the first `count` bytes of its output.
+    pub(crate) fn consume(&mut self, count: usize)
+        requires { count ≤ length (view_of self.old).outbox.visible }
+        ensures number { self.new.number ≡ self.old.number }
+        ensures view { view_of self.new ≡ consumed count (view_of self.old) }
+    {
+        self.outbox.consume(count);
     }
 
     /// The server ends it: what comes is dropped. Answers its process, if it had one.

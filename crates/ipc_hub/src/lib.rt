@@ -3,6 +3,10 @@
 #![tactic(auto)]
 
 mod connection;
+mod hub;
 mod outbox;
+mod places;
 mod serving;
 
+pub use connection::Connection;
+pub use hub::{ConnectError, Hub, UnknownConnection};

@@ -1,12 +1,12 @@
 -- Replies put into the outboxes of their processes.
-use Rattle.std.specs.Prelude.{◌≡◌, ℕ, ◌+◌, ◌-◌, ◌<◌, ◌≤◌, ◌^◌, ◌==◌, true, List, [], ◌∷◌, ◌++◌, length, if◌then◌else◌}
+use Rattle.std.specs.Prelude.{◌≡◌, ℕ, ◌+◌, ◌-◌, ◌<◌, ◌≤◌, ◌^◌, ◌==◌, true, List, [], ◌∷◌, ◌++◌, length, drop, if◌then◌else◌}
 use Rattle.std.specs.Prelude.{Option, Some, None, nat_eq}
 use Rattle.ipc_base.specs.Table.{seen_as, with_value, EachValue}
 use Rattle.ipc_wire.specs.Reply.{PlainReply, reply_bytes, body_bytes}
 use Rattle.ipc_engine.specs.Event.{PlainOutcome}
 use Rattle.ipc_engine.specs.View.{reply_of}
 use Rattle.ipc_hub.specs.Clients.{is_for, last_reply}
-use Rattle.ipc_hub.specs.View.{Outgoing, ConnectionView}
+use Rattle.ipc_hub.specs.View.{Outgoing, ConnectionView, kept}
 
 -- the bytes of a frame without a body, such as the last one of a connection that the server ends
 abbrev pub last_frame : ℕ
@@ -15,6 +15,20 @@ last_frame = 10
 -- an outbox with a frame more
 abbrev pub with_bytes : Outgoing → List ℕ → Outgoing
 with_bytes o bytes = record { visible = o.visible; waiting = o.waiting ++ bytes; free = o.free - length bytes }
+
+-- an outbox of which all is seen, and one of which so many bytes that were seen are taken
+abbrev pub all_seen : Outgoing → Outgoing
+all_seen o = record { visible = kept o; waiting = []; free = o.free }
+
+abbrev pub less : ℕ → Outgoing → Outgoing
+less count o = record { visible = drop count o.visible; waiting = o.waiting; free = o.free + count }
+
+-- the same of a connection
+abbrev pub released : ConnectionView → ConnectionView
+released c = record c { outbox = all_seen c.outbox }
+
+abbrev pub consumed : ℕ → ConnectionView → ConnectionView
+consumed count c = record c { outbox = less count c.outbox }
 
 -- a connection with a reply more
 abbrev pub pushed : PlainReply → ConnectionView → ConnectionView

@@ -1,0 +1,42 @@
+//! Where connections stand among those that rise by number, and what is done to each.
+
+ghost use Rattle.std.specs.Prelude.{◌≡◌, ◌==◌, ◌<◌, ◌≤◌, ◌^◌, ℕ, length, get_or, position};
+ghost use Rattle.ipc_base.specs.Table.{keys_of, seen_as, IsRising};
+ghost use Rattle.ipc_hub.specs.declared.connection.Connection.{Connection};
+ghost use Rattle.ipc_hub.specs.Relations.Delivery.{released};
+ghost use Rattle.ipc_hub.specs.Relations.Rows.{rows};
+
+use crate::connection::Connection;
+
+/// How many connections have a smaller number.
+pub(crate) fn place_for(connections: &[Connection], conn: u32) -> usize
+    requires { IsRising 0 (keys_of (rows connections.now)) (2 ^ 32) }
+    ensures within { result ≤ length connections.now }
+    ensures below { (k : ℕ) (d : Connection) → k < result → (get_or connections.now k d).number < conn }
+    ensures rest { (k : ℕ) (d : Connection) → result ≤ k → k < length connections.now
+        → conn ≤ (get_or connections.now k d).number }
+{
+    connections.partition_point(|connection| connection.number < conn)
+}
+
+/// The place of the connection that has the number.
+pub(crate) fn place_of(connections: &[Connection], conn: u32) -> Option<usize>
+    requires { IsRising 0 (keys_of (rows connections.now)) (2 ^ 32) }
+    ensures { result ≡ position (λ c. c.number == conn) connections.now }
+{
+    let place = place_for(connections, conn);
+    let connection = connections.get(place)?;
+    if connection.number != conn {
+        return None;
+    }
+    Some(place)
+}
+
+/// Lets the frames that wait on each connection be seen.
+pub(crate) fn release_all(connections: &mut [Connection])
+    ensures { rows connections.new ≡ seen_as released (rows connections.old) }
+{
+    for connection in connections.iter_mut() {
+        connection.release();
+    }
+}
