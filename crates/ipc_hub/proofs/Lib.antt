@@ -12,3 +12,4 @@ pub mod Answering
 pub mod Pieces
 pub mod Taking
 pub mod Receiving
+pub mod Changes

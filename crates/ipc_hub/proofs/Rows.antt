@@ -1,12 +1,13 @@
 -- The connections of the code as rows: one by one, and each seen in another way.
-use Rattle.std.proofs.Common.{◌≡◌, ℕ, zero, suc, ◌+◌, ◌<◌, ◌≤◌, List, [], ◌∷◌, length, get_or, set, refl, sym, ap, ◌∙◌, inl, inr, arith}
+use Rattle.std.proofs.Common.{◌≡◌, ◌≢◌, ℕ, zero, suc, ◌+◌, ◌<◌, ◌≤◌, List, [], ◌∷◌, length, get_or, set, refl, sym, ap, ◌∙◌, inl, inr, arith}
 use Rattle.std.proofs.lemmas.Bool.{cases_eq}
 use Rattle.std.proofs.lemmas.List.{get_or-set_same, get_or-set_other, get_or_default, length-set}
-use Rattle.std.specs.Prelude.{nat_eq, nat_lt, if◌then◌else◌, Bool, true, false, Some, None, position}
+use Rattle.std.specs.Prelude.{nat_eq, nat_lt, if◌then◌else◌, Bool, true, false, Some, None, position, insert}
 use Rattle.std.specs.List.{position_or_len}
+use Rattle.std.specs.List.Sorted.{IsNonDecreasingBy}
 use Rattle.std.proofs.lemmas.Bool.Decides.{nat_tests}
-use Rattle.ipc_base.specs.Table.{seen_as, EachValue, IsRising, keys_of, value_at, with_value}
-use Rattle.ipc_base.proofs.CallerLemmas.{value_at_place, set_at_place, same_key, other_key}
+use Rattle.ipc_base.specs.Table.{seen_as, EachValue, IsRising, keys_of, value_at, with_value, with_entry}
+use Rattle.ipc_base.proofs.CallerLemmas.{value_at_place, set_at_place, same_key, other_key, test_cases}
 use Rattle.ipc_hub.specs.declared.connection.Connection.{Connection}
 use Rattle.ipc_hub.specs.View.{ConnectionView}
 use Rattle.ipc_hub.specs.Relations.Rows.{view_of, row, rows, IsThere}
@@ -111,3 +112,55 @@ same-length [] [] same = refl
 same-length [] (y ∷ ds) same = cc
 same-length (x ∷ cs) [] same = cc
 same-length (x ∷ cs) (y ∷ ds) same = let rest : keys_of (rows ds) ≡ keys_of (rows cs) = cc in ap suc (same-length cs ds rest)
+
+-- ---- where a number stands, or would
+
+pub rising-up : (low : ℕ) (cs : List Connection) (high : ℕ) → IsRising low (keys_of (rows cs)) high → IsNonDecreasingBy (λ (c : Connection). c.number) cs
+rising-up low [] high rising i j d le lt = absurd (omega (arith, lt))
+rising-up low (c ∷ cs) high rising zero zero d le lt = omega arith
+rising-up low (c ∷ cs) high rising zero (suc j) d le lt =
+    omega (arith, number-above (c.number + 1) cs high j d rising.1 (omega (arith, lt)))
+rising-up low (c ∷ cs) high rising (suc i) zero d le lt = absurd (omega (arith, le))
+rising-up low (c ∷ cs) high rising (suc i) (suc j) d le lt =
+    rising-up (c.number + 1) cs high rising.1 i j d (omega (arith, le)) (omega (arith, lt))
+
+none-first : (cs : List Connection) (n : ℕ) → ((k : ℕ) (d : Connection) → k < length cs → (get_or cs k d).number ≢ n)
+    → position_or_len (λ (c : Connection). nat_eq c.number n) cs ≡ length cs
+none-first [] n none = refl
+none-first (c ∷ cs) n none =
+    let other : nat_eq c.number n ≡ false = other_key c.number n (none 0 c (omega arith)) in
+    rw other (ap (λ (m : ℕ). 1 + m) (none-first cs n (λ k d within. none (suc k) d (omega (arith, within)))) ∙ omega arith)
+
+-- a number that no connection has
+pub nowhere : (cs : List Connection) (n : ℕ) → ((k : ℕ) (d : Connection) → k < length cs → (get_or cs k d).number ≢ n)
+    → position (λ (c : Connection). nat_eq c.number n) cs ≡ None
+nowhere cs n none =
+    let past : nat_lt (length cs) (length cs) ≡ false = grind (arith, nat_tests) in
+    ap (λ (k : ℕ). if nat_lt k (length cs) then Some k else None) (none-first cs n none)
+    ∙ ap (λ (b : Bool). if b then Some (length cs) else None) past
+
+-- a connection put in at the place of its number
+pub entry-there : (cs : List Connection) (place : ℕ) (new : Connection) → place ≤ length cs
+    → ((k : ℕ) (d : Connection) → k < place → (get_or cs k d).number < new.number)
+    → ((k : ℕ) (d : Connection) → place ≤ k → k < length cs → new.number < (get_or cs k d).number)
+    → rows (insert cs place new) ≡ with_entry (rows cs) new.number (view_of new)
+entry-there [] zero new within below above = refl
+entry-there [] (suc p) new within below above = absurd (omega (arith, within))
+entry-there (c ∷ cs) zero new within below above =
+    let before : nat_lt new.number c.number ≡ true = let lt = above 0 c (omega arith) (omega arith) in grind (arith, nat_tests) in
+    rw before refl
+entry-there (c ∷ cs) (suc p) new within below above =
+    let behind : nat_lt new.number c.number ≡ false = let lt = below 0 c (omega arith) in grind (arith, nat_tests) in
+    rw behind (ap (λ (t : List (ℕ × ConnectionView)). row c ∷ t) (entry-there cs p new (omega (arith, within))
+    (λ k d lt. below (suc k) d (omega (arith, lt)))
+    (λ k d le lt. above (suc k) d (omega (arith, le)) (omega (arith, lt)))))
+
+-- nor does one if those before a place have smaller numbers, and those from there on greater ones
+pub nowhere-at : (cs : List Connection) (place n : ℕ) → ((k : ℕ) (d : Connection) → k < place → (get_or cs k d).number < n)
+    → ((k : ℕ) (d : Connection) → place ≤ k → k < length cs → n < (get_or cs k d).number)
+    → position (λ (c : Connection). nat_eq c.number n) cs ≡ None
+nowhere-at cs place n below above = nowhere cs n (λ k d within same.
+    elim (test_cases (nat_lt k place)) [
+      | inl before ↦ let lt = below k d (grind (arith, nat_tests, before)) in omega (arith, lt, same)
+      | inr behind ↦ let lt = above k d (grind (arith, nat_tests, behind)) within in omega (arith, lt, same)
+    ])

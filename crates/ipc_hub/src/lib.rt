@@ -4,9 +4,16 @@
 
 mod connection;
 mod hub;
+mod laws;
 mod outbox;
 mod places;
 mod serving;
 
 pub use connection::Connection;
 pub use hub::{ConnectError, Hub, UnknownConnection};
+pub use laws::{bytes_come_in_any_pieces, released_frames_are_all_shown};
+
+#[cfg(test)]
+mod cuts;
+#[cfg(test)]
+mod tests;

@@ -25,7 +25,10 @@ pub(crate) fn place_of(connections: &[Connection], conn: u32) -> Option<usize>
     ensures { result ≡ position (λ c. c.number == conn) connections.now }
 {
     let place = place_for(connections, conn);
-    let connection = connections.get(place)?;
+    if place == connections.len() {
+        return None;
+    }
+    let connection = &connections[place];
     if connection.number != conn {
         return None;
     }

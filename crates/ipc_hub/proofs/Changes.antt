@@ -1,0 +1,240 @@
+-- The calls of the hub over its rows: a connection comes, goes, is released, or has its output consumed.
+use Rattle.std.proofs.Common.{◌≡◌, ◌≢◌, ℕ, ◌+◌, ◌-◌, ◌<◌, ◌≤◌, ◌^◌, true, false, List, [], ◌++◌, length, drop, Option, Some, None, refl, sym, ap, ◌∙◌, subst, arith, inl, inr, ◌∷◌, append-nil}
+use Rattle.std.specs.Prelude.{nat_eq, option_and_then, option_map, All}
+use Rattle.std.proofs.lemmas.Bool.{cases_eq}
+use Rattle.std.proofs.lemmas.List.{length-append, drop-drop, drop-append-le, length-drop}
+use Rattle.std.proofs.lemmas.List.Elements.{All-weaker}
+use Rattle.ipc_base.specs.Limits.{longest_reply}
+use Rattle.ipc_base.specs.Table.{value_at, with_value, with_entry, without, keys_of, seen_as, EachValue, ArePaired}
+use Rattle.ipc_base.specs.declared.limits.Limits.{Limits}
+use Rattle.ipc_base.proofs.CallerLemmas.{nobody, each-at, each-entry, each-without, each-seen, entry-at, entry-other, rising-entry, rising-without, rising-gone, value_at-without}
+use Rattle.ipc_base.proofs.CallerLemmas.{paired-entry, paired-without, paired-seen, paired-none, paired-at, at-map, keys-map}
+use Rattle.ipc_wire.proofs.CallerLemmas.{first_short, length-reply_bytes}
+use Rattle.ipc_state.specs.State.{State}
+use Rattle.ipc_hub.specs.Clients.{Frame, Client, Clients, client_at, start_client, with_client, all_bytes, confirmed_bytes, consumed_from, shown, shown_at, ended_at, connect, consume}
+use Rattle.ipc_hub.specs.View.{Outgoing, ConnectionView, HubView, kept}
+use Rattle.ipc_hub.specs.Relations.Delivery.{last_frame, released, consumed}
+use Rattle.ipc_hub.specs.Relations.Invariant.{process_in, AreOwn, IsKept, HubInvariant, IsNobodys}
+use Rattle.ipc_hub.specs.Relations.Matches.{IsFrame, ClientMatches, HubMatches}
+use Rattle.ipc_hub.proofs.Frames.{all-confirmed, confirmed-short, consumed-bytes, consumed-shown, consumed-all}
+use Rattle.ipc_hub.proofs.Keeping.{own-less, with_connection}
+use Rattle.ipc_hub.proofs.Ending.{change-matches, client-there}
+
+abbrev process_of : Option ConnectionView → Option ℕ
+process_of r = option_and_then (λ (c : ConnectionView). c.process) r
+
+-- ---- a connection comes
+
+-- one that was just made, with so much room
+pub record IsNew (reply : ℕ) (v : ConnectionView) : Type 0 where
+  pub process : v.process ≡ None
+  pub input : v.input ≡ []
+  pub ended : v.ended ≡ false
+  pub visible : v.outbox.visible ≡ []
+  pub waiting : v.outbox.waiting ≡ []
+  pub room : reply + last_frame ≤ v.outbox.free
+
+pub entry-invariant : (h : HubView) (conn : ℕ) (v : ConnectionView) → HubInvariant h → conn < 2 ^ 32 → value_at nat_eq h.connections conn ≡ None
+    → IsNew (longest_reply h.limits) v → HubInvariant (record h { connections = with_entry h.connections conn v })
+entry-invariant h conn v inv small none new =
+    record {
+      own = own-less h.state h.state h.connections (with_entry h.connections conn v) inv.own (λ k pid is.
+          let before : process_in h.connections k ≡ Some pid =
+          elim (cases_eq k conn) [
+            | inl same ↦
+                let here : v.process ≡ Some pid = sym (ap process_of (entry-at h.connections conn v none)) ∙ (rw same at is) in
+                let never : None ≡ Some pid = sym new.process ∙ here in cc
+            | inr apart ↦ sym (ap process_of (entry-other h.connections conn k v apart)) ∙ is
+          ] in
+          (before, inv.own.connected k pid before));
+      each = each-entry (IsKept h.limits) h.connections conn v inv.each
+          (record {
+            input = rw new.input (first_short [] (omega arith));
+            last = λ _. omega (arith, new.room);
+            size = omega (arith, new.room);
+          });
+      rising = rising-entry 0 h.connections (2 ^ 32) conn v inv.rising (omega arith) small none;
+    }
+
+pub entry-matches : (limits : Limits) (confirmed : ℕ) (old new : HubView) (h : Clients) (conn : ℕ) (v : ConnectionView) (reply : ℕ)
+    → HubMatches limits confirmed old h → new.limits ≡ old.limits → new.state ≡ old.state → new.connections ≡ with_entry old.connections conn v
+    → IsNew reply v → HubMatches limits confirmed new (connect h conn)
+entry-matches limits confirmed old new h conn v reply m same state rows n =
+    record {
+      same = same ∙ m.same;
+      state = state ∙ m.state;
+      clients = rw rows (paired-entry (ClientMatches confirmed h.accepted) old.connections h.clients conn v start_client m.clients
+          (record {
+            process = n.process;
+            input = n.input;
+            ended = n.ended;
+            kept = ap (λ (bs : List ℕ). bs ++ v.outbox.waiting) n.visible ∙ n.waiting;
+            visible = n.visible;
+            seen = omega arith;
+            frames = λ k d none. absurd (omega (arith, none));
+          }));
+      known = m.known;
+    }
+
+-- ---- a connection goes
+
+pub without-invariant : (h : HubView) (conn : ℕ) → HubInvariant h → HubInvariant (record h { connections = without nat_eq h.connections conn })
+without-invariant h conn inv =
+    record {
+      own = own-less h.state h.state h.connections (without nat_eq h.connections conn) inv.own (λ k pid is.
+          let before : process_in h.connections k ≡ Some pid =
+          elim (cases_eq k conn) [
+            | inl same ↦
+                let gone : process_in (without nat_eq h.connections conn) conn ≡ None = ap process_of (nobody (value_at nat_eq (without nat_eq h.connections conn) conn) (rising-gone 0 h.connections (2 ^ 32) conn inv.rising)) in
+                let never : None ≡ Some pid = sym gone ∙ (rw same at is) in cc
+            | inr apart ↦ sym (ap process_of (value_at-without h.connections conn k apart)) ∙ is
+          ] in
+          (before, inv.own.connected k pid before));
+      each = each-without (IsKept h.limits) h.connections conn inv.each;
+      rising = rising-without 0 h.connections (2 ^ 32) conn inv.rising;
+    }
+
+pub without-nobodys : (h : HubView) (conn : ℕ) (v : ConnectionView) → HubInvariant h → value_at nat_eq h.connections conn ≡ Some v
+    → IsNobodys (without nat_eq h.connections conn) v.process
+without-nobodys h conn v inv found k pid mine is =
+    elim (cases_eq k conn) [
+      | inl same ↦
+          let gone : process_in (without nat_eq h.connections conn) conn ≡ None = ap process_of (nobody (value_at nat_eq (without nat_eq h.connections conn) conn) (rising-gone 0 h.connections (2 ^ 32) conn inv.rising)) in
+          let never : None ≡ Some pid = sym gone ∙ (rw same at is) in cc
+      | inr apart ↦ apart (inv.own.one k conn pid (sym (ap process_of (value_at-without h.connections conn k apart)) ∙ is) (ap process_of found ∙ mine))
+    ]
+
+pub without-matches : (limits : Limits) (confirmed : ℕ) (old new : HubView) (h : Clients) (conn : ℕ) → HubMatches limits confirmed old h
+    → new.limits ≡ old.limits → new.state ≡ old.state → new.connections ≡ without nat_eq old.connections conn
+    → HubMatches limits confirmed new (record h { clients = without nat_eq h.clients conn })
+without-matches limits confirmed old new h conn m same state rows =
+    record {
+      same = same ∙ m.same;
+      state = state ∙ m.state;
+      clients = rw rows (paired-without (ClientMatches confirmed h.accepted) old.connections h.clients conn m.clients);
+      known = m.known;
+    }
+
+-- ---- all frames are seen
+
+released-kept : (limits : Limits) (v : ConnectionView) → IsKept limits v → IsKept limits (released v)
+released-kept limits v k =
+    record { input = k.input; last = k.last; size = omega (arith, k.size, length-append (kept v.outbox) []) }
+
+pub released-invariant : (h : HubView) → HubInvariant h → HubInvariant (record h { connections = seen_as released h.connections })
+released-invariant h inv =
+    record {
+      own = own-less h.state h.state h.connections (seen_as released h.connections) inv.own (λ k pid is.
+          let before : process_in h.connections k ≡ Some pid = by_value (value_at nat_eq h.connections k) (sym (ap process_of (at-map released h.connections k)) ∙ is) in
+          (before, inv.own.connected k pid before));
+      each = each-seen (IsKept h.limits) (IsKept h.limits) (IsKept h.limits) h.connections released inv.each inv.each (λ v k _. released-kept h.limits v k);
+      rising = rw (keys-map released h.connections) inv.rising;
+    }
+  where
+    by_value : (r : Option ConnectionView) {pid : ℕ} → process_of (option_map released r) ≡ Some pid → process_of r ≡ Some pid
+    by_value None is = is
+    by_value (Some v) is = is
+
+released-matches : (confirmed accepted : ℕ) (v : ConnectionView) (c : Client) → ClientMatches confirmed accepted v c → ClientMatches accepted accepted (released v) c
+released-matches confirmed accepted v c m =
+    let all = all-confirmed accepted c.frames (All-weaker (λ (f : Frame). (f.mark ≤ accepted) × IsFrame f.bytes) (λ (f : Frame). f.mark ≤ accepted)
+    (λ f is. is.0) c.frames m.frames) in
+    record {
+      process = m.process;
+      input = m.input;
+      ended = m.ended;
+      kept = append-nil (kept v.outbox) ∙ m.kept;
+      visible = m.kept ∙ ap (drop c.consumed) (sym all);
+      seen = omega (arith, m.seen, ap length all, confirmed-short confirmed c.frames);
+      frames = m.frames;
+    }
+
+pub release-matches : (limits : Limits) (confirmed : ℕ) (old new : HubView) (h : Clients) → HubMatches limits confirmed old h → new.limits ≡ old.limits
+    → new.state ≡ old.state → new.connections ≡ seen_as released old.connections → HubMatches limits h.accepted new h
+release-matches limits confirmed old new h m same state rows =
+    record {
+      same = same ∙ m.same;
+      state = state ∙ m.state;
+      clients = rw rows (subst (ArePaired (ClientMatches h.accepted h.accepted) (seen_as released old.connections)) (map-same h.clients)
+          (paired-seen (ClientMatches confirmed h.accepted) (ClientMatches h.accepted h.accepted) old.connections h.clients released (λ c. c) m.clients
+          (released-matches confirmed h.accepted)));
+      known = omega arith;
+    }
+  where
+    map-same : (es : List (ℕ × Client)) → seen_as (λ c. c) es ≡ es
+    map-same [] = refl
+    map-same (e ∷ es) = ap (λ (t : List (ℕ × Client)). e ∷ t) (map-same es)
+
+-- ---- some output is taken
+
+pub consumed-kept : (limits : Limits) (v : ConnectionView) (n : ℕ) → n ≤ length v.outbox.visible → IsKept limits v → IsKept limits (consumed n v)
+consumed-kept limits v n within k =
+    record {
+      input = k.input;
+      last = λ live. omega (arith, k.last live);
+      size = omega (
+        arith,
+        k.size,
+        within,
+        length-append v.outbox.visible v.outbox.waiting,
+        length-append (drop n v.outbox.visible) v.outbox.waiting,
+        length-drop n v.outbox.visible,
+      );
+    }
+
+has-bytes : (f : Frame) → IsFrame f.bytes → 0 < length f.bytes
+has-bytes f is = omega (arith, ap length is.1.0, length-reply_bytes is.0)
+
+-- what the client of a connection is after that
+abbrev pub taken_by : ℕ → Client → Client
+taken_by n c = record c { frames = (consumed_from c.frames (c.consumed + n)).0; consumed = (consumed_from c.frames (c.consumed + n)).1 }
+
+consumed-matches : (confirmed accepted : ℕ) (v : ConnectionView) (c : Client) (n : ℕ) → n ≤ length v.outbox.visible → ClientMatches confirmed accepted v c
+    → ClientMatches confirmed accepted (consumed n v) (taken_by n c)
+consumed-matches confirmed accepted v c n within m =
+    let most : n ≤ length (drop c.consumed (confirmed_bytes confirmed c.frames)) = omega (arith, within, ap length m.visible) in
+    let fits : c.consumed + n ≤ length (confirmed_bytes confirmed c.frames) = omega
+    (arith, most, m.seen, length-drop c.consumed (confirmed_bytes confirmed c.frames)) in
+    let shows = consumed-shown confirmed c.frames (c.consumed + n) (All-weaker (λ (f : Frame). (f.mark ≤ accepted) × IsFrame f.bytes)
+    (λ (f : Frame). 0 < length f.bytes) (λ f is. has-bytes f is.1) c.frames m.frames) fits in
+    record {
+      process = m.process;
+      input = m.input;
+      ended = m.ended;
+      kept = sym (drop-append-le n v.outbox.visible v.outbox.waiting within) ∙ ap (drop n) m.kept
+          ∙ drop-drop n c.consumed (all_bytes c.frames) ∙ sym (consumed-bytes c.frames (c.consumed + n));
+      visible = ap (drop n) m.visible ∙ drop-drop n c.consumed (confirmed_bytes confirmed c.frames) ∙ sym shows.0;
+      seen = shows.1;
+      frames = consumed-all (λ (f : Frame). (f.mark ≤ accepted) × IsFrame f.bytes) c.frames (c.consumed + n) m.frames;
+    }
+
+pub consume-matches : (limits : Limits) (confirmed : ℕ) (old new : HubView) (h : Clients) (conn n : ℕ) (v : ConnectionView) → HubMatches limits confirmed old h
+    → value_at nat_eq old.connections conn ≡ Some v → n ≤ length v.outbox.visible → new.limits ≡ old.limits → new.state ≡ old.state
+    → new.connections ≡ with_value nat_eq old.connections conn (consumed n v) → HubMatches limits confirmed new (consume h conn n)
+consume-matches limits confirmed old new h conn n v m found within same state rows =
+    let p = paired-at (ClientMatches confirmed h.accepted) old.connections h.clients conn v m.clients found in
+    let to : consume h conn n ≡ with_client h conn (taken_by n p.0) = rw p.1.0 refl in
+    subst (HubMatches limits confirmed new) (sym to)
+    (change-matches limits confirmed old new h conn (consumed n v) (taken_by n p.0) m same state rows
+    (consumed-matches confirmed h.accepted v p.0 n within p.1.1))
+
+pub consume-nowhere : (limits : Limits) (confirmed : ℕ) (old : HubView) (h : Clients) (conn n : ℕ) → HubMatches limits confirmed old h
+    → value_at nat_eq old.connections conn ≡ None → HubMatches limits confirmed old (consume h conn n)
+consume-nowhere limits confirmed old h conn n m none =
+    let no : client_at h conn ≡ None = paired-none (ClientMatches confirmed h.accepted) old.connections h.clients conn m.clients none in
+    let same : consume h conn n ≡ h = rw no refl in
+    subst (HubMatches limits confirmed old) (sym same) m
+
+-- ---- what is seen
+
+pub shown-there : (limits : Limits) (confirmed : ℕ) (old : HubView) (h : Clients) (conn : ℕ) (v : ConnectionView) → HubMatches limits confirmed old h
+    → value_at nat_eq old.connections conn ≡ Some v → (v.outbox.visible ≡ shown_at confirmed h conn) × (v.ended ≡ ended_at h conn)
+shown-there limits confirmed old h conn v m found =
+    let p = paired-at (ClientMatches confirmed h.accepted) old.connections h.clients conn v m.clients found in
+    rw p.1.0 (p.1.1.visible, p.1.1.ended)
+
+pub shown-nowhere : (limits : Limits) (confirmed : ℕ) (old : HubView) (h : Clients) (conn : ℕ) → HubMatches limits confirmed old h
+    → value_at nat_eq old.connections conn ≡ None → ([] ≡ shown_at confirmed h conn) × (false ≡ ended_at h conn)
+shown-nowhere limits confirmed old h conn m none =
+    let no : client_at h conn ≡ None = paired-none (ClientMatches confirmed h.accepted) old.connections h.clients conn m.clients none in
+    rw no (refl, refl)

@@ -1,0 +1,102 @@
+//! Each call of the hub once, and what a client sees from one call to the next.
+
+use super::*;
+use ipc_base::{Limits, Moment};
+use ipc_engine::Engine;
+use std::alloc::Global;
+use std::test::Fail;
+
+/// HELLO of uid 1000 and gid 100, and its answer for pid 1.
+pub(crate) const HELLO: [u8; 17] = [0, 0, 0, 13, 0, 0, 0, 1, 1, 0, 0, 3, 232, 0, 0, 0, 100];
+
+pub(crate) const WELCOME: [u8; 14] = [0, 0, 0, 10, 0, 0, 0, 1, 0, 0, 0, 0, 0, 1];
+
+/// EPROTO without a serial.
+pub(crate) const BROKEN: [u8; 10] = [0, 0, 0, 6, 0, 0, 0, 0, 0, 71];
+
+#[test]
+fn a_client_comes_and_goes(rt: HostRuntime) -> Result<(), Fail> {
+    let mut hub = Hub::new(rt.alloc(), Engine::new(rt.alloc(), Limits::small())?);
+    hub.connect(7)?;
+    assert_eq!(rt; hub.connect(7), Err(ConnectError::InUse));
+    assert_eq!(rt; hub.feed(8, &HELLO, Moment(0)), Err(UnknownConnection));
+    assert_eq!(rt; hub.hangup(8, Moment(0)), Err(UnknownConnection));
+    assert_eq!(rt; hub.output(8).len(), 0);
+    assert!(rt; !hub.ended(8));
+
+    // a reply is seen once it is released, and is taken byte by byte
+    assert_eq!(rt; hub.feed(7, &HELLO, Moment(0)), Ok(17));
+    assert_eq!(rt; hub.output(7).len(), 0);
+    hub.release();
+    for byte in WELCOME {
+        assert!(rt; hub.output(7).len() > 0);
+        assert_eq!(rt; hub.output(7)[0], byte);
+        hub.consume(7, 1);
+    }
+    assert_eq!(rt; hub.output(7).len(), 0);
+    hub.tick(Moment(5));
+
+    // a fault ends the connection, which then takes and drops what comes
+    assert_eq!(rt; hub.feed(7, &[0, 0, 0, 0, 9], Moment(5)), Ok(5));
+    hub.release();
+    assert!(rt; hub.ended(7));
+    assert_eq!(rt; hub.output(7), BROKEN.as_slice());
+    assert_eq!(rt; hub.feed(7, &HELLO, Moment(6)), Ok(17));
+    assert_eq!(rt; hub.output(7), BROKEN.as_slice());
+
+    // its number is free again
+    assert_eq!(rt; hub.hangup(7, Moment(7)), Ok(()));
+    hub.connect(7)?;
+    assert!(rt; !hub.ended(7));
+    Ok(())
+}
+
+/// msgget of key 1234 with IPC_CREAT, and its answer.
+const GET: [u8; 17] = [0, 0, 0, 13, 0, 0, 0, 2, 10, 0, 0, 4, 210, 0, 0, 3, 128];
+
+const GOT: [u8; 14] = [0, 0, 0, 10, 0, 0, 0, 2, 0, 0, 0, 0, 0, 1];
+
+/// A hub with connection 1 past its HELLO, and `count` times GET in one piece.
+fn many_gets(alloc: Global, count: u32) -> Result<(Hub, Vec<u8>), Fail> {
+    let mut hub = Hub::new(alloc, Engine::new(alloc, Limits::small())?);
+    hub.connect(1)?;
+    hub.feed(1, &HELLO, Moment(0))?;
+    hub.release();
+    if hub.output(1).len() == 14 {
+        hub.consume(1, 14);
+    }
+    let mut piece = Vec::new(alloc);
+    for _ in 0..count {
+        piece.extend_from_slice(&GET)?;
+    }
+    Ok((hub, piece))
+}
+
+/// Whether the output is as many answers as requests were taken.
+fn is_answered(output: &[u8], taken: usize) -> bool {
+    output.len() == taken / 17 * 14 && output.chunks(14).all(|frame| frame == GOT.as_slice())
+}
+
+#[test]
+fn a_hundred_requests_are_served_in_one_feed(rt: HostRuntime) -> Result<(), Fail> {
+    let (mut hub, piece) = many_gets(rt.alloc(), 100)?;
+    assert_eq!(rt; hub.feed(1, &piece, Moment(0)), Ok(1700));
+    assert_eq!(rt; hub.output(1).len(), 0);
+    hub.release();
+    assert!(rt; is_answered(hub.output(1), 1700));
+    Ok(())
+}
+
+#[test]
+fn requests_wait_while_their_answers_have_no_room(rt: HostRuntime) -> Result<(), Fail> {
+    let (mut hub, piece) = many_gets(rt.alloc(), 1000)?;
+    let taken = hub.feed(1, &piece, Moment(0))?;
+    assert!(rt; 1700 < taken && taken < 17000);
+    assert_eq!(rt; hub.feed(1, &piece, Moment(0)), Ok(0));
+    hub.release();
+    assert!(rt; is_answered(hub.output(1), taken));
+    let shown = hub.output(1).len();
+    hub.consume(1, shown);
+    assert_eq!(rt; hub.feed(1, &GET, Moment(0)), Ok(17));
+    Ok(())
+}
