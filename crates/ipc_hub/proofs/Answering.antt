@@ -1,19 +1,18 @@
 -- A request is answered: the replies have room, the hub's connections go on, and they match the clients of the definitions.
-use Rattle.std.proofs.Common.{◌≡◌, ◌≢◌, ℕ, ◌+◌, ◌<◌, ◌≤◌, ◌^◌, Bool, true, false, List, [], ◌∷◌, length, Option, Some, None, refl, sym, ap, ◌∙◌, subst, arith, ◌⊎◌, inl, inr}
+use Rattle.std.proofs.Common.{◌≡◌, ◌≢◌, ℕ, ◌+◌, ◌<◌, ◌≤◌, ◌^◌, Bool, true, false, List, [], ◌∷◌, Option, Some, None, refl, sym, ap, ◌∙◌, subst, arith, ◌⊎◌, inl, inr}
 use Rattle.std.specs.Prelude.{nat_eq, option_and_then, if◌then◌else◌}
 use Rattle.std.proofs.lemmas.Bool.{cases_eq, eqb-true}
 use Rattle.ipc_base.specs.Limits.{longest_reply}
 use Rattle.ipc_base.specs.Table.{value_at, with_value, keys_of, EachValue, ArePaired}
 use Rattle.ipc_base.specs.declared.limits.Limits.{Limits}
-use Rattle.ipc_base.proofs.CallerLemmas.{choice, test_cases, at-with, other-with, keys_of-with_value, each-at, each-with, each-by_key, paired-with, paired-weaker}
-use Rattle.ipc_wire.specs.Reply.{reply_bytes}
+use Rattle.ipc_base.proofs.CallerLemmas.{choice, at-with, other-with, keys_of-with_value, each-at, each-with, each-by_key, paired-with, paired-weaker}
 use Rattle.ipc_state.specs.State.{State, is_process}
 use Rattle.ipc_engine.specs.Event.{PlainEvent, PlainOutcome}
 use Rattle.ipc_engine.specs.Step.{Step, step}
 use Rattle.ipc_engine.specs.View.{reply_of}
 use Rattle.ipc_hub.specs.Clients.{Client, Clients, client_at, is_for, last_reply, welcomed, serve, accept, with_client, with_frame}
 use Rattle.ipc_hub.specs.View.{ConnectionView, HubView}
-use Rattle.ipc_hub.specs.Relations.Delivery.{last_frame, pushed, put_all, given, answered, with_answer, IsShort, AllShort, HasRoom, HasRoomIn, HaveRoom, HasRoomToGreet, HasRoomToAnswer}
+use Rattle.ipc_hub.specs.Relations.Delivery.{last_frame, pushed, put_all, answered, with_answer, IsShort, AllShort, HasRoom, HasRoomIn, HaveRoom, HasRoomToAnswer}
 use Rattle.ipc_hub.specs.Relations.Invariant.{process_in, AreOwn, IsKept, HubInvariant, GoesOn}
 use Rattle.ipc_hub.specs.Relations.Matches.{ClientMatches, HubMatches, IsAhead}
 use Rattle.ipc_hub.proofs.Deliveries.{push-matches, matches-later, accept-matches}
@@ -36,8 +35,11 @@ told-process o v pid = by_process v.process
         → (p ≡ Some pid) ⊎ ((p ≡ None) × ((o.pid ≡ pid) × (nat_eq o.pid 0 ≡ false)))
     by_process (Some q) is = inl is
     by_process None is =
-        inr (refl, by_test (nat_eq o.pid 0) refl
-        (choice_field (nat_eq o.pid 0) ∙ is))
+        inr (
+          refl,
+          by_test (nat_eq o.pid 0) refl
+              (choice_field (nat_eq o.pid 0) ∙ is),
+        )
       where
         choice_field : (b : Bool) → (if b then None else Some o.pid)
             ≡ (if b then pushed (reply_of o) (record v { process = None }) else record v { process = Some o.pid }).process

@@ -1,6 +1,6 @@
 -- The steps by which the hub ends a connection, over its rows.
-use Rattle.std.proofs.Common.{◌≡◌, ℕ, ◌<◌, ◌≤◌, ◌^◌, true, false, List, [], length, get_or, set, Option, Some, None, refl, sym, ap, ◌∙◌, subst, arith}
-use Rattle.std.specs.Prelude.{nat_eq, option_and_then}
+use Rattle.std.proofs.Common.{◌≡◌, ℕ, ◌<◌, ◌≤◌, ◌^◌, true, false, List, [], length, get_or, set, Some, refl, sym, ap, ◌∙◌, subst, arith}
+use Rattle.std.specs.Prelude.{nat_eq}
 use Rattle.ipc_base.specs.Table.{value_at, with_value, keys_of}
 use Rattle.ipc_base.specs.declared.errno.Errno.TheVariants.{EPROTO}
 use Rattle.ipc_base.proofs.CallerLemmas.{each-at, at-with, keys_of-with_value}
@@ -9,11 +9,11 @@ use Rattle.ipc_engine.specs.Engine.{Machine}
 use Rattle.ipc_engine.specs.View.{reply_of}
 use Rattle.ipc_hub.specs.declared.connection.Connection.{Connection}
 use Rattle.ipc_hub.specs.Clients.{refusal}
-use Rattle.ipc_hub.specs.View.{ConnectionView, HubView}
-use Rattle.ipc_hub.specs.Relations.Rows.{view_of, row, rows, hub_view, IsThere}
+use Rattle.ipc_hub.specs.View.{ConnectionView}
+use Rattle.ipc_hub.specs.Relations.Rows.{view_of, rows, hub_view, IsThere}
 use Rattle.ipc_hub.specs.Relations.Delivery.{last_frame, pushed}
-use Rattle.ipc_hub.specs.Relations.Invariant.{process_in, IsKept, HubInvariant, GoesOn, IsConnected, IsNobodys, LeavesOthers}
-use Rattle.ipc_hub.proofs.Rows.{there, at-there, set-there, the-same, same-number, same-length}
+use Rattle.ipc_hub.specs.Relations.Invariant.{IsKept, HubInvariant, GoesOn, IsConnected, IsNobodys, LeavesOthers}
+use Rattle.ipc_hub.proofs.Rows.{there, at-there, set-there, same-number, same-length}
 use Rattle.ipc_hub.proofs.Keeping.{change-invariant, change-nobodys, connected-at, kept-pushed}
 use Rattle.ipc_hub.proofs.Ending.{ended}
 

@@ -1,38 +1,28 @@
 -- The calls of the hub over its rows: a connection comes, goes, is released, or has its output consumed.
-use Rattle.std.proofs.Common.{◌≡◌, ◌≢◌, ℕ, ◌+◌, ◌-◌, ◌<◌, ◌≤◌, ◌^◌, true, false, List, [], ◌++◌, length, drop, Option, Some, None, refl, sym, ap, ◌∙◌, subst, arith, inl, inr, ◌∷◌, append-nil}
-use Rattle.std.specs.Prelude.{nat_eq, option_and_then, option_map, All}
+use Rattle.std.proofs.Common.{◌≡◌, ℕ, ◌+◌, ◌<◌, ◌≤◌, ◌^◌, false, List, [], ◌++◌, length, drop, Option, Some, None, refl, sym, ap, ◌∙◌, subst, arith, inl, inr, ◌∷◌, append-nil, zero, suc}
+use Rattle.std.specs.Prelude.{nat_eq, option_and_then, option_map}
 use Rattle.std.proofs.lemmas.Bool.{cases_eq}
 use Rattle.std.proofs.lemmas.List.{length-append, drop-drop, drop-append-le, length-drop}
 use Rattle.std.proofs.lemmas.List.Elements.{All-weaker}
 use Rattle.ipc_base.specs.Limits.{longest_reply}
-use Rattle.ipc_base.specs.Table.{value_at, with_value, with_entry, without, keys_of, seen_as, EachValue, ArePaired}
+use Rattle.ipc_base.specs.Table.{value_at, with_value, with_entry, without, seen_as, ArePaired}
 use Rattle.ipc_base.specs.declared.limits.Limits.{Limits}
-use Rattle.ipc_base.proofs.CallerLemmas.{nobody, each-at, each-entry, each-without, each-seen, entry-at, entry-other, rising-entry, rising-without, rising-gone, value_at-without}
+use Rattle.ipc_base.proofs.CallerLemmas.{nobody, each-entry, each-without, each-seen, entry-at, entry-other, rising-entry, rising-without, rising-gone, value_at-without}
 use Rattle.ipc_base.proofs.CallerLemmas.{paired-entry, paired-without, paired-seen, paired-none, paired-at, at-map, keys-map}
 use Rattle.ipc_wire.proofs.CallerLemmas.{first_short, length-reply_bytes}
-use Rattle.ipc_state.specs.State.{State}
-use Rattle.ipc_hub.specs.Clients.{Frame, Client, Clients, client_at, start_client, with_client, all_bytes, confirmed_bytes, consumed_from, shown, shown_at, ended_at, connect, consume}
-use Rattle.ipc_hub.specs.View.{Outgoing, ConnectionView, HubView, kept}
-use Rattle.ipc_hub.specs.Relations.Delivery.{last_frame, released, consumed}
-use Rattle.ipc_hub.specs.Relations.Invariant.{process_in, AreOwn, IsKept, HubInvariant, IsNobodys}
+use Rattle.ipc_hub.specs.Clients.{Frame, Client, Clients, client_at, start_client, with_client, all_bytes, confirmed_bytes, consumed_from, shown_at, ended_at, connect, consume}
+use Rattle.ipc_hub.specs.View.{ConnectionView, HubView, kept}
+use Rattle.ipc_hub.specs.Relations.Delivery.{released, consumed}
+use Rattle.ipc_hub.specs.Relations.Invariant.{process_in, IsKept, IsNew, HubInvariant, IsNobodys}
 use Rattle.ipc_hub.specs.Relations.Matches.{IsFrame, ClientMatches, HubMatches}
 use Rattle.ipc_hub.proofs.Frames.{all-confirmed, confirmed-short, consumed-bytes, consumed-shown, consumed-all}
-use Rattle.ipc_hub.proofs.Keeping.{own-less, with_connection}
-use Rattle.ipc_hub.proofs.Ending.{change-matches, client-there}
+use Rattle.ipc_hub.proofs.Keeping.{own-less}
+use Rattle.ipc_hub.proofs.Ending.{change-matches}
 
 abbrev process_of : Option ConnectionView → Option ℕ
 process_of r = option_and_then (λ (c : ConnectionView). c.process) r
 
 -- ---- a connection comes
-
--- one that was just made, with so much room
-pub record IsNew (reply : ℕ) (v : ConnectionView) : Type 0 where
-  pub process : v.process ≡ None
-  pub input : v.input ≡ []
-  pub ended : v.ended ≡ false
-  pub visible : v.outbox.visible ≡ []
-  pub waiting : v.outbox.waiting ≡ []
-  pub room : reply + last_frame ≤ v.outbox.free
 
 pub entry-invariant : (h : HubView) (conn : ℕ) (v : ConnectionView) → HubInvariant h → conn < 2 ^ 32 → value_at nat_eq h.connections conn ≡ None
     → IsNew (longest_reply h.limits) v → HubInvariant (record h { connections = with_entry h.connections conn v })
@@ -238,3 +228,7 @@ pub shown-nowhere : (limits : Limits) (confirmed : ℕ) (old : HubView) (h : Cli
 shown-nowhere limits confirmed old h conn m none =
     let no : client_at h conn ≡ None = paired-none (ClientMatches confirmed h.accepted) old.connections h.clients conn m.clients none in
     rw no (refl, refl)
+
+pub drop-empty : (n : ℕ) → drop {A = ℕ} n [] ≡ []
+drop-empty zero = refl
+drop-empty (suc n) = refl

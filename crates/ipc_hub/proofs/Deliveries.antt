@@ -1,20 +1,20 @@
 -- Replies that are delivered: the connections match the clients of the definitions as they did before.
-use Rattle.std.proofs.Common.{◌≡◌, ℕ, ◌+◌, ◌<◌, ◌≤◌, Bool, true, false, List, [], ◌∷◌, ◌++◌, length, drop, Option, Some, None, refl, sym, ap, ◌∙◌, subst, arith}
+use Rattle.std.proofs.Common.{◌≡◌, ℕ, ◌+◌, ◌<◌, ◌≤◌, Bool, true, false, List, [], ◌∷◌, ◌++◌, length, drop, refl, sym, ap, ◌∙◌, subst, arith}
 use Rattle.std.proofs.Common.{append_assoc, append-nil}
-use Rattle.std.specs.Prelude.{nat_le, if◌then◌else◌, All}
+use Rattle.std.specs.Prelude.{nat_le, if◌then◌else◌}
 use Rattle.std.proofs.lemmas.Bool.Decides.{nat_tests}
 use Rattle.std.proofs.lemmas.List.{drop-append-le}
 use Rattle.std.proofs.lemmas.List.Elements.{All-weaker, All-push}
 use Rattle.std.proofs.lemmas.Grind.{flat_map-append}
-use Rattle.ipc_base.specs.Table.{value_at, seen_as, ArePaired}
-use Rattle.ipc_base.proofs.CallerLemmas.{choice, paired-seen, paired-weaker}
+use Rattle.ipc_base.specs.Table.{seen_as, ArePaired}
+use Rattle.ipc_base.proofs.CallerLemmas.{paired-seen, paired-weaker}
 use Rattle.ipc_base.specs.declared.limits.Limits.{Limits}
-use Rattle.ipc_wire.specs.Reply.{PlainReply, reply_bytes}
+use Rattle.ipc_wire.specs.Reply.{reply_bytes}
 use Rattle.ipc_engine.specs.Event.{PlainEvent, PlainOutcome}
 use Rattle.ipc_engine.specs.Step.{Step, step}
 use Rattle.ipc_engine.specs.View.{reply_of}
 use Rattle.ipc_hub.specs.Clients.{Frame, Client, Clients, all_bytes, confirmed_bytes, with_frame, is_for, delivered, deliver_all, accept}
-use Rattle.ipc_hub.specs.View.{ConnectionView, HubView, kept}
+use Rattle.ipc_hub.specs.View.{ConnectionView, HubView}
 use Rattle.ipc_hub.specs.Relations.Delivery.{pushed, put_for, put_all, IsShort, AllShort}
 use Rattle.ipc_hub.specs.Relations.Matches.{IsFrame, AreFrames, ClientMatches, HubMatches, IsAhead}
 use Rattle.ipc_hub.proofs.Frames.{confirmed-short}

@@ -1,17 +1,16 @@
 -- The server ends a connection: it matches the client of the definitions before and after.
-use Rattle.std.proofs.Common.{◌≡◌, ℕ, ◌+◌, ◌<◌, ◌≤◌, true, false, List, [], ◌∷◌, length, drop, Option, Some, None, refl, sym, ap, ◌∙◌, subst, arith}
+use Rattle.std.proofs.Common.{◌≡◌, ℕ, ◌≤◌, true, [], Option, Some, None, refl, sym, ◌∙◌, subst, arith}
 use Rattle.std.specs.Prelude.{nat_eq}
 use Rattle.ipc_base.specs.Table.{value_at, with_value}
 use Rattle.ipc_base.specs.declared.errno.Errno.TheVariants.{EPROTO}
 use Rattle.ipc_base.specs.declared.limits.Limits.{Limits}
 use Rattle.ipc_base.proofs.CallerLemmas.{paired-at, paired-with}
-use Rattle.ipc_engine.specs.Event.{PlainOutcome}
 use Rattle.ipc_engine.specs.View.{reply_of}
 use Rattle.ipc_hub.specs.Clients.{Client, Clients, client_at, with_client, refusal, over, leave, break_off}
 use Rattle.ipc_hub.specs.View.{ConnectionView, HubView}
 use Rattle.ipc_hub.specs.Relations.Delivery.{pushed}
 use Rattle.ipc_hub.specs.Relations.Matches.{ClientMatches, HubMatches, IsAhead}
-use Rattle.ipc_hub.proofs.Deliveries.{push-matches, matches-later}
+use Rattle.ipc_hub.proofs.Deliveries.{push-matches}
 use Rattle.ipc_hub.proofs.Keeping.{with_connection}
 
 -- the connection, when it is over

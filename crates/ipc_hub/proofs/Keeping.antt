@@ -1,10 +1,9 @@
 -- What holds of the hub's connections goes on holding when replies are put into their outboxes.
-use Rattle.std.proofs.Common.{◌≡◌, ◌≢◌, ℕ, ◌+◌, ◌-◌, ◌≤◌, Bool, true, false, List, [], ◌∷◌, ◌++◌, length, Option, Some, None, refl, sym, ap, ◌∙◌, subst, arith, ◌⊎◌, inl, inr}
-use Rattle.std.specs.Prelude.{nat_eq, if◌then◌else◌, option_map, option_and_then}
+use Rattle.std.proofs.Common.{◌≡◌, ◌≢◌, ℕ, ◌≤◌, true, false, List, [], ◌∷◌, ◌++◌, length, Option, Some, None, refl, sym, ap, ◌∙◌, arith, ◌⊎◌, inl, inr}
+use Rattle.std.specs.Prelude.{nat_eq, option_map, option_and_then}
 use Rattle.std.proofs.lemmas.Bool.{cases_eq}
 use Rattle.std.proofs.lemmas.List.{length-append}
-use Rattle.ipc_base.specs.Limits.{longest_reply}
-use Rattle.ipc_base.specs.Table.{value_at, with_value, keys_of, seen_as, EachValue, IsRising}
+use Rattle.ipc_base.specs.Table.{value_at, with_value, keys_of, seen_as, EachValue}
 use Rattle.ipc_base.specs.declared.limits.Limits.{Limits}
 use Rattle.ipc_base.proofs.CallerLemmas.{choice, each-seen, each-with, at-map, keys-map, at-with, other-with, keys_of-with_value}
 use Rattle.ipc_wire.specs.Reply.{reply_bytes}
@@ -13,7 +12,7 @@ use Rattle.ipc_engine.specs.View.{reply_of}
 use Rattle.ipc_state.specs.State.{State, is_process}
 use Rattle.ipc_hub.specs.Clients.{is_for}
 use Rattle.ipc_hub.specs.View.{ConnectionView, HubView, kept}
-use Rattle.ipc_hub.specs.Relations.Delivery.{last_frame, pushed, put_for, put_all, HasRoom, HasRoomIn, HaveRoom, AllShort}
+use Rattle.ipc_hub.specs.Relations.Delivery.{pushed, put_for, put_all, HasRoom, HasRoomIn, HaveRoom, AllShort}
 use Rattle.ipc_hub.specs.Relations.Invariant.{process_in, AreOwn, IsKept, HubInvariant, GoesOn, LeavesOthers, IsNobodys, IsConnected}
 
 -- ---- one connection
@@ -37,7 +36,7 @@ kept-pushed limits o v k fits room =
 
 put-kept : (limits : Limits) (o : PlainOutcome) (v : ConnectionView) → IsKept limits v → HasRoomIn o v → IsKept limits (put_for o v)
 put-kept limits o v k room =
-    choice (IsKept limits) (is_for o.pid v.process) (pushed (reply_of o) v) v 
+    choice (IsKept limits) (is_for o.pid v.process) (pushed (reply_of o) v) v
     (λ is. kept-pushed limits o v k (omega (arith, room is)) (λ _. room is)) (λ _. k)
 
 put-process : (o : PlainOutcome) (r : Option ConnectionView)

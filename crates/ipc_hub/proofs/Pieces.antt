@@ -1,5 +1,5 @@
 -- Bytes taken in at once, and in pieces.
-use Rattle.std.proofs.Common.{◌≡◌, ℕ, zero, suc, ◌+◌, ◌≤◌, Bool, true, false, ◌&&◌, List, [], ◌∷◌, ◌++◌, length, drop, Option, Some, None, refl, sym, ap, ◌∙◌}
+use Rattle.std.proofs.Common.{◌≡◌, ℕ, zero, suc, ◌+◌, Bool, true, false, ◌&&◌, List, [], ◌∷◌, ◌++◌, length, drop, Option, Some, None, refl, sym, ap, ◌∙◌}
 use Rattle.std.proofs.Common.{subst, arith, append_assoc, append-nil}
 use Rattle.std.specs.Prelude.{nat_eq, if◌then◌else◌, option_map}
 use Rattle.ipc_base.specs.declared.limits.Limits.{Limits}
@@ -12,7 +12,7 @@ use Rattle.ipc_base.specs.Table.{value_at, with_value}
 use Rattle.ipc_engine.specs.Event.{PlainEvent, PlainOutcome}
 use Rattle.ipc_engine.specs.Step.{step}
 use Rattle.ipc_engine.specs.Engine.{takes_memory}
-use Rattle.ipc_hub.specs.Clients.{Client, Clients, client_at, with_client, with_frame, delivered, deliver, deliver_all, is_for, accept, leave, over, break_off}
+use Rattle.ipc_hub.specs.Clients.{Client, Clients, client_at, with_client, with_frame, delivered, deliver, deliver_all, is_for, leave, over, break_off}
 use Rattle.ipc_hub.specs.Clients.{refuse, event_of, last_reply, greeted, welcomed, serve, on_request, unless_ended, on_requests, on_ending, first_of, take_in}
 use Rattle.ipc_hub.specs.Clients.{fitted, arriving}
 use Rattle.ipc_base.proofs.CallerLemmas.{choice, at-with, twice, own, at-map}

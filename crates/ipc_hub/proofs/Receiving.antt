@@ -1,5 +1,5 @@
 -- A connection has received bytes, and a whole frame was taken off it: what the hub is then, and what is done next.
-use Rattle.std.proofs.Common.{◌≡◌, ℕ, ◌+◌, ◌<◌, ◌≤◌, ◌^◌, true, false, Bool, List, [], ◌∷◌, ◌++◌, length, get_or, set, Option, Some, None, refl, sym, ap, ◌∙◌, subst, arith, ◌⊎◌, inl, inr}
+use Rattle.std.proofs.Common.{◌≡◌, ℕ, ◌+◌, ◌<◌, ◌≤◌, ◌^◌, true, false, List, [], ◌∷◌, ◌++◌, length, get_or, set, Some, refl, sym, ap, ◌∙◌, subst, arith, inl, inr}
 use Rattle.std.specs.Prelude.{nat_eq}
 use Rattle.std.proofs.lemmas.List.{get_or-set_same, length-set}
 use Rattle.ipc_base.specs.Limits.{ArePassed, longest_reply}
@@ -7,12 +7,12 @@ use Rattle.ipc_base.specs.Table.{value_at, with_value, keys_of, IsRising}
 use Rattle.ipc_base.specs.declared.errno.Errno.TheVariants.{ENOMEM}
 use Rattle.ipc_base.specs.declared.limits.Limits.{Limits}
 use Rattle.ipc_base.proofs.CallerLemmas.{each-at, at-with, keys_of-with_value}
-use Rattle.ipc_wire.specs.Stream.{PlainFrame, first, missing}
-use Rattle.ipc_wire.specs.Stream.PlainFrame.{More, Fault}
+use Rattle.ipc_wire.specs.Stream.{first, missing}
+use Rattle.ipc_wire.specs.Stream.PlainFrame.{More}
 use Rattle.ipc_wire.proofs.CallerLemmas.{first_short, length-reply_bytes}
 use Rattle.ipc_engine.specs.Engine.{Machine}
 use Rattle.ipc_engine.specs.Event.{PlainEvent, PlainOutcome}
-use Rattle.ipc_engine.specs.Step.{Step, step}
+use Rattle.ipc_engine.specs.Step.{step}
 use Rattle.ipc_engine.specs.View.{reply_of}
 use Rattle.ipc_hub.specs.declared.connection.Connection.{Connection}
 use Rattle.ipc_hub.specs.declared.serving.Asked.{Asked}
@@ -24,8 +24,8 @@ use Rattle.ipc_hub.specs.Relations.Delivery.{last_frame, pushed, put_all, with_a
 use Rattle.ipc_hub.specs.Relations.Invariant.{IsKept, HubInvariant, GoesOn, IsConnected}
 use Rattle.ipc_hub.specs.Relations.Matches.{IsAhead, TakesIn, SimulatesAt}
 use Rattle.ipc_hub.specs.Relations.Requests.{Steps, IsRequest, ComesTo, taken_off}
-use Rattle.ipc_hub.proofs.Rows.{there, at-there, set-there, the-same}
-use Rattle.ipc_hub.proofs.Keeping.{change-invariant, connected-at, kept-pushed, with_connection}
+use Rattle.ipc_hub.proofs.Rows.{there, at-there, set-there}
+use Rattle.ipc_hub.proofs.Keeping.{change-invariant, connected-at, kept-pushed}
 use Rattle.ipc_hub.proofs.Requests.{Answers, request-answers}
 use Rattle.ipc_hub.proofs.Answering.{answer-room, answer-goes-on, serve-matches}
 use Rattle.ipc_hub.proofs.Taking.{bare, emptied_hub, bare-here, emptied-matches, more-matches, fault-taken, served-taken, broken-taken, refused-taken}

@@ -1,16 +1,19 @@
 -- The connections of the code as rows: one by one, and each seen in another way.
 use Rattle.std.proofs.Common.{◌≡◌, ◌≢◌, ℕ, zero, suc, ◌+◌, ◌<◌, ◌≤◌, List, [], ◌∷◌, length, get_or, set, refl, sym, ap, ◌∙◌, inl, inr, arith}
-use Rattle.std.proofs.lemmas.Bool.{cases_eq}
-use Rattle.std.proofs.lemmas.List.{get_or-set_same, get_or-set_other, get_or_default, length-set}
-use Rattle.std.specs.Prelude.{nat_eq, nat_lt, if◌then◌else◌, Bool, true, false, Some, None, position, insert}
+use Rattle.std.proofs.lemmas.Bool.{cases_eq, eqb-true}
+use Rattle.std.proofs.lemmas.List.Quantifiers.{position-Some}
+use Rattle.std.proofs.lemmas.List.{get_or-set_same, get_or-set_other, get_or_default, length-set, with_items_is}
+use Rattle.std.specs.Prelude.{nat_eq, nat_lt, if◌then◌else◌, Bool, true, false, Some, None, is_some, position, insert, Vec}
 use Rattle.std.specs.List.{position_or_len}
+use Rattle.std.specs.Vec.{with_items}
 use Rattle.std.specs.List.Sorted.{IsNonDecreasingBy}
 use Rattle.std.proofs.lemmas.Bool.Decides.{nat_tests}
 use Rattle.ipc_base.specs.Table.{seen_as, EachValue, IsRising, keys_of, value_at, with_value, with_entry}
-use Rattle.ipc_base.proofs.CallerLemmas.{value_at_place, set_at_place, same_key, other_key, test_cases}
+use Rattle.ipc_base.proofs.CallerLemmas.{is_some_value, value_at_place, value_nowhere, set_at_place, same_key, other_key, test_cases}
+use Rattle.ipc_engine.specs.Engine.{Machine}
 use Rattle.ipc_hub.specs.declared.connection.Connection.{Connection}
-use Rattle.ipc_hub.specs.View.{ConnectionView}
-use Rattle.ipc_hub.specs.Relations.Rows.{view_of, row, rows, IsThere}
+use Rattle.ipc_hub.specs.View.{ConnectionView, HubView, is_connected}
+use Rattle.ipc_hub.specs.Relations.Rows.{view_of, row, rows, hub_view, IsThere}
 
 -- what each row is, the one at a place is
 pub each-get : (P : ConnectionView → Type 0) (cs : List Connection) (k : ℕ) (d : Connection) → EachValue P (rows cs) → k < length cs
@@ -164,3 +167,66 @@ nowhere-at cs place n below above = nowhere cs n (λ k d within same.
       | inl before ↦ let lt = below k d (grind (arith, nat_tests, before)) in omega (arith, lt, same)
       | inr behind ↦ let lt = above k d (grind (arith, nat_tests, behind)) within in omega (arith, lt, same)
     ])
+
+-- a vector whose elements were changed in place
+pub sliced : {Z : Type 0} (v : Vec Connection Z) (xs new : List Connection) → xs ≡ v.items → keys_of (rows new) ≡ keys_of (rows xs)
+    → (with_items v new).items ≡ new
+sliced v xs new same keys = with_items_is v new (same-length xs new keys ∙ ap length same ∙ sym v.ok.0)
+
+-- what a search over the elements of a vector found, or did not
+pub found-at : (items cs : List Connection) (place conn : ℕ) (was : Connection) → cs ≡ items
+    → position (λ (c : Connection). nat_eq c.number conn) cs ≡ Some place → was ≡ get_or items place was
+    → value_at nat_eq (rows items) conn ≡ Some (view_of was)
+found-at items cs place conn was same found is =
+    value_at_place row nat_eq conn items place was (ap (position (λ (c : Connection). nat_eq c.number conn)) (sym same) ∙ found) is
+
+pub missing-at : (items cs : List Connection) (conn : ℕ) → cs ≡ items → position (λ (c : Connection). nat_eq c.number conn) cs ≡ None
+    → value_at nat_eq (rows items) conn ≡ None
+missing-at items cs conn same none =
+    value_nowhere row nat_eq conn items (ap (position (λ (c : Connection). nat_eq c.number conn)) (sym same) ∙ none)
+
+-- whether a search found a number is whether a connection has it
+pub searched : (engine : Machine) (items cs : List Connection) (conn : ℕ) (hub : HubView) → cs ≡ items → hub_view engine items ≡ hub
+    → is_connected hub conn ≡ is_some (position (λ (c : Connection). nat_eq c.number conn) cs)
+searched engine items cs conn hub same is =
+    ap (λ (h : HubView). is_connected h conn) (sym is) ∙ is_some_value row nat_eq conn items
+    ∙ ap (λ (xs : List Connection). is_some (position (λ (c : Connection). nat_eq c.number conn) xs)) (sym same)
+
+-- a number that has no value is that of no connection
+pub apart-from : (cs : List Connection) (n k : ℕ) (d : Connection) → value_at nat_eq (rows cs) n ≡ None → k < length cs → (get_or cs k d).number ≢ n
+apart-from [] n k d none within = absurd (omega (arith, within))
+apart-from (c ∷ cs) n zero d none within = λ same. head-none (nat_eq c.number n) (rw same (same_key n)) none
+  where
+    head-none : (b : Bool) → b ≡ true → (if b then Some (view_of c) else value_at nat_eq (rows cs) n) ≡ None → ⊥
+    head-none true t is = cc
+    head-none false t is = cc
+apart-from (c ∷ cs) n (suc k) d none within = apart-from cs n k d (tail-none (nat_eq c.number n) none) (omega (arith, within))
+  where
+    tail-none : (b : Bool) → (if b then Some (view_of c) else value_at nat_eq (rows cs) n) ≡ None → value_at nat_eq (rows cs) n ≡ None
+    tail-none true is = cc
+    tail-none false is = is
+
+-- with the same numbers in a row, a number stands at the same place
+pub found-still : (cs ds : List Connection) (low high place n : ℕ) (was : Connection) → IsRising low (keys_of (rows ds)) high → keys_of (rows ds) ≡ keys_of (rows cs)
+    → position (λ (c : Connection). nat_eq c.number n) cs ≡ Some place → was ≡ get_or ds place was → IsThere ds place was × (was.number ≡ n)
+found-still cs ds low high place n was rising keys found is =
+    let first = position-Some (λ (c : Connection). nat_eq c.number n) cs place was found in
+    let number : was.number ≡ n = ap (λ (c : Connection). c.number) is ∙ same-number cs ds place was was keys first.0 ∙ eqb-true _ n first.1 in
+    (there ds low place high was rising (omega (arith, first.0, same-length cs ds keys)) is, number)
+
+-- the connection at a place that a search found
+some-one : (c : Connection) (cs ds : List Connection) (low high place n : ℕ) → IsRising low (keys_of (rows ds)) high → keys_of (rows ds) ≡ keys_of (rows (c ∷ cs))
+    → position (λ (e : Connection). nat_eq e.number n) (c ∷ cs) ≡ Some place → (d : Connection) × (IsThere ds place d × (d.number ≡ n))
+some-one c cs ds low high place n rising keys found =
+    let first = position-Some (λ (e : Connection). nat_eq e.number n) (c ∷ cs) place c found in
+    let is : get_or ds place c ≡ get_or ds place (get_or ds place c) =
+    get_or_default ds place c (get_or ds place c) (omega (arith, first.0, same-length (c ∷ cs) ds keys)) in
+    (get_or ds place c, found-still (c ∷ cs) ds low high place n (get_or ds place c) rising keys found is)
+
+no-one : (place : ℕ) → None ≡ Some place → ⊥
+no-one place never = cc
+
+pub found-there : (cs ds : List Connection) (low high place n : ℕ) → IsRising low (keys_of (rows ds)) high → keys_of (rows ds) ≡ keys_of (rows cs)
+    → position (λ (c : Connection). nat_eq c.number n) cs ≡ Some place → (d : Connection) × (IsThere ds place d × (d.number ≡ n))
+found-there [] ds low high place n rising keys found = absurd (no-one place found)
+found-there (c ∷ cs) ds low high place n rising keys found = some-one c cs ds low high place n rising keys found

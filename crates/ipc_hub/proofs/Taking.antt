@@ -1,6 +1,6 @@
 -- Bytes up to the end of a frame on a connection: what is done with them is their taking in by the definitions.
-use Rattle.std.proofs.Common.{◌≡◌, ℕ, ◌+◌, ◌<◌, ◌≤◌, Bool, true, false, ◌&&◌, List, [], ◌∷◌, ◌++◌, length, drop, Option, Some, None, refl, sym, ap, ◌∙◌, subst, arith}
-use Rattle.std.specs.Prelude.{nat_eq, if◌then◌else◌}
+use Rattle.std.proofs.Common.{◌≡◌, ℕ, ◌≤◌, Bool, true, false, List, [], ◌∷◌, ◌++◌, length, drop, Option, Some, None, refl, sym, ap, ◌∙◌, subst, arith}
+use Rattle.std.specs.Prelude.{nat_eq}
 use Rattle.std.proofs.lemmas.List.{length-drop}
 use Rattle.ipc_base.specs.Table.{value_at, with_value}
 use Rattle.ipc_base.specs.declared.errno.Errno.TheVariants.{ENOMEM}
@@ -14,7 +14,7 @@ use Rattle.ipc_wire.proofs.CallerLemmas.{first_short, whole_last, stream_begun}
 use Rattle.ipc_engine.specs.Engine.{takes_memory}
 use Rattle.ipc_engine.specs.Event.{PlainEvent}
 use Rattle.ipc_engine.specs.View.{reply_of}
-use Rattle.ipc_hub.specs.Clients.{Client, Clients, client_at, with_client, refusal, event_of, break_off, refuse, serve, on_request, unless_ended, on_ending, take_in, fitted, arriving}
+use Rattle.ipc_hub.specs.Clients.{Client, Clients, client_at, with_client, refusal, event_of, break_off, refuse, serve, on_request, on_ending, take_in, fitted, arriving}
 use Rattle.ipc_hub.specs.View.{ConnectionView, HubView}
 use Rattle.ipc_hub.specs.Relations.Delivery.{pushed}
 use Rattle.ipc_hub.specs.Relations.Matches.{ClientMatches, IsAhead, TakesIn}
@@ -180,7 +180,7 @@ nothing-takes old conn moment v found waits limits confirmed h ahead =
 
 pub ended-takes : (old : HubView) (conn moment : ℕ) (v : ConnectionView) (bytes : List ℕ) → value_at nat_eq old.connections conn ≡ Some v → v.ended ≡ true
     → TakesIn old old conn bytes moment
-ended-takes old conn moment v bytes found over limits confirmed h ahead =
+ended-takes old conn moment v next found over limits confirmed h ahead =
     let p = paired-at (ClientMatches confirmed h.accepted) old.connections h.clients conn v ahead.matches.clients found in
     ([], subst (IsAhead limits confirmed old) (sym (ended-stays h conn _ p.0 p.1.0 (sym p.1.1.ended ∙ over))) ahead)
 

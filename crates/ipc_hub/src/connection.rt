@@ -37,6 +37,7 @@ pub struct Connection {
 
 impl Connection {
     ghost use Rattle.ipc_engine.specs.View.{plain_outcome};
+    ghost use Rattle.ipc_hub.specs.Relations.Invariant.{IsNew};
     ghost use Rattle.ipc_hub.specs.Relations.Rows.{pid_of, view_of};
     ghost use Rattle.ipc_hub.specs.Relations.Delivery.{
       IsShort,
@@ -53,7 +54,7 @@ impl Connection {
     /// frame behind it.
     pub(crate) fn new(alloc: Global, number: u32, reply: u32) -> Result<Connection, AllocError>
         ensures number { IfOk result (λ c. c.number ≡ number) }
-        ensures new { IfOk result (λ c. c.process ≡ None) }
+        ensures new { IfOk result (λ c. IsNew reply (view_of c)) }
     {
         Ok(Connection {
             number,

@@ -96,6 +96,7 @@ pub(crate) fn tick(engine: &mut Engine, connections: &mut [Connection], moment: 
     ensures goes_on { GoesOn (hub_view engine.old connections.old) (hub_view engine.new connections.new) }
     ensures ticks { Simulates (hub_view engine.old connections.old) (hub_view engine.new connections.new)
         (λ limits h. ticks limits h moment.0) }
+    ensures quiet { rows connections.new ≡ rows connections.old }
 {
     engine.step(Event::Tick { moment }).unwrap();
     deliver(connections, engine.outcomes());

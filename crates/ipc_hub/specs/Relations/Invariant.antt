@@ -1,5 +1,5 @@
 -- What holds of a hub after every call, and while it serves its connections.
-use Rattle.std.specs.Prelude.{◌≡◌, ◌≢◌, ℕ, ◌+◌, ◌≤◌, ◌^◌, true, false, List, length, nat_eq, Option, Some, None}
+use Rattle.std.specs.Prelude.{◌≡◌, ◌≢◌, ℕ, ◌+◌, ◌≤◌, ◌^◌, true, false, List, [], length, nat_eq, Option, Some, None}
 use Rattle.std.specs.Prelude.{option_and_then}
 use Rattle.ipc_base.specs.Limits.{longest_reply}
 use Rattle.ipc_base.specs.Table.{value_at, keys_of, EachValue, IsRising}
@@ -25,6 +25,15 @@ pub record IsKept (limits : Limits) (c : ConnectionView) : Type 0 where
   pub input : first c.input ≡ More
   pub last : c.ended ≡ false → last_frame ≤ c.outbox.free
   pub size : longest_reply limits + last_frame ≤ length (kept c.outbox) + c.outbox.free
+
+-- a connection that was just made, with so much room for a reply
+pub record IsNew (reply : ℕ) (c : ConnectionView) : Type 0 where
+  pub process : c.process ≡ None
+  pub input : c.input ≡ []
+  pub ended : c.ended ≡ false
+  pub visible : c.outbox.visible ≡ []
+  pub waiting : c.outbox.waiting ≡ []
+  pub room : reply + last_frame ≤ c.outbox.free
 
 pub record HubInvariant (h : HubView) : Type 0 where
   pub own : AreOwn h.state h.connections

@@ -1,11 +1,10 @@
-use Rattle.std.proofs.Common.{◌≡◌, ◌^◌, ℕ, List, map, get_or, Option, sym, ap, ◌∙◌, subst}
+use Rattle.std.proofs.Common.{◌^◌, map, get_or, Option, sym, ap, ◌∙◌, subst}
 use Rattle.std.specs.Prelude.{option_map}
 use Rattle.std.specs.Option.{option_copied}
 use Rattle.ipc_engine.specs.Event.{PlainOutcome}
 use Rattle.ipc_engine.specs.View.{plain_outcome}
 use Rattle.ipc_hub.specs.declared.connection.Connection.{Connection}
 use Rattle.ipc_hub.specs.Clients.{last_reply}
-use Rattle.ipc_hub.specs.View.{ConnectionView}
 use Rattle.ipc_hub.specs.Relations.Rows.{pid_of, view_of}
 use Rattle.ipc_hub.specs.Relations.Delivery.{HasRoomToGreet, HaveRoom, answered, put_all}
 use Rattle.ipc_hub.proofs.Rows.{there, the-same, set-there}

@@ -1,7 +1,5 @@
-use Rattle.std.proofs.Common.{◌≡◌, ℕ, List, Option, Some, get_or, set, refl, sym, ap, subst, ◌∙◌, arith, length}
-use Rattle.std.specs.Prelude.{nat_eq}
+use Rattle.std.proofs.Common.{◌≡◌, ℕ, List, Option, get_or, set, refl, sym, ap, subst, ◌∙◌, arith, length}
 use Rattle.ipc_base.specs.declared.errno.Errno.TheVariants.{EPROTO}
-use Rattle.ipc_base.specs.Table.{with_value}
 use Rattle.ipc_wire.specs.Reply.{PlainReply, reply_bytes}
 use Rattle.ipc_wire.proofs.CallerLemmas.{length-reply_bytes}
 use Rattle.ipc_engine.specs.View.{reply_of}
@@ -11,9 +9,9 @@ use Rattle.ipc_hub.specs.View.{ConnectionView, HubView}
 use Rattle.ipc_hub.specs.Relations.Rows.{pid_of, view_of, rows, hub_view}
 use Rattle.ipc_hub.specs.Relations.Delivery.{pushed}
 use Rattle.ipc_hub.specs.Relations.Invariant.{IsConnected, IsNobodys}
-use Rattle.ipc_hub.specs.Relations.Matches.{HubMatches, IsAhead}
+use Rattle.ipc_hub.specs.Relations.Matches.{HubMatches}
 use Rattle.ipc_hub.proofs.Rows.{at-there, the-same}
-use Rattle.ipc_hub.proofs.Ending.{ended, end-matches}
+use Rattle.ipc_hub.proofs.Ending.{end-matches}
 use Rattle.ipc_hub.proofs.BreakingOff
 use Rattle.ipc_hub.proofs.BreakingOff.{closed-rows, closed-invariant, closed-connected, closed-nobodys, room, last-rows, last-goes-on}
 use Rattle.ipc_hub.proofs.serving.break_off.Goals as goal

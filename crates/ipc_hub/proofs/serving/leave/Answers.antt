@@ -1,10 +1,8 @@
-use Rattle.std.proofs.Common.{◌≡◌, ◌≢◌, ◌≤◌, ℕ, ◌+◌, [], is_some, Some, ap, sym, ◌∙◌, subst, arith, rules}
+use Rattle.std.proofs.Common.{◌≡◌, ◌≢◌, [], is_some, ap, ◌∙◌, arith, rules}
 use Rattle.ipc_base.proofs.CallerLemmas.{value_at-without}
 use Rattle.ipc_state.specs.State.{State, at_moment, exit, is_process}
 use Rattle.ipc_engine.specs.Event.{Exit}
-use Rattle.ipc_hub.specs.Clients.{leave}
 use Rattle.ipc_hub.specs.Relations.Rows.{rows, hub_view}
-use Rattle.ipc_hub.specs.Relations.Invariant.{process_in}
 use Rattle.ipc_hub.proofs.Deliveries.{accept-matches}
 use Rattle.ipc_hub.proofs.Keeping.{delivery-goes-on}
 use Rattle.ipc_hub.proofs.serving.leave.Goals as goal

@@ -1,4 +1,4 @@
-use Rattle.std.proofs.Common.{sym, subst}
+use Rattle.std.proofs.Common.{subst}
 use Rattle.ipc_wire.specs.Stream.{first}
 use Rattle.ipc_hub.specs.View.{ConnectionView}
 use Rattle.ipc_hub.specs.Relations.Requests.{ComesTo}

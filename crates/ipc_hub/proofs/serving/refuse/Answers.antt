@@ -1,6 +1,6 @@
-use Rattle.std.proofs.Common.{◌≡◌, ◌^◌, get_or, length, sym, ap, ◌∙◌, arith}
+use Rattle.std.proofs.Common.{◌^◌, get_or, length, sym, ap, ◌∙◌, arith}
 use Rattle.ipc_base.specs.declared.errno.Errno.TheVariants.{ENOMEM}
-use Rattle.ipc_wire.specs.Reply.{PlainReply, reply_bytes, plain_reply}
+use Rattle.ipc_wire.specs.Reply.{PlainReply, reply_bytes}
 use Rattle.ipc_wire.proofs.CallerLemmas.{length-reply_bytes}
 use Rattle.ipc_engine.specs.View.{reply_of}
 use Rattle.ipc_hub.specs.Clients.{refusal}

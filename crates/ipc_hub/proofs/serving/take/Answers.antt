@@ -1,16 +1,15 @@
-use Rattle.std.proofs.Common.{◌≡◌, [], ◌∷◌, ℕ, List, set, get_or, length, take, sym, ap, subst, ◌∙◌, arith}
+use Rattle.std.proofs.Common.{◌≡◌, List, set, get_or, length, take, sym, ap, subst, ◌∙◌, arith}
 use Rattle.std.proofs.lemmas.List.{take_all, set-get_or}
 use Rattle.ipc_wire.specs.Stream.{first}
 use Rattle.ipc_engine.specs.Event.{PlainOutcome}
 use Rattle.ipc_hub.specs.declared.connection.Connection.{Connection}
 use Rattle.ipc_hub.specs.declared.serving.Asked.TheVariants as asks
 use Rattle.ipc_hub.specs.Relations.Rows.{view_of, row, rows, hub_view}
-use Rattle.ipc_hub.specs.Relations.Delivery.{put_all, with_answer, HasRoomToAnswer}
+use Rattle.ipc_hub.specs.Relations.Delivery.{HasRoomToAnswer}
 use Rattle.ipc_hub.specs.Relations.Invariant.{IsConnected}
-use Rattle.ipc_hub.specs.Relations.Matches.{TakesIn}
 use Rattle.ipc_hub.proofs.Rows.{at-there, the-same}
 use Rattle.ipc_hub.proofs.Taking.{ended-takes}
-use Rattle.ipc_hub.proofs.Receiving.{at, found, kept, connected, received-by, more-goes-on, more-takes}
+use Rattle.ipc_hub.proofs.Receiving.{kept, connected, received-by, more-goes-on, more-takes}
 use Rattle.ipc_hub.proofs.Receiving.{served-rising, served-room, served-goes-on, served-takes}
 use Rattle.ipc_hub.proofs.Receiving.{refused-rising, refused-room, refused-goes-on, refused-takes}
 use Rattle.ipc_hub.proofs.Receiving.{broken-invariant, broken-live, broken-goes-on, broken-takes}
@@ -167,4 +166,3 @@ returns-in-Broken-clause-bytes c d it =
     c.index-connections-place.is c.if-connection.false c.requires.room got.few got.comes got.number got.view c.in-Broken.is in
     rw (the-same c.args.connections.now c.args.place d was it c.requires.place ∙ sym c.index-connections-place.is)
     (broken-takes r (hub_view c.break_off.new.engine c.break_off.new.connections) c.break_off.ensures.ends)
-

@@ -1,4 +1,4 @@
-use Rattle.std.proofs.Common.{◌≡◌, ◌≤◌, ℕ, ◌+◌, map, arith, rules}
+use Rattle.std.proofs.Common.{◌≡◌, arith, rules}
 use Rattle.ipc_state.specs.State.{at_moment}
 use Rattle.ipc_engine.specs.Event.{Tick}
 use Rattle.ipc_hub.specs.Relations.Rows.{rows, hub_view}
