@@ -1,15 +1,16 @@
 # ipcd: the commands of this repository. They need the Rattle toolchain's `rt` on the path, `bench` needs awk too,
 # and `memory` awk and a C compiler: without that one it says so and refuses nothing.
 
-.PHONY: help run test imports memory program bench
+.PHONY: help run test imports runs memory program bench
 
 help:
 	@echo "make run    proves and builds what is needed, and runs examples/first_queue.script; some minutes the first"
 	@echo "            time. It may be stopped: crates that are proved stay proved, and the next run goes on after them"
 	@echo "make test   what 'make imports' runs; the gate: every proof from nothing, the edits that must fail, the tests,"
-	@echo "            the program; and then what 'make memory' runs, on what the gate has built. It takes more"
-	@echo "            than 20 minutes on four cores"
+	@echo "            the program; and then what 'make runs' and 'make memory' run, on what the gate has built. It takes"
+	@echo "            more than 20 minutes on four cores"
 	@echo "make imports  that no crate names what is another's own, nor one that carries requests a call"
+	@echo "make runs   the program on scripts and command lines: what it prints and says, and its exit status"
 	@echo "make memory the engine's tests and the program, with each allocation refused in turn"
 	@echo "make bench  lines per second and peak memory of long scripts, and processor time of several kinds of scripts"
 
@@ -50,8 +51,14 @@ $(ENGINE_TESTS): $(wildcard crates/*/src/*.rt)
 imports:
 	@sh tests/imports.sh
 
+RUNS = sh tests/runs.sh crates/ipcd/out/ipcd
+
+runs: program
+	@$(RUNS)
+
 test: imports
 	rt ci
+	@$(RUNS)
 	@$(REFUSE_EACH)
 
 # Five runs of each script. It needs awk.

@@ -4,7 +4,7 @@
 #
 #     sh bench/replay.sh PROGRAM [RUNS]
 #
-# Every run is compared with the output that the protocol asks for: bench/scripts.awk writes both.
+# It prints two tables. Every run is compared with the output that the protocol asks for: bench/scripts.awk writes both.
 # It needs a POSIX shell and awk. The peak is GNU time's, or else what Linux says in /proc, or else not known. Processor
 # time is what the shell's `times` says of its children, mostly in hundredths of a second.
 
@@ -34,14 +34,19 @@ lines_of() {
 	awk 'END { print NR }' "$1"
 }
 
-# Seconds since some moment.
+# Seconds since some moment: in billionths where `date` knows them, else in hundredths or whole ones.
 now() {
-	if [ -r /proc/uptime ]; then
-		read -r seconds _ < /proc/uptime
-		echo "$seconds"
-	else
-		date +%s
-	fi
+	seconds=$(date +%s.%N)
+	case $seconds in
+	*[!0-9.]* | *. | .*)
+		if [ -r /proc/uptime ]; then
+			read -r seconds _ < /proc/uptime
+		else
+			seconds=$(date +%s)
+		fi
+		;;
+	esac
+	echo "$seconds"
 }
 
 # Runs the script. The peak in kB goes into the file `peak`, which stays empty where it is not known.
@@ -82,15 +87,20 @@ rate() {
 	}'
 }
 
-# The middle line of a file of numbers.
-median() {
-	sort -n "$1" | awk -v middle=$(((runs + 1) / 2)) 'NR == middle'
+# The k-th lowest line of a file of numbers.
+lowest() {
+	sort -n "$2" | awk -v k="$1" 'NR == k'
 }
 
-# Runs a script of so many sends and as many receives, and prints each run and the medians.
+# A whole number with a comma before every three digits.
+grouped() {
+	echo "$1" | awk '{ while (match($0, /[0-9][0-9][0-9][0-9]($|,)/))
+		$0 = substr($0, 1, RSTART) "," substr($0, RSTART + 1); print }'
+}
+
+# Runs a script of so many sends and as many receives by sixteen connections in turn, and prints its row.
 measure() {
 	generate rounds "$1" 4
-	echo "$1 sends and $1 receives, $lines lines"
 	: > "$folder/rates"
 	: > "$folder/peaks"
 	number=0
@@ -100,15 +110,15 @@ measure() {
 		run || fail "the program ended with status $?"
 		end=$(now)
 		check
-		rate=$(rate "$lines" "$start" "$end")
-		read -r peak < "$folder/peak" || peak=
-		peak=${peak:+$peak kB}
-		peak=${peak:-not known}
-		echo "$rate" >> "$folder/rates"
-		echo "$peak" >> "$folder/peaks"
-		echo "    run $number: $rate lines per second, peak memory $peak"
+		rate "$lines" "$start" "$end" >> "$folder/rates"
+		cat "$folder/peak" >> "$folder/peaks"
 	done
-	echo "    median: $(median "$folder/rates") lines per second, peak memory $(median "$folder/peaks")"
+	middle=$(((runs + 1) / 2))
+	peak=$(lowest "$middle" "$folder/peaks")
+	peak=${peak:+$(grouped "$peak") kB}
+	echo "| $(grouped "$lines") lines | $(grouped "$(lowest "$middle" "$folder/rates")")" \
+		"| $(grouped "$(lowest 1 "$folder/rates")") to $(grouped "$(lowest "$runs" "$folder/rates")")" \
+		"| ${peak:-not known} |"
 }
 
 # The processor time of the children, in microseconds, between two outputs of `times`.
@@ -137,23 +147,24 @@ process() {
 	done
 }
 
-# Prints a time in microseconds, shared among so many in each run.
+# Prints the row of a time in microseconds, shared among so many in each run.
 share() {
-	awk -v taken="$1" -v many="$2" -v runs="$runs" -v each="$3" -v what="$4" 'BEGIN {
-		printf "    %s: %.2f microseconds a %s\n", what, taken / many / runs, each
+	awk -v taken="$1" -v many="$2" -v runs="$runs" -v what="$3" 'BEGIN {
+		each = taken / many / runs
+		printf each < 10 ? "| %s | %.2f |\n" : "| %s | %.0f |\n", what, each
 	}'
 }
 
 # Sends and receives of texts of so many bytes.
 texts() {
 	process texts "$1" "$2"
-	share "$taken" "$lines" line "texts of $2 bytes, $1 sends and $1 receives"
+	share "$taken" "$lines" "a line, texts of $2 bytes, $(grouped "$1") sends and receives"
 }
 
 # Sends and receives on one connection, so many requests in a line.
 pieces() {
 	process pieces "$1" "$2"
-	share "$taken" $((2 * $1)) request "$2 to a line, $1 sends and $1 receives"
+	share "$taken" $((2 * $1)) "a request, $2 in a line, $(grouped "$1") sends and receives"
 }
 
 # Ticks with so many connections open, without what it takes to open them.
@@ -161,7 +172,7 @@ ticks() {
 	process ticks 0 "$2"
 	opened=$taken
 	process ticks "$1" "$2"
-	share $((taken - opened)) "$1" tick "open connections $2, $1 ticks"
+	share $((taken - opened)) "$1" "a tick, open connections $(grouped "$2"), $(grouped "$1") ticks"
 }
 
 [ -x "$program" ] || fail "there is no program $program"
@@ -172,13 +183,19 @@ gnu_time=no
 if env time -f %M -o "$folder/peak" true 2> /dev/null; then
 	gnu_time=yes
 fi
+load="not known"
 if [ -r /proc/loadavg ]; then
 	read -r load _ < /proc/loadavg
-	echo "the machine's load is $load"
 fi
+echo "Each script is run $runs times; the machine's load before them is $load."
+echo
+echo "| script, 16 connections | lines a second, median | least to most | peak memory |"
+echo "|---|---|---|---|"
 measure 50000
 measure 100000
-echo "processor time, the mean of $runs runs"
+echo
+echo "| what, and how many in a run | microseconds of processor time, mean |"
+echo "|---|---|"
 texts 50000 0
 texts 50000 4
 texts 1000 8192
@@ -187,4 +204,4 @@ pieces 100000 16
 pieces 100000 100
 ticks 1000000 1
 ticks 100000 64
-ticks 1000 1000
+ticks 4000 1000

@@ -1,12 +1,14 @@
 -- How a crash goes through the sectors, one after another.
-use Rattle.std.proofs.Common.{◌≡◌, ◌⊎◌, inl, inr, ℕ, zero, suc, ◌+◌, ◌<◌, add-one, Bool, true, false, List, [], ◌∷◌, length, map, refl, sym}
+use Rattle.std.proofs.Common.{◌≡◌, ◌⊎◌, inl, inr, ℕ, zero, suc, ◌+◌, ◌<◌, add-one, Bool, true}
+use Rattle.std.proofs.Common.{false, List, [], ◌∷◌, length, map, refl, sym}
 use Rattle.std.proofs.Common.{◌∙◌, ap, subst, arith}
 use Rattle.std.specs.Prelude.{slice_set, slice_index_or, if◌then◌else◌, ◌&&◌, not, All}
 use Rattle.std.proofs.lemmas.List.Elements.{All-map}
 use Rattle.ipc_disk.specs.declared.memory.Slot.{Slot}
 use Rattle.ipc_disk.specs.Crash.{is_unsynced, is_kept, survivor, passed, survivors}
 use Rattle.ipc_disk.specs.Medium.{Image}
-use Rattle.ipc_disk.specs.Slots.{IsWhole, MayLeave, last_values, synced_values, synced_slot, settled, IsShaped-MayLeave}
+use Rattle.ipc_disk.specs.Slots.{MayLeave, last_values, synced_values}
+use Rattle.ipc_disk.specs.Relations.Slots.{IsWhole, synced_slot, settled, IsShaped-MayLeave}
 use Rattle.ipc_disk.proofs.SlotsLemmas.{durable-settled}
 
 -- the slots when this many have been chosen

@@ -1,4 +1,5 @@
--- Lemmas on the disks in memory.
+-- Lemmas on the disks in memory, and on runs of calls of any disk.
+pub mod CallerLemmas
 mod Choices
 mod Listed
 mod SlotsLemmas

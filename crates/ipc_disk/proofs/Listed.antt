@@ -1,5 +1,6 @@
 -- The list of recent writes: a sector that is not on it reads as it did at the last sync.
-use Rattle.std.proofs.Common.{◌≡◌, ◌≢◌, ◌⊎◌, inl, inr, ⊎_elim, ℕ, zero, suc, ◌+◌, ◌<◌, ◌≤◌, add-one, List, [], ◌∷◌, ◌++◌, length, map, drop, refl, sym}
+use Rattle.std.proofs.Common.{◌≡◌, ◌≢◌, ◌⊎◌, inl, inr, ⊎_elim, ℕ, zero, suc, ◌+◌, ◌<◌}
+use Rattle.std.proofs.Common.{◌≤◌, add-one, List, [], ◌∷◌, ◌++◌, length, map, drop, refl, sym}
 use Rattle.std.proofs.Common.{◌∙◌, ap, subst, arith}
 use Rattle.std.specs.Prelude.{All, Contains, Some, slice_get, slice_set, slice_index_or}
 use Rattle.std.proofs.Math.ListN.{length-set}
@@ -10,9 +11,10 @@ use Rattle.std.proofs.lemmas.List.{map-set}
 use Rattle.std.proofs.lemmas.List.Elements.{All-append, All-cons, All-nil, Contains-push, Contains-push_cases, Contains-append_left, Contains-append_cases}
 use Rattle.std.proofs.lemmas.Option.{same_Some}
 use Rattle.ipc_disk.specs.declared.memory.Slot.{Slot}
-use Rattle.ipc_disk.specs.GoesOn.{slice_get-set_other}
+use Rattle.ipc_disk.proofs.CallerLemmas.{slice_get-set_other}
 use Rattle.ipc_disk.specs.Medium.{Image}
-use Rattle.ipc_disk.specs.Slots.{ListsUnsynced, last_values, synced_values, settled}
+use Rattle.ipc_disk.specs.Slots.{last_values, synced_values}
+use Rattle.ipc_disk.specs.Relations.Slots.{ListsUnsynced, settled}
 
 Contains-cons_cases : (x : ℕ) (xs : List ℕ) (i : ℕ) → Contains (x ∷ xs) i → (x ≡ i) ⊎ Contains xs i
 Contains-cons_cases x xs i has = ⊎_elim

@@ -1,5 +1,6 @@
 -- What a write and a sync do to the images of a disk in memory.
-use Rattle.std.proofs.Common.{◌≡◌, ◌⊎◌, inl, inr, ⊎_elim, ℕ, zero, suc, ◌+◌, ◌<◌, List, [], ◌∷◌, ◌++◌, length, map, take, drop, replicate, refl, sym}
+use Rattle.std.proofs.Common.{◌≡◌, ◌⊎◌, inl, inr, ⊎_elim, ℕ, zero, suc, ◌+◌, ◌<◌, List, []}
+use Rattle.std.proofs.Common.{◌∷◌, ◌++◌, length, map, take, drop, replicate, refl, sym}
 use Rattle.std.proofs.Common.{◌∙◌, ap, subst, arith}
 use Rattle.std.specs.Prelude.{slice_set, slice_index_or, All}
 use Rattle.std.proofs.lemmas.List.{replicate-append-replicate, length-replicate}
@@ -10,7 +11,8 @@ use Rattle.std.proofs.lemmas.Option.{get_or_from_slice_get, slice_get-get_or}
 use Rattle.ipc_disk.specs.declared.memory.Slot.{Slot}
 use Rattle.ipc_disk.specs.declared.memory.TheConstants.{ZEROS}
 use Rattle.ipc_disk.specs.Medium.{Image, Elapses, IsSector}
-use Rattle.ipc_disk.specs.Slots.{IsWhole, last_values, synced_values, MayLeave, MayLeave-last_values, settled, slots_medium, IsHonest-slots}
+use Rattle.ipc_disk.specs.Slots.{last_values, synced_values, MayLeave, slots_medium}
+use Rattle.ipc_disk.specs.Relations.Slots.{IsWhole, MayLeave-last_values, settled, IsHonest-slots}
 
 -- a slot after a write
 abbrev pub written : Slot → List ℕ → Slot

@@ -1,5 +1,6 @@
 -- A crash of a disk in memory that is chosen by a number: which of its unsynced sectors keep their last value.
-use Rattle.std.specs.Prelude.{ℕ, ◌+◌, ◌^◌, ◌%◌, ◌==◌, Bool, not, ◌&&◌, if◌then◌else◌, nat_eq, bit_and, List, [], ◌∷◌}
+use Rattle.std.specs.Prelude.{ℕ, ◌+◌, ◌^◌, ◌%◌, ◌==◌, nat_eq, bit_and, List, [], ◌∷◌}
+use Rattle.std.specs.Prelude.{Bool, not, ◌&&◌, if◌then◌else◌}
 use Rattle.std.specs.Cmp.Lexicographic.{pointwise}
 use Rattle.ipc_disk.specs.declared.memory.Slot.{Slot}
 use Rattle.ipc_disk.specs.Medium.{Image}

@@ -2,10 +2,9 @@
 pub mod Counts
 pub mod Crash
 pub mod Fuse
-pub mod GoesOn
 pub mod Medium
 pub mod Memory
 pub mod Range
-pub mod Remembered
+pub mod Relations
 pub mod Since
 pub mod Slots

@@ -31,7 +31,8 @@ pub record Medium : Type 1 where
 -- what is read is one of the images now, and these are among the images since each moment
 pub record IsHonest (medium : Medium) : Type 0 where
   pub reads : medium.images_now medium.contents
-  pub since : (t : ℕ) (image : Image) → t ≤ medium.moment → medium.images_now image → medium.images_since t image
+  pub since : (t : ℕ) (image : Image) → t ≤ medium.moment → medium.images_now image
+      → medium.images_since t image
 
 -- from one call to the next: an image since is one from before the call or one of now, and honesty is kept both ways
 pub record Elapses (old new : Medium) : Type 0 where

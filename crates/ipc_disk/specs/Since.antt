@@ -1,4 +1,4 @@
--- What holds of each image that a crash may leave during a run of calls, and how it goes on over the next call.
+-- What holds of each image that a crash may leave during a run of calls.
 use Rattle.std.specs.Prelude.{◌≡◌, ◌⊎◌, ℕ, ◌≤◌, slice_get}
 use Rattle.ipc_disk.specs.Medium.{Image, Medium, IsHonest}
 
@@ -7,7 +7,8 @@ pub record EachImageSince (old new : Medium) (P : Image → Type 0) : Type 0 whe
   pub later : old.moment ≤ new.moment
   pub each : (image : Image) → new.images_since old.moment image → P image
   -- for a run that began earlier
-  pub earlier : (t : ℕ) (image : Image) → t ≤ old.moment → new.images_since t image → old.images_since t image ⊎ P image
+  pub earlier : (t : ℕ) (image : Image) → t ≤ old.moment → new.images_since t image
+      → old.images_since t image ⊎ P image
 
 -- the two have the same sectors at these places
 abbrev pub SameAt : (ℕ → Type 0) → Image → Image → Type 0
@@ -16,6 +17,7 @@ SameAt places a b = (i : ℕ) → places i → slice_get a i ≡ slice_get b i
 -- each image since old has, at these places, the sectors of an image of then, and so has what is read; the disk is
 -- honest
 pub record LeavesAlone (places : ℕ → Type 0) (old new : Medium) : Type 0 where
-  pub images : EachImageSince old new (λ image. (before : Image) × old.images_now before × SameAt places before image)
+  pub images : EachImageSince old new
+      (λ image. (before : Image) × old.images_now before × SameAt places before image)
   pub contents : SameAt places old.contents new.contents
   pub honest : IsHonest new

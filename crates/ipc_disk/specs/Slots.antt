@@ -1,16 +1,8 @@
 -- The sectors of a disk in memory: of each the value at the last sync and the last value written.
 -- A crash leaves of each sector, by itself, one of the two.
-use Rattle.std.specs.Prelude.{◌≡◌, ◌⊎◌, ℕ, List, [], ◌∷◌, length, map, All, Contains, slice_get, refl}
-use Rattle.std.proofs.Common.{inr, ⊎_elim, subst, sym, arith}
-use Rattle.std.specs.List.{AllByRecursion}
-use Rattle.std.proofs.lemmas.List.Elements.{All-from_recursion, recursion_from_All}
+use Rattle.std.specs.Prelude.{◌≡◌, ◌⊎◌, List, [], ◌∷◌, map}
 use Rattle.ipc_disk.specs.declared.memory.Slot.{Slot}
-use Rattle.ipc_disk.specs.Medium.{Image, IsSector, IsShaped, Medium, IsHonest}
-
--- both of its values are sectors
-pub record IsWhole (slot : Slot) : Type 0 where
-  pub saved : IsSector slot.synced
-  pub newest : IsSector slot.last
+use Rattle.ipc_disk.specs.Medium.{Image, Medium}
 
 -- the last values
 abbrev pub last_values : List Slot → Image
@@ -23,7 +15,8 @@ synced_values slots = map (λ slot. slot.synced) slots
 -- each sector has its synced value or its last
 abbrev pub MayLeave : List Slot → Image → Type 0
 MayLeave [] [] = Unit {0}
-MayLeave (slot ∷ slots) (sector ∷ sectors) = ((sector ≡ slot.synced) ⊎ (sector ≡ slot.last)) × MayLeave slots sectors
+MayLeave (slot ∷ slots) (sector ∷ sectors) =
+    ((sector ≡ slot.synced) ⊎ (sector ≡ slot.last)) × MayLeave slots sectors
 MayLeave _ _ = ⊥
 
 -- Each sector reads as its last value; a crash leaves that or the synced one. No past is kept: of the images since a
@@ -34,51 +27,4 @@ slots_medium slots = record {
   images_now = MayLeave slots;
   moment = 0;
   images_since = λ t. MayLeave slots;
-}
-
--- a sector that is synced
-abbrev pub synced_slot : List ℕ → Slot
-synced_slot sector = record { synced = sector; last = sector }
-
--- after a sync
-abbrev pub settled : Slot → Slot
-settled slot = synced_slot slot.last
-
--- a sector that is not listed reads as it did at the last sync
-abbrev pub ListsUnsynced : List ℕ → List Slot → Type 0
-ListsUnsynced listed slots = (i : ℕ) → ¬ (Contains listed i)
-    → slice_get (synced_values slots) i ≡ slice_get (last_values slots) i
-
--- the last values are one of the images
-pub MayLeave-last_values : (slots : List Slot) → MayLeave slots (last_values slots)
-MayLeave-last_values [] = tt
-MayLeave-last_values (slot ∷ slots) = (inr refl, MayLeave-last_values slots)
-
--- such a disk is honest
-pub IsHonest-slots : (slots : List Slot) → IsHonest (slots_medium slots)
-IsHonest-slots slots = record { reads = MayLeave-last_values slots; since = λ t image le now. now }
-
-length-MayLeave : (slots : List Slot) (image : Image) → MayLeave slots image → length image ≡ length slots
-length-MayLeave [] [] left = refl
-length-MayLeave [] (x ∷ xs) left = absurd left
-length-MayLeave (s ∷ ss) [] left = absurd left
-length-MayLeave (s ∷ ss) (x ∷ xs) left = omega (arith, length-MayLeave ss xs left.1)
-
-sectors-MayLeave : (slots : List Slot) (image : Image) → AllByRecursion IsWhole slots → MayLeave slots image
-    → AllByRecursion IsSector image
-sectors-MayLeave [] [] whole left = tt
-sectors-MayLeave [] (x ∷ xs) whole left = absurd left
-sectors-MayLeave (s ∷ ss) [] whole left = absurd left
-sectors-MayLeave (s ∷ ss) (x ∷ xs) whole left = (
-  ⊎_elim (λ is. subst IsSector (sym is) whole.0.saved) (λ is. subst IsSector (sym is) whole.0.newest) left.0,
-  sectors-MayLeave ss xs whole.1 left.1,
-)
-
--- each image has all the sectors
-pub IsShaped-MayLeave : (slots : List Slot) (image : Image) → All IsWhole slots → MayLeave slots image
-    → IsShaped (length slots) image
-IsShaped-MayLeave slots image whole left = record {
-  count = length-MayLeave slots image left;
-  sectors = All-from_recursion IsSector image (sectors-MayLeave slots image
-      (recursion_from_All IsWhole slots whole) left);
 }

@@ -86,7 +86,7 @@ fn spend(calls: &mut u64, failures: &mut u64) -> Result<(), DiskFault>
 
 impl SectorDisk for FuseDisk {
     ghost use Rattle.ipc_disk.specs.Fuse.{disk_of, calls_left, keep_of, fuse_medium, fuse_counts};
-    ghost use Rattle.ipc_disk.specs.Slots.{IsShaped-MayLeave};
+    ghost use Rattle.ipc_disk.specs.Relations.Slots.{IsShaped-MayLeave};
 
     ghost size = { λ fuse. memory_size (disk_of fuse) };
 

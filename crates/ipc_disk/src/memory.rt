@@ -1,12 +1,13 @@
 //! A disk in memory, which never fails.
 
-ghost use Rattle.std.specs.Prelude.{◌≡◌, ◌<◌, ◌≤◌, ◌^◌, ◌++◌, [], ◌∷◌, ℕ, length, map, All, Some, IfOk, IsOk, OnOk};
+ghost use Rattle.std.specs.Prelude.{◌≡◌, ◌<◌, ◌≤◌, ◌^◌, ◌++◌, [], ◌∷◌, ℕ, length, map};
+ghost use Rattle.std.specs.Prelude.{All, Some, IfOk, IsOk, OnOk};
 ghost use Rattle.std.specs.Prelude.{OnErr, replicate, slice_get, slice_set, vec_capacity};
 ghost use Rattle.std.proofs.Common.{lit<};
 ghost use Rattle.ipc_disk.specs.Counts.{with_failure, with_write, with_sync};
 ghost use Rattle.ipc_disk.specs.Medium.{IsHonest, IsDurable, Stays, Writes};
 ghost use Rattle.ipc_disk.specs.Crash.{survivors, survivor, is_unsynced, is_kept as kept};
-ghost use Rattle.ipc_disk.specs.Slots.{IsWhole, ListsUnsynced, settled, synced_slot};
+ghost use Rattle.ipc_disk.specs.Relations.Slots.{IsWhole, ListsUnsynced, settled, synced_slot};
 
 use crate::{DiskFault, SectorDisk};
 use std::alloc::{AllocError, Global};
@@ -205,7 +206,7 @@ fn choose(slots: &mut [Slot], keep: u64)
 
 impl SectorDisk for MemoryDisk {
     ghost use Rattle.ipc_disk.specs.Memory.{memory_size, memory_medium, memory_counts, synced_image};
-    ghost use Rattle.ipc_disk.specs.Slots.{IsShaped-MayLeave};
+    ghost use Rattle.ipc_disk.specs.Relations.Slots.{IsShaped-MayLeave};
 
     ghost size = { memory_size };
 

@@ -5,11 +5,12 @@ use Rattle.ipc_disk.specs.declared.range.Range.{Range}
 use Rattle.ipc_disk.specs.Medium.{Image, Medium, IsHonest, IsDurable, SetOrNot, Stays}
 use Rattle.ipc_disk.specs.Range.{IsOutside}
 use Rattle.ipc_disk.specs.Since.{EachImageSince, LeavesAlone}
-use Rattle.ipc_disk.specs.GoesOn.{EachImageSince-step, EachImageSince-join, EachImageSince-weaken, EachImageSince-now, LeavesAlone-keeps}
+use Rattle.ipc_disk.proofs.CallerLemmas.{EachImageSince-step, EachImageSince-join, EachImageSince-weaken, EachImageSince-now, LeavesAlone-keeps}
 use Rattle.ipc_journal.specs.declared.journal.Journal.{Journal}
 use Rattle.ipc_journal.specs.Journal.{sectors_for, sectors_of, epoch_in, used_in, IsBatch, IsWrittenAt, StandsAt, Holds}
-use Rattle.ipc_journal.specs.IsAt.{Fits, IsAt, HoldsOneMoreOrNot}
-use Rattle.ipc_journal.specs.GoesOn.{sector_at-same, Holds-same}
+use Rattle.ipc_journal.specs.View.{Fits}
+use Rattle.ipc_journal.specs.Matches.{JournalMatches, HoldsOneMoreOrNot}
+use Rattle.ipc_journal.proofs.CallerLemmas.{sector_at-same, Holds-same}
 use Rattle.ipc_journal.proofs.Runs.{LeavesAlone-fewer, outside-first, StandsAt-written}
 use Rattle.ipc_journal.proofs.Images.{Holds-push}
 
@@ -36,7 +37,7 @@ module _ (journal : Journal) (batch : List ℕ) (fits : Fits journal (length bat
   others-header old new run = LeavesAlone-fewer (IsOutside journal.range) (IsOutside (record { first = journal.range.first; count = 1 })) old new
       (outside-first journal.range (omega (arith, fits))) run
 
-  module _ (batches : List (List ℕ)) (old : Medium) (at : IsAt journal batches old) where
+  module _ (batches : List (List ℕ)) (old : Medium) (at : JournalMatches journal batches old) where
     abbrev Before : Image → Type 0
     Before = Holds journal.range journal.epoch batches
 

@@ -1,10 +1,11 @@
 -- What images hold: the batches' sectors, and what a written header adds.
-use Rattle.std.proofs.Common.{◌≡◌, inl, inr, ℕ, ◌+◌, ◌<◌, ◌≤◌, List, [], ◌∷◌, ◌++◌, length, refl, sym, ◌∙◌, ap, subst, arith}
+use Rattle.std.proofs.Common.{◌≡◌, inl, inr, ℕ, ◌+◌, ◌<◌, ◌≤◌, List, [], ◌∷◌, ◌++◌}
+use Rattle.std.proofs.Common.{length, refl, sym, ◌∙◌, ap, subst, arith}
 use Rattle.std.specs.Prelude.{slice_set}
 use Rattle.ipc_disk.specs.declared.range.Range.{Range}
 use Rattle.ipc_disk.specs.Medium.{Image}
 use Rattle.ipc_journal.specs.Journal.{sectors_for, sectors_of, epoch_in, used_in, header_epoch, header_used, IsBatch, StandsAt, Fill, Holds}
-use Rattle.ipc_journal.specs.GoesOn.{Fill-end, Fill-same}
+use Rattle.ipc_journal.proofs.CallerLemmas.{Fill-end, Fill-same}
 use Rattle.ipc_journal.proofs.Runs.{sector_at-set_same, sector_at-set_other}
 
 -- the sectors of one batch more

@@ -1,5 +1,6 @@
 -- A batch as its pieces, and the calls that only read.
-use Rattle.std.proofs.Common.{◌≡◌, ◌⊎◌, inl, inr, ⊎_elim, ℕ, zero, suc, ◌+◌, ◌*◌, ◌<◌, ◌≤◌, List, [], ◌∷◌, ◌++◌, length, take, drop, refl, sym, ◌∙◌}
+use Rattle.std.proofs.Common.{◌≡◌, ◌⊎◌, inl, inr, ⊎_elim, ℕ, zero, suc, ◌+◌, ◌*◌, ◌<◌}
+use Rattle.std.proofs.Common.{◌≤◌, List, [], ◌∷◌, ◌++◌, length, take, drop, refl, sym, ◌∙◌}
 use Rattle.std.proofs.Common.{ap, subst, arith, take-append-drop}
 use borrow.Rule.Slice.PartMut.{put_mid}
 use Rattle.std.proofs.lemmas.List.{take_all, take_at, drop_at, drop_all, append-nil, take-take, drop-take, length-take, length-take-le, length-drop}
@@ -9,7 +10,7 @@ use Rattle.ipc_disk.specs.Medium.{Image, Medium, IsHonest, Stays}
 use Rattle.byteorder.specs.Endian.{big_number}
 use Rattle.byteorder.specs.Numbers.{big_from-take}
 use Rattle.ipc_journal.specs.Journal.{sectors_for, sectors_of, sector_at, length_in, header_used, IsBatch, piece, StandsAt, Fill, Holds}
-use Rattle.ipc_journal.specs.GoesOn.{Fill-end}
+use Rattle.ipc_journal.proofs.CallerLemmas.{Fill-end}
 use Rattle.ipc_journal.proofs.Runs.{StandsBelow}
 
 -- no call yet

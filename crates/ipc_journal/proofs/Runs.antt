@@ -7,7 +7,7 @@ use Rattle.ipc_disk.specs.declared.range.Range.{Range}
 use Rattle.ipc_disk.specs.Medium.{Image, Medium}
 use Rattle.ipc_disk.specs.Range.{IsOutside}
 use Rattle.ipc_disk.specs.Since.{SameAt, LeavesAlone}
-use Rattle.ipc_disk.specs.GoesOn.{EachImageSince-weaken}
+use Rattle.ipc_disk.proofs.CallerLemmas.{EachImageSince-weaken}
 use Rattle.ipc_journal.specs.Journal.{sector_at, piece, batch_sector, IsWrittenAt, StandsAt}
 
 -- the sector that was written

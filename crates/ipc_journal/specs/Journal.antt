@@ -1,7 +1,8 @@
 -- What the sectors of a journal mean. The first sector of its range is the header: the epoch in 8 bytes, and in 4
 -- how many of the sectors behind it, the body, are used. There stand the batches, each from a sector of its own on.
 -- Numbers have their highest byte first.
-use Rattle.std.specs.Prelude.{◌≡◌, ◌⊎◌, ℕ, ◌+◌, ◌-◌, ◌*◌, ◌/◌, ◌≤◌, ◌<◌, List, [], ◌∷◌, ◌++◌, length}
+use Rattle.std.specs.Prelude.{◌≡◌, ◌⊎◌, ℕ, ◌+◌, ◌-◌, ◌*◌, ◌/◌, ◌≤◌, ◌<◌}
+use Rattle.std.specs.Prelude.{List, [], ◌∷◌, ◌++◌, length}
 use Rattle.std.specs.Prelude.{take, drop, replicate, slice_index_or}
 use Rattle.byteorder.specs.Endian.{big_bytes, big_number}
 use Rattle.ipc_disk.specs.declared.range.Range.{Range}
@@ -86,4 +87,5 @@ pub record IsCurrent (range : Range) (epoch : ℕ) (batches : List (List ℕ)) (
 
 -- at this epoch the journal of the image is these batches: none where the header is of an earlier epoch
 abbrev pub Holds : Range → ℕ → List (List ℕ) → Image → Type 0
-Holds range epoch batches image = (IsOlder range epoch image × (batches ≡ [])) ⊎ IsCurrent range epoch batches image
+Holds range epoch batches image =
+    (IsOlder range epoch image × (batches ≡ [])) ⊎ IsCurrent range epoch batches image

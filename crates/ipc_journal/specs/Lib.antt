@@ -1,4 +1,4 @@
--- What a journal on a disk means, what the value that stands for it shows, and what keeps the two together.
-pub mod GoesOn
-pub mod IsAt
+-- What a journal on a disk means, what the value that stands for it shows, and when the two match.
 pub mod Journal
+pub mod Matches
+pub mod View

@@ -1,6 +1,7 @@
 //! The journal: its value, and the calls on it.
 
-ghost use Rattle.std.specs.Prelude.{◌≡◌, ◌⊎◌, ◌↔◌, ◌+◌, ◌-◌, ◌<◌, ◌≤◌, ◌++◌, [], ◌∷◌, List, ℕ, length, take, drop};
+ghost use Rattle.std.specs.Prelude.{◌≡◌, ◌⊎◌, ◌↔◌, ◌+◌, ◌-◌, ◌<◌, ◌≤◌, ℕ};
+ghost use Rattle.std.specs.Prelude.{◌++◌, [], ◌∷◌, List, length, take, drop};
 ghost use Rattle.std.specs.Prelude.{slice_set, Ok, Some, None, IsSome, IfNone, IfOk, IfErr};
 ghost use Rattle.std.specs.Prelude.{OnOk, OnErr, IsErrOf, IsTrue};
 ghost use Rattle.ipc_disk.specs.Range.{IsWithin, IsOutside};
@@ -32,7 +33,8 @@ impl Journal {
     ghost use Rattle.ipc_disk.specs.Since.{EachImageSince, LeavesAlone};
     ghost use Rattle.ipc_journal.specs.Journal.{Holds, header_epoch, header_used, sectors_for, sectors_of, sector_at};
     ghost use Rattle.ipc_journal.specs.Journal.{header_bytes, length_in, IsBatch, IsWrittenAt, StandsAt};
-    ghost use Rattle.ipc_journal.specs.IsAt.{range_of, epoch_of, used_of, Fits, IsAt, HoldsOneMoreOrNot};
+    ghost use Rattle.ipc_journal.specs.View.{range_of, epoch_of, used_of, Fits};
+    ghost use Rattle.ipc_journal.specs.Matches.{JournalMatches, HoldsOneMoreOrNot};
 
     /// Makes an empty journal of this epoch: writes its header and syncs.
     pub fn create<D: SectorDisk>(
@@ -47,7 +49,7 @@ impl Journal {
         ensures epoch { IfOk result (λ journal. epoch_of journal ≡ epoch) }
         ensures unused { IfOk result (λ journal. used_of journal ≡ 0) }
         ensures empty { IfOk result (λ journal. IsHonest (D.medium disk.old)
-            → IsAt journal [] (D.medium disk.new)) }
+            → JournalMatches journal [] (D.medium disk.new)) }
         ensures header { OnOk result (IsHonest (D.medium disk.old)
             → (D.medium disk.new).contents
             ≡ slice_set (D.medium disk.old).contents range.first (header_bytes epoch 0)) }
@@ -97,7 +99,7 @@ impl Journal {
         ensures stands { IfOk result (λ journal. IsHonest (D.medium disk.old)
             → (batches : List (List ℕ))
             → ((image : Image) → (D.medium disk.old).images_now image → Holds range epoch batches image)
-            → IsAt journal batches (D.medium disk.new)) }
+            → JournalMatches journal batches (D.medium disk.new)) }
         ensures damaged { (sector : ℕ) → IsErrOf result (JournalError.Damaged sector)
             → IsHonest (D.medium disk.old)
             → (epoch < header_epoch range (D.medium disk.old).contents)
@@ -170,8 +172,8 @@ impl Journal {
         ensures used { OnOk result (used_of self.new
             ≡ used_of self.old + sectors_for (length batch.now)) }
         ensures acknowledged { OnOk result ((batches : List (List ℕ))
-            → IsAt self.old batches (D.medium disk.old)
-            → IsAt self.new (batches ++ batch.now ∷ []) (D.medium disk.new)) }
+            → JournalMatches self.old batches (D.medium disk.old)
+            → JournalMatches self.new (batches ++ batch.now ∷ []) (D.medium disk.new)) }
         ensures written { OnOk result (IsHonest (D.medium disk.old)
             → IsWrittenAt ((range_of self.old).first + 1 + used_of self.old) batch.now
             (D.medium disk.new).contents) }
@@ -181,11 +183,11 @@ impl Journal {
         ensures durable { OnOk result (IsDurable (D.medium disk.new)) }
         ensures kept { OnErr result (self.new ≡ self.old) }
         // A crash at any moment of the call, also of one that fails.
-        ensures any_moment { (batches : List (List ℕ)) → IsAt self.old batches (D.medium disk.old)
+        ensures any_moment { (batches : List (List ℕ)) → JournalMatches self.old batches (D.medium disk.old)
             → EachImageSince (D.medium disk.old) (D.medium disk.new)
             (HoldsOneMoreOrNot self.old batches batch.now) }
         ensures left { (batches : List (List ℕ)) (image : Image)
-            → IsAt self.old batches (D.medium disk.old)
+            → JournalMatches self.old batches (D.medium disk.old)
             → (D.medium disk.new).images_now image
             → HoldsOneMoreOrNot self.old batches batch.now image }
         ensures others { IsHonest (D.medium disk.old)
@@ -219,7 +221,7 @@ impl Journal {
         requires { IsWithin (range_of self.now) (D.size disk.old) }
         // The batches in order, then `None`.
         ensures in_order { (before : List (List ℕ)) (batch : List ℕ) (after : List (List ℕ))
-            → IsAt self.now (before ++ batch ∷ after) (D.medium disk.old)
+            → JournalMatches self.now (before ++ batch ∷ after) (D.medium disk.old)
             → place.old.sector ≡ sectors_of before
             → IfOk result (λ found. (found ≡ Some (length batch))
             × (take (length batch) into.new ≡ batch)
@@ -255,7 +257,7 @@ impl Journal {
             + sectors_for (length_in (sector_at (D.medium disk.old).contents sector) + 4))
             ⊎ (length into.old < length_in (sector_at (D.medium disk.old).contents sector) + 4) }
         ensures too_short { (before : List (List ℕ)) (batch : List ℕ) (after : List (List ℕ)) (sector : ℕ)
-            → IsAt self.now (before ++ batch ∷ after) (D.medium disk.old)
+            → JournalMatches self.now (before ++ batch ∷ after) (D.medium disk.old)
             → place.old.sector ≡ sectors_of before
             → IsErrOf result (JournalError.Damaged sector)
             → length into.old < length batch }

@@ -1,6 +1,7 @@
 //! Sectors as bytes, and runs of them written to a disk.
 
-ghost use Rattle.std.specs.Prelude.{◌≡◌, ◌+◌, ◌*◌, ◌-◌, ◌<◌, ◌≤◌, ◌++◌, length, take, replicate, Some};
+ghost use Rattle.std.specs.Prelude.{◌≡◌, ◌+◌, ◌*◌, ◌-◌, ◌<◌, ◌≤◌, ◌++◌};
+ghost use Rattle.std.specs.Prelude.{length, take, replicate, Some};
 ghost use Rattle.std.specs.Prelude.{OnOk, OnErr, slice_get, slice_set};
 ghost use Rattle.ipc_disk.specs.Counts.{counted, with_failure, with_calls};
 ghost use Rattle.ipc_disk.specs.Medium.{IsHonest, IsDurable, SetOrNot, Stays};

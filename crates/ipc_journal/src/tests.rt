@@ -4,7 +4,7 @@ ghost use Rattle.std.specs.Prelude.{◌≡◌, ◌+◌, ◌<◌, ◌≤◌, leng
 ghost use Rattle.ipc_disk.specs.Range.{IsWithin};
 ghost use Rattle.ipc_disk.specs.Memory.{memory_size};
 ghost use Rattle.ipc_journal.specs.Journal.{IsBatch};
-ghost use Rattle.ipc_journal.specs.IsAt.{range_of};
+ghost use Rattle.ipc_journal.specs.View.{range_of};
 
 use crate::{Journal, JournalError, Place};
 use byteorder::{BigEndian, ByteOrder};

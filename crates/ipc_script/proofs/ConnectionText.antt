@@ -6,7 +6,7 @@ use Rattle.std.proofs.KnownBytes.{Appends-nil, Appends-trans}
 use Rattle.ipc_base.specs.declared.limits.Limits.{Limits}
 use Rattle.ipc_hub.specs.declared.hub.Hub.{Hub}
 use Rattle.ipc_hub.specs.Clients.{Client, Clients, client_at, ended_at}
-use Rattle.ipc_hub.specs.Stands.{Stands}
+use Rattle.ipc_hub.specs.Relations.Matches.{HubMatches}
 use Rattle.ipc_script.specs.declared.report.Opened.{Opened}
 use Rattle.ipc_script.specs.Script.{Run, emptied, end_line, conn_text, WritesPart}
 use Rattle.ipc_script.specs.Runs.{taken_from, frames_text, ReportsConnection}
@@ -35,7 +35,7 @@ pub frames_part : (r : Run) (conn : ℕ) (w0 w1 : Option (List ℕ)) → WritesP
 frames_part r conn w0 w1 part = subst (WritesPart w0 w1) (sym (said r conn)) (part_more w0 w1 (frames_text r.hub conn) _ part)
 
 module _ (limits : Limits) (r : Run) (conn : ℕ) (hub : Hub) (w0 w1 w2 : Option (List ℕ)) (told ended : Bool)
-    (stands : Stands limits r.hub.accepted hub (taken_from r.hub conn)) (frames : Appends w0 w1 (frames_text r.hub conn))
+    (stands : HubMatches limits r.hub.accepted hub (taken_from r.hub conn)) (frames : Appends w0 w1 (frames_text r.hub conn))
     (was : told ≡ r.told conn) (is : ended ≡ ended_at (taken_from r.hub conn) conn) where
   server : ended ≡ ended_at r.hub conn
   server = is ∙ ended_taken r.hub conn

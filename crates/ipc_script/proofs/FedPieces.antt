@@ -9,8 +9,8 @@ use Rattle.std.proofs.lemmas.List.{take_rest, length-drop, take-append-drop}
 use Rattle.ipc_base.specs.declared.limits.Limits.{Limits}
 use Rattle.ipc_hub.specs.declared.hub.Hub.{Hub}
 use Rattle.ipc_hub.specs.Clients.{Client, client_at, feed}
-use Rattle.ipc_hub.specs.Hub.{is_connected, HasNoFrame}
-use Rattle.ipc_hub.specs.Stands.{Stands, TakesBytes}
+use Rattle.ipc_hub.specs.View.{is_connected, HasNoFrame}
+use Rattle.ipc_hub.specs.Relations.Matches.{HubMatches, SimulatesFeed}
 use Rattle.ipc_script.specs.declared.report.Opened.{Opened}
 use Rattle.ipc_script.specs.declared.fault.ScriptFault.{ScriptFault}
 use Rattle.ipc_script.specs.declared.fault.ScriptFault.TheVariants.{Unknown}
@@ -129,9 +129,9 @@ open_here limits hub opened r conn i known =
 
 module _ (limits : Limits) (r : Run) (moment conn : ℕ) (bytes : List ℕ) (taken : ℕ) (hub mid next : Hub) (opened changed : List Opened)
     (w0 w2 : Option (List ℕ))
-    (b : IsBehind limits hub opened r) (takes : TakesBytes hub mid conn (take taken bytes) moment) (starts : HasNoFrame hub conn → 0 < length bytes → 0 < taken)
+    (b : IsBehind limits hub opened r) (takes : SimulatesFeed hub mid conn (take taken bytes) moment) (starts : HasNoFrame hub conn → 0 < length bytes → 0 < taken)
     (known : is_connected hub conn ≡ false → ⊥) where
-  taken_in : (refused : List Bool) × Stands limits b.line.confirmed mid (feed limits r.hub conn (take taken bytes) moment refused)
+  taken_in : (refused : List Bool) × HubMatches limits b.line.confirmed mid (feed limits r.hub conn (take taken bytes) moment refused)
   taken_in = takes limits b.line.confirmed r.hub b.line.stands
 
   abbrev fed_run : Run

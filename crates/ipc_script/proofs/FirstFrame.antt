@@ -4,7 +4,7 @@ use Rattle.std.specs.Int.{w32, to_be_bytes, from_be_bytes}
 use Rattle.std.proofs.lemmas.Nat.{from_be_bytes-to_be_bytes_4}
 use Rattle.ipc_wire.specs.Reply.{PlainReply, reply_bytes, body_bytes}
 use Rattle.ipc_wire.proofs.CallerLemmas.{length-reply_bytes}
-use Rattle.ipc_hub.specs.Orderly.{IsFrame}
+use Rattle.ipc_hub.specs.Relations.Matches.{IsFrame}
 
 reply_head : (r : PlainReply) (rest : List ℕ) → take 4 (reply_bytes r ++ rest) ≡ to_be_bytes w32 (6 + length (body_bytes r.body))
 unfolding reply_bytes

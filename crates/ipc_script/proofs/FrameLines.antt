@@ -7,32 +7,33 @@ use Rattle.std.specs.Io.KnownBytes.{Appends}
 use Rattle.std.proofs.KnownBytes.{Appends-nil, Appends-trans}
 use Rattle.std.proofs.Math.Seq.{take-append_seam}
 use Rattle.std.proofs.lemmas.List.{length-append}
-use Rattle.std.proofs.lemmas.List.Elements.{All-head, All-tail}
+use Rattle.std.proofs.lemmas.List.Elements.{All-head, All-tail, All-weaker}
 use Rattle.std.proofs.lemmas.Bool.Decides.{nat_tests}
 use Rattle.ipc_base.specs.declared.limits.Limits.{Limits}
 use Rattle.ipc_base.specs.Table.{with_value}
 use Rattle.ipc_hub.specs.declared.hub.Hub.{Hub}
 use Rattle.ipc_hub.specs.Clients.{Frame, Client, Clients, client_at, with_client, consume, consumed_from, confirmed_bytes, shown, shown_at}
-use Rattle.ipc_hub.specs.Orderly.{IsFrame, IsTidy}
-use Rattle.ipc_hub.specs.Stands.{Stands, Takes}
+use Rattle.ipc_hub.specs.Relations.Matches.{IsFrame, AreFrames, ClientMatches}
+use Rattle.ipc_hub.specs.Relations.Matches.{HubMatches, Simulates}
 use Rattle.ipc_script.specs.Script.{emptied, frame_line, WritesPart}
 use Rattle.ipc_script.specs.Runs.{IsUntouched, taken_from, frames_text}
 use Rattle.ipc_script.proofs.FirstFrame.{frame_length}
 use Rattle.ipc_base.proofs.CallerLemmas.{at-with as value_here, own as put_same, twice as put_twice}
+use Rattle.ipc_script.proofs.HubAndClients.{partner-at}
 use Rattle.ipc_script.proofs.WrittenText.{part_after, part_more}
 
 -- some frames are written and taken: what is behind them now, and the text so far
 pub record Partly (limits : Limits) (h : Clients) (conn : ℕ) (hub : Hub) (before after : Option (List ℕ)) : Type 0 where
   pub now : Clients
   pub text : List ℕ
-  pub stands : Stands limits h.accepted hub now
+  pub stands : HubMatches limits h.accepted hub now
   pub accepted : now.accepted ≡ h.accepted
   pub untouched : IfSome (client_at now conn) IsUntouched
   pub left : taken_from now conn ≡ taken_from h conn
   pub said : text ++ frames_text now conn ≡ frames_text h conn
   pub written : Appends before after text
 
-pub partly_begun : (limits : Limits) (h : Clients) (conn : ℕ) (hub : Hub) (w : Option (List ℕ)) → Stands limits h.accepted hub h
+pub partly_begun : (limits : Limits) (h : Clients) (conn : ℕ) (hub : Hub) (w : Option (List ℕ)) → HubMatches limits h.accepted hub h
     → IfSome (client_at h conn) IsUntouched → Partly limits h conn hub w w
 partly_begun limits h conn hub w s u =
     record { now = h; text = []; stands = s; accepted = refl; untouched = u; left = refl; said = refl; written = Appends-nil w }
@@ -83,23 +84,26 @@ same_emptied c e none =
     sym (ap (λ (fs : List Frame). record c { frames = fs }) e ∙ ap (λ (n : ℕ). record c { frames = []; consumed = n }) none)
 
 module _ (limits : Limits) (h : Clients) (conn : ℕ) (hub : Hub) (w0 w1 : Option (List ℕ)) (out : List ℕ) (p : Partly limits h conn hub w0 w1)
-    (see : (limits : Limits) (confirmed : ℕ) (h : Clients) → Stands limits confirmed hub h → out ≡ shown_at confirmed h conn) where
+    (see : (limits : Limits) (confirmed : ℕ) (h : Clients) → HubMatches limits confirmed hub h → out ≡ shown_at confirmed h conn) where
   shows : (c : Client) → client_at p.now conn ≡ Some c → out ≡ shown h.accepted c
   shows c e = let s = see limits h.accepted p.now p.stands in rw e at s
 
   whole : (c : Client) → client_at p.now conn ≡ Some c → c.consumed ≡ 0
   whole c e = subst (λ (o : Option Client). IfSome o IsUntouched) e p.untouched
 
-  tidy : (c : Client) → client_at p.now conn ≡ Some c → IsTidy h.accepted c
-  tidy c e = subst (λ (n : ℕ). IsTidy n c) p.accepted (subst (λ (o : Option Client). IfSome o (IsTidy p.now.accepted)) e (p.stands.orderly.tidy conn))
+  are_frames : (c : Client) → client_at p.now conn ≡ Some c → AreFrames h.accepted c.frames
+  are_frames c e = subst (λ (n : ℕ). AreFrames n c.frames) p.accepted
+      (partner-at (ClientMatches h.accepted p.now.accepted) hub.connections p.now.clients conn c p.stands.clients e).1.frames
 
   frames_of : (c : Client) → client_at p.now conn ≡ Some c → (f : Frame) (fs : List Frame) → c.frames ≡ f ∷ fs → All (λ f. IsFrame f.bytes) (f ∷ fs)
-  frames_of c e f fs is = subst (All (λ (f : Frame). IsFrame f.bytes)) is (tidy c e).replies
+  frames_of c e f fs is = subst (All (λ (f : Frame). IsFrame f.bytes)) is
+      (All-weaker (λ (f : Frame). (f.mark ≤ h.accepted) × IsFrame f.bytes) (λ (f : Frame). IsFrame f.bytes) (λ f both. both.1) c.frames (are_frames c e))
 
   first_seen : (c : Client) → client_at p.now conn ≡ Some c → (f : Frame) (fs : List Frame) → c.frames ≡ f ∷ fs
       → out ≡ f.bytes ++ confirmed_bytes h.accepted fs
   first_seen c e f fs is =
-      let marks = subst (All (λ (f : Frame). f.mark ≤ h.accepted)) is (tidy c e).marks in
+      let marks = subst (All (λ (f : Frame). f.mark ≤ h.accepted)) is
+      (All-weaker (λ (f : Frame). (f.mark ≤ h.accepted) × IsFrame f.bytes) (λ (f : Frame). f.mark ≤ h.accepted) (λ f both. both.0) c.frames (are_frames c e)) in
       shows c e ∙ seen h.accepted c f fs is (whole c e) (All-head (λ (f : Frame). f.mark ≤ h.accepted) f fs marks)
 
   -- nothing more is written
@@ -146,7 +150,7 @@ module _ (limits : Limits) (h : Clients) (conn : ℕ) (hub : Hub) (w0 w1 : Optio
     pub partly_part : (w2 : Option (List ℕ)) → WritesPart w1 w2 line → WritesPart w0 w2 (frames_text h conn)
     partly_part w2 part = part_at w2 part (client_at p.now conn) refl
 
-    module _ (next : Hub) (w2 : Option (List ℕ)) (wrote : Appends w1 w2 line) (takes : Takes hub next (λ _ h. consume h conn count)) where
+    module _ (next : Hub) (w2 : Option (List ℕ)) (wrote : Appends w1 w2 line) (takes : Simulates hub next (λ _ h. consume h conn count)) where
       one_more : (c : Client) → client_at p.now conn ≡ Some c → (fs : List Frame) → c.frames ≡ fs → Partly limits h conn next w0 w2
       one_more c e [] is = absurd (no_first c e is)
       one_more c e (f ∷ fs) is =
@@ -162,7 +166,7 @@ module _ (limits : Limits) (h : Clients) (conn : ℕ) (hub : Hub) (w0 w1 : Optio
           record {
             now = now;
             text = p.text ++ line;
-            stands = subst (Stands limits h.accepted next) taken (takes limits h.accepted p.now p.stands);
+            stands = subst (HubMatches limits h.accepted next) taken (takes limits h.accepted p.now p.stands);
             accepted = p.accepted;
             untouched = subst (λ (o : Option Client). IfSome o IsUntouched) (sym there) refl;
             left = left ∙ p.left;
@@ -179,11 +183,11 @@ module _ (limits : Limits) (h : Clients) (conn : ℕ) (hub : Hub) (w0 w1 : Optio
       partly_more = more_at (client_at p.now conn) refl
 
   abbrev Done : Type 0
-  Done = Stands limits h.accepted hub (taken_from h conn) × Appends w0 w1 (frames_text h conn)
+  Done = HubMatches limits h.accepted hub (taken_from h conn) × Appends w0 w1 (frames_text h conn)
 
   done_at : taken_from p.now conn ≡ p.now → frames_text p.now conn ≡ [] → Done
   done_at same nothing = (
-    subst (Stands limits h.accepted hub) (sym same ∙ p.left) p.stands,
+    subst (HubMatches limits h.accepted hub) (sym same ∙ p.left) p.stands,
     subst (Appends w0 w1) (sym (append-nil p.text) ∙ (ap (λ (l : List ℕ). p.text ++ l) (sym nothing) ∙ p.said)) p.written,
   )
 

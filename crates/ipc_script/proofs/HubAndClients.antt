@@ -1,47 +1,62 @@
 -- What the clients of the definitions tell of the code's hub.
-use Rattle.std.proofs.Common.{◌≡◌, ℕ, ◌-◌, ◌≤◌, List, [], length, drop, Option, Some, None, IfSome, refl, ap, ◌∙◌, arith}
-use Rattle.std.specs.Prelude.{is_some, slice_range, nat_eq}
-use Rattle.std.proofs.lemmas.List.{length-take-le, length-drop}
+use Rattle.std.proofs.Common.{◌≡◌, ◌<◌, ◌+◌, ℕ, Bool, true, false, List, [], ◌∷◌, drop, Option, Some, None, IfSome, refl, ap, ◌∙◌, subst, arith}
+use Rattle.std.specs.Prelude.{is_some, nat_eq}
 use Rattle.ipc_base.specs.declared.limits.Limits.{Limits}
-use Rattle.ipc_base.specs.Table.{value_at}
-use Rattle.ipc_hub.specs.declared.connection.Connection.{Connection}
+use Rattle.std.specs.List.{IsDistinct, AllByRecursion}
+use Rattle.std.proofs.lemmas.Bool.Decides.{nat_tests}
+use Rattle.std.proofs.lemmas.Map.Keys.{IsDistinct-cons}
+use Rattle.ipc_base.specs.Table.{value_at, ArePaired, IsRising}
+use Rattle.ipc_base.proofs.CallerLemmas.{same_keys, paired-keys, paired-at}
 use Rattle.ipc_hub.specs.declared.hub.Hub.{Hub}
-use Rattle.ipc_hub.specs.declared.outbox.Outbox.{Outbox}
-use Rattle.ipc_hub.specs.Clients.{Client, Clients, client_at, all_bytes}
-use Rattle.ipc_hub.specs.Hub.{rows, is_connected, HasNoFrame}
-use Rattle.ipc_hub.specs.Outbox.{waiting, IsEmpty}
-use Rattle.ipc_hub.specs.Stands.{Stands}
-use Rattle.ipc_hub.specs.Serves.{AreClient}
-
-are_some : (limits : Limits) (confirmed : ℕ) (a : Option Connection) (b : Option Client) → AreClient limits confirmed a b → is_some a ≡ is_some b
-are_some limits confirmed None None h = refl
-are_some limits confirmed None (Some c) h = absurd h
-are_some limits confirmed (Some a) None h = absurd h
-are_some limits confirmed (Some a) (Some c) h = refl
+use Rattle.ipc_hub.specs.Clients.{Clients, client_at, all_bytes}
+use Rattle.ipc_hub.specs.View.{ConnectionView, kept, is_connected, HasNoFrame}
+use Rattle.ipc_hub.specs.Relations.Matches.{ClientMatches, HubMatches}
 
 -- the numbers that are connected
-pub connected : (limits : Limits) (confirmed : ℕ) (hub : Hub) (h : Clients) (conn : ℕ) → Stands limits confirmed hub h
+pub connected : (limits : Limits) (confirmed : ℕ) (hub : Hub) (h : Clients) (conn : ℕ) → HubMatches limits confirmed hub h
     → is_connected hub conn ≡ is_some (client_at h conn)
-connected limits confirmed hub h conn s = are_some limits confirmed (value_at nat_eq (rows hub) conn) (client_at h conn) (s.clients conn)
-
-empty_range : (xs : List ℕ) (from to : ℕ) → from ≤ to → to ≤ length xs → slice_range xs from to ≡ [] → from ≡ to
-empty_range xs from to order within e =
-    let long : length (slice_range xs from to) ≡ to - from = length-take-le (to - from) (drop from xs) (omega (arith, length-drop from xs)) in
-    omega (arith, ap length e)
-
-empty_outbox : (o : Outbox) → waiting o ≡ [] → IsEmpty o
-empty_outbox o e =
-    let len = o.buffer.ok.0 in
-    empty_range o.buffer.items o.consumed o.end (omega (arith, o.in_order, o.released_is_written)) (omega (arith, o.within, len)) e
-
-no_frame_of : (limits : Limits) (confirmed : ℕ) (a : Option Connection) (b : Option Client) → AreClient limits confirmed a b
-    → IfSome b (λ c. c.consumed ≡ 0) → IfSome b (λ c. c.frames ≡ []) → IfSome a (λ c. IsEmpty c.outbox)
-no_frame_of limits confirmed None b h u q = tt
-no_frame_of limits confirmed (Some a) None h u q = absurd h
-no_frame_of limits confirmed (Some a) (Some c) h u q =
-    empty_outbox a.outbox (h.outbox.waiting ∙ (ap (λ (n : ℕ). drop n (all_bytes c.frames)) u ∙ ap all_bytes q))
+connected limits confirmed hub h conn m =
+    same_keys hub.connections h.clients conn (paired-keys (ClientMatches confirmed h.accepted) hub.connections h.clients m.clients)
 
 -- a client without frames has an empty outbox
-pub no_frame : (limits : Limits) (confirmed : ℕ) (hub : Hub) (h : Clients) (conn : ℕ) → Stands limits confirmed hub h
+pub no_frame : (limits : Limits) (confirmed : ℕ) (hub : Hub) (h : Clients) (conn : ℕ) → HubMatches limits confirmed hub h
     → IfSome (client_at h conn) (λ c. c.consumed ≡ 0) → IfSome (client_at h conn) (λ c. c.frames ≡ []) → HasNoFrame hub conn
-no_frame limits confirmed hub h conn s u q = no_frame_of limits confirmed (value_at nat_eq (rows hub) conn) (client_at h conn) (s.clients conn) u q
+no_frame limits confirmed hub h conn m u q = by_value (value_at nat_eq hub.connections conn) refl
+  where
+    by_value : (r : Option ConnectionView) → value_at nat_eq hub.connections conn ≡ r → IfSome r (λ v. kept v.outbox ≡ [])
+    by_value None is = tt
+    by_value (Some v) is =
+        let p = paired-at (ClientMatches confirmed h.accepted) hub.connections h.clients conn v m.clients is in
+        let none : p.0.consumed ≡ 0 = rw p.1.0 at u in
+        let empty : p.0.frames ≡ [] = rw p.1.0 at q in
+        p.1.1.kept ∙ ap (λ (n : ℕ). drop n (all_bytes p.0.frames)) none ∙ ap all_bytes empty
+
+-- ---- tables
+
+module _ {X Y : Type 0} (R : X → Y → Type 0) where
+  -- a client has its connection
+  pub partner-at : (xs : List (ℕ × X)) (ys : List (ℕ × Y)) (k : ℕ) (y : Y) → ArePaired R xs ys → value_at nat_eq ys k ≡ Some y → (x : X) × R x y
+  partner-at [] [] k y paired is = cc
+  partner-at [] (f ∷ ys) k y paired is = absurd paired
+  partner-at (e ∷ xs) [] k y paired is = cc
+  partner-at (e ∷ xs) (f ∷ ys) k y paired is =
+      by_test (nat_eq f.0 k) (λ t. rw t at is) (λ t. partner-at xs ys k y paired.1.1 (rw t at is)) refl
+    where
+      by_test : (b : Bool) → (nat_eq f.0 k ≡ true → Some f.1 ≡ Some y) → (nat_eq f.0 k ≡ false → (x : X) × R x y)
+          → nat_eq f.0 k ≡ b → (x : X) × R x y
+      by_test true found other t = let same : f.1 ≡ y = some_same (found t) in (e.1, subst (R e.1) same paired.1.0)
+        where
+          some_same : Some f.1 ≡ Some y → f.1 ≡ y
+          some_same is = cc
+      by_test false found other t = other t
+
+-- numbers that rise are distinct
+pub rising-distinct : (low : ℕ) (ns : List ℕ) (high : ℕ) → IsRising low ns high → IsDistinct nat_eq ns
+unfolding IsDistinct
+rising-distinct low [] high rising = tt
+rising-distinct low (n ∷ ns) high rising =
+    IsDistinct-cons nat_eq n ns (above (n + 1) ns rising.1 (omega arith)) (rising-distinct (n + 1) ns high rising.1)
+  where
+    above : (least : ℕ) (ms : List ℕ) → IsRising least ms high → n < least → AllByRecursion (λ m. nat_eq n m ≡ false) ms
+    above least [] up lt = tt
+    above least (m ∷ ms) up lt = (grind (arith, nat_tests, up.0, lt), above (m + 1) ms up.1 (omega (arith, up.0, lt)))

@@ -1,24 +1,24 @@
 -- The connections that are open, when one comes and when one goes.
-use Rattle.std.proofs.Common.{◌≡◌, ℕ, ◌+◌, Bool, true, false, ◌&&◌, List, [], ◌∷◌, ◌++◌, map, take, drop, Option, Some, None, refl, sym, ap, ◌∙◌, inl, inr}
-use Rattle.std.specs.Prelude.{nat_eq, nat_lt, not, is_some}
+use Rattle.std.proofs.Common.{◌≡◌, ◌<◌, ◌^◌, ℕ, ◌+◌, arith, Bool, true, false, ◌&&◌, List, [], ◌∷◌, ◌++◌, map, take, drop, Option, Some, None, refl, sym, ap, ◌∙◌, inl, inr}
+use Rattle.std.specs.Prelude.{nat_eq, nat_lt, not, is_some, if◌then◌else◌}
+use Rattle.std.proofs.lemmas.Bool.Decides.{nat_tests}
 use Rattle.std.specs.List.{insert, prefix_len, AllByRecursion}
-use Rattle.std.proofs.lemmas.List.{map-append}
 use Rattle.std.proofs.Math.Numerals.{one-add}
 use Rattle.std.proofs.lemmas.Bool.{cases_eq}
 use Rattle.ipc_base.specs.declared.limits.Limits.{Limits}
-use Rattle.ipc_base.specs.Table.{value_at, without, keys_of}
+use Rattle.ipc_base.specs.Table.{value_at, without, with_entry, keys_of}
 use Rattle.ipc_base.proofs.CallerLemmas.{value_at-without}
-use Rattle.ipc_base.proofs.CallerLemmas.{at-push, other-push, gone as no_longer}
+use Rattle.ipc_base.proofs.CallerLemmas.{entry-at, entry-other, rising-entry, rising-gone, rising-without}
 use Rattle.ipc_base.proofs.CallerLemmas.{nobody}
-use Rattle.ipc_hub.specs.Hub.{is_connected}
+use Rattle.ipc_hub.specs.View.{is_connected}
 use Rattle.ipc_hub.specs.declared.hub.Hub.{Hub}
 use Rattle.ipc_hub.specs.Clients.{Client, Clients, client_at, start_client, connect, hangup, leave, tick, process_at}
-use Rattle.ipc_hub.specs.Stands.{Takes}
+use Rattle.ipc_hub.specs.Relations.Matches.{Simulates}
 use Rattle.ipc_script.specs.declared.report.Opened.{Opened}
-use Rattle.ipc_script.specs.Script.{Run, is_open, opened, rising, put}
+use Rattle.ipc_script.specs.Script.{Run, is_open, opened}
 use Rattle.ipc_script.specs.Runs.{IsIn, IsBehind, opened_of}
 use Rattle.ipc_base.proofs.CallerLemmas.{test_cases as test, flipped, same_key as same_number}
-use Rattle.ipc_script.proofs.RisingNumbers.{all_rising, rising_end, rising_gone, gone}
+use Rattle.ipc_script.proofs.RisingNumbers.{gone}
 use Rattle.ipc_script.proofs.HubAndClients.{connected}
 use Rattle.ipc_script.proofs.FedPieces.{open_here}
 
@@ -31,6 +31,11 @@ same_told told later n [] apart same = refl
 same_told told later n (m ∷ ns) apart same =
     ap (λ (b : Bool). record { conn = m; told = b } ∷ map (opened_of told) ns) (sym (same m (flipped m n ∙ apart.0)))
     ∙ ap (λ (os : List Opened). opened_of later m ∷ os) (same_told told later n ns apart.1 same)
+
+-- a number among numbers that rise
+abbrev pub put : ℕ → List ℕ → List ℕ
+put n [] = n ∷ []
+put n (m ∷ ms) = if nat_lt m n then m ∷ put n ms else n ∷ m ∷ ms
 
 -- the place of a number among others
 pub put_place : (told later : ℕ → Bool) (n : ℕ) (ns : List ℕ) → AllByRecursion (λ m. nat_eq n m ≡ false) ns
@@ -64,30 +69,42 @@ no_key (e ∷ es) n h =
       | inr f ↦ (flipped n e.0 ∙ f, no_key es n (rw f at h))
     ]
 
+-- the numbers of a table with an entry more
+keys_entry : {X : Type 0} (es : List (ℕ × X)) (n : ℕ) (x : X) → AllByRecursion (λ m. nat_eq n m ≡ false) (keys_of es)
+    → keys_of (with_entry es n x) ≡ put n (keys_of es)
+keys_entry [] n x apart = refl
+keys_entry (e ∷ es) n x apart =
+    elim (test (nat_lt n e.0)) [
+      | inl before ↦
+          let behind : nat_lt e.0 n ≡ false = grind (arith, nat_tests, before) in
+          rw before (rw behind refl)
+      | inr behind ↦
+          let before : nat_lt e.0 n ≡ true = grind (arith, nat_tests, behind, apart.0) in
+          rw behind (rw before (ap (λ (ks : List ℕ). e.0 ∷ ks) (keys_entry es n x apart.1)))
+    ]
+
 -- a connection was opened
-pub open_in : (limits : Limits) (hub next : Hub) (os : List Opened) (r : Run) (conn : ℕ) → IsBehind limits hub os r → is_connected hub conn ≡ false
-    → Takes hub next (λ _ h. connect h conn)
+pub open_in : (limits : Limits) (hub next : Hub) (os : List Opened) (r : Run) (conn : ℕ) → conn < 2 ^ 32 → IsBehind limits hub os r → is_connected hub conn ≡ false
+    → Simulates hub next (λ _ h. connect h conn)
     → (is_open r conn ≡ false) × IsIn limits next (insert os (prefix_len (λ o. nat_lt o.conn conn) os) (record { conn = conn; told = false })) (opened r conn)
-open_in limits hub next os r conn b new takes =
+open_in limits hub next os r conn small b new takes =
     let i : IsIn limits hub os r = b.line in
     let closed : is_open r conn ≡ false = sym (connected limits i.confirmed hub r.hub conn i.stands) ∙ new in
     let none : client_at r.hub conn ≡ None = nobody (client_at r.hub conn) closed in
-    let numbers : List ℕ = rising (keys_of r.hub.clients) in
+    let numbers : List ℕ = keys_of r.hub.clients in
     let later : ℕ → Bool = λ other. not (nat_eq other conn) && r.told other in
-    let placed =
-    put_place r.told later conn numbers (all_rising (λ m. nat_eq conn m ≡ false) (keys_of r.hub.clients) (no_key r.hub.clients conn closed))
-    (λ m apart. rw apart refl) (rw (same_number conn) refl) in (
+    let placed = put_place r.told later conn numbers (no_key r.hub.clients conn closed) (λ m apart. rw apart refl) (rw (same_number conn) refl) in (
       closed,
       record {
         confirmed = i.confirmed;
         stands = takes limits i.confirmed r.hub i.stands;
         kept = ap (λ (xs : List Opened). insert xs (prefix_len (λ o. nat_lt o.conn conn) xs) (record { conn = conn; told = false })) i.kept ∙ placed
-            ∙ ap (λ (ns : List ℕ). map (opened_of later) ns)
-            (sym (ap rising (map-append (λ (e : ℕ × Client). e.0) r.hub.clients ((conn, start_client) ∷ [])) ∙ rising_end (keys_of r.hub.clients) conn));
+            ∙ ap (λ (ns : List ℕ). map (opened_of later) ns) (sym (keys_entry r.hub.clients conn start_client (no_key r.hub.clients conn closed)));
         untouched = λ n. elim (cases_eq n conn) [
-          | inl same ↦ rw same (rw (at-push r.hub.clients conn start_client none) refl)
-          | inr apart ↦ rw (other-push r.hub.clients conn n start_client apart) (i.untouched n)
+          | inl same ↦ rw same (rw (entry-at r.hub.clients conn start_client none) refl)
+          | inr apart ↦ rw (entry-other r.hub.clients conn n start_client apart) (i.untouched n)
         ];
+        rising = rising-entry 0 r.hub.clients (2 ^ 32) conn start_client i.rising (omega arith) small none;
       },
     )
 
@@ -118,32 +135,32 @@ keys_left (e ∷ es) n =
       | inr f ↦ rw f (ap (λ (ks : List ℕ). e.0 ∷ ks) (keys_left es n))
     ]
 
-left_clients : (limits : Limits) (now : Clients) (conn moment : ℕ) (p : Option ℕ)
-    → without nat_eq (leave limits now p moment).clients conn ≡ without nat_eq now.clients conn
-left_clients limits now conn moment None = refl
-left_clients limits now conn moment (Some pid) = refl
+left_clients : (limits : Limits) (now : Clients) (p : Option ℕ) (moment : ℕ) → (leave limits now p moment).clients ≡ now.clients
+left_clients limits now None moment = refl
+left_clients limits now (Some pid) moment = refl
 
 -- a connection was closed, and taken out of those that are open
 pub close_in : (limits : Limits) (hub next : Hub) (os items : List Opened) (r : Run) (conn moment : ℕ) → IsBehind limits hub os r
     → (is_connected hub conn ≡ false → ⊥)
-    → Takes hub next (λ limits h. hangup limits h conn moment) → map by_number items ≡ without nat_eq (map by_number os) conn
+    → Simulates hub next (λ limits h. hangup limits h conn moment) → map by_number items ≡ without nat_eq (map by_number os) conn
     → (is_open r conn ≡ true) × IsIn limits next items (record r { hub = hangup limits r.hub conn moment })
 close_in limits hub next os items r conn moment b known takes left =
     let i : IsIn limits hub os r = b.line in
     let t : List (ℕ × Client) = r.hub.clients in
     let now : Clients = hangup limits r.hub conn moment in
     let clients : now.clients ≡ without nat_eq t conn =
-    left_clients limits (tick limits r.hub moment) conn moment (process_at (tick limits r.hub moment) conn) in (
+    left_clients limits (record (tick limits r.hub moment) { clients = without nat_eq t conn }) (process_at (tick limits r.hub moment) conn) moment in (
       open_here limits hub os r conn i known,
       record {
         confirmed = i.confirmed;
         stands = takes limits i.confirmed r.hub i.stands;
         kept = sym (back items) ∙ ap (map (λ (e : ℕ × Opened). e.1)) (left ∙ ap (λ (xs : List Opened). without nat_eq (map by_number xs) conn) i.kept
-            ∙ left_over r.told conn (rising (keys_of t))) ∙ back _
-            ∙ ap (map (opened_of r.told)) (sym (rising_gone conn (keys_of t)) ∙ ap rising (sym (ap keys_of clients ∙ keys_left t conn)));
+            ∙ left_over r.told conn (keys_of t)) ∙ back _
+            ∙ ap (map (opened_of r.told)) (sym (ap keys_of clients ∙ keys_left t conn));
         untouched = λ n. rw clients (elim (cases_eq n conn) [
-          | inl same ↦ rw same (rw (no_longer t conn i.stands.orderly.numbers) tt)
+          | inl same ↦ rw same (rw (nobody (value_at nat_eq (without nat_eq t conn) conn) (rising-gone 0 t (2 ^ 32) conn i.rising)) tt)
           | inr apart ↦ rw (value_at-without t conn n apart) (i.untouched n)
         ]);
+        rising = rw clients (rising-without 0 t (2 ^ 32) conn i.rising);
       },
     )

@@ -1,5 +1,5 @@
 -- The connections, reported one after the other.
-use Rattle.std.proofs.Common.{◌≡◌, ℕ, ◌+◌, ◌<◌, ◌≤◌, Bool, true, false, cond, ◌||◌, List, [], ◌∷◌, ◌++◌, length, map, get_or, set, Option, Some, None}
+use Rattle.std.proofs.Common.{◌≡◌, ◌^◌, ℕ, ◌+◌, ◌<◌, ◌≤◌, Bool, true, false, cond, ◌||◌, List, [], ◌∷◌, ◌++◌, length, map, get_or, set, Option, Some, None}
 use Rattle.std.proofs.Common.{IfSome, refl, sym, ap, ◌∙◌, subst, inl, inr, arith, append_assoc, append-nil}
 use Rattle.std.specs.Prelude.{nat_eq, option_map}
 use Rattle.std.specs.List.{flat_map, list_any, IsDistinct}
@@ -11,16 +11,16 @@ use Rattle.std.proofs.lemmas.Bool.{eqb-true}
 use Rattle.std.proofs.lemmas.Map.Keys.{IsDistinct-head, IsDistinct-tail}
 use Rattle.ipc_base.specs.declared.limits.Limits.{Limits}
 use Rattle.ipc_state.specs.State.{State}
-use Rattle.ipc_base.specs.Table.{keys_of}
+use Rattle.ipc_base.specs.Table.{keys_of, IsRising}
 use Rattle.ipc_hub.specs.declared.hub.Hub.{Hub}
 use Rattle.ipc_hub.specs.Clients.{Client, Clients, client_at, ended_at}
-use Rattle.ipc_hub.specs.Stands.{Stands}
+use Rattle.ipc_hub.specs.Relations.Matches.{HubMatches}
 use Rattle.ipc_script.specs.declared.report.Opened.{Opened}
-use Rattle.ipc_script.specs.Script.{Run, emptied, rising, conn_text, reported, report, WritesPart}
+use Rattle.ipc_script.specs.Script.{Run, emptied, conn_text, reported, report, WritesPart}
 use Rattle.ipc_script.specs.Runs.{IsBehind, IsUntouched, taken_from, opened_of, ReportsConnection}
 use Rattle.ipc_base.proofs.CallerLemmas.{test_cases as test, flipped, same_key as same_number, distinct_tail, at-with as value_here, value_elsewhere, keys_of-with_value, same_table, at-map as value_mapped}
 use Rattle.ipc_base.proofs.CallerLemmas.{keys-map as keys_mapped, no_value}
-use Rattle.ipc_script.proofs.RisingNumbers.{distinct_rising, any_rising}
+use Rattle.ipc_script.proofs.HubAndClients.{rising-distinct}
 use Rattle.ipc_script.proofs.WrittenText.{part_after, part_more}
 
 -- ---- the hub of which one connection's frames are taken
@@ -64,33 +64,35 @@ pub record PartlyReported (limits : Limits) (r : Run) (hub : Hub) (opened : List
   pub text : List ℕ
   pub done : List ℕ
   pub left : List ℕ
-  pub all : done ++ left ≡ rising (keys_of r.hub.clients)
+  pub all : done ++ left ≡ keys_of r.hub.clients
   pub place : length done ≡ index
   pub apart : IsDistinct nat_eq left
-  pub stands : Stands limits r.hub.accepted hub now
+  pub rising : IsRising 0 (keys_of r.hub.clients) (2 ^ 32)
+  pub stands : HubMatches limits r.hub.accepted hub now
   pub like : IsLike r.hub now
   pub clients : (n : ℕ) → client_at now n ≡ left_of r.hub left n
   pub kept : opened ≡ map (opened_of (reported r).told) done ++ map (opened_of r.told) left
-  pub said : text ++ flat_map (conn_text r) left ≡ flat_map (conn_text r) (rising (keys_of r.hub.clients))
+  pub said : text ++ flat_map (conn_text r) left ≡ flat_map (conn_text r) (keys_of r.hub.clients)
   pub written : Appends before after text
 
-pub reported_begun : (limits : Limits) (r : Run) (hub : Hub) (opened : List Opened) (w : Option (List ℕ)) → Stands limits r.hub.accepted hub r.hub
-    → opened ≡ map (opened_of r.told) (rising (keys_of r.hub.clients)) → PartlyReported limits r hub opened 0 w w
-reported_begun limits r hub opened w s kept =
+pub reported_begun : (limits : Limits) (r : Run) (hub : Hub) (opened : List Opened) (w : Option (List ℕ)) → HubMatches limits r.hub.accepted hub r.hub
+    → IsRising 0 (keys_of r.hub.clients) (2 ^ 32) → opened ≡ map (opened_of r.told) (keys_of r.hub.clients) → PartlyReported limits r hub opened 0 w w
+reported_begun limits r hub opened w s up kept =
     let ks = keys_of r.hub.clients in
     record {
       now = r.hub;
       text = [];
       done = [];
-      left = rising ks;
+      left = ks;
       all = refl;
       place = refl;
-      apart = distinct_rising ks s.orderly.numbers;
+      apart = rising-distinct 0 ks (2 ^ 32) up;
+      rising = up;
       stands = s;
       like = record { state = refl; accepted = refl; keys = refl };
-      clients = λ n. (elim (test (list_any (nat_eq n) (rising ks))) [
+      clients = λ n. (elim (test (list_any (nat_eq n) ks)) [
         | inl t ↦ rw t refl
-        | inr f ↦ let none : client_at r.hub n ≡ None = no_value r.hub.clients n (sym (any_rising n ks) ∙ f) in rw f (rw none refl)
+        | inr f ↦ let none : client_at r.hub n ≡ None = no_value r.hub.clients n f in rw f (rw none refl)
       ]);
       kept = kept;
       said = refl;
@@ -151,16 +153,16 @@ module _ (limits : Limits) (r : Run) (hub : Hub) (opened : List Opened) (index :
 
       -- what is done with the item is done with its connection
       done_here : (C : Run → ℕ → Type 0)
-          → ((s : Run) → Stands limits s.hub.accepted hub s.hub → IfSome (client_at s.hub item.conn) IsUntouched → item ≡ opened_of s.told item.conn
+          → ((s : Run) → HubMatches limits s.hub.accepted hub s.hub → IfSome (client_at s.hub item.conn) IsUntouched → item ≡ opened_of s.told item.conn
           → C s item.conn) → C now_run n
       done_here C call =
           let conn_is : item.conn ≡ n = ap (λ (o : Opened). o.conn) item_is in
-          let stands : Stands limits p.now.accepted hub p.now = subst (λ (k : ℕ). Stands limits k hub p.now) (sym p.like.accepted) p.stands in
+          let stands : HubMatches limits p.now.accepted hub p.now = subst (λ (k : ℕ). HubMatches limits k hub p.now) (sym p.like.accepted) p.stands in
           let whole : IfSome (client_at p.now item.conn) IsUntouched =
           subst (λ (k : ℕ). IfSome (client_at p.now k) IsUntouched) (sym conn_is) (same_untouched r.hub p.now n here (untouched n)) in
           subst (C now_run) conn_is (call now_run stands whole (item_is ∙ ap (opened_of r.told) (sym conn_is)))
 
-    module _ (w2 : Option (List ℕ)) (call : (s : Run) → Stands limits s.hub.accepted hub s.hub → IfSome (client_at s.hub item.conn) IsUntouched
+    module _ (w2 : Option (List ℕ)) (call : (s : Run) → HubMatches limits s.hub.accepted hub s.hub → IfSome (client_at s.hub item.conn) IsUntouched
         → item ≡ opened_of s.told item.conn
         → WritesPart w1 w2 (conn_text s item.conn)) where
       part_left : (left : List ℕ) → p.left ≡ left → WritesPart w0 w2 (report r).text
@@ -177,7 +179,7 @@ module _ (limits : Limits) (r : Run) (hub : Hub) (opened : List Opened) (index :
       reported_part = part_left p.left refl
 
     module _ (next : Hub) (w2 : Option (List ℕ)) (item' : Opened)
-        (call : (s : Run) → Stands limits s.hub.accepted hub s.hub → IfSome (client_at s.hub item.conn) IsUntouched → item ≡ opened_of s.told item.conn
+        (call : (s : Run) → HubMatches limits s.hub.accepted hub s.hub → IfSome (client_at s.hub item.conn) IsUntouched → item ≡ opened_of s.told item.conn
         → ReportsConnection limits s next item.conn item' w1 w2) where
       one_reported : (left : List ℕ) → p.left ≡ left → PartlyReported limits r next (set opened index item') (index + 1) w0 w2
       one_reported [] e = absurd (no_rest e)
@@ -201,7 +203,8 @@ module _ (limits : Limits) (r : Run) (hub : Hub) (opened : List Opened) (index :
             all = append_assoc p.done (n ∷ []) rest ∙ (ap (λ (l : List ℕ). p.done ++ l) (sym e) ∙ p.all);
             place = length-append p.done (n ∷ []) ∙ ap (λ (k : ℕ). k + 1) p.place;
             apart = IsDistinct-tail nat_eq n rest apart;
-            stands = subst (λ (k : ℕ). Stands limits k next (taken_from p.now n)) p.like.accepted one.stands;
+            rising = p.rising;
+            stands = subst (λ (k : ℕ). HubMatches limits k next (taken_from p.now n)) p.like.accepted one.stands;
             like = record { state = more.state ∙ p.like.state; accepted = more.accepted ∙ p.like.accepted; keys = more.keys ∙ p.like.keys };
             clients = λ m. (elim (test (nat_eq m n)) [
               | inl t ↦
@@ -251,25 +254,27 @@ module _ (limits : Limits) (r : Run) (hub : Hub) (opened : List Opened) (index :
       let values : (n : ℕ) → client_at p.now n ≡ client_at after.hub n = λ n.
       subst (λ (l : List ℕ). client_at p.now n ≡ left_of r.hub l n) none (p.clients n) ∙ sym (value_mapped emptied r.hub.clients n) in
       let keys : keys_of after.hub.clients ≡ keys_of r.hub.clients = keys_mapped emptied r.hub.clients in
-      let table : p.now.clients ≡ after.hub.clients = same_table p.now.clients after.hub.clients (p.like.keys ∙ sym keys) p.stands.orderly.numbers values in
+      let table : p.now.clients ≡ after.hub.clients = same_table p.now.clients after.hub.clients (p.like.keys ∙ sym keys)
+      (rising-distinct 0 (keys_of p.now.clients) (2 ^ 32) (rw p.like.keys p.rising)) values in
       let same : p.now ≡ after.hub =
       ap (λ (t : List (ℕ × Client)). record p.now { clients = t }) table
       ∙ (ap (λ (n : ℕ). record { state = p.now.state; accepted = n; clients = after.hub.clients }) p.like.accepted
       ∙ ap (λ (s : State). record { state = s; accepted = r.hub.accepted; clients = after.hub.clients }) p.like.state) in
-      let done : p.done ≡ rising (keys_of r.hub.clients) = sym (append-nil p.done) ∙ (ap (λ (l : List ℕ). p.done ++ l) (sym none) ∙ p.all) in
-      let kept : opened ≡ map (opened_of after.told) (rising (keys_of after.hub.clients)) =
+      let done : p.done ≡ keys_of r.hub.clients = sym (append-nil p.done) ∙ (ap (λ (l : List ℕ). p.done ++ l) (sym none) ∙ p.all) in
+      let kept : opened ≡ map (opened_of after.told) (keys_of after.hub.clients) =
       p.kept ∙ (ap (λ (l : List ℕ). map (opened_of after.told) p.done ++ map (opened_of r.told) l) none
       ∙ (append-nil (map (opened_of after.told) p.done)
-      ∙ (ap (map (opened_of after.told)) done ∙ ap (λ (ks : List ℕ). map (opened_of after.told) (rising ks)) (sym keys)))) in
+      ∙ (ap (map (opened_of after.told)) done ∙ ap (λ (ks : List ℕ). map (opened_of after.told) ks) (sym keys)))) in
       let text : p.text ≡ (report r).text =
       sym (append-nil p.text) ∙ (ap (λ (l : List ℕ). p.text ++ flat_map (conn_text r) l) (sym none) ∙ p.said) in (
         record {
           line = record {
             confirmed = r.hub.accepted;
-            stands = subst (Stands limits r.hub.accepted hub) same p.stands;
+            stands = subst (HubMatches limits r.hub.accepted hub) same p.stands;
             kept = kept;
             untouched =
                 λ n. subst (λ (o : Option Client). IfSome o IsUntouched) (sym (value_mapped emptied r.hub.clients n)) (mapped_untouched (client_at r.hub n));
+            rising = rw keys p.rising;
           };
           quiet = λ n. subst (λ (o : Option Client). IfSome o (λ c. c.frames ≡ [])) (sym (value_mapped emptied r.hub.clients n))
               (mapped_quiet (client_at r.hub n));

@@ -9,7 +9,7 @@ use Rattle.ipc_base.specs.declared.limits.Limits.{Limits}
 use Rattle.ipc_state.specs.State.{State}
 use Rattle.ipc_hub.specs.declared.hub.Hub.{Hub}
 use Rattle.ipc_hub.specs.Clients.{no_clients, hangup}
-use Rattle.ipc_hub.specs.Stands.{Stands}
+use Rattle.ipc_hub.specs.Relations.Matches.{HubMatches}
 use Rattle.ipc_script.specs.declared.fault.ScriptFault.{ScriptFault}
 use Rattle.ipc_script.specs.declared.report.Opened.{Opened}
 use Rattle.ipc_script.specs.declared.fault.ScriptFault.TheVariants.{NoMemory, Input, Output, TooLong, BadLine, InUse, Unknown}
@@ -42,13 +42,13 @@ goes_part a b (Err e) next part = part
 goes_part a b (Ok p) next part = part_more a b p.text (next p.run).text part
 
 module _ (limits : Limits) (s : State) (script : List ℕ) where
-  pub run_begun : (hub : Hub) (w : Option (List ℕ)) → Stands limits 0 hub (no_clients s) → PartlyRun limits s script 1 hub [] script w w
+  pub run_begun : (hub : Hub) (w : Option (List ℕ)) → HubMatches limits 0 hub (no_clients s) → PartlyRun limits s script 1 hub [] script w w
   run_begun hub w stands =
       record {
         now = start_run s;
         done = [];
         text = [];
-        at = record { line = record { confirmed = 0; stands = stands; kept = refl; untouched = λ n. tt }; quiet = λ n. tt };
+        at = record { line = record { confirmed = 0; stands = stands; kept = refl; untouched = λ n. tt; rising = omega arith }; quiet = λ n. tt };
         written = Appends-nil w;
         runs = λ more. refl;
       }

@@ -2,21 +2,21 @@
 use Rattle.std.proofs.Common.{◌≡◌, ℕ, ◌+◌, Bool, true, false, cond, ◌&&◌, List, [], ◌∷◌, ◌++◌, drop, map, Option, Some, None, IfSome, refl, sym, ap, ◌∙◌}
 use Rattle.std.specs.Prelude.{nat_eq, option_map, is_some, if◌then◌else◌}
 use Rattle.ipc_base.specs.declared.limits.Limits.{Limits}
-use Rattle.ipc_wire.specs.Request.{PlainKind, PlainRequest, Hello, Calls}
+use Rattle.ipc_wire.specs.Request.{PlainRequest}
 use Rattle.ipc_engine.specs.Engine.{takes_memory}
 use Rattle.ipc_wire.specs.Stream.{Ending, stream_of}
 use Rattle.ipc_wire.specs.Stream.Ending.{Rest, Broken}
 use Rattle.ipc_base.specs.Table.{value_at, with_value, keys_of}
-use Rattle.ipc_engine.specs.Event.{PlainEvent, PlainOutcome, Connect, Call, Tick, Exit}
+use Rattle.ipc_engine.specs.Event.{PlainEvent, PlainOutcome, Tick, Exit}
 use Rattle.ipc_engine.specs.Step.{step}
-use Rattle.ipc_hub.specs.Clients.{Frame, Client, Clients, client_at, with_client, with_frame, deliver, deliver_all, accept, hello_answered, greet}
-use Rattle.ipc_hub.specs.Clients.{leave, break_off, refuse, on_request, unless_ended, first_of, on_requests, on_ending, take_in, feed, tick, is_for}
+use Rattle.ipc_hub.specs.Clients.{Client, Clients, client_at, with_client, with_frame, deliver, deliver_all, accept, over, greeted, welcomed, serve}
+use Rattle.ipc_hub.specs.Clients.{last_reply, event_of, leave, break_off, refuse, on_request, unless_ended, first_of, on_requests, on_ending, take_in, feed, tick, is_for}
 use Rattle.ipc_hub.specs.declared.hub.Hub.{Hub}
-use Rattle.ipc_hub.specs.Stands.{Stands}
+use Rattle.ipc_hub.specs.Relations.Matches.{HubMatches}
 use Rattle.ipc_script.specs.declared.report.Opened.{Opened}
-use Rattle.ipc_script.specs.Script.{Run, rising}
+use Rattle.ipc_script.specs.Script.{Run}
 use Rattle.ipc_script.specs.Runs.{IsIn, IsUntouched, opened_of}
-use Rattle.ipc_base.proofs.CallerLemmas.{own as put_same, at-map as value_mapped, keys-map as keys_mapped}
+use Rattle.ipc_base.proofs.CallerLemmas.{own as put_same, at-map as value_mapped, keys-map as keys_mapped, choice}
 
 -- the numbers, each with how much of the first frame is consumed
 abbrev pub heads : List (ℕ × Client) → List (ℕ × ℕ)
@@ -63,17 +63,31 @@ pub heads_leave : (limits : Limits) (h : Clients) (process : Option ℕ) (moment
 heads_leave limits h None moment = refl
 heads_leave limits h (Some pid) moment = heads_accept limits h (Exit pid moment)
 
-answered_consumed : (c : Client) (mark : ℕ) (os : List PlainOutcome) → (hello_answered c mark os).consumed ≡ c.consumed
-answered_consumed c mark [] = refl
-answered_consumed c mark (o ∷ os) = refl
+welcomed_consumed : (mark : ℕ) (reply : Option PlainOutcome) (c : Client) → (welcomed mark reply c).consumed ≡ c.consumed
+welcomed_consumed mark reply c = by_process c.process
+  where
+    by_reply : (r : Option PlainOutcome) → (greeted mark r c).consumed ≡ c.consumed
+    by_reply None = refl
+    by_reply (Some o) =
+        choice (λ (d : Client). d.consumed ≡ c.consumed) (nat_eq o.pid 0) (with_frame c mark o) (record c { process = Some o.pid }) (λ _. refl) (λ _. refl)
+
+    by_process : (p : Option ℕ) → (elim p as (λ _. Client) [ None ↦ greeted mark reply c | Some pid ↦ c ]).consumed ≡ c.consumed
+    by_process None = by_reply reply
+    by_process (Some pid) = refl
 
 module _ (limits : Limits) (conn moment : ℕ) where
   module _ (h : Clients) (c : Client) (at : client_at h conn ≡ Some c) where
-    heads_greet : (e : PlainEvent) → heads (greet limits h conn c e).clients ≡ heads h.clients
-    heads_greet e = put_like h.clients h.clients conn c _ refl at (answered_consumed c (h.accepted + 1) (step limits h.state e).outcomes)
+    heads_serve : (e : PlainEvent) → heads (serve limits h conn c e).clients ≡ heads h.clients
+    heads_serve e =
+        let reply = last_reply (step limits h.state e).outcomes in
+        let d : Client = welcomed (h.accepted + 1) reply c in
+        heads_accept limits (with_client h conn d) e ∙ put_like h.clients h.clients conn c d refl at (welcomed_consumed (h.accepted + 1) reply c)
 
     heads_break_off : (serial : ℕ) → heads (break_off limits h conn c serial moment).clients ≡ heads h.clients
-    heads_break_off serial = put_like h.clients (leave limits h c.process moment).clients conn c _ (heads_leave limits h c.process moment) at refl
+    heads_break_off serial =
+        let bare : Clients = with_client h conn (over c) in
+        put_like h.clients (leave limits bare c.process moment).clients conn c _
+        (heads_leave limits bare c.process moment ∙ put_like h.clients h.clients conn c (over c) refl at refl) at refl
 
     heads_refuse : (serial : ℕ) → heads (refuse h conn c serial).clients ≡ heads h.clients
     heads_refuse serial = put_like h.clients h.clients conn c _ refl at refl
@@ -83,28 +97,19 @@ module _ (limits : Limits) (conn moment : ℕ) where
   heads_choice h one other true p q = p
   heads_choice h one other false p q = q
 
-  module _ (h : Clients) (input : List ℕ) (frames : List Frame) (consumed : ℕ) (ended : Bool) (serial : ℕ) (refused : Bool) where
-    abbrev client : Option ℕ → Client
-    client process = record { process = process; input = input; frames = frames; consumed = consumed; ended = ended }
-
-    accepted_or_refused : (pid : ℕ) (kind : PlainKind) (b : Bool) → client_at h conn ≡ Some (client (Some pid))
-        → heads (if b then refuse h conn (client (Some pid)) serial else accept limits h
-        (Call pid (record { serial = serial; kind = kind }) moment)).clients ≡ heads h.clients
-    accepted_or_refused pid kind b at =
-        heads_choice h (refuse h conn (client (Some pid)) serial) (accept limits h (Call pid (record { serial = serial; kind = kind }) moment)) b
-        (heads_refuse h (client (Some pid)) at serial) (heads_accept limits h (Call pid (record { serial = serial; kind = kind }) moment))
-
-    heads_request : (process : Option ℕ) (kind : PlainKind) → client_at h conn ≡ Some (client process)
-        → heads (on_request limits h conn (client process) moment (record { serial = serial; kind = kind }) refused).clients ≡ heads h.clients
-    heads_request None (Hello cred) at =
-        heads_choice h (refuse h conn (client None) serial) (greet limits h conn (client None) (Connect cred serial moment))
-        (refused && takes_memory limits h.state (Connect cred serial moment))
-        (heads_refuse h (client None) at serial) (heads_greet h (client None) at (Connect cred serial moment))
-    heads_request None (Calls call) at = heads_break_off h (client None) at serial
-    heads_request (Some pid) (Hello cred) at = heads_break_off h (client (Some pid)) at serial
-    heads_request (Some pid) (Calls call) at =
-        let request : PlainRequest = record { serial = serial; kind = Calls call } in
-        accepted_or_refused pid (Calls call) (refused && takes_memory limits h.state (Call pid request moment)) at
+  heads_request : (h : Clients) (c : Client) (request : PlainRequest) (refused : Bool) → client_at h conn ≡ Some c
+      → heads (on_request limits h conn c moment request refused).clients ≡ heads h.clients
+  heads_request h c request refused at = by_event (event_of c.process request moment)
+    where
+      by_event : (e : Option PlainEvent)
+          → heads (elim e as (λ _. Clients) [
+            | None ↦ break_off limits h conn c request.serial moment
+            | Some e' ↦ if refused && takes_memory limits h.state e' then refuse h conn c request.serial else serve limits h conn c e'
+          ]).clients ≡ heads h.clients
+      by_event None = heads_break_off h c at request.serial
+      by_event (Some e) =
+          heads_choice h (refuse h conn c request.serial) (serve limits h conn c e) (refused && takes_memory limits h.state e)
+          (heads_refuse h c at request.serial) (heads_serve h c at e)
 
   module _ (act : Client → Clients) (h : Clients) (each : (c : Client) → client_at h conn ≡ Some c → heads (act c).clients ≡ heads h.clients) where
     tried : (o : Option Client) → client_at h conn ≡ o → heads (unless_ended h conn act).clients ≡ heads h.clients
@@ -119,7 +124,7 @@ module _ (limits : Limits) (conn moment : ℕ) where
   heads_requests h (r ∷ rs) refused =
       let act : Client → Clients = λ c. on_request limits h conn c moment r (first_of refused) in
       heads_requests (unless_ended h conn act) rs (drop 1 refused)
-      ∙ heads_unless act h (λ c at. heads_request h c.input c.frames c.consumed c.ended r.serial (first_of refused) c.process r.kind at)
+      ∙ heads_unless act h (λ c at. heads_request h c r (first_of refused) at)
 
   heads_ending : (h : Clients) (ending : Ending) → heads (on_ending limits h conn moment ending).clients ≡ heads h.clients
   heads_ending h (Rest bytes) = heads_unless _ h (λ c at. put_like h.clients h.clients conn c _ refl at refl)
@@ -170,11 +175,12 @@ module _ (t u : List (ℕ × Client)) (like : heads u ≡ heads t) where
 
 -- a call that changes no heads leaves the program somewhere in a line
 pub steady : (limits : Limits) (confirmed : ℕ) (hub next : Hub) (opened : List Opened) (r : Run) (now : Clients) → IsIn limits hub opened r
-    → heads now.clients ≡ heads r.hub.clients → Stands limits confirmed next now → IsIn limits next opened (record r { hub = now })
+    → heads now.clients ≡ heads r.hub.clients → HubMatches limits confirmed next now → IsIn limits next opened (record r { hub = now })
 steady limits confirmed hub next opened r now i like s =
     record {
       confirmed = confirmed;
       stands = s;
-      kept = i.kept ∙ ap (λ (ks : List ℕ). map (opened_of r.told) (rising ks)) (sym (same_keys r.hub.clients now.clients like));
+      kept = i.kept ∙ ap (map (opened_of r.told)) (sym (same_keys r.hub.clients now.clients like));
+      rising = rw (same_keys r.hub.clients now.clients like) i.rising;
       untouched = λ n. same_untouched r.hub.clients now.clients like n (i.untouched n);
     }

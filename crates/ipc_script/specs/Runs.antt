@@ -1,20 +1,20 @@
 -- What the program keeps of a script's run, and what a run promises to its caller.
-use Rattle.std.specs.Prelude.{◌≡◌, ◌<◌, ℕ, Bool, true, List, [], length, take, map, Option, None, Some}
+use Rattle.std.specs.Prelude.{◌≡◌, ◌<◌, ◌^◌, ℕ, Bool, true, List, [], length, take, map, Option, None, Some}
 use Rattle.std.specs.Prelude.{IfSome, Result, Ok, Err, ⊤}
 use Rattle.std.specs.List.{flat_map}
 use Rattle.std.specs.Io.KnownBytes.{Appends}
 use Rattle.ipc_base.specs.declared.limits.Limits.{Limits}
 use Rattle.ipc_state.specs.State.{State}
-use Rattle.ipc_base.specs.Table.{keys_of}
+use Rattle.ipc_base.specs.Table.{keys_of, IsRising}
 use Rattle.ipc_hub.specs.declared.hub.Hub.{Hub}
 use Rattle.ipc_hub.specs.Clients.{Client, Clients, client_at, with_client}
-use Rattle.ipc_hub.specs.Stands.{Stands}
+use Rattle.ipc_hub.specs.Relations.Matches.{HubMatches}
 use Rattle.ipc_script.specs.declared.fault.ScriptFault.{ScriptFault}
 use Rattle.ipc_script.specs.declared.fault.ScriptFault.TheVariants.{NoMemory, Input, Output, TooLong, BadLine}
 use Rattle.ipc_script.specs.declared.fault.ScriptFault.TheVariants.{InUse, Unknown}
 use Rattle.ipc_script.specs.declared.report.Opened.{Opened}
 use Rattle.ipc_script.specs.Line.{PlainLine}
-use Rattle.ipc_script.specs.Script.{Run, Progress, Cut, rising, emptied, frame_line, conn_text, reported}
+use Rattle.ipc_script.specs.Script.{Run, Progress, Cut, emptied, frame_line, conn_text, reported}
 use Rattle.ipc_script.specs.Script.{is_open, fed, line_done, WritesPart, EndsAs, BreaksOff}
 
 -- ---- what the program keeps
@@ -24,7 +24,7 @@ abbrev pub opened_of : (ℕ → Bool) → ℕ → Opened
 opened_of told conn = record { conn = conn; told = told conn }
 
 abbrev pub AreOpened : List Opened → Run → Type 0
-AreOpened opened r = opened ≡ map (opened_of r.told) (rising (keys_of r.hub.clients))
+AreOpened opened r = opened ≡ map (opened_of r.told) (keys_of r.hub.clients)
 
 -- no frame is consumed in part
 abbrev pub IsUntouched : Client → Type 0
@@ -33,9 +33,11 @@ IsUntouched c = c.consumed ≡ 0
 -- the program is somewhere in a line of the run
 pub record IsIn (limits : Limits) (hub : Hub) (opened : List Opened) (r : Run) : Type 0 where
   pub confirmed : ℕ
-  pub stands : Stands limits confirmed hub r.hub
+  pub stands : HubMatches limits confirmed hub r.hub
   pub kept : AreOpened opened r
   pub untouched : (conn : ℕ) → IfSome (client_at r.hub conn) IsUntouched
+  -- the numbers of the connections rise
+  pub rising : IsRising 0 (keys_of r.hub.clients) (2 ^ 32)
 
 -- the program is behind a line of the run: besides, no frame waits
 pub record IsBehind (limits : Limits) (hub : Hub) (opened : List Opened) (r : Run) : Type 0 where
@@ -61,7 +63,7 @@ frames_text h conn = of_client (client_at h conn)
 -- a connection is written, its frames are taken, and it is kept whether its end was told
 pub record ReportsConnection (limits : Limits) (r : Run) (hub : Hub) (conn : ℕ) (opened : Opened)
     (before after : Option (List ℕ)) : Type 0 where
-  pub stands : Stands limits r.hub.accepted hub (taken_from r.hub conn)
+  pub stands : HubMatches limits r.hub.accepted hub (taken_from r.hub conn)
   pub kept : opened ≡ opened_of (reported r).told conn
   pub text : Appends before after (conn_text r conn)
 

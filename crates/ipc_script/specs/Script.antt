@@ -51,15 +51,6 @@ conn_text r conn = of_client (client_at r.hub conn)
     of_client None = []
     of_client (Some c) = client_text conn (r.told conn) c
 
--- a number among numbers that rise, and any numbers in rising order
-abbrev pub put : ℕ → List ℕ → List ℕ
-put n [] = n ∷ []
-put n (m ∷ ms) = if nat_lt m n then m ∷ put n ms else n ∷ m ∷ ms
-
-abbrev pub rising : List ℕ → List ℕ
-rising [] = []
-rising (n ∷ ns) = put n (rising ns)
-
 -- its frames are taken
 abbrev pub emptied : Client → Client
 emptied c = record c { frames = []; consumed = 0 }
@@ -71,9 +62,9 @@ reported r = record {
   told = λ conn. r.told conn || ended_at r.hub conn;
 }
 
--- of each connection, in rising number
+-- of each connection, in rising number, as the clients are
 abbrev pub report : Run → Progress
-report r = record { text = flat_map (conn_text r) (rising (keys_of r.hub.clients)); run = reported r }
+report r = record { text = flat_map (conn_text r) (keys_of r.hub.clients); run = reported r }
 
 -- ---- a line
 

@@ -4,8 +4,8 @@ ghost use Rattle.std.specs.Prelude.{◌≡◌, ⊤, ◌<◌, ◌≤◌, ℕ, Lis
 ghost use Rattle.std.specs.Io.KnownBytes.{Appends};
 ghost use Rattle.ipc_base.specs.declared.limits.Limits.{Limits};
 ghost use Rattle.ipc_hub.specs.Clients.{Clients, client_at};
-ghost use Rattle.ipc_hub.specs.Orderly.{IsFrame};
-ghost use Rattle.ipc_hub.specs.Stands.{Stands};
+ghost use Rattle.ipc_hub.specs.Relations.Matches.{IsFrame};
+ghost use Rattle.ipc_hub.specs.Relations.Matches.{HubMatches};
 ghost use Rattle.ipc_script.specs.Script.{Run, WritesPart, conn_text, report as report_of};
 ghost use Rattle.ipc_script.specs.Script.{frame_line as frame_text, end_line as end_text};
 ghost use Rattle.ipc_script.specs.Runs.{IsIn, IsBehind, IsUntouched, WorldFailed, opened_of, taken_from};
@@ -52,13 +52,13 @@ fn report_connection<W: Write>(
     connection: &mut Opened,
     writer: &mut W,
 ) -> Result<(), ScriptFault>
-    ensures ok { OnOk result ((limits : Limits) (r : Run) → Stands limits r.hub.accepted hub.old r.hub →
+    ensures ok { OnOk result ((limits : Limits) (r : Run) → HubMatches limits r.hub.accepted hub.old r.hub →
         IfSome (client_at r.hub connection.old.conn) IsUntouched →
         connection.old ≡ opened_of r.told connection.old.conn →
         ReportsConnection limits r hub.new connection.old.conn connection.new
         (W.contents writer.old) (W.contents writer.new)) }
     ensures err { IfErr result (λ e. WorldFailed e ((limits : Limits) (r : Run) →
-        Stands limits r.hub.accepted hub.old r.hub →
+        HubMatches limits r.hub.accepted hub.old r.hub →
         IfSome (client_at r.hub connection.old.conn) IsUntouched →
         connection.old ≡ opened_of r.told connection.old.conn →
         WritesPart (W.contents writer.old) (W.contents writer.new) (conn_text r connection.old.conn))) }
@@ -79,11 +79,11 @@ fn report_frames<W: Write>(
     conn: u32,
     writer: &mut W,
 ) -> Result<(), ScriptFault>
-    ensures ok { OnOk result ((limits : Limits) (h : Clients) → Stands limits h.accepted hub.old h →
-        IfSome (client_at h conn) IsUntouched → Stands limits h.accepted hub.new (taken_from h conn)
+    ensures ok { OnOk result ((limits : Limits) (h : Clients) → HubMatches limits h.accepted hub.old h →
+        IfSome (client_at h conn) IsUntouched → HubMatches limits h.accepted hub.new (taken_from h conn)
         × Appends (W.contents writer.old) (W.contents writer.new) (frames_text h conn)) }
     ensures err { IfErr result (λ e. WorldFailed e ((limits : Limits) (h : Clients) →
-        Stands limits h.accepted hub.old h → IfSome (client_at h conn) IsUntouched →
+        HubMatches limits h.accepted hub.old h → IfSome (client_at h conn) IsUntouched →
         WritesPart (W.contents writer.old) (W.contents writer.new) (frames_text h conn))) }
 {
     'frames: while !hub.output(conn).is_empty() {

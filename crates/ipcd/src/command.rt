@@ -1,13 +1,14 @@
 //! The command line.
 
-ghost use Rattle.std.specs.Prelude.{◌≡◌};
+ghost use Rattle.std.specs.Prelude.{◌≡◌, ℕ, true, false, List, [], ◌∷◌, map, codes, Some, IfOk};
 ghost use Rattle.ipc_base.specs.Limits.{ArePassed};
-ghost use Rattle.ipcd.specs.Command.{limits_asked, refusal_status};
+ghost use Rattle.clap.specs.Words.{app_of, fault_of, subcommand_rows_of, FailsBy};
+ghost use Rattle.ipcd.specs.Command.{limits_asked, refusal_status, IsTakenAs, declared, small_in};
 
 use clap::error::ErrorKind;
-use clap::{Arg, ArgAction, Command, Error};
+use clap::{Arg, ArgAction, ArgMatches, Command, Error};
 use ipc_base::Limits;
-use std::alloc::Global;
+use std::alloc::{AllocError, Global};
 use std::convert::AsStr;
 use std::io;
 use std::rt::Env;
@@ -71,7 +72,26 @@ pub fn request_of(rt: &(impl Env + AllocGlobal)) -> Result<Request, Refusal> {
 }
 
 /// What the words ask for; the first is the program's name.
-pub(crate) fn parse<S: AsStr>(alloc: Global, words: &[S]) -> Result<Request, Error> {
+pub(crate) fn parse<S: AsStr>(alloc: Global, words: &[S]) -> Result<Request, Error>
+    // Which words are refused, and with which kinds of error.
+    ensures refused { FailsBy (fault_of declared (map S.text words.now)) result }
+    // The words that are taken, whatever the program is called.
+    ensures standard { (name : List ℕ) → map S.text words.now ≡ name ∷ codes "replay" ∷ []
+        → IsTakenAs (Request.Replay false) result }
+    ensures small { (name : List ℕ)
+        → map S.text words.now ≡ name ∷ codes "replay" ∷ codes "--small" ∷ []
+        → IsTakenAs (Request.Replay true) result }
+{
+    let matches = command_line(alloc)?.try_get_matches_from(words)?;
+    Ok(Request::Replay {
+        small: is_small(&matches),
+    })
+}
+
+// The command line, as the parser is told of it.
+fn command_line<'a>(alloc: Global) -> Result<Command<'a>, AllocError>
+    ensures { IfOk result (λ command. app_of command ≡ declared) }
+{
     let small = Arg::new(alloc, "small")
         .long("small")
         .action(ArgAction::SetTrue)
@@ -79,17 +99,23 @@ pub(crate) fn parse<S: AsStr>(alloc: Global, words: &[S]) -> Result<Request, Err
     let replay = Command::new(alloc, "replay")
         .about("Runs the script on standard input, on a fresh server")
         .arg(small)?;
-    let command = Command::new(alloc, "ipcd")
+    Command::new(alloc, "ipcd")
         .about("System V message queues, run from a script")
         .version("0.1.0")
         .subcommand_required(true)
-        .subcommand(replay)?;
-    let matches = command.try_get_matches_from(words)?;
-    let small = match matches.subcommand_matches("replay") {
+        .subcommand(replay)
+}
+
+// Whether `replay` has the flag `--small`.
+fn is_small(matches: &ArgMatches<'_>) -> bool
+    ensures given { small_in (subcommand_rows_of matches.now) ≡ Some (codes "true") → result ≡ true }
+    ensures not_given { small_in (subcommand_rows_of matches.now) ≡ Some (codes "false")
+        → result ≡ false }
+{
+    match matches.subcommand_matches("replay") {
         Some(replay) => replay.get_flag("small"),
         None => false,
-    };
-    Ok(Request::Replay { small })
+    }
 }
 
 /// The limits of a server: small ones where they are asked for, else the standard ones.

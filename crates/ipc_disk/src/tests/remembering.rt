@@ -1,7 +1,8 @@
 //! A disk of the tests that remembers: it keeps every image since its making. That it meets the trait shows that
 //! what the trait says of the images since a moment does not make a disk forget them.
 
-ghost use Rattle.std.specs.Prelude.{◌≡◌, ◌<◌, ◌^◌, ◌++◌, [], ◌∷◌, length, map, replicate, All, IfOk, OnOk, OnErr};
+ghost use Rattle.std.specs.Prelude.{◌≡◌, ◌<◌, ◌^◌, ◌++◌, [], ◌∷◌, length, map, replicate, All};
+ghost use Rattle.std.specs.Prelude.{IfOk, OnOk, OnErr};
 ghost use Rattle.ipc_disk.specs.Medium.{IsSector};
 
 use crate::{DiskFault, SectorDisk};
@@ -65,7 +66,7 @@ fn keep(
 }
 
 impl SectorDisk for RememberingDisk {
-    ghost use Rattle.ipc_disk.specs.Remembered.{remembered_medium, IsShaped-remembered, only_now-remembered};
+    ghost use Rattle.ipc_disk.specs.Relations.Remembered.{remembered_medium, IsShaped-remembered, only_now-remembered};
 
     ghost size = { λ disk. length disk.sectors.items };
 

@@ -1,5 +1,5 @@
 -- The last values are one of the images, and no other moment is spoken of.
-use Rattle.ipc_disk.specs.Slots.{IsHonest-slots}
+use Rattle.ipc_disk.specs.Relations.Slots.{IsHonest-slots}
 use Rattle.ipc_disk.proofs.laws.disks_in_memory_are_honest.Goals as goal
 
 pub returns-clause-memory : goal.returns-clause-memory

@@ -1,6 +1,6 @@
 -- The slots so far are synced, the others as they were.
 use Rattle.std.proofs.Common.{◌≡◌, ◌++◌, map, take, drop}
-use Rattle.ipc_disk.specs.Slots.{settled}
+use Rattle.ipc_disk.specs.Relations.Slots.{settled}
 use Rattle.ipc_disk.proofs.memory.settle_all.Given as goal
 
 abbrev pub invariant-loop-slot : goal.invariant-loop-slot

@@ -1,8 +1,9 @@
 -- Each write adds a sector, and touches no other.
-use Rattle.std.proofs.Common.{◌≡◌, ℕ, List, ◌++◌, ◌-◌, replicate, length, ◌+◌, ⊎_elim, ap, sym, ◌∙◌, subst, arith, length-take, drop, ◌*◌}
+use Rattle.std.proofs.Common.{◌≡◌, ℕ, List, ◌++◌, ◌-◌, replicate, length, ◌+◌, ⊎_elim, ap, sym}
+use Rattle.std.proofs.Common.{◌∙◌, subst, arith, length-take, drop, ◌*◌}
 use Rattle.std.specs.Prelude.{slice_set}
 use Rattle.ipc_disk.specs.Range.{IsOutside}
-use Rattle.ipc_disk.specs.GoesOn.{LeavesAlone-writes}
+use Rattle.ipc_disk.proofs.CallerLemmas.{LeavesAlone-writes}
 use Rattle.ipc_journal.specs.Journal.{sectors_for, batch_sector}
 use Rattle.ipc_journal.proofs.Counted.{counts-calls}
 use Rattle.ipc_journal.proofs.Runs.{WrittenBelow, written_more}

@@ -1,6 +1,6 @@
 -- The range and the size are as they were.
 use Rattle.std.proofs.Common.{◌≡◌}
-use Rattle.ipc_journal.specs.IsAt.{range_of}
+use Rattle.ipc_journal.specs.View.{range_of}
 use Rattle.ipc_journal.proofs.tests.append_from.Given as goal
 
 abbrev pub invariant-loop-done : goal.invariant-loop-done

@@ -6,7 +6,7 @@ use Rattle.ipc_script.proofs.report.report.Goals as goal
 
 pub loop-connection-init : goal.loop-connection-init
 loop-connection-init g c =
-    λ limits r i. reported_begun limits r c.release.new.self c.args.opened.now _ (c.release.ensures limits i.confirmed r.hub i.stands) i.kept
+    λ limits r i. reported_begun limits r c.release.new.self c.args.opened.now _ (c.release.ensures limits i.confirmed r.hub i.stands) i.rising i.kept
 
 pub loop-connection-preserved : goal.loop-connection-preserved
 loop-connection-preserved g c = λ limits r i.

@@ -1,7 +1,9 @@
-use Rattle.std.proofs.Common.{map, sym, ap, ◌∙◌}
+use Rattle.std.proofs.Common.{◌≡◌, false, map, sym, ap, ◌∙◌, rules}
 use Rattle.std.specs.Prelude.{nat_eq, position}
 use Rattle.ipc_base.proofs.CallerLemmas.{remove_at_place, without_nowhere}
 use Rattle.ipc_script.specs.declared.report.Opened.{Opened}
+use Rattle.ipc_hub.specs.View.{is_connected}
+use Rattle.ipc_script.proofs.HubAndClients.{connected}
 use Rattle.ipc_script.proofs.OpenConnections.{by_number, close_in}
 use Rattle.ipc_script.proofs.script.close.Goals as goal
 
@@ -21,3 +23,8 @@ returns-in_default-place_of-clause-ok c limits r b =
     close_in limits c.args.hub.now c.hangup.new.self os os r c.args.conn c.args.moment.0 b (λ apart. let bad = c.in-Ok.ensures.unknown.1 apart in
     cc) c.in-Ok.ensures.ok
     (sym (without_nowhere by_number nat_eq c.args.conn os nowhere))
+
+pub returns-in_default-clause-unknown : goal.returns-in_default-clause-unknown
+returns-in_default-clause-unknown c limits r b =
+    let gone : is_connected c.args.hub.now c.args.conn ≡ false = search rules in
+    sym (connected limits b.line.confirmed c.args.hub.now r.hub c.args.conn b.line.stands) ∙ gone

@@ -18,7 +18,7 @@ pub lines-init : goal.lines-init
 lines-init g c = (
   omega arith,
   rw c.new-opened.ensures.items
-      (run_begun c.args.engine.limits c.args.engine.state c.args.script.now c.new-hub.result _ c.new-hub.ensures),
+      (run_begun c.args.engine.limits c.args.engine.state c.args.script.now c.new-hub.result _ c.new-hub.ensures.matches),
 )
 
 pub returns-in_default : goal.returns-in_default

@@ -1,6 +1,7 @@
 -- What is left is one of the images.
 use Rattle.std.proofs.Common.{sym, subst}
-use Rattle.ipc_disk.specs.Slots.{MayLeave, IsHonest-slots}
+use Rattle.ipc_disk.specs.Slots.{MayLeave}
+use Rattle.ipc_disk.specs.Relations.Slots.{IsHonest-slots}
 use Rattle.ipc_disk.proofs.Choices.{MayLeave-survivors}
 use Rattle.ipc_disk.proofs.fuse.FuseDisk.crash.Goals as goal
 

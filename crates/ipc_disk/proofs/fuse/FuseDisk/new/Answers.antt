@@ -1,5 +1,5 @@
 -- The disk below is honest.
-use Rattle.ipc_disk.specs.Slots.{IsHonest-slots}
+use Rattle.ipc_disk.specs.Relations.Slots.{IsHonest-slots}
 use Rattle.ipc_disk.proofs.fuse.FuseDisk.new.Goals as goal
 
 pub returns-clause-honest : goal.returns-clause-honest

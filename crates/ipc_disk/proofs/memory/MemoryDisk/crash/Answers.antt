@@ -3,7 +3,7 @@ use Rattle.std.proofs.Common.{◌<◌, ◌≤◌, ◌^◌, List, map, length, ve
 use Rattle.std.proofs.lemmas.List.{with_items_is}
 use Rattle.ipc_disk.specs.declared.memory.Slot.{Slot}
 use Rattle.ipc_disk.specs.Crash.{survivors}
-use Rattle.ipc_disk.specs.Slots.{synced_slot}
+use Rattle.ipc_disk.specs.Relations.Slots.{synced_slot}
 use Rattle.ipc_disk.proofs.Choices.{whole-chosen, contents-chosen, synced-chosen, durable-chosen}
 use Rattle.ipc_disk.proofs.Listed.{ListsUnsynced-none}
 use Rattle.ipc_disk.proofs.memory.MemoryDisk.crash.Goals as goal

@@ -1,6 +1,6 @@
 -- A new disk reads as zeros, and a crash leaves them.
 use Rattle.std.proofs.Common.{arith}
-use Rattle.ipc_disk.specs.Slots.{IsHonest-slots}
+use Rattle.ipc_disk.specs.Relations.Slots.{IsHonest-slots}
 use Rattle.ipc_disk.proofs.SlotsLemmas.{whole-zeros, length-zeros, contents-zeros, synced-zeros, durable-zeros}
 use Rattle.ipc_disk.proofs.Listed.{ListsUnsynced-none}
 use Rattle.ipc_disk.proofs.memory.MemoryDisk.new.Goals as goal

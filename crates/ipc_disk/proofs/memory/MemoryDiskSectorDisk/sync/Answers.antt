@@ -2,7 +2,7 @@
 use Rattle.std.proofs.Common.{◌<◌, ◌≤◌, ◌^◌, List, map, length, vec_capacity, arith, ◌∙◌, ap, sym, subst}
 use Rattle.std.proofs.lemmas.List.{with_items_is}
 use Rattle.ipc_disk.specs.declared.memory.Slot.{Slot}
-use Rattle.ipc_disk.specs.Slots.{settled}
+use Rattle.ipc_disk.specs.Relations.Slots.{settled}
 use Rattle.ipc_disk.proofs.Listed.{ListsUnsynced-none}
 use Rattle.ipc_disk.proofs.SlotsLemmas.{whole-settled, contents-settled, synced-settled, durable-settled, images-settled, Elapses-slots}
 use Rattle.ipc_disk.proofs.memory.MemoryDiskSectorDisk.sync.Goals as goal

@@ -2,9 +2,9 @@
 use Rattle.std.proofs.Common.{[], ◌∷◌, ◌++◌, ◌+◌, sym, ◌∙◌, ap, subst, arith}
 use Rattle.ipc_disk.specs.Medium.{Image}
 use Rattle.ipc_disk.specs.Range.{IsOutside}
-use Rattle.ipc_disk.specs.GoesOn.{EachImageSince-now, LeavesAlone-stays, LeavesAlone-join}
+use Rattle.ipc_disk.proofs.CallerLemmas.{EachImageSince-now, LeavesAlone-stays, LeavesAlone-join}
 use Rattle.ipc_journal.specs.Journal.{Holds, sector_at, IsWrittenAt}
-use Rattle.ipc_journal.specs.IsAt.{HoldsOneMoreOrNot}
+use Rattle.ipc_journal.specs.Matches.{HoldsOneMoreOrNot}
 use Rattle.ipc_journal.proofs.Append.{moment-body, moment-sync, moment-header, pushed, others-body, others-header}
 use Rattle.ipc_journal.proofs.Counted.{counts-calls}
 use Rattle.ipc_journal.proofs.Images.{sectors_of-push}

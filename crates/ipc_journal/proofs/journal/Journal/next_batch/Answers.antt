@@ -6,14 +6,15 @@ use Rattle.std.proofs.lemmas.Option.{get_or_from_slice_get, same_Some}
 use Rattle.ipc_disk.specs.Medium.{Image, Medium}
 use Rattle.ipc_journal.specs.declared.journal.Journal.{Journal}
 use Rattle.ipc_journal.specs.Journal.{sectors_of, sector_at, length_in, StandsAt}
-use Rattle.ipc_journal.specs.IsAt.{IsAt}
+use Rattle.ipc_journal.specs.Matches.{JournalMatches}
 use Rattle.ipc_journal.proofs.Images.{Holds-fill, sectors_of-push}
 use Rattle.ipc_journal.proofs.Pieces.{IsThere, Fill-there, length-there, read-length, next_is}
 use Rattle.ipc_journal.proofs.journal.Journal.next_batch.Goals as goal
 use Rattle.ipc_journal.proofs.journal.Journal.next_batch.Goals.{then-taken-self-via-then-taken-self, then-taken-self-via-else-taken-self+then-len-into}
 
 there_at : (journal : Journal) (before : List (List ℕ)) (batch : List ℕ) (after : List (List ℕ)) (medium : Medium) (place : ℕ)
-    → IsAt journal (before ++ batch ∷ after) medium → place ≡ sectors_of before → IsThere journal.range place journal.used batch medium.contents
+    → JournalMatches journal (before ++ batch ∷ after) medium → place ≡ sectors_of before
+    → IsThere journal.range place journal.used batch medium.contents
 there_at journal before batch after medium place at is =
     let all = before ++ batch ∷ after in
     let fill = Holds-fill journal.range journal.epoch all medium.contents (at.images medium.contents at.honest.reads) in

@@ -1,4 +1,5 @@
--- How what holds of each image since goes on over the next call, and from one run of calls to the next.
+-- What the crates above cite of runs of calls: how what holds of each image since goes on over the next call, and from
+-- one run of calls to the next.
 use Rattle.std.specs.Prelude.{◌≡◌, ◌≢◌, ℕ, zero, suc, List, [], ◌∷◌, slice_get, slice_set, refl}
 use Rattle.std.proofs.Common.{inl, inr, ⊎_elim, sym, ◌∙◌, ap, subst, arith}
 use Rattle.ipc_disk.specs.Medium.{Image, Medium, IsHonest, Elapses, SetOrNot, Stays, Writes}

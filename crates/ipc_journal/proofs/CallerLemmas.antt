@@ -1,4 +1,5 @@
--- How a journal stays what it is over a turn, over reads, and over calls that leave its sectors alone.
+-- What the crates above cite of a journal: it stays what it is over a turn, over reads, and over calls that leave its
+-- sectors alone.
 use Rattle.std.specs.Prelude.{◌≡◌, ℕ, ◌+◌, ◌<◌, ◌≤◌, List, [], ◌∷◌, length, take, refl}
 use Rattle.std.proofs.Common.{inl, inr, sym, ◌∙◌, ap, subst, arith}
 use Rattle.std.specs.Option.{unwrap_or}
@@ -7,11 +8,12 @@ use Rattle.ipc_disk.specs.declared.range.Range.{Range}
 use Rattle.ipc_disk.specs.Medium.{Image, Medium, Stays}
 use Rattle.ipc_disk.specs.Range.{IsInside}
 use Rattle.ipc_disk.specs.Since.{EachImageSince, SameAt, LeavesAlone}
-use Rattle.ipc_disk.specs.GoesOn.{EachImageSince-now, LeavesAlone-keeps}
+use Rattle.ipc_disk.proofs.CallerLemmas.{EachImageSince-now, LeavesAlone-keeps}
 use Rattle.ipc_journal.specs.declared.journal.Journal.{Journal}
 use Rattle.ipc_journal.specs.Journal.{sectors_for, sectors_of, sector_at, epoch_in, used_in}
 use Rattle.ipc_journal.specs.Journal.{header_used, piece, Fill, Holds}
-use Rattle.ipc_journal.specs.IsAt.{range_of, epoch_of, used_of, IsAt}
+use Rattle.ipc_journal.specs.View.{range_of, epoch_of, used_of}
+use Rattle.ipc_journal.specs.Matches.{JournalMatches}
 
 -- a sector that two images share
 pub sector_at-same : (places : ℕ → Type 0) (a b : Image) (i : ℕ) → SameAt places a b → places i
@@ -60,9 +62,9 @@ module _ (range : Range) (epoch : ℕ) (batches : List (List ℕ)) where
       })
 
 -- a read or a sync of others
-pub IsAt-stays : (journal : Journal) (batches : List (List ℕ)) (old new : Medium) → Stays old new
-    → IsAt journal batches old → IsAt journal batches new
-IsAt-stays journal batches old new call at = record {
+pub JournalMatches-stays : (journal : Journal) (batches : List (List ℕ)) (old new : Medium) → Stays old new
+    → JournalMatches journal batches old → JournalMatches journal batches new
+JournalMatches-stays journal batches old new call at = record {
   honest = call.time.honest.0 at.honest;
   used = at.used;
   images = λ image now. at.images image (call.images image now);
@@ -71,7 +73,7 @@ IsAt-stays journal batches old new call at = record {
 -- calls that leave the journal's sectors alone, at each moment
 pub EachImageSince-alone : (places : ℕ → Type 0) (journal : Journal) (batches : List (List ℕ)) (old new : Medium)
     → ((i : ℕ) → IsInside (range_of journal) i → places i)
-    → LeavesAlone places old new → IsAt journal batches old
+    → LeavesAlone places old new → JournalMatches journal batches old
     → EachImageSince old new (Holds (range_of journal) (epoch_of journal) batches)
 EachImageSince-alone places journal batches old new inside run at =
     LeavesAlone-keeps places old new (Holds (range_of journal) (epoch_of journal) batches) run at.images
@@ -79,10 +81,10 @@ EachImageSince-alone places journal batches old new inside run at =
     (λ j low high. sector_at-same places a b j same (inside j (low, omega (arith, high, at.used, journal.room)))) holds)
 
 -- and after them
-pub IsAt-alone : (places : ℕ → Type 0) (journal : Journal) (batches : List (List ℕ)) (old new : Medium)
+pub JournalMatches-alone : (places : ℕ → Type 0) (journal : Journal) (batches : List (List ℕ)) (old new : Medium)
     → ((i : ℕ) → IsInside (range_of journal) i → places i)
-    → LeavesAlone places old new → IsAt journal batches old → IsAt journal batches new
-IsAt-alone places journal batches old new inside run at = record {
+    → LeavesAlone places old new → JournalMatches journal batches old → JournalMatches journal batches new
+JournalMatches-alone places journal batches old new inside run at = record {
   honest = run.honest;
   used = at.used;
   images = EachImageSince-now old new (Holds (range_of journal) (epoch_of journal) batches)
@@ -98,10 +100,11 @@ Holds-turned range epoch later batches image lt (inr current) =
     inl (record { older = omega (arith, current.current) }, refl)
 
 -- a turn
-pub IsAt-turned : (old new : Journal) (batches : List (List ℕ)) (medium : Medium) → range_of new ≡ range_of old
+pub JournalMatches-turned : (old new : Journal) (batches : List (List ℕ)) (medium : Medium)
+    → range_of new ≡ range_of old
     → epoch_of old < epoch_of new → used_of new ≡ 0
-    → IsAt old batches medium → IsAt new [] medium
-IsAt-turned old new batches medium range lt used at = record {
+    → JournalMatches old batches medium → JournalMatches new [] medium
+JournalMatches-turned old new batches medium range lt used at = record {
   honest = at.honest;
   used = used;
   images = λ image now. subst (λ (r : Range). Holds r (epoch_of new) [] image) (sym range)
