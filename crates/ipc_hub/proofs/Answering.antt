@@ -1,5 +1,6 @@
 -- A request is answered: the replies have room, the hub's connections go on, and they match the clients of the definitions.
-use Rattle.std.proofs.Common.{◌≡◌, ◌≢◌, ℕ, ◌+◌, ◌<◌, ◌≤◌, ◌^◌, Bool, true, false, List, [], ◌∷◌, Option, Some, None, refl, sym, ap, ◌∙◌, subst, arith, ◌⊎◌, inl, inr}
+use Rattle.std.proofs.Common.{◌≡◌, ◌≢◌, ℕ, ◌+◌, ◌<◌, ◌≤◌, ◌^◌, Bool, true, false, List, [], ◌∷◌, Option, Some, None}
+use Rattle.std.proofs.Common.{refl, sym, ap, ◌∙◌, subst, arith, ◌⊎◌, inl, inr}
 use Rattle.std.specs.Prelude.{nat_eq, option_and_then, if◌then◌else◌}
 use Rattle.std.proofs.lemmas.Bool.{cases_eq, eqb-true}
 use Rattle.ipc_base.specs.Limits.{longest_reply}
@@ -12,7 +13,8 @@ use Rattle.ipc_engine.specs.Step.{Step, step}
 use Rattle.ipc_engine.specs.View.{reply_of}
 use Rattle.ipc_hub.specs.Clients.{Client, Clients, client_at, is_for, last_reply, welcomed, serve, accept, with_client, with_frame}
 use Rattle.ipc_hub.specs.View.{ConnectionView, HubView}
-use Rattle.ipc_hub.specs.Relations.Delivery.{last_frame, pushed, put_all, answered, with_answer, IsShort, AllShort, HasRoom, HasRoomIn, HaveRoom, HasRoomToAnswer}
+use Rattle.ipc_hub.specs.Relations.Delivery.{last_frame, pushed, put_all, answered, with_answer, IsShort, AllShort}
+use Rattle.ipc_hub.specs.Relations.Delivery.{HasRoom, HasRoomIn, HaveRoom, HasRoomToAnswer}
 use Rattle.ipc_hub.specs.Relations.Invariant.{process_in, AreOwn, IsKept, HubInvariant, GoesOn}
 use Rattle.ipc_hub.specs.Relations.Matches.{ClientMatches, HubMatches, IsAhead}
 use Rattle.ipc_hub.proofs.Deliveries.{push-matches, matches-later, accept-matches}
@@ -99,7 +101,8 @@ module _ (h : HubView) (conn : ℕ) (v : ConnectionView) (now : Step) (inv : Hub
         | inl same ↦ subst (HasRoomIn a.o) (one (answered (Some a.o) v) x (sym (at-with h.connections conn (answered (Some a.o) v) v found) ∙ (rw same at is)))
             (told-room a.o v has)
         | inr apart ↦ λ for. absurd (apart-from k apart
-            (ap (option_and_then (λ (c : ConnectionView). c.process)) (sym (other-with h.connections conn k (answered (Some a.o) v) apart) ∙ is) ∙ for-process a.o.pid x.process for))
+            (ap (option_and_then (λ (c : ConnectionView). c.process)) (sym (other-with h.connections conn k (answered (Some a.o) v) apart) ∙ is)
+            ∙ for-process a.o.pid x.process for))
       ])
     where
       one : (x y : ConnectionView) → Some x ≡ Some y → x ≡ y
@@ -185,7 +188,15 @@ told-matches confirmed accepted mark o v c later le short m =
             (if b then with_frame (record c { process = None }) mark o else record c { process = Some o.pid })
         by_test true = push-matches confirmed accepted mark _ _ o later le short was
         by_test false =
-            record { process = refl; input = after.input; ended = after.ended; kept = after.kept; visible = after.visible; seen = after.seen; frames = after.frames }
+            record {
+              process = refl;
+              input = after.input;
+              ended = after.ended;
+              kept = after.kept;
+              visible = after.visible;
+              seen = after.seen;
+              frames = after.frames;
+            }
     by_process (Some pid) was = matches-later confirmed accepted mark _ _ le was
 
 -- an event of a connection

@@ -40,7 +40,8 @@ module _ (engine : Machine) (cs : List Connection) (place : ℕ) (was closed : C
   ended-kept = record { input = first_short [] (omega arith); last = λ live. let never : true ≡ false = live in cc; size = kept.size }
 
   pub closed-invariant : HubInvariant (hub_view engine (set cs place closed))
-  closed-invariant = subst (λ (t : List (ℕ × ConnectionView)). HubInvariant (record { limits = engine.limits; state = engine.state; connections = t })) (sym closed-rows)
+  closed-invariant = subst (λ (t : List (ℕ × ConnectionView)). HubInvariant (record { limits = engine.limits; state = engine.state; connections = t }))
+      (sym closed-rows)
       (change-invariant (hub_view engine cs) was.number v (ended v) inv found (λ pid never. cc) ended-kept)
 
   pub closed-connected : IsConnected engine.state v.process
@@ -83,7 +84,8 @@ module _ (engine : Machine) (cs : List Connection) (place : ℕ) (was closed : C
     abbrev pub last : ConnectionView
     last = pushed (reply_of (refusal serial EPROTO)) (ended v)
 
-    module _ (number' : new.number ≡ (get_or ds place then).number) (told : view_of new ≡ pushed (reply_of (refusal serial EPROTO)) (view_of (get_or ds place then))) where
+    module _ (number' : new.number ≡ (get_or ds place then).number)
+        (told : view_of new ≡ pushed (reply_of (refusal serial EPROTO)) (view_of (get_or ds place then))) where
       pub last-rows : rows (set ds place new) ≡ with_value nat_eq (rows ds) was.number last
       last-rows = set-there ds place then then new last at' within' number'
           (told ∙ ap (λ (c : Connection). pushed (reply_of (refusal serial EPROTO)) (view_of c)) (sym is')
@@ -98,7 +100,9 @@ module _ (engine : Machine) (cs : List Connection) (place : ℕ) (was closed : C
           record {
             limits = same_limits;
             numbers = ap keys_of last-rows ∙ keys_of-with_value nat_eq (rows ds) was.number last ∙ numbers;
-            invariant = subst (λ (t : List (ℕ × ConnectionView)). HubInvariant (record { limits = left.limits; state = left.state; connections = t })) (sym last-rows)
+            invariant = subst (λ (t : List (ℕ × ConnectionView)). HubInvariant (record { limits = left.limits; state = left.state; connections = t }))
+                (sym last-rows)
                 (change-invariant (hub_view left ds) was.number (ended v) last goes_on.invariant found' (λ pid never. never)
-                (kept-pushed left.limits (refusal serial EPROTO) (ended v) still (omega (arith, kept.last live, long)) (λ never. let bad : true ≡ false = never in cc)));
+                (kept-pushed left.limits (refusal serial EPROTO) (ended v) still (omega (arith, kept.last live, long))
+                (λ never. let bad : true ≡ false = never in cc)));
           }

@@ -46,7 +46,8 @@ front-stays xs ys n end le long =
 -- what a vector has when bytes were written behind a place in it
 pub written : {Z : Type 0} (v : Vec ℕ Z) (xs out bytes : List ℕ) (end : ℕ) → xs ≡ v.items → end ≤ length xs → length bytes ≤ length xs - end
     → out ≡ bytes ++ drop (length bytes) (take (length xs - end) (drop end xs))
-    → (with_items v (take end xs ++ (out ++ drop (length xs - end) (drop end xs)))).items ≡ take end xs ++ ((bytes ++ drop (length bytes) (take (length xs - end) (drop end xs))) ++ drop (length xs - end) (drop end xs))
+    → (with_items v (take end xs ++ (out ++ drop (length xs - end) (drop end xs)))).items
+    ≡ take end xs ++ ((bytes ++ drop (length bytes) (take (length xs - end) (drop end xs))) ++ drop (length xs - end) (drop end xs))
 written v xs out bytes end same long room is =
     let free : List ℕ = drop end xs in
     let rest : List ℕ = drop (length bytes) (take (length xs - end) free) in

@@ -1,5 +1,6 @@
 -- The calls of the hub over its rows: a connection comes, goes, is released, or has its output consumed.
-use Rattle.std.proofs.Common.{◌≡◌, ℕ, ◌+◌, ◌<◌, ◌≤◌, ◌^◌, false, List, [], ◌++◌, length, drop, Option, Some, None, refl, sym, ap, ◌∙◌, subst, arith, inl, inr, ◌∷◌, append-nil, zero, suc}
+use Rattle.std.proofs.Common.{◌≡◌, ℕ, ◌+◌, ◌<◌, ◌≤◌, ◌^◌, false, List, [], ◌++◌, length, drop, Option, Some, None, refl}
+use Rattle.std.proofs.Common.{sym, ap, ◌∙◌, subst, arith, inl, inr, ◌∷◌, append-nil, zero, suc}
 use Rattle.std.specs.Prelude.{nat_eq, option_and_then, option_map}
 use Rattle.std.proofs.lemmas.Bool.{cases_eq}
 use Rattle.std.proofs.lemmas.List.{length-append, drop-drop, drop-append-le, length-drop}
@@ -7,10 +8,12 @@ use Rattle.std.proofs.lemmas.List.Elements.{All-weaker}
 use Rattle.ipc_base.specs.Limits.{longest_reply}
 use Rattle.ipc_base.specs.Table.{value_at, with_value, with_entry, without, seen_as, ArePaired}
 use Rattle.ipc_base.specs.declared.limits.Limits.{Limits}
-use Rattle.ipc_base.proofs.CallerLemmas.{nobody, each-entry, each-without, each-seen, entry-at, entry-other, rising-entry, rising-without, rising-gone, value_at-without}
+use Rattle.ipc_base.proofs.CallerLemmas.{nobody, each-entry, each-without, each-seen, entry-at, entry-other}
+use Rattle.ipc_base.proofs.CallerLemmas.{rising-entry, rising-without, rising-gone, value_at-without}
 use Rattle.ipc_base.proofs.CallerLemmas.{paired-entry, paired-without, paired-seen, paired-none, paired-at, at-map, keys-map}
 use Rattle.ipc_wire.proofs.CallerLemmas.{first_short, length-reply_bytes}
-use Rattle.ipc_hub.specs.Clients.{Frame, Client, Clients, client_at, start_client, with_client, all_bytes, confirmed_bytes, consumed_from, shown_at, ended_at, connect, consume}
+use Rattle.ipc_hub.specs.Clients.{Frame, Client, Clients, client_at, start_client, with_client, all_bytes}
+use Rattle.ipc_hub.specs.Clients.{confirmed_bytes, consumed_from, shown_at, ended_at, connect, consume}
 use Rattle.ipc_hub.specs.View.{ConnectionView, HubView, kept}
 use Rattle.ipc_hub.specs.Relations.Delivery.{released, consumed}
 use Rattle.ipc_hub.specs.Relations.Invariant.{process_in, IsKept, IsNew, HubInvariant, IsNobodys}
@@ -75,7 +78,9 @@ without-invariant h conn inv =
           let before : process_in h.connections k ≡ Some pid =
           elim (cases_eq k conn) [
             | inl same ↦
-                let gone : process_in (without nat_eq h.connections conn) conn ≡ None = ap process_of (nobody (value_at nat_eq (without nat_eq h.connections conn) conn) (rising-gone 0 h.connections (2 ^ 32) conn inv.rising)) in
+                let gone : process_in (without nat_eq h.connections conn) conn ≡ None =
+                ap process_of
+                (nobody (value_at nat_eq (without nat_eq h.connections conn) conn) (rising-gone 0 h.connections (2 ^ 32) conn inv.rising)) in
                 let never : None ≡ Some pid = sym gone ∙ (rw same at is) in cc
             | inr apart ↦ sym (ap process_of (value_at-without h.connections conn k apart)) ∙ is
           ] in
@@ -89,7 +94,8 @@ pub without-nobodys : (h : HubView) (conn : ℕ) (v : ConnectionView) → HubInv
 without-nobodys h conn v inv found k pid mine is =
     elim (cases_eq k conn) [
       | inl same ↦
-          let gone : process_in (without nat_eq h.connections conn) conn ≡ None = ap process_of (nobody (value_at nat_eq (without nat_eq h.connections conn) conn) (rising-gone 0 h.connections (2 ^ 32) conn inv.rising)) in
+          let gone : process_in (without nat_eq h.connections conn) conn ≡ None =
+          ap process_of (nobody (value_at nat_eq (without nat_eq h.connections conn) conn) (rising-gone 0 h.connections (2 ^ 32) conn inv.rising)) in
           let never : None ≡ Some pid = sym gone ∙ (rw same at is) in cc
       | inr apart ↦ apart (inv.own.one k conn pid (sym (ap process_of (value_at-without h.connections conn k apart)) ∙ is) (ap process_of found ∙ mine))
     ]
@@ -115,7 +121,8 @@ pub released-invariant : (h : HubView) → HubInvariant h → HubInvariant (reco
 released-invariant h inv =
     record {
       own = own-less h.state h.state h.connections (seen_as released h.connections) inv.own (λ k pid is.
-          let before : process_in h.connections k ≡ Some pid = by_value (value_at nat_eq h.connections k) (sym (ap process_of (at-map released h.connections k)) ∙ is) in
+          let before : process_in h.connections k ≡ Some pid =
+          by_value (value_at nat_eq h.connections k) (sym (ap process_of (at-map released h.connections k)) ∙ is) in
           (before, inv.own.connected k pid before));
       each = each-seen (IsKept h.limits) (IsKept h.limits) (IsKept h.limits) h.connections released inv.each inv.each (λ v k _. released-kept h.limits v k);
       rising = rw (keys-map released h.connections) inv.rising;
@@ -125,7 +132,8 @@ released-invariant h inv =
     by_value None is = is
     by_value (Some v) is = is
 
-released-matches : (confirmed accepted : ℕ) (v : ConnectionView) (c : Client) → ClientMatches confirmed accepted v c → ClientMatches accepted accepted (released v) c
+released-matches : (confirmed accepted : ℕ) (v : ConnectionView) (c : Client) → ClientMatches confirmed accepted v c
+    → ClientMatches accepted accepted (released v) c
 released-matches confirmed accepted v c m =
     let all = all-confirmed accepted c.frames (All-weaker (λ (f : Frame). (f.mark ≤ accepted) × IsFrame f.bytes) (λ (f : Frame). f.mark ≤ accepted)
     (λ f is. is.0) c.frames m.frames) in

@@ -37,7 +37,8 @@ consumed-bytes [] n = drop_none n
     drop_none (suc k) = refl
 consumed-bytes (f ∷ fs) n = by_test (nat_le (length f.bytes) n) refl (consumed-bytes fs (n - length f.bytes))
   where
-    by_test : (b : Bool) → nat_le (length f.bytes) n ≡ b → drop (consumed_from fs (n - length f.bytes)).1 (all_bytes (consumed_from fs (n - length f.bytes)).0) ≡ drop (n - length f.bytes) (all_bytes fs)
+    by_test : (b : Bool) → nat_le (length f.bytes) n ≡ b
+        → drop (consumed_from fs (n - length f.bytes)).1 (all_bytes (consumed_from fs (n - length f.bytes)).0) ≡ drop (n - length f.bytes) (all_bytes fs)
         → drop (consumed_from (f ∷ fs) n).1 (all_bytes (consumed_from (f ∷ fs) n).0) ≡ drop n (all_bytes (f ∷ fs))
     by_test true t rest = rw t (rest ∙ past f.bytes (all_bytes fs) n (grind (arith, nat_tests)))
     by_test false t rest = rw t refl
@@ -54,7 +55,8 @@ module _ (confirmed : ℕ) where
       by_test : (b known : Bool) → nat_le (length f.bytes) n ≡ b → nat_le f.mark confirmed ≡ known → 0 < length f.bytes
           → n ≤ length (confirmed_bytes confirmed (f ∷ fs))
           → (n - length f.bytes ≤ length (confirmed_bytes confirmed fs)
-          → (drop (consumed_from fs (n - length f.bytes)).1 (confirmed_bytes confirmed (consumed_from fs (n - length f.bytes)).0) ≡ drop (n - length f.bytes) (confirmed_bytes confirmed fs))
+          → (drop (consumed_from fs (n - length f.bytes)).1 (confirmed_bytes confirmed (consumed_from fs (n - length f.bytes)).0)
+          ≡ drop (n - length f.bytes) (confirmed_bytes confirmed fs))
           × ((consumed_from fs (n - length f.bytes)).1 ≤ length (confirmed_bytes confirmed (consumed_from fs (n - length f.bytes)).0)))
           → (drop (consumed_from (f ∷ fs) n).1 (confirmed_bytes confirmed (consumed_from (f ∷ fs) n).0) ≡ drop n (confirmed_bytes confirmed (f ∷ fs)))
           × ((consumed_from (f ∷ fs) n).1 ≤ length (confirmed_bytes confirmed (consumed_from (f ∷ fs) n).0))

@@ -176,7 +176,8 @@ module _ (limits : Limits) where
       subst (λ (t : Clients). unless_ended t conn act ≡ t) (sym same) (gone-stays h conn act is)
   broken-over h conn moment serial (Some c) is act = by_end c.ended refl
     where
-      by_end : (b : Bool) → c.ended ≡ b → unless_ended (on_ending limits h conn moment (Broken serial)) conn act ≡ on_ending limits h conn moment (Broken serial)
+      by_end : (b : Bool) → c.ended ≡ b
+          → unless_ended (on_ending limits h conn moment (Broken serial)) conn act ≡ on_ending limits h conn moment (Broken serial)
       by_end true over =
           let same : on_ending limits h conn moment (Broken serial) ≡ h = ended-stays h conn (λ d. break_off limits h conn d serial moment) c is over in
           subst (λ (t : Clients). unless_ended t conn act ≡ t) (sym same) (ended-stays h conn act c is over)
@@ -204,7 +205,8 @@ module _ (limits : Limits) where
       s : Stream
       s = stream_of (bytes ++ more)
 
-      by_end : (b : Bool) → c.ended ≡ b → take_in limits (on_ending limits h conn moment (Rest bytes)) conn more moment refused ≡ settled h conn moment (stream_of (bytes ++ more)) refused
+      by_end : (b : Bool) → c.ended ≡ b
+          → take_in limits (on_ending limits h conn moment (Rest bytes)) conn more moment refused ≡ settled h conn moment (stream_of (bytes ++ more)) refused
       by_end true ended =
           let over : IsOver h conn = λ act. ended-stays h conn act c is ended in
           ap (λ (t : Clients). take_in limits t conn more moment refused) (ending-over h conn moment (Rest bytes) over)
@@ -242,13 +244,15 @@ module _ (limits : Limits) where
 
   -- bytes taken in in two pieces are taken in at once
   pub take_in-pieces : (h : Clients) (conn moment : ℕ) (bytes more : List ℕ) (xs ys : List Bool) (r : Option Client) → client_at h conn ≡ r
-      → take_in limits (take_in limits h conn bytes moment xs) conn more moment ys ≡ take_in limits h conn (bytes ++ more) moment (fitted (length (arriving r bytes)) xs ++ ys)
+      → take_in limits (take_in limits h conn bytes moment xs) conn more moment ys
+      ≡ take_in limits h conn (bytes ++ more) moment (fitted (length (arriving r bytes)) xs ++ ys)
   take_in-pieces h conn moment bytes more xs ys None is =
       let over : IsOver h conn = λ act. gone-stays h conn act is in
       ap (λ (t : Clients). take_in limits t conn more moment ys) (over _) ∙ over _ ∙ sym (over _)
   take_in-pieces h conn moment bytes more xs ys (Some c) is = by_end c.ended refl
     where
-      by_end : (b : Bool) → c.ended ≡ b → take_in limits (take_in limits h conn bytes moment xs) conn more moment ys ≡ take_in limits h conn (bytes ++ more) moment (fitted (length (if b then [] else (stream_of (c.input ++ bytes)).requests)) xs ++ ys)
+      by_end : (b : Bool) → c.ended ≡ b → take_in limits (take_in limits h conn bytes moment xs) conn more moment ys
+          ≡ take_in limits h conn (bytes ++ more) moment (fitted (length (if b then [] else (stream_of (c.input ++ bytes)).requests)) xs ++ ys)
       by_end true ended =
           let over : IsOver h conn = λ act. ended-stays h conn act c is ended in
           ap (λ (t : Clients). take_in limits t conn more moment ys) (over _) ∙ over _ ∙ sym (over _)

@@ -1,5 +1,6 @@
 -- A connection has received bytes, and a whole frame was taken off it: what the hub is then, and what is done next.
-use Rattle.std.proofs.Common.{◌≡◌, ℕ, ◌+◌, ◌<◌, ◌≤◌, ◌^◌, true, false, List, [], ◌∷◌, ◌++◌, length, get_or, set, Some, refl, sym, ap, ◌∙◌, subst, arith, inl, inr}
+use Rattle.std.proofs.Common.{◌≡◌, ℕ, ◌+◌, ◌<◌, ◌≤◌, ◌^◌, true, false, List, [], ◌∷◌, ◌++◌, length, get_or, set, Some}
+use Rattle.std.proofs.Common.{refl, sym, ap, ◌∙◌, subst, arith, inl, inr}
 use Rattle.std.specs.Prelude.{nat_eq}
 use Rattle.std.proofs.lemmas.List.{get_or-set_same, length-set}
 use Rattle.ipc_base.specs.Limits.{ArePassed, longest_reply}
@@ -114,7 +115,8 @@ module _ {old new : Machine} {cs : List Connection} {place : ℕ} {was off : Con
   same-row = λ i. (r.number i, r.view i)
 
   pub invariant : first then.input ≡ More → IsKept old.limits then → HubInvariant (hub_view old ds)
-  invariant waits kept' = subst (λ (t : List (ℕ × ConnectionView)). HubInvariant (record { limits = old.limits; state = old.state; connections = t })) (sym table)
+  invariant waits kept' =
+      subst (λ (t : List (ℕ × ConnectionView)). HubInvariant (record { limits = old.limits; state = old.state; connections = t })) (sym table)
       (change-invariant (hub_view old cs) was.number (view_of was) then r.hub (found old cs place was r.hub r.within r.is) less kept')
     where
       by_asked : (a : Asked) → (taken_off a (record (view_of was) { input = was.input.items ++ next })).process ≡ (view_of was).process
@@ -267,7 +269,8 @@ module _ {old new : Machine} {cs : List Connection} {place : ℕ} {was off : Con
           numbers = ap keys_of told-n ∙ keys_of-with_value nat_eq mid-n.connections was.number last-n ∙ numbers r;
           invariant = subst (λ (t : List (ℕ × ConnectionView)). HubInvariant (record { limits = old.limits; state = old.state; connections = t })) (sym told-n)
               (change-invariant mid-n was.number (record (view_of was) { input = [] }) last-n invariant-n table' (λ pid mine. mine)
-              (kept-pushed old.limits (refusal serial ENOMEM) (record (view_of was) { input = [] }) kept-n (omega (arith, r.room, long)) (λ _. omega (arith, r.room, long))));
+              (kept-pushed old.limits (refusal serial ENOMEM) (record (view_of was) { input = [] }) kept-n (omega (arith, r.room, long))
+              (λ _. omega (arith, r.room, long))));
         })
 
     pub refused-takes : TakesIn (hub_view old cs) (hub_view new fs) was.number next moment

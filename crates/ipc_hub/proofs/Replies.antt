@@ -5,7 +5,8 @@ use Rattle.ipc_engine.specs.declared.event.Outcome.{Outcome}
 use Rattle.ipc_engine.specs.View.{plain_outcome}
 use Rattle.ipc_hub.specs.Clients.{last_reply}
 
-pub last-is : (os : List Outcome) (last : Option Outcome) → last ≡ slice_get os (length os - 1) → option_map plain_outcome last ≡ last_reply (map plain_outcome os)
+pub last-is : (os : List Outcome) (last : Option Outcome) → last ≡ slice_get os (length os - 1)
+    → option_map plain_outcome last ≡ last_reply (map plain_outcome os)
 last-is [] last is = ap (option_map plain_outcome) is
 last-is (o ∷ []) last is = ap (option_map plain_outcome) is
 last-is (o ∷ p ∷ os) last is =

@@ -207,7 +207,8 @@ apart-from (c ∷ cs) n (suc k) d none within = apart-from cs n k d (tail-none (
     tail-none false is = is
 
 -- with the same numbers in a row, a number stands at the same place
-pub found-still : (cs ds : List Connection) (low high place n : ℕ) (was : Connection) → IsRising low (keys_of (rows ds)) high → keys_of (rows ds) ≡ keys_of (rows cs)
+pub found-still : (cs ds : List Connection) (low high place n : ℕ) (was : Connection) → IsRising low (keys_of (rows ds)) high
+    → keys_of (rows ds) ≡ keys_of (rows cs)
     → position (λ (c : Connection). nat_eq c.number n) cs ≡ Some place → was ≡ get_or ds place was → IsThere ds place was × (was.number ≡ n)
 found-still cs ds low high place n was rising keys found is =
     let first = position-Some (λ (c : Connection). nat_eq c.number n) cs place was found in
@@ -215,7 +216,8 @@ found-still cs ds low high place n was rising keys found is =
     (there ds low place high was rising (omega (arith, first.0, same-length cs ds keys)) is, number)
 
 -- the connection at a place that a search found
-some-one : (c : Connection) (cs ds : List Connection) (low high place n : ℕ) → IsRising low (keys_of (rows ds)) high → keys_of (rows ds) ≡ keys_of (rows (c ∷ cs))
+some-one : (c : Connection) (cs ds : List Connection) (low high place n : ℕ) → IsRising low (keys_of (rows ds)) high
+    → keys_of (rows ds) ≡ keys_of (rows (c ∷ cs))
     → position (λ (e : Connection). nat_eq e.number n) (c ∷ cs) ≡ Some place → (d : Connection) × (IsThere ds place d × (d.number ≡ n))
 some-one c cs ds low high place n rising keys found =
     let first = position-Some (λ (e : Connection). nat_eq e.number n) (c ∷ cs) place c found in

@@ -14,7 +14,8 @@ use Rattle.ipc_wire.proofs.CallerLemmas.{first_short, whole_last, stream_begun}
 use Rattle.ipc_engine.specs.Engine.{takes_memory}
 use Rattle.ipc_engine.specs.Event.{PlainEvent}
 use Rattle.ipc_engine.specs.View.{reply_of}
-use Rattle.ipc_hub.specs.Clients.{Client, Clients, client_at, with_client, refusal, event_of, break_off, refuse, serve, on_request, on_ending, take_in, fitted, arriving}
+use Rattle.ipc_hub.specs.Clients.{Client, Clients, client_at, with_client, refusal, event_of, break_off, refuse, serve}
+use Rattle.ipc_hub.specs.Clients.{on_request, on_ending, take_in, fitted, arriving}
 use Rattle.ipc_hub.specs.View.{ConnectionView, HubView}
 use Rattle.ipc_hub.specs.Relations.Delivery.{pushed}
 use Rattle.ipc_hub.specs.Relations.Matches.{ClientMatches, IsAhead, TakesIn}
@@ -71,7 +72,15 @@ module _ (limits : Limits) (confirmed : ℕ) (old : HubView) (h : Clients) (conn
       record {
         matches = change-matches limits confirmed old (with_connection old conn (record v { input = [] })) h conn (record v { input = [] }) bare ahead.matches
             refl refl refl
-            (record { process = mine.process; input = refl; ended = mine.ended; kept = mine.kept; visible = mine.visible; seen = mine.seen; frames = mine.frames });
+            (record {
+              process = mine.process;
+              input = refl;
+              ended = mine.ended;
+              kept = mine.kept;
+              visible = mine.visible;
+              seen = mine.seen;
+              frames = mine.frames;
+            });
         later = ahead.later;
       }
 
@@ -99,7 +108,15 @@ module _ (limits : Limits) (confirmed : ℕ) (old : HubView) (h : Clients) (conn
       subst (IsAhead limits confirmed new) (sym to)
       (record {
         matches = change-matches limits confirmed old new h conn (record v { input = bytes }) d ahead.matches same state rows
-            (record { process = mine.process; input = refl; ended = mine.ended; kept = mine.kept; visible = mine.visible; seen = mine.seen; frames = mine.frames });
+            (record {
+              process = mine.process;
+              input = refl;
+              ended = mine.ended;
+              kept = mine.kept;
+              visible = mine.visible;
+              seen = mine.seen;
+              frames = mine.frames;
+            });
         later = ahead.later;
       })
 
@@ -161,8 +178,17 @@ module _ (limits : Limits) (confirmed : ℕ) (old : HubView) (h : Clients) (conn
             record {
               matches = change-matches limits confirmed (with_connection old conn (record v { input = [] })) new emptied_hub conn _ _ emptied-matches.matches
                   same state rows
-                  (push-matches confirmed h.accepted h.accepted (record v { input = [] }) bare (refusal request.serial ENOMEM) ahead.later (omega arith) (omega arith)
-                  (record { process = mine.process; input = refl; ended = mine.ended; kept = mine.kept; visible = mine.visible; seen = mine.seen; frames = mine.frames }));
+                  (push-matches confirmed h.accepted h.accepted (record v { input = [] }) bare (refusal request.serial ENOMEM) ahead.later (omega arith)
+                  (omega arith)
+                  (record {
+                    process = mine.process;
+                    input = refl;
+                    ended = mine.ended;
+                    kept = mine.kept;
+                    visible = mine.visible;
+                    seen = mine.seen;
+                    frames = mine.frames;
+                  }));
               later = ahead.later;
             }
 

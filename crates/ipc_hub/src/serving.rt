@@ -1,6 +1,7 @@
 //! Requests become events of the machine, and the replies of every event go to the connections of their processes.
 
-ghost use Rattle.std.specs.Prelude.{◌≡◌, ◌+◌, ◌<◌, ◌≤◌, ◌^◌, true, false, [], ◌++◌, length, map, take, nat_eq, option_map};
+ghost use Rattle.std.specs.Prelude.{◌≡◌, ◌+◌, ◌<◌, ◌≤◌, ◌^◌, true, false, [], ◌++◌, length, map, take, nat_eq};
+ghost use Rattle.std.specs.Prelude.{option_map};
 ghost use Rattle.ipc_base.specs.declared.errno.Errno.TheVariants.{ENOMEM};
 ghost use Rattle.ipc_base.specs.Limits.{longest_reply, ArePassed};
 ghost use Rattle.ipc_base.specs.Table.{EachValue, IsRising, keys_of, seen_as, with_value};

@@ -100,3 +100,74 @@ fn requests_wait_while_their_answers_have_no_room(rt: HostRuntime) -> Result<(),
     assert_eq!(rt; hub.feed(1, &GET, Moment(0)), Ok(17));
     Ok(())
 }
+
+/// A connection as the list of the connections has it.
+struct Listed {
+    number: u32,
+    output: &'static [u8],
+    ended: bool,
+}
+
+/// Four connections in rising number: 3 has said HELLO, and the server has ended 9.
+static LISTED: [Listed; 4] = [
+    Listed {
+        number: 0,
+        output: &[],
+        ended: false,
+    },
+    Listed {
+        number: 3,
+        output: &WELCOME,
+        ended: false,
+    },
+    Listed {
+        number: 9,
+        output: &BROKEN,
+        ended: true,
+    },
+    Listed {
+        number: 4294967295,
+        output: &[],
+        ended: false,
+    },
+];
+
+/// Whether the connections are these, in this order.
+fn are_listed(connections: &[Connection], listed: &[Listed]) -> bool {
+    connections.len() == listed.len()
+        && connections.iter().zip(listed).all(|(connection, wanted)| {
+            connection.number() == wanted.number
+                && connection.output() == wanted.output
+                && connection.ended() == wanted.ended
+        })
+}
+
+/// A hub whose connections were opened in this order.
+fn opened(alloc: Global, order: &[u32]) -> Result<Hub, Fail> {
+    let mut hub = Hub::new(alloc, Engine::new(alloc, Limits::small())?);
+    for conn in order {
+        hub.connect(*conn)?;
+    }
+    Ok(hub)
+}
+
+#[test]
+fn connections_are_listed_in_rising_number(rt: HostRuntime) -> Result<(), Fail> {
+    let orders = [
+        [4294967295, 9, 3, 0],
+        [3, 4294967295, 0, 9],
+        [9, 0, 4294967295, 3],
+    ];
+    for order in orders {
+        let mut hub = opened(rt.alloc(), &order)?;
+        assert_eq!(rt; hub.feed(3, &HELLO, Moment(0)), Ok(17));
+        assert_eq!(rt; hub.feed(9, &[0, 0, 0, 0], Moment(0)), Ok(4));
+        hub.release();
+        assert!(rt; are_listed(hub.connections(), &LISTED));
+
+        // one that has gone is listed no more
+        assert_eq!(rt; hub.hangup(0, Moment(1)), Ok(()));
+        assert!(rt; are_listed(hub.connections(), &LISTED[1..]));
+    }
+    Ok(())
+}

@@ -1,5 +1,6 @@
 -- Replies put into the outboxes of their processes.
-use Rattle.std.specs.Prelude.{◌≡◌, ℕ, ◌+◌, ◌-◌, ◌<◌, ◌≤◌, ◌^◌, ◌==◌, true, List, [], ◌∷◌, ◌++◌, length, drop, if◌then◌else◌}
+use Rattle.std.specs.Prelude.{◌≡◌, ℕ, ◌+◌, ◌-◌, ◌<◌, ◌≤◌, ◌^◌, ◌==◌, true, List, [], ◌∷◌, ◌++◌, length, drop}
+use Rattle.std.specs.Prelude.{if◌then◌else◌}
 use Rattle.std.specs.Prelude.{Option, Some, None, nat_eq}
 use Rattle.ipc_base.specs.Table.{seen_as, with_value, EachValue}
 use Rattle.ipc_wire.specs.Reply.{PlainReply, reply_bytes, body_bytes}

@@ -21,7 +21,8 @@ returns-then-connection-conn c =
     let here : c.args.conn < (get_or cs place was).number = omega
     (arith, found.rest place was (omega arith) inside, c.if-connection-conn.true, ap (λ (e : Connection). e.number) c.index-connections-place.is) in
     sym (nowhere-at cs place c.args.conn found.below
-    (λ k d past within. omega (arith, here, rising-up 0 cs (2 ^ 32) c.requires place k was past within, ap (λ (e : Connection). e.number) (get_or_default cs k was d within))))
+    (λ k d past within. omega
+    (arith, here, rising-up 0 cs (2 ^ 32) c.requires place k was past within, ap (λ (e : Connection). e.number) (get_or_default cs k was d within))))
 
 pub returns : goal.returns
 returns c =

@@ -46,7 +46,8 @@ push-requires-clause-room c =
       arith,
       room c.args.engine.now cs c.args.place was c.close-process.new.self
           c.requires.hub c.requires.place c.index-connections-place.is c.close-process.ensures.number c.close-process.ensures.view
-          (c.requires.live was at) c.leave.new.engine c.leave.new.connections c.index-connections-place-2.result c.index-connections-place-2.result c.args.serial
+          (c.requires.live was at) c.leave.new.engine c.leave.new.connections c.index-connections-place-2.result c.index-connections-place-2.result
+          c.args.serial
           c.leave.ensures.goes_on c.leave.ensures.others c.index-connections-place-2.is,
       length-reply_bytes (reply_of (refusal c.args.serial EPROTO)),
       ap (λ (r : PlainReply). length (reply_bytes r)) c.refusal.ensures,
@@ -88,5 +89,6 @@ returns-clause-ends c d client it limits confirmed h ahead here =
     (at-there cs c.args.place was at) (rw one at here)
     (λ m. subst (λ (p : Option ℕ). HubMatches limits confirmed left (leave limits (with_client h was.number (over client)) p c.args.moment.0)) (sym mine)
     (c.leave.ensures.leaves limits confirmed (with_client h was.number (over client))
-    (subst (λ (t : List (ℕ × ConnectionView)). HubMatches limits confirmed (record old { connections = t }) (with_client h was.number (over client))) (sym mid) m)))
+    (subst (λ (t : List (ℕ × ConnectionView)). HubMatches limits confirmed (record old { connections = t }) (with_client h was.number (over client)))
+    (sym mid) m)))
     refl refl rows_are)

@@ -61,7 +61,8 @@ refuse-requires-clause-rising c =
     let was = c.index-connections-place.result in
     let got = c.receive-count.ensures in
     let r = received-by c.args.engine.now c.receive-count.new.engine c.args.connections.now c.args.place was c.receive-count.new.connection
-    (take c.receive-count.result.0 c.args.piece.now) c.args.moment.0 c.receive-count.result.1 (asks.NoMemory c.in-NoMemory.serial) c.requires.passed c.requires.hub c.requires.place
+    (take c.receive-count.result.0 c.args.piece.now) c.args.moment.0 c.receive-count.result.1
+    (asks.NoMemory c.in-NoMemory.serial) c.requires.passed c.requires.hub c.requires.place
     c.index-connections-place.is c.if-connection.false c.requires.room got.few got.comes got.number got.view c.in-NoMemory.is in
     refused-rising r
 
@@ -70,7 +71,8 @@ refuse-requires-clause-room c d it =
     let was = c.index-connections-place.result in
     let got = c.receive-count.ensures in
     let r = received-by c.args.engine.now c.receive-count.new.engine c.args.connections.now c.args.place was c.receive-count.new.connection
-    (take c.receive-count.result.0 c.args.piece.now) c.args.moment.0 c.receive-count.result.1 (asks.NoMemory c.in-NoMemory.serial) c.requires.passed c.requires.hub c.requires.place
+    (take c.receive-count.result.0 c.args.piece.now) c.args.moment.0 c.receive-count.result.1
+    (asks.NoMemory c.in-NoMemory.serial) c.requires.passed c.requires.hub c.requires.place
     c.index-connections-place.is c.if-connection.false c.requires.room got.few got.comes got.number got.view c.in-NoMemory.is in
     refused-room r d it
 
@@ -79,7 +81,8 @@ break_off-requires-clause-hub c =
     let was = c.index-connections-place.result in
     let got = c.receive-count.ensures in
     let r = received-by c.args.engine.now c.receive-count.new.engine c.args.connections.now c.args.place was c.receive-count.new.connection
-    (take c.receive-count.result.0 c.args.piece.now) c.args.moment.0 c.receive-count.result.1 (asks.Broken c.in-Broken.serial) c.requires.passed c.requires.hub c.requires.place
+    (take c.receive-count.result.0 c.args.piece.now) c.args.moment.0 c.receive-count.result.1
+    (asks.Broken c.in-Broken.serial) c.requires.passed c.requires.hub c.requires.place
     c.index-connections-place.is c.if-connection.false c.requires.room got.few got.comes got.number got.view c.in-Broken.is in
     broken-invariant r
 
@@ -88,7 +91,8 @@ break_off-requires-clause-live c d it =
     let was = c.index-connections-place.result in
     let got = c.receive-count.ensures in
     let r = received-by c.args.engine.now c.receive-count.new.engine c.args.connections.now c.args.place was c.receive-count.new.connection
-    (take c.receive-count.result.0 c.args.piece.now) c.args.moment.0 c.receive-count.result.1 (asks.Broken c.in-Broken.serial) c.requires.passed c.requires.hub c.requires.place
+    (take c.receive-count.result.0 c.args.piece.now) c.args.moment.0 c.receive-count.result.1
+    (asks.Broken c.in-Broken.serial) c.requires.passed c.requires.hub c.requires.place
     c.index-connections-place.is c.if-connection.false c.requires.room got.few got.comes got.number got.view c.in-Broken.is in
     broken-live r d it
 
@@ -134,7 +138,8 @@ returns-in-NoMemory-clause-goes_on c =
     let was = c.index-connections-place.result in
     let got = c.receive-count.ensures in
     let r = received-by c.args.engine.now c.receive-count.new.engine c.args.connections.now c.args.place was c.receive-count.new.connection
-    (take c.receive-count.result.0 c.args.piece.now) c.args.moment.0 c.receive-count.result.1 (asks.NoMemory c.in-NoMemory.serial) c.requires.passed c.requires.hub c.requires.place
+    (take c.receive-count.result.0 c.args.piece.now) c.args.moment.0 c.receive-count.result.1
+    (asks.NoMemory c.in-NoMemory.serial) c.requires.passed c.requires.hub c.requires.place
     c.index-connections-place.is c.if-connection.false c.requires.room got.few got.comes got.number got.view c.in-NoMemory.is in
     refused-goes-on r c.refuse.new.connections c.refuse.ensures
 
@@ -143,7 +148,8 @@ returns-in-NoMemory-clause-bytes c d it =
     let was = c.index-connections-place.result in
     let got = c.receive-count.ensures in
     let r = received-by c.args.engine.now c.receive-count.new.engine c.args.connections.now c.args.place was c.receive-count.new.connection
-    (take c.receive-count.result.0 c.args.piece.now) c.args.moment.0 c.receive-count.result.1 (asks.NoMemory c.in-NoMemory.serial) c.requires.passed c.requires.hub c.requires.place
+    (take c.receive-count.result.0 c.args.piece.now) c.args.moment.0 c.receive-count.result.1
+    (asks.NoMemory c.in-NoMemory.serial) c.requires.passed c.requires.hub c.requires.place
     c.index-connections-place.is c.if-connection.false c.requires.room got.few got.comes got.number got.view c.in-NoMemory.is in
     rw (the-same c.args.connections.now c.args.place d was it c.requires.place ∙ sym c.index-connections-place.is)
     (refused-takes r c.refuse.new.connections c.refuse.ensures)
@@ -153,7 +159,8 @@ returns-in-Broken-clause-goes_on c =
     let was = c.index-connections-place.result in
     let got = c.receive-count.ensures in
     let r = received-by c.args.engine.now c.receive-count.new.engine c.args.connections.now c.args.place was c.receive-count.new.connection
-    (take c.receive-count.result.0 c.args.piece.now) c.args.moment.0 c.receive-count.result.1 (asks.Broken c.in-Broken.serial) c.requires.passed c.requires.hub c.requires.place
+    (take c.receive-count.result.0 c.args.piece.now) c.args.moment.0 c.receive-count.result.1
+    (asks.Broken c.in-Broken.serial) c.requires.passed c.requires.hub c.requires.place
     c.index-connections-place.is c.if-connection.false c.requires.room got.few got.comes got.number got.view c.in-Broken.is in
     broken-goes-on r (hub_view c.break_off.new.engine c.break_off.new.connections) c.break_off.ensures.goes_on
 
@@ -162,7 +169,8 @@ returns-in-Broken-clause-bytes c d it =
     let was = c.index-connections-place.result in
     let got = c.receive-count.ensures in
     let r = received-by c.args.engine.now c.receive-count.new.engine c.args.connections.now c.args.place was c.receive-count.new.connection
-    (take c.receive-count.result.0 c.args.piece.now) c.args.moment.0 c.receive-count.result.1 (asks.Broken c.in-Broken.serial) c.requires.passed c.requires.hub c.requires.place
+    (take c.receive-count.result.0 c.args.piece.now) c.args.moment.0 c.receive-count.result.1
+    (asks.Broken c.in-Broken.serial) c.requires.passed c.requires.hub c.requires.place
     c.index-connections-place.is c.if-connection.false c.requires.room got.few got.comes got.number got.view c.in-Broken.is in
     rw (the-same c.args.connections.now c.args.place d was it c.requires.place ∙ sym c.index-connections-place.is)
     (broken-takes r (hub_view c.break_off.new.engine c.break_off.new.connections) c.break_off.ensures.ends)

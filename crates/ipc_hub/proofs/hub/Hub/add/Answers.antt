@@ -35,7 +35,8 @@ invariant_of-self-2 c =
     let inserted : c.insert.new.self.items ≡ insert items c.place_for-place.result new = search rules in
     let number : new.number ≡ c.args.conn = search rules in
     let is : IsNew c.longest_reply-reply.result (view_of new) = search rules in
-    let reply : c.longest_reply-reply.result ≡ longest_reply c.self.inside.engine.limits = c.longest_reply-reply.ensures.longest ∙ ap longest_reply c.limits.ensures.limits in
+    let reply : c.longest_reply-reply.result ≡ longest_reply c.self.inside.engine.limits =
+    c.longest_reply-reply.ensures.longest ∙ ap longest_reply c.limits.ensures.limits in
     let there = put-in items c.deref.result.now c.place_for-place.result c.args.conn new c.deref.ensures.value c.place_for-place.ensures.within
     c.place_for-place.ensures.below c.place_for-place.ensures.rest none number in
     subst (λ (cs : List Connection). HubInvariant (hub_view c.self.inside.engine cs)) (sym inserted)

@@ -13,13 +13,15 @@ use Rattle.ipc_hub.proofs.hub.Hub.feed.Goals as goal
 
 pub returns-in_default-clause-unknown : goal.returns-in_default-clause-unknown
 returns-in_default-clause-unknown c =
-    let there = searched c.self.inside.engine c.self.inside.connections.items c.deref.result.now c.args.conn c.args.self.now c.deref.ensures.value c.self.view_is
+    let there = searched c.self.inside.engine c.self.inside.connections.items c.deref.result.now c.args.conn c.args.self.now c.deref.ensures.value
+    c.self.view_is
     ∙ ap is_some (sym c.place_of.ensures ∙ c.in_default.is) in
     (λ _. there, λ _. refl)
 
 pub returns-clause-unknown : goal.returns-clause-unknown
 returns-clause-unknown c =
-    let there = searched c.self.inside.engine c.self.inside.connections.items c.deref.result.now c.args.conn c.args.self.now c.deref.ensures.value c.self.view_is
+    let there = searched c.self.inside.engine c.self.inside.connections.items c.deref.result.now c.args.conn c.args.self.now c.deref.ensures.value
+    c.self.view_is
     ∙ ap is_some (sym c.place_of.ensures ∙ c.in-Some.is) in
     (λ e. cc, λ h. let bad : true ≡ false = sym there ∙ h in cc)
 
@@ -34,13 +36,15 @@ returns-clause-ok c limits confirmed h m =
     ap (position (λ (e : Connection). nat_eq e.number c.args.conn)) (sym c.deref.ensures.value) ∙ sym c.place_of.ensures ∙ c.in-Some.is in
     let d = found-there items ys 0 (2 ^ 32) c.in-Some.place c.args.conn (rw quiet c.self.invariant.rising) (ap keys_of quiet) found in
     let new = c.take_in-taken.new.connections in
-    let last = sliced (with_items c.self.inside.connections c.tick.new.connections) ys new c.deref_mut-2.ensures.value c.take_in-taken.ensures.goes_on.numbers in
+    let last = sliced (with_items c.self.inside.connections c.tick.new.connections) ys new c.deref_mut-2.ensures.value
+    c.take_in-taken.ensures.goes_on.numbers in
     let before : HubMatches limits confirmed (hub_view c.self.inside.engine c.deref_mut.result.now) h =
     subst (λ (cs : List Connection). HubMatches limits confirmed (hub_view c.self.inside.engine cs) h) (sym c.deref_mut.ensures.value)
     (subst (λ (v : HubView). HubMatches limits confirmed v h) (sym c.self.view_is) m) in
     let now : Clients = tick limits h c.args.moment.0 in
     let then : HubMatches limits confirmed (hub_view c.tick.new.engine ys) now =
-    subst (λ (cs : List Connection). HubMatches limits confirmed (hub_view c.tick.new.engine cs) now) (sym mid-is) (c.tick.ensures.ticks limits confirmed h before) in
+    subst (λ (cs : List Connection). HubMatches limits confirmed (hub_view c.tick.new.engine cs) now) (sym mid-is)
+    (c.tick.ensures.ticks limits confirmed h before) in
     let took = c.take_in-taken.ensures.bytes d.0 d.1.0 limits confirmed now (record { matches = then; later = omega (arith, m.known) }) in (
       took.0,
       subst (λ (cs : List Connection). HubMatches limits confirmed (hub_view c.take_in-taken.new.engine cs)
@@ -57,7 +61,8 @@ returns-clause-whole c none =
     let found : position (λ (e : Connection). nat_eq e.number c.args.conn) items ≡ Some c.in-Some.place =
     ap (position (λ (e : Connection). nat_eq e.number c.args.conn)) (sym c.deref.ensures.value) ∙ sym c.place_of.ensures ∙ c.in-Some.is in
     let new = c.take_in-taken.new.connections in
-    let last = sliced (with_items c.self.inside.connections c.tick.new.connections) ys new c.deref_mut-2.ensures.value c.take_in-taken.ensures.goes_on.numbers in
+    let last = sliced (with_items c.self.inside.connections c.tick.new.connections) ys new c.deref_mut-2.ensures.value
+    c.take_in-taken.ensures.goes_on.numbers in
     let goes = c.take_in-taken.ensures.goes_on in
     let d = found-there items new 0 (2 ^ 32) c.in-Some.place c.args.conn goes.invariant.rising (goes.numbers ∙ ap keys_of quiet) found in
     let there = rw d.1.1 at (at-there new c.in-Some.place d.0 d.1.0) in

@@ -16,13 +16,15 @@ use Rattle.ipc_hub.proofs.hub.Hub.hangup.Goals as goal
 
 pub returns-in_default-clause-unknown : goal.returns-in_default-clause-unknown
 returns-in_default-clause-unknown c =
-    let there = searched c.self.inside.engine c.self.inside.connections.items c.deref.result.now c.args.conn c.args.self.now c.deref.ensures.value c.self.view_is
+    let there = searched c.self.inside.engine c.self.inside.connections.items c.deref.result.now c.args.conn c.args.self.now c.deref.ensures.value
+    c.self.view_is
     ∙ ap is_some (sym c.place_of.ensures ∙ c.in_default.is) in
     (λ _. there, λ _. refl)
 
 pub returns-clause-unknown : goal.returns-clause-unknown
 returns-clause-unknown c =
-    let there = searched c.self.inside.engine c.self.inside.connections.items c.deref.result.now c.args.conn c.args.self.now c.deref.ensures.value c.self.view_is
+    let there = searched c.self.inside.engine c.self.inside.connections.items c.deref.result.now c.args.conn c.args.self.now c.deref.ensures.value
+    c.self.view_is
     ∙ ap is_some (sym c.place_of.ensures ∙ c.in-Some.is) in
     (λ e. cc, λ h. let bad : true ≡ false = sym there ∙ h in cc)
 

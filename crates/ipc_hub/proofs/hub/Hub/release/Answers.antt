@@ -16,7 +16,8 @@ invariant_of-self c =
     let xs = c.deref_mut.result.now in
     let new = c.release_all.new.connections in
     let same = c.deref_mut.ensures.value in
-    let seen : rows new ≡ seen_as released (rows c.self.inside.connections.items) = c.release_all.ensures ∙ ap (λ (cs : List Connection). seen_as released (rows cs)) same in
+    let seen : rows new ≡ seen_as released (rows c.self.inside.connections.items) =
+    c.release_all.ensures ∙ ap (λ (cs : List Connection). seen_as released (rows cs)) same in
     let items = sliced c.self.inside.connections xs new same (ap keys_of c.release_all.ensures ∙ keys-map released (rows xs)) in
     subst (λ (cs : List Connection). HubInvariant (hub_view c.self.inside.engine cs)) (sym items)
     (rw seen (released-invariant (hub_view c.self.inside.engine c.self.inside.connections.items) c.self.invariant))
@@ -26,8 +27,10 @@ returns c limits confirmed h m =
     let xs = c.deref_mut.result.now in
     let new = c.release_all.new.connections in
     let same = c.deref_mut.ensures.value in
-    let seen : rows new ≡ seen_as released (rows c.self.inside.connections.items) = c.release_all.ensures ∙ ap (λ (cs : List Connection). seen_as released (rows cs)) same in
+    let seen : rows new ≡ seen_as released (rows c.self.inside.connections.items) =
+    c.release_all.ensures ∙ ap (λ (cs : List Connection). seen_as released (rows cs)) same in
     let items = sliced c.self.inside.connections xs new same (ap keys_of c.release_all.ensures ∙ keys-map released (rows xs)) in
     let old : HubView = hub_view c.self.inside.engine c.self.inside.connections.items in
     subst (λ (cs : List Connection). HubMatches limits h.accepted (hub_view c.self.inside.engine cs) h) (sym items)
-    (release-matches limits confirmed old (hub_view c.self.inside.engine new) h (subst (λ (v : HubView). HubMatches limits confirmed v h) (sym c.self.view_is) m) refl refl seen)
+    (release-matches limits confirmed old (hub_view c.self.inside.engine new) h
+    (subst (λ (v : HubView). HubMatches limits confirmed v h) (sym c.self.view_is) m) refl refl seen)
