@@ -2,6 +2,7 @@
 
 ghost use Rattle.std.specs.Prelude.{◌≡◌, ◌<◌, ◌≤◌, ◌↔◌, ℕ, [], true, false, length, drop, take};
 ghost use Rattle.std.specs.Prelude.{IfOk, IsErr, OnErr, OnOk, Err};
+ghost use Rattle.std.specs.Bool.{OnTrue};
 ghost use Rattle.ipc_base.specs.declared.limits.Limits.{Limits};
 ghost use Rattle.ipc_hub.specs.Clients.{Clients, no_clients, connect, hangup, tick, consume, shown_at, ended_at};
 ghost use Rattle.ipc_hub.specs.View.{HasNoFrame, is_connected, output_of, ended_of};
@@ -171,6 +172,18 @@ impl Hub {
         ensures rising { IsRising 0 (keys_of self.now.connections) (2 ^ 32) }
     {
         &self.connections
+    }
+
+    /// Whether the connection at this place among them all has this number, and nothing to say: no byte that its client
+    /// may see, and no end. Who walks all connections asks this first, since it takes no search.
+    pub fn is_silent(&self, place: usize, conn: u32) -> bool
+        ensures { OnTrue result ((output_of self.now conn ≡ []) × (ended_of self.now conn ≡ false)) }
+    {
+        if place >= self.connections.len() {
+            return false;
+        }
+        let connection = &self.connections[place];
+        connection.number() == conn && connection.output().is_empty() && !connection.ended()
     }
 
     /// The bytes that the client of a connection may see; none where no connection has the number.

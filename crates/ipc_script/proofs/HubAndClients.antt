@@ -6,10 +6,10 @@ use Rattle.std.specs.List.{IsDistinct, AllByRecursion}
 use Rattle.std.proofs.lemmas.Bool.Decides.{nat_tests}
 use Rattle.std.proofs.lemmas.Map.Keys.{IsDistinct-cons}
 use Rattle.ipc_base.specs.Table.{value_at, ArePaired, IsRising}
-use Rattle.ipc_base.proofs.CallerLemmas.{same_keys, paired-keys, paired-at}
+use Rattle.ipc_base.proofs.CallerLemmas.{same_keys, paired-keys, paired-at, paired-none}
 use Rattle.ipc_hub.specs.declared.hub.Hub.{Hub}
-use Rattle.ipc_hub.specs.Clients.{Clients, client_at, all_bytes}
-use Rattle.ipc_hub.specs.View.{ConnectionView, kept, is_connected, HasNoFrame}
+use Rattle.ipc_hub.specs.Clients.{Clients, client_at, all_bytes, shown_at, ended_at}
+use Rattle.ipc_hub.specs.View.{ConnectionView, kept, is_connected, output_of, ended_of, HasNoFrame}
 use Rattle.ipc_hub.specs.Relations.Matches.{ClientMatches, HubMatches}
 
 -- the numbers that are connected
@@ -30,6 +30,20 @@ no_frame limits confirmed hub h conn m u q = by_value (value_at nat_eq hub.conne
         let none : p.0.consumed ≡ 0 = rw p.1.0 at u in
         let empty : p.0.frames ≡ [] = rw p.1.0 at q in
         p.1.1.kept ∙ ap (λ (n : ℕ). drop n (all_bytes p.0.frames)) none ∙ ap all_bytes empty
+
+-- what the hub shows of a connection is what the client may see, and so is whether it has ended
+pub shows : (limits : Limits) (confirmed : ℕ) (hub : Hub) (h : Clients) (conn : ℕ) → HubMatches limits confirmed hub h
+    → (output_of hub conn ≡ shown_at confirmed h conn) × (ended_of hub conn ≡ ended_at h conn)
+shows limits confirmed hub h conn m = by_value (value_at nat_eq hub.connections conn) refl
+  where
+    by_value : (r : Option ConnectionView) → value_at nat_eq hub.connections conn ≡ r
+        → (output_of hub conn ≡ shown_at confirmed h conn) × (ended_of hub conn ≡ ended_at h conn)
+    by_value None is =
+        let none = paired-none (ClientMatches confirmed h.accepted) hub.connections h.clients conn m.clients is in
+        rw is (rw none (refl, refl))
+    by_value (Some v) is =
+        let p = paired-at (ClientMatches confirmed h.accepted) hub.connections h.clients conn v m.clients is in
+        rw is (rw p.1.0 (p.1.1.visible, p.1.1.ended))
 
 -- ---- tables
 

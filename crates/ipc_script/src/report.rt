@@ -39,16 +39,17 @@ pub fn report<W: Write>(
         WritesPart (W.contents writer.old) (W.contents writer.new) (report_of r).text)) }
 {
     hub.release();
-    for connection in opened.iter_mut() {
-        report_connection(alloc, hub, connection, writer)?;
+    for (place, connection) in opened.iter_mut().enumerate() {
+        report_connection(alloc, hub, place, connection, writer)?;
     }
     Ok(())
 }
 
-/// Writes what there is to say of a connection.
+/// Writes what there is to say of a connection, which stands at this place among those that are open.
 fn report_connection<W: Write>(
     alloc: Global,
     hub: &mut Hub,
+    place: usize,
     connection: &mut Opened,
     writer: &mut W,
 ) -> Result<(), ScriptFault>
@@ -63,6 +64,9 @@ fn report_connection<W: Write>(
         connection.old ≡ opened_of r.told connection.old.conn →
         WritesPart (W.contents writer.old) (W.contents writer.new) (conn_text r connection.old.conn))) }
 {
+    if hub.is_silent(place, connection.conn) {
+        return Ok(());
+    }
     report_frames(alloc, hub, connection.conn, writer)?;
     if !connection.told && hub.ended(connection.conn) {
         connection.told = true;

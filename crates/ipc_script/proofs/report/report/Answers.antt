@@ -4,26 +4,26 @@ use Rattle.ipc_script.proofs.FaultCases.{world_failed}
 use Rattle.ipc_script.proofs.ReportText.{reported_begun, reported_more, reported_part, reported_all}
 use Rattle.ipc_script.proofs.report.report.Goals as goal
 
-pub loop-connection-init : goal.loop-connection-init
-loop-connection-init g c =
+pub loop-place-init : goal.loop-place-init
+loop-place-init g c =
     λ limits r i. reported_begun limits r c.release.new.self c.args.opened.now _ (c.release.ensures limits i.confirmed r.hub i.stands) i.rising i.kept
 
-pub loop-connection-preserved : goal.loop-connection-preserved
-loop-connection-preserved g c = λ limits r i.
-    let inside : c.loop-connection.connection-index < length c.loop-connection.opened = omega arith in
-    reported_more limits r c.loop-connection.hub c.loop-connection.opened c.loop-connection.connection-index _ _ (c.loop-connection.invariant limits r i)
-    i.untouched (get_or c.loop-connection.opened c.loop-connection.connection-index _) _ inside refl
+pub loop-place-preserved : goal.loop-place-preserved
+loop-place-preserved g c = λ limits r i.
+    let inside : c.loop-place.place < length c.loop-place.opened = omega arith in
+    reported_more limits r c.loop-place.hub c.loop-place.opened c.loop-place.place _ _ (c.loop-place.invariant limits r i)
+    i.untouched (get_or c.loop-place.opened c.loop-place.place _) _ inside refl
     c.report_connection.new.hub _ c.report_connection.new.connection (c.in_ok-report_connection.ensures.ok limits)
 
 pub returns-in_err-report_connection-clause-err : goal.returns-in_err-report_connection-clause-err
 returns-in_err-report_connection-clause-err g c =
     let q = err_from_is_err_and c.from_residual.result c.from_residual.ensures.1 in
-    let inside : c.loop-connection.connection-index < length c.loop-connection.opened = omega arith in
+    let inside : c.loop-place.place < length c.loop-place.opened = omega arith in
     rw (q.1, q.2) (world_failed _ _ _ c.in_err-report_connection.field-0.0 (λ part limits r i.
-    reported_part limits r c.loop-connection.hub c.loop-connection.opened c.loop-connection.connection-index _ _ (c.loop-connection.invariant limits r i)
-    i.untouched (get_or c.loop-connection.opened c.loop-connection.connection-index _) _ inside refl _ (part limits)) c.in_err-report_connection.ensures.err)
+    reported_part limits r c.loop-place.hub c.loop-place.opened c.loop-place.place _ _ (c.loop-place.invariant limits r i)
+    i.untouched (get_or c.loop-place.opened c.loop-place.place _) _ inside refl _ (part limits)) c.in_err-report_connection.ensures.err)
 
 pub returns-clause-ok : goal.returns-clause-ok
 returns-clause-ok g c =
-    λ limits r i. reported_all limits r c.loop-connection.hub c.loop-connection.opened c.loop-connection.connection-index _ _
-    (c.loop-connection.invariant limits r i) (omega arith)
+    λ limits r i. reported_all limits r c.loop-place.hub c.loop-place.opened c.loop-place.place _ _
+    (c.loop-place.invariant limits r i) (omega arith)

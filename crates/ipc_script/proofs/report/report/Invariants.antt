@@ -4,7 +4,7 @@ use Rattle.ipc_script.specs.Runs.{IsIn}
 use Rattle.ipc_script.proofs.ReportText.{PartlyReported}
 use Rattle.ipc_script.proofs.report.report.Given as goal
 
-abbrev pub invariant-loop-connection : goal.invariant-loop-connection
-invariant-loop-connection g l =
+abbrev pub invariant-loop-place : goal.invariant-loop-place
+invariant-loop-place g l =
     (limits : Limits) (r : Run) → IsIn limits l.fn.hub l.fn.opened r
-    → PartlyReported limits r l.hub l.opened l.connection-index (g.W.Write.contents l.fn.writer) (g.W.Write.contents l.writer)
+    → PartlyReported limits r l.hub l.opened l.place (g.W.Write.contents l.fn.writer) (g.W.Write.contents l.writer)

@@ -1,15 +1,33 @@
-use Rattle.std.proofs.Common.{◌≡◌, true, false, Bool, refl, sym, ap, ◌∙◌}
+use Rattle.std.proofs.Common.{◌≡◌, ◌||◌, [], true, false, Bool, refl, sym, ap, ◌∙◌}
 use Rattle.std.proofs.KnownBytes.{Appends-nil}
 use Rattle.std.proofs.lemmas.Result.{err_from_is_err_and}
 use Rattle.ipc_hub.specs.Clients.{ended_at}
 use Rattle.ipc_script.specs.Runs.{taken_from}
 use Rattle.ipc_script.specs.declared.report.Opened.{Opened}
 use Rattle.ipc_script.proofs.ConnectionText.{frames_part, reports_part, reports, reports_told}
+use Rattle.ipc_script.proofs.FrameLines.{partly_begun, partly_done}
+use Rattle.ipc_script.proofs.HubAndClients.{shows}
 use Rattle.ipc_script.proofs.FaultCases.{world_failed}
 use Rattle.ipc_script.proofs.WrittenText.{part_none}
 use Rattle.ipc_script.proofs.report.report_connection.Goals.{else-not-connection-via-then-not-connection+else-ended}
 use Rattle.ipc_script.proofs.report.report_connection.Goals.{else-not-connection-via-else-not-connection}
 use Rattle.ipc_script.proofs.report.report_connection.Goals as goal
+
+or_false : (b : Bool) → b ≡ (b || false)
+or_false true = refl
+or_false false = refl
+
+pub returns-then-is_silent-clause-ok : goal.returns-then-is_silent-clause-ok
+returns-then-is_silent-clause-ok g c = λ limits r s u kept.
+    let hub = c.args.hub.now in
+    let conn = c.args.connection.now.conn in
+    let w = g.W.Write.contents c.args.writer.now in
+    let silent = rw c.if-is_silent.true at c.is_silent.ensures in
+    let frames = partly_done limits r.hub conn hub w w [] (partly_begun limits r.hub conn hub w s u)
+    (λ _ confirmed h m. sym silent.0 ∙ (shows _ confirmed hub h conn m).0) refl in
+    let ended : false ≡ ended_at (taken_from r.hub conn) conn = sym silent.1 ∙ (shows limits r.hub.accepted hub (taken_from r.hub conn) conn frames.0).1 in
+    reports limits r conn hub w w w c.args.connection.now.told false frames.0 frames.1 (ap (λ (o : Opened). o.told) kept) ended _
+    (ap (λ (b : Bool). record { conn = conn; told = b }) (or_false c.args.connection.now.told)) (Appends-nil w)
 
 pub returns-in_err-report_frames-clause-err : goal.returns-in_err-report_frames-clause-err
 returns-in_err-report_frames-clause-err g c =
