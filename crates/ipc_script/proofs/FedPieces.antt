@@ -129,7 +129,8 @@ open_here limits hub opened r conn i known =
 
 module _ (limits : Limits) (r : Run) (moment conn : ℕ) (bytes : List ℕ) (taken : ℕ) (hub mid next : Hub) (opened changed : List Opened)
     (w0 w2 : Option (List ℕ))
-    (b : IsBehind limits hub opened r) (takes : SimulatesFeed hub mid conn (take taken bytes) moment) (starts : HasNoFrame hub conn → 0 < length bytes → 0 < taken)
+    (b : IsBehind limits hub opened r) (takes : SimulatesFeed hub mid conn (take taken bytes) moment)
+    (starts : HasNoFrame hub conn → 0 < length bytes → 0 < taken)
     (known : is_connected hub conn ≡ false → ⊥) where
   taken_in : (refused : List Bool) × HubMatches limits b.line.confirmed mid (feed limits r.hub conn (take taken bytes) moment refused)
   taken_in = takes limits b.line.confirmed r.hub b.line.stands

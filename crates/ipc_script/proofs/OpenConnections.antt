@@ -1,5 +1,6 @@
 -- The connections that are open, when one comes and when one goes.
-use Rattle.std.proofs.Common.{◌≡◌, ◌<◌, ◌^◌, ℕ, ◌+◌, arith, Bool, true, false, ◌&&◌, List, [], ◌∷◌, ◌++◌, map, take, drop, Option, Some, None, refl, sym, ap, ◌∙◌, inl, inr}
+use Rattle.std.proofs.Common.{◌≡◌, ◌<◌, ◌^◌, ℕ, ◌+◌, arith, Bool, true, false, ◌&&◌, List, [], ◌∷◌, ◌++◌, map, take, drop, Option, Some, None, refl, sym}
+use Rattle.std.proofs.Common.{ap, ◌∙◌, inl, inr}
 use Rattle.std.specs.Prelude.{nat_eq, nat_lt, not, is_some, if◌then◌else◌}
 use Rattle.std.proofs.lemmas.Bool.Decides.{nat_tests}
 use Rattle.std.specs.List.{insert, prefix_len, AllByRecursion}
@@ -84,7 +85,8 @@ keys_entry (e ∷ es) n x apart =
     ]
 
 -- a connection was opened
-pub open_in : (limits : Limits) (hub next : Hub) (os : List Opened) (r : Run) (conn : ℕ) → conn < 2 ^ 32 → IsBehind limits hub os r → is_connected hub conn ≡ false
+pub open_in : (limits : Limits) (hub next : Hub) (os : List Opened) (r : Run) (conn : ℕ) → conn < 2 ^ 32
+    → IsBehind limits hub os r → is_connected hub conn ≡ false
     → Simulates hub next (λ _ h. connect h conn)
     → (is_open r conn ≡ false) × IsIn limits next (insert os (prefix_len (λ o. nat_lt o.conn conn) os) (record { conn = conn; told = false })) (opened r conn)
 open_in limits hub next os r conn small b new takes =

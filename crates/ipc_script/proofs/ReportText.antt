@@ -18,7 +18,9 @@ use Rattle.ipc_hub.specs.Relations.Matches.{HubMatches}
 use Rattle.ipc_script.specs.declared.report.Opened.{Opened}
 use Rattle.ipc_script.specs.Script.{Run, emptied, conn_text, reported, report, WritesPart}
 use Rattle.ipc_script.specs.Runs.{IsBehind, IsUntouched, taken_from, opened_of, ReportsConnection}
-use Rattle.ipc_base.proofs.CallerLemmas.{test_cases as test, flipped, same_key as same_number, distinct_tail, at-with as value_here, value_elsewhere, keys_of-with_value, same_table, at-map as value_mapped}
+use Rattle.ipc_base.proofs.CallerLemmas.{test_cases as test, flipped, same_key as same_number, distinct_tail}
+use Rattle.ipc_base.proofs.CallerLemmas.{at-with as value_here, value_elsewhere, keys_of-with_value}
+use Rattle.ipc_base.proofs.CallerLemmas.{same_table, at-map as value_mapped}
 use Rattle.ipc_base.proofs.CallerLemmas.{keys-map as keys_mapped, no_value}
 use Rattle.ipc_script.proofs.HubAndClients.{rising-distinct}
 use Rattle.ipc_script.proofs.WrittenText.{part_after, part_more}

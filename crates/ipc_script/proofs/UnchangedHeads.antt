@@ -10,7 +10,8 @@ use Rattle.ipc_base.specs.Table.{value_at, with_value, keys_of}
 use Rattle.ipc_engine.specs.Event.{PlainEvent, PlainOutcome, Tick, Exit}
 use Rattle.ipc_engine.specs.Step.{step}
 use Rattle.ipc_hub.specs.Clients.{Client, Clients, client_at, with_client, with_frame, deliver, deliver_all, accept, over, greeted, welcomed, serve}
-use Rattle.ipc_hub.specs.Clients.{last_reply, event_of, leave, break_off, refuse, on_request, unless_ended, first_of, on_requests, on_ending, take_in, feed, tick, is_for}
+use Rattle.ipc_hub.specs.Clients.{last_reply, event_of, leave, break_off, refuse, on_request, unless_ended, first_of}
+use Rattle.ipc_hub.specs.Clients.{on_requests, on_ending, take_in, feed, tick, is_for}
 use Rattle.ipc_hub.specs.declared.hub.Hub.{Hub}
 use Rattle.ipc_hub.specs.Relations.Matches.{HubMatches}
 use Rattle.ipc_script.specs.declared.report.Opened.{Opened}
