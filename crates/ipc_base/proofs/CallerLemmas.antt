@@ -544,11 +544,21 @@ within-bounds value most h =
 -- what is used of limits that were checked
 pub record PassedBounds (l : Limits) : Type 0 where
   pub processes : (1 ≤ l.processes) × (l.processes ≤ 64)
+  pub msgmni : l.msgmni ≤ 32
   pub msgmax : (1 ≤ l.msgmax) × (l.msgmax ≤ 8192) × (l.msgmax ≤ l.msgmnb)
   pub msgmnb : (1 ≤ l.msgmnb) × (l.msgmnb ≤ 16384)
+  pub semmni : l.semmni ≤ 32
   pub semmsl : l.semmsl ≤ 64
+  pub semmns : l.semmns ≤ 512
+  pub semopm : l.semopm ≤ 32
+  pub queues : l.queues ≤ 32
+  pub maxmsg : l.maxmsg ≤ 10
   pub msgsize : l.msgsize ≤ 8192
+  pub named_semaphores : l.named_semaphores ≤ 64
+  pub segments : l.segments ≤ 32
+  pub segment_bytes : l.segment_bytes ≤ 1048576
   pub call_bytes : l.call_bytes ≤ 8192
+  pub descriptors : l.descriptors ≤ 32
 
 pub passed-bounds : (l : Limits) → ArePassed l → PassedBounds l
 passed-bounds l passed =
@@ -558,11 +568,21 @@ passed-bounds l passed =
     let set = both_true (is_within l.semmsl 64) (leb l.semmsl l.semmns) (all 5 (omega arith)) in
     record {
       processes = within-bounds _ _ (all 0 (omega arith));
+      msgmni = (within-bounds _ _ (all 1 (omega arith))).1;
       msgmax = (msgmax.0, msgmax.1, leb-true _ _ size.1);
       msgmnb = within-bounds _ _ (all 3 (omega arith));
+      semmni = (within-bounds _ _ (all 4 (omega arith))).1;
       semmsl = (within-bounds _ _ set.0).1;
+      semmns = (within-bounds _ _ (all 6 (omega arith))).1;
+      semopm = (within-bounds _ _ (all 7 (omega arith))).1;
+      queues = (within-bounds _ _ (all 8 (omega arith))).1;
+      maxmsg = (within-bounds _ _ (all 9 (omega arith))).1;
       msgsize = (within-bounds _ _ (all 10 (omega arith))).1;
+      named_semaphores = (within-bounds _ _ (all 11 (omega arith))).1;
+      segments = (within-bounds _ _ (all 12 (omega arith))).1;
+      segment_bytes = (within-bounds _ _ (all 13 (omega arith))).1;
       call_bytes = (within-bounds _ _ (all 14 (omega arith))).1;
+      descriptors = (within-bounds _ _ (all 15 (omega arith))).1;
     }
 
 pub longest_reply-bound : (l : Limits) → ArePassed l → longest_reply l ≤ 8210

@@ -1,0 +1,4 @@
+-- Lemmas on sizes, and on numbers side by side.
+mod Bounds
+mod Numbers
+mod Reading

@@ -1,0 +1,3 @@
+-- How large a device must be, and what its superblock says.
+pub mod Sizes
+pub mod Superblock

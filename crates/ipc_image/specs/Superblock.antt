@@ -1,0 +1,58 @@
+-- The superblock, sector 0 of a device: what its bytes are, and when a sector is one.
+use Rattle.std.specs.Prelude.{◌≡◌, ◌≤◌, ◌-◌, ℕ, List, [], ◌∷◌, ◌++◌, take, drop, replicate, codes}
+use Rattle.std.specs.Int.{w32, to_be_bytes, from_be_bytes}
+use Rattle.std.specs.List.{flat_map}
+use Rattle.ipc_base.specs.declared.limits.Limits.{Limits}
+use Rattle.ipc_base.specs.Limits.{ArePassed}
+use Rattle.ipc_image.specs.Sizes.{need_of}
+
+-- how every superblock begins
+abbrev pub magic : List ℕ
+magic = codes "IPCSTORE"
+
+-- the limits, in their order
+abbrev pub limit_fields : Limits → List ℕ
+limit_fields l =
+    l.processes
+    ∷ l.msgmni ∷ l.msgmax ∷ l.msgmnb
+    ∷ l.semmni ∷ l.semmsl ∷ l.semmns ∷ l.semopm
+    ∷ l.queues ∷ l.maxmsg ∷ l.msgsize
+    ∷ l.named_semaphores
+    ∷ l.segments ∷ l.segment_bytes ∷ l.call_bytes
+    ∷ l.descriptors ∷ []
+
+-- the numbers of the superblock of a device of so many sectors
+abbrev pub superblock_fields : ℕ → Limits → List ℕ
+superblock_fields sectors limits =
+    -- the version, and the sectors of the device
+    0 ∷ sectors
+    -- the journal: its first sector, and how many it has
+    ∷ 3 ∷ 257
+    -- the object area, to the end of the device
+    ∷ 260 ∷ (sectors - 260)
+    -- the root
+    ∷ 1
+    ∷ limit_fields limits
+
+-- the bytes that have a meaning, 100 of them: each number in four bytes
+unfoldable pub named_bytes : ℕ → Limits → List ℕ
+named_bytes sectors limits = magic ++ flat_map (to_be_bytes w32) (superblock_fields sectors limits)
+
+-- the whole sector
+abbrev pub superblock_bytes : ℕ → Limits → List ℕ
+superblock_bytes sectors limits = named_bytes sectors limits ++ replicate 412 0
+
+-- the sector begins as a superblock does
+abbrev pub IsFormatted : List ℕ → Type 0
+IsFormatted sector = take 8 sector ≡ magic
+
+-- the version that it names
+abbrev pub version_in : List ℕ → ℕ
+version_in sector = from_be_bytes w32 (take 4 (drop 8 sector))
+
+-- The sector is the superblock of a device of so many sectors, with these limits. Bytes without a
+-- meaning may be any.
+pub record IsSuperblock (sectors : ℕ) (limits : Limits) (sector : List ℕ) : Type 0 where
+  pub named : take 100 sector ≡ named_bytes sectors limits
+  pub passed : ArePassed limits
+  pub room : need_of limits ≤ sectors

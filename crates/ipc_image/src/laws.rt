@@ -1,0 +1,22 @@
+//! What follows from the definitions alone.
+
+ghost use Rattle.std.specs.Prelude.{◌≡◌, ◌≤◌, ◌<◌, ◌^◌, ℕ, List};
+ghost use Rattle.ipc_base.specs.Limits.{ArePassed};
+ghost use Rattle.ipc_base.specs.declared.limits.Limits.{Limits};
+ghost use Rattle.ipc_image.specs.Sizes.{need_of};
+ghost use Rattle.ipc_image.specs.Superblock.{IsSuperblock, superblock_bytes};
+
+/// What was written is the superblock of that device with those limits, if they passed their check
+/// and the device has room for them.
+pub fn superblock_is_read()
+    ensures { (sectors : ℕ) (limits : Limits) → ArePassed limits → need_of limits ≤ sectors
+        → IsSuperblock sectors limits (superblock_bytes sectors limits) }
+{}
+
+/// A sector is the superblock of one device with one set of limits, and no two.
+pub fn a_sector_is_one_superblock()
+    ensures { (sectors others : ℕ) (limits more : Limits) (sector : List ℕ)
+        → sectors < 2 ^ 32 → others < 2 ^ 32
+        → IsSuperblock sectors limits sector → IsSuperblock others more sector
+        → (sectors ≡ others) × (limits ≡ more) }
+{}

@@ -1,0 +1,87 @@
+//! How many sectors a device must have under given limits.
+
+ghost use Rattle.std.specs.Prelude.{◌≡◌, ◌≤◌, ◌<◌, ◌+◌, ◌*◌, ◌^◌};
+ghost use Rattle.ipc_base.specs.Limits.{ArePassed};
+ghost use Rattle.ipc_image.specs.Sizes.{
+  sectors,
+  process_sectors,
+  object_sectors,
+  entries,
+  area_of,
+  need_of,
+};
+
+use crate::places::OBJECTS;
+use ipc_base::Limits;
+
+/// How many sectors an image of all that is kept takes at most, with its table: 94 under small
+/// limits, 22785 under standard ones.
+pub fn area(limits: &Limits) -> u32
+    requires { ArePassed limits.now }
+    ensures exact { result ≡ area_of limits.now }
+    ensures bounded { result ≤ 22785 }
+{
+    let image = process_part(limits) + object_part(limits);
+    let table = 4 + 16 * entry_count(limits) + 4 * image;
+    image + table.div_ceil(508)
+}
+
+/// How many sectors a device has at least: room for the image that is there and for the next one,
+/// so a save is never short of sectors. 448 under small limits, 45830 under standard ones.
+pub fn need(limits: &Limits) -> u32
+    requires { ArePassed limits.now }
+    ensures exact { result ≡ need_of limits.now }
+    ensures bounded { result ≤ 45830 }
+{
+    OBJECTS + 2 * area(limits)
+}
+
+/// The clock, the processes, their waiting calls and their adjustments.
+#[tactic(auto, using(crate::proofs::Bounds::bounds))]
+fn process_part(limits: &Limits) -> u32
+    requires { ArePassed limits.now }
+    ensures exact { result ≡ process_sectors limits.now }
+    ensures bounded { result ≤ 1896 }
+{
+    let processes = limits.processes;
+    sectors_for(32)
+        + sectors_for(4 + processes * (16 + 16 * limits.descriptors))
+        + sectors_for(4 + processes * 8464)
+        + sectors_for(4 + 12 * processes * limits.semmns)
+}
+
+/// The objects of each kind.
+#[tactic(auto, using(crate::proofs::Bounds::bounds))]
+fn object_part(limits: &Limits) -> u32
+    requires { ArePassed limits.now }
+    ensures exact { result ≡ object_sectors limits.now }
+    ensures bounded { result ≤ 20704 }
+{
+    sectors_for_each(limits.msgmni, 64 + 13 * limits.msgmnb)
+        + sectors_for_each(limits.semmni, 44 + 6 * limits.semmsl)
+        + sectors_for_each(limits.queues, 299 + limits.maxmsg * (8 + limits.msgsize))
+        + sectors_for_each(limits.named_semaphores, 271)
+        + (2 * limits.segments + sectors_for(limits.segment_bytes))
+}
+
+/// The entries of the table.
+fn entry_count(limits: &Limits) -> u32
+    requires { ArePassed limits.now }
+    ensures exact { result ≡ entries limits.now }
+    ensures bounded { result ≤ 196 }
+{
+    4 + limits.msgmni + limits.semmni + limits.queues + limits.named_semaphores + limits.segments
+}
+
+fn sectors_for(bytes: u32) -> u32
+    ensures { result ≡ sectors bytes }
+{
+    bytes.div_ceil(512)
+}
+
+fn sectors_for_each(count: u32, bytes: u32) -> u32
+    requires { count * sectors bytes < 2 ^ 32 }
+    ensures { result ≡ count * sectors bytes }
+{
+    count * sectors_for(bytes)
+}
