@@ -5,7 +5,7 @@ ghost use Rattle.std.specs.Prelude.{◌≡◌};
 use ipc_base::{Cred, Errno, Moment, Pid};
 use ipc_wire::{Body, Reply, Request};
 
-/// What happens, each at a moment.
+/// What happens, each at a moment, but a restart, which has none.
 #[derive(Clone, Copy, Debug)]
 pub enum Event<'a> {
     /// A HELLO, which asks for a process.
@@ -29,6 +29,8 @@ pub enum Event<'a> {
         pid: Pid,
         moment: Moment,
     },
+    /// The server has stopped and begun anew: no process is left.
+    Restart,
 }
 
 /// A reply: `pid` is the process that gets it, or 0 for the HELLO that got none; `errno` is `None`
