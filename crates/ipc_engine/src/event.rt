@@ -33,6 +33,24 @@ pub enum Event<'a> {
     Restart,
 }
 
+impl Event<'_> {
+    ghost use Rattle.ipc_engine.specs.Event.{moment_of};
+    ghost use Rattle.ipc_engine.specs.View.{plain_event};
+
+    /// When it happens; a restart has the moment 0.
+    pub fn moment(&self) -> Moment
+        ensures { result.0 ≡ moment_of (plain_event self.now) }
+    {
+        match self {
+            Event::Connect { moment, .. }
+            | Event::Call { moment, .. }
+            | Event::Tick { moment }
+            | Event::Exit { moment, .. } => *moment,
+            Event::Restart => Moment(0),
+        }
+    }
+}
+
 /// A reply: `pid` is the process that gets it, or 0 for the HELLO that got none; `errno` is `None`
 /// for success.
 #[derive(Debug, Drop)]

@@ -2,3 +2,4 @@
 mod Bounds
 mod Numbers
 mod Reading
+mod EventRecords

@@ -117,6 +117,17 @@ request_text text request has is =
       whole = ap frame_of is ∙ text_again request.serial (opcode_of kind) (fields_of kind) kind has.serial.0 has.serial.1 (kind_again kind has.fields);
     }
 
+pub one_request : (f : PlainFrame) (used n : ℕ) (request other : PlainRequest) → f ≡ Whole used request → f ≡ Whole n other → Some request ≡ Some other
+one_request f used n request other is also =
+    let same : Whole used request ≡ Whole n other = sym is ∙ also in
+    cc
+
+-- no two requests have the same bytes
+pub one_text : (request other : PlainRequest) → HasFrame request → HasFrame other → request_bytes request ≡ request_bytes other → Some request ≡ Some other
+one_text request other has also is =
+    one_request (frame_of (request_bytes request)) _ _ request other (request_text (request_bytes request) request has refl).whole
+    (request_text (request_bytes request) other also is).whole
+
 request_back : (bytes : List ℕ) (used : ℕ) (request : PlainRequest) → IsBytes bytes → first bytes ≡ Whole used request
     → (take used bytes ≡ frame request) × HasFrame request
 unfolding frame

@@ -1,6 +1,6 @@
 //! Requests read from the front of a stream.
 
-ghost use Rattle.std.specs.Prelude.{◌≡◌, ◌≢◌, ◌<◌, ◌≤◌, ◌+◌, length, option_map, IfSome, IfNone};
+ghost use Rattle.std.specs.Prelude.{◌≡◌, ◌<◌, ◌≤◌, ◌+◌, length, option_map, IfSome, Some};
 ghost use Rattle.ipc_wire.specs.Request.{PlainRequest, plain_kind, plain_request};
 ghost use Rattle.ipc_wire.specs.Spelling.{HasFrame, request_bytes};
 ghost use Rattle.ipc_wire.specs.Stream.{
@@ -79,7 +79,8 @@ pub fn bytes_missing(bytes: &[u8]) -> usize
 pub fn read_request(text: &[u8]) -> Option<Request<'_>>
     ensures some { IfSome (option_map plain_request result)
         (λ r. HasFrame r × (text.now ≡ request_bytes r)) }
-    ensures none { IfNone result ((r : PlainRequest) → HasFrame r → text.now ≢ request_bytes r) }
+    ensures only { (r : PlainRequest) → HasFrame r → text.now ≡ request_bytes r
+        → option_map plain_request result ≡ Some r }
 {
     if text.len() < LEAST_LENGTH as usize || text.len() > GREATEST_LENGTH as usize {
         return None;

@@ -39,6 +39,7 @@ struct Parts<'a> {
 pub fn request_len(request: &Request<'_>) -> usize
     ensures exact { result ≡ length (frame (plain_request request.now)) }
     ensures bounded { HasFrame (plain_request request.now) → result ≤ 8452 }
+    ensures far_from_overflow { result + 2 ^ 32 < 2 ^ 64 }
 {
     let parts = parts_of(request.kind);
     9 + parts.fields.as_slice().len() + text_len(parts.rest)
