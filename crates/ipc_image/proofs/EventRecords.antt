@@ -1,5 +1,6 @@
 -- A record is read where it was written, and what is read was written so.
-use Rattle.std.proofs.Common.{◌≡◌, ℕ, ◌+◌, ◌≤◌, ◌<◌, ◌^◌, List, [], ◌∷◌, ◌++◌, length, take, drop, Option, Some, None, refl, sym, ap, subst, ◌∙◌, append_assoc, arith, inl, inr}
+use Rattle.std.proofs.Common.{◌≡◌, ℕ, ◌+◌, ◌≤◌, ◌<◌, ◌^◌, List, [], ◌∷◌, ◌++◌, length, take, drop, Option, Some, None}
+use Rattle.std.proofs.Common.{refl, sym, ap, subst, ◌∙◌, append_assoc, arith, inl, inr}
 use Rattle.std.proofs.lemmas.Bool.{cases_lt}
 use Rattle.std.specs.Prelude.{IfSome, slice_index}
 use Rattle.std.specs.Int.{w32, w64, from_be_bytes, to_be_bytes}
@@ -59,7 +60,8 @@ nothing : (xs : List ℕ) → length xs ≡ 0 → xs ≡ []
 nothing [] is = refl
 nothing (x ∷ xs) is = absurd (omega (arith, is))
 
-pub connect_found : (moment : ℕ) (bytes one two three : List ℕ) (serial uid gid : ℕ) → AreBelow 256 bytes → Got bytes one serial → Got one two uid → Got two three gid
+pub connect_found : (moment : ℕ) (bytes one two three : List ℕ) (serial uid gid : ℕ) → AreBelow 256 bytes
+    → Got bytes one serial → Got one two uid → Got two three gid
     → length three ≡ 0 → IsOf 1 moment bytes (Connect (record { uid = uid; gid = gid }) serial moment)
 connect_found moment bytes one two three serial uid gid fits a b c empty =
     let first = number_got bytes one serial fits a in
@@ -112,7 +114,8 @@ call_only moment bytes rest pid request a only (Call p r m) is =
     let first = number_known p (request_bytes r) bytes rest pid is.has.0 is.details_are a in
     let same = only r is.has.1 first.1 in
     let one : request ≡ r = cc in
-    ap (λ (n : ℕ). Some (Call n request moment)) first.0 ∙ ap (λ (q : PlainRequest). Some (Call p q moment)) one ∙ ap (λ (n : ℕ). Some (Call p r n)) is.moment_is
+    ap (λ (n : ℕ). Some (Call n request moment)) first.0
+    ∙ ap (λ (q : PlainRequest). Some (Call p q moment)) one ∙ ap (λ (n : ℕ). Some (Call p r n)) is.moment_is
 call_only moment bytes rest pid request a only (Connect cred s m) is = absurd (omega (arith, is.kind_is))
 call_only moment bytes rest pid request a only (Tick m) is = absurd (omega (arith, is.kind_is))
 call_only moment bytes rest pid request a only (Exit p m) is = absurd (omega (arith, is.kind_is))

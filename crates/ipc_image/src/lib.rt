@@ -1,4 +1,5 @@
-//! What the server keeps on a device: how large it must be, and its superblock.
+//! What the server keeps on a device: how large it must be, its superblock, and the records of
+//! events.
 #![tactic(auto)]
 
 mod fault;

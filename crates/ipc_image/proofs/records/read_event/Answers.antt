@@ -7,7 +7,9 @@ use Rattle.ipc_image.proofs.EventRecords.{Got, no_length, no_text, text_cut, rec
 use Rattle.ipc_image.proofs.records.read_event.Goals as goal
 
 found_pair : (n m : ℕ) (e f : PlainEvent) → n ≡ m → e ≡ f → ◌≡◌ {A = Option (ℕ × PlainEvent)} (Some (n, e)) (Some (m, f))
-found_pair n m e f size same = ap (λ (k : ℕ). let found : Option (ℕ × PlainEvent) = Some (k, e) in found) size ∙ ap (λ (g : PlainEvent). let found : Option (ℕ × PlainEvent) = Some (m, g) in found) same
+found_pair n m e f size same =
+    ap (λ (k : ℕ). let found : Option (ℕ × PlainEvent) = Some (k, e) in found) size
+    ∙ ap (λ (g : PlainEvent). let found : Option (ℕ × PlainEvent) = Some (m, g) in found) same
 
 pub returns-in_err-length-clause-only : goal.returns-in_err-length-clause-only
 returns-in_err-length-clause-only c e is =

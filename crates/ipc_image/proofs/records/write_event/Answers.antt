@@ -20,8 +20,10 @@ returns-clause-written c =
     let kind : List ℕ = c.kind_of.result ∷ [] in
     let moment : List ℕ = to_be_bytes w64 c.moment.result.0 in
     let a = puts_room number at c.u32.new.self old c.u32.new.buffer c.u32.result c.u32.ensures (omega (arith, start, room)) in
-    let b = puts_more number kind at c.u32.new.self c.u8.new.self old c.u32.new.buffer c.u8.new.buffer c.u8.result a c.u8.ensures (omega (arith, start, room)) in
-    let m = puts_more (number ++ kind) moment at c.u8.new.self c.u64.new.self old c.u8.new.buffer c.u64.new.buffer c.u64.result b c.u64.ensures (omega (arith, start, room)) in
+    let b = puts_more number kind at c.u32.new.self c.u8.new.self old c.u32.new.buffer c.u8.new.buffer c.u8.result a
+    c.u8.ensures (omega (arith, start, room)) in
+    let m = puts_more (number ++ kind) moment at c.u8.new.self c.u64.new.self old c.u8.new.buffer c.u64.new.buffer c.u64.result b
+    c.u64.ensures (omega (arith, start, room)) in
     let all : List ℕ = (number ++ kind) ++ moment in
     let d = puts_both all (details e) at c.u64.new.self c.put_details.new.put old c.u64.new.buffer c.put_details.new.out m c.put_details.ensures in
     let bytes : all ++ details e ≡ record_bytes e =

@@ -26,6 +26,8 @@ returns c =
     let second : at + length head ≤ length old = omega (arith, first, length-append head parts.fields) in
     let a = puts_room serial at c.u32.new.self old c.u32.new.buffer c.u32.result c.u32.ensures (omega (arith, second)) in
     let b = puts_more serial (parts.opcode ∷ []) at c.u32.new.self c.u8.new.self old c.u32.new.buffer c.u8.new.buffer c.u8.result a c.u8.ensures second in
-    let f = puts_more head parts.fields at c.u8.new.self c.bytes.new.self old c.u8.new.buffer c.bytes.new.buffer c.bytes.result b (rw c.as_slice.ensures at c.bytes.ensures) first in
-    let r = puts_more named rest at c.bytes.new.self c.bytes-2.new.self old c.bytes.new.buffer c.bytes-2.new.buffer c.bytes-2.result f c.bytes-2.ensures whole in
+    let f = puts_more head parts.fields at c.u8.new.self c.bytes.new.self old c.u8.new.buffer c.bytes.new.buffer c.bytes.result b
+    (rw c.as_slice.ensures at c.bytes.ensures) first in
+    let r = puts_more named rest at c.bytes.new.self c.bytes-2.new.self old c.bytes.new.buffer c.bytes-2.new.buffer c.bytes-2.result f
+    c.bytes-2.ensures whole in
     subst (λ (bytes : List ℕ). Puts bytes at c.bytes-2.new.self old c.bytes-2.new.buffer true) all r
