@@ -1,5 +1,5 @@
--- What the crates above cite of tables, of numbers that rise, and of limits that were checked.
-use Rattle.std.proofs.Common.{◌≡◌, ◌≢◌, ℕ, zero, suc, ◌+◌, ◌<◌, ◌≤◌, Bool, true, false, not, ◌&&◌, leb, cond, ◌⊎◌, inl, inr, List, [], ◌∷◌, ◌++◌, length}
+-- What the crates above cite of fields side by side, of tables, of numbers that rise, and of limits that were checked.
+use Rattle.std.proofs.Common.{◌≡◌, ◌≢◌, ℕ, zero, suc, ◌+◌, ◌<◌, ◌≤◌, Bool, true, false, not, ◌&&◌, leb, eqb, cond, ◌⊎◌, inl, inr, List, [], ◌∷◌, ◌++◌, length}
 use Rattle.std.proofs.Common.{map, find, get_or, set, is_some, Option, Some, None, refl, sym, ap, subst, ◌∙◌, arith}
 use Rattle.std.specs.Prelude.{nat_eq, nat_lt, if◌then◌else◌, All, ◌||◌, option_map}
 use Rattle.std.specs.List.{list_any, remove, position, position_or_len, IsDistinct, AllByRecursion}
@@ -13,6 +13,7 @@ use Rattle.std.proofs.lemmas.Map.Keys.{IsDistinct-head, IsDistinct-tail, IsDisti
 use Rattle.ipc_base.specs.declared.limits.Limits.{Limits}
 use Rattle.ipc_base.specs.Limits.{tests, is_within, ArePassed, longest_body, longest_reply}
 use Rattle.ipc_base.specs.Table.{value_at, with_value, without, with_entry, keys_of, seen_as, EachValue, ArePaired, IsRising}
+pub use Rattle.ipc_base.proofs.Puts.{puts_both, puts_room, puts_more, puts_next}
 
 -- ---- a table kept as a list of entries, each seen as a row of a key and a value
 

@@ -8,9 +8,9 @@ use Rattle.ipc_base.proofs.CallerLemmas.{choice}
 use Rattle.ipc_wire.specs.Request.{PlainKind, Hello, Calls}
 use Rattle.ipc_state.specs.Sound.{IsSound, FitsBody}
 use Rattle.ipc_state.specs.State.{State, at_moment, has_all_processes}
-use Rattle.ipc_state.proofs.CallerLemmas.{EndsSound, begin-sound, exit-sound, with_process-sound}
+use Rattle.ipc_state.proofs.CallerLemmas.{EndsSound, begin-sound, exit-sound, restart-sound, with_process-sound}
 use Rattle.sysv_calls.proofs.CallerLemmas.{attempt-sound}
-use Rattle.ipc_engine.specs.Event.{PlainEvent, Connect, Call, Tick, Exit, PlainOutcome}
+use Rattle.ipc_engine.specs.Event.{PlainEvent, Connect, Call, Tick, Exit, Restart, PlainOutcome}
 use Rattle.ipc_engine.specs.Step.{Step, step, connect, asked}
 
 module _ (limits : Limits) where
@@ -27,6 +27,7 @@ module _ (limits : Limits) where
   step-sound s (Call pid request moment) h = (asked-sound (at_moment s moment) pid request.kind (begin-sound limits s moment h)).state
   step-sound s (Tick moment) h = begin-sound limits s moment h
   step-sound s (Exit pid moment) h = exit-sound limits (at_moment s moment) pid (begin-sound limits s moment h)
+  step-sound s Restart h = restart-sound limits s h
 
   -- the body of a reply fits
   abbrev Fits : PlainOutcome → Type 0
@@ -41,6 +42,7 @@ module _ (limits : Limits) where
       All-cons Fits _ [] (asked-sound (at_moment s moment) pid request.kind (begin-sound limits s moment h)).body (All-nil Fits)
   step-fits s (Tick moment) h = All-nil Fits
   step-fits s (Exit pid moment) h = All-nil Fits
+  step-fits s Restart h = All-nil Fits
 
   -- the same of what is known to be equal
   pub after-sound : (now : Limits) (s t : State) (e : PlainEvent) → now ≡ limits → t ≡ (step limits s e).state → IsSound limits s → IsSound now t

@@ -5,7 +5,7 @@ use Rattle.ipc_wire.specs.Request.{PlainKind, Hello, Calls}
 use Rattle.ipc_state.specs.State.{State, is_process, has_all_processes}
 use Rattle.ipc_state.specs.Held.{Room}
 use Rattle.sysv_calls.specs.Needs.{Needs, Nothing, needs, is_something, Has}
-use Rattle.ipc_engine.specs.Event.{PlainEvent, Connect, Call, Tick, Exit, PlainOutcome}
+use Rattle.ipc_engine.specs.Event.{PlainEvent, Connect, Call, Tick, Exit, Restart, PlainOutcome}
 
 -- the limits that it keeps, the state, and the replies of the last event
 pub record Machine : Type 0 where
@@ -19,6 +19,7 @@ IsForProcess s (Connect cred serial moment) = Unit {0}
 IsForProcess s (Call pid request moment) = is_process s pid ≡ true
 IsForProcess s (Tick moment) = Unit {0}
 IsForProcess s (Exit pid moment) = is_process s pid ≡ true
+IsForProcess s Restart = Unit {0}
 
 -- what a request of a process may need of memory
 abbrev pub kind_needs : PlainKind → Needs
@@ -34,6 +35,7 @@ takes_memory limits s (Connect cred serial moment) = not (has_all_processes limi
 takes_memory limits s (Call pid request moment) = kind_takes_memory request.kind
 takes_memory limits s (Tick moment) = false
 takes_memory limits s (Exit pid moment) = false
+takes_memory limits s Restart = false
 
 -- what a HELLO needs is there
 abbrev pub IsReadyForHello : Limits → State → Room → Type 0

@@ -5,7 +5,7 @@ use Rattle.ipc_base.specs.declared.identity.Cred.{Cred}
 use Rattle.ipc_wire.specs.Request.{PlainRequest}
 use Rattle.ipc_wire.specs.Reply.{PlainBody}
 
--- each at a moment
+-- each at a moment, but a restart, which has none
 pub data PlainEvent : Type 0 where
   -- a HELLO, which asks for a process
   Connect : (cred : Cred) → (serial moment : ℕ) → PlainEvent
@@ -15,13 +15,16 @@ pub data PlainEvent : Type 0 where
   Tick : (moment : ℕ) → PlainEvent
   -- the process is gone
   Exit : (pid moment : ℕ) → PlainEvent
+  -- the server has stopped and begun anew
+  Restart : PlainEvent
 
--- when it happens
+-- when it happens; 0 for a restart
 abbrev pub moment_of : PlainEvent → ℕ
 moment_of (Connect cred serial moment) = moment
 moment_of (Call pid request moment) = moment
 moment_of (Tick moment) = moment
 moment_of (Exit pid moment) = moment
+moment_of Restart = 0
 
 -- a reply: to which process (0 where the HELLO got none), to which request, the error or none, the body
 pub record PlainOutcome : Type 0 where

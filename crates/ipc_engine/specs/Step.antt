@@ -1,5 +1,5 @@
 -- One step of the server on one event: the state after it, and the replies in their order. An event first sets the
--- clock, which is the greatest moment so far.
+-- clock, which is the greatest moment so far; a restart has no moment and leaves the clock.
 use Rattle.std.specs.Prelude.{ℕ, List, [], ◌∷◌, ◌++◌, if◌then◌else◌, Some, None}
 use Rattle.ipc_base.specs.declared.errno.Errno.TheVariants.{ENFILE, EPROTO}
 use Rattle.ipc_base.specs.declared.identity.Cred.{Cred}
@@ -7,9 +7,9 @@ use Rattle.ipc_base.specs.declared.limits.Limits.{Limits}
 use Rattle.ipc_wire.specs.Request.{PlainKind, Hello, Calls}
 use Rattle.ipc_wire.specs.declared.reply.Body.TheVariants.{Empty, Number}
 use Rattle.ipc_state.specs.Finish.{Finish, refused}
-use Rattle.ipc_state.specs.State.{State, at_moment, has_all_processes, with_process, exit}
+use Rattle.ipc_state.specs.State.{State, at_moment, has_all_processes, with_process, exit, restart}
 use Rattle.sysv_calls.specs.Calls.{attempt}
-use Rattle.ipc_engine.specs.Event.{PlainEvent, Connect, Call, Tick, Exit, PlainOutcome}
+use Rattle.ipc_engine.specs.Event.{PlainEvent, Connect, Call, Tick, Exit, Restart, PlainOutcome}
 
 pub record Step : Type 0 where
   pub state : State
@@ -44,6 +44,7 @@ step limits s (Call pid request moment) =
     replied pid request.serial (asked limits (at_moment s moment) pid request.kind)
 step limits s (Tick moment) = record { state = at_moment s moment; outcomes = [] }
 step limits s (Exit pid moment) = record { state = exit (at_moment s moment) pid; outcomes = [] }
+step limits s Restart = record { state = restart s; outcomes = [] }
 
 -- a run: the state after a list of events, and all replies in order
 abbrev pub run : Limits → State → List PlainEvent → Step

@@ -5,10 +5,11 @@ use Rattle.ipc_wire.specs.declared.reply.Body.{Body}
 use Rattle.ipc_wire.specs.Reply.{PlainBody, PlainReply, body_of}
 use Rattle.std.specs.Global.{Vec}
 use Rattle.ipc_engine.specs.declared.event.Event.{Event}
-use Rattle.ipc_engine.specs.declared.event.Event.TheVariants.{Connect, Call, Tick, Exit}
+use Rattle.ipc_engine.specs.declared.event.Event.TheVariants.{Connect, Call, Tick, Exit, Restart}
 use Rattle.ipc_engine.specs.declared.event.Outcome.{Outcome}
 use Rattle.ipc_state.specs.State.{State}
 use Rattle.ipc_engine.specs.Event.{PlainEvent, Connect as Connects, Call as Calls, Tick as Ticks, Exit as Exits}
+use Rattle.ipc_engine.specs.Event.{Restart as Restarts}
 use Rattle.ipc_engine.specs.Event.{PlainOutcome}
 use Rattle.ipc_engine.specs.Step.{Step}
 
@@ -17,6 +18,7 @@ plain_event (Connect cred serial moment) = Connects cred serial moment.0
 plain_event (Call pid request moment) = Calls pid.0 (plain_request request) moment.0
 plain_event (Tick moment) = Ticks moment.0
 plain_event (Exit pid moment) = Exits pid.0 moment.0
+plain_event Restart = Restarts
 
 abbrev pub plain_body : Body (Vec ℕ) → PlainBody
 plain_body body = body_of (λ text. text.items) body

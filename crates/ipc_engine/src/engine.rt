@@ -148,6 +148,10 @@ impl Engine {
                 self.state.remove_process(pid);
                 self.outcomes.clear();
             }
+            Event::Restart => {
+                self.state.restart();
+                self.outcomes.clear();
+            }
         }
         Ok(())
     }

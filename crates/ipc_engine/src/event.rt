@@ -5,7 +5,7 @@ ghost use Rattle.std.specs.Prelude.{◌≡◌};
 use ipc_base::{Cred, Errno, Moment, Pid};
 use ipc_wire::{Body, Reply, Request};
 
-/// What happens, each at a moment.
+/// What happens, each at a moment, but a restart, which has none.
 #[derive(Clone, Copy, Debug)]
 pub enum Event<'a> {
     /// A HELLO, which asks for a process.
@@ -29,6 +29,26 @@ pub enum Event<'a> {
         pid: Pid,
         moment: Moment,
     },
+    /// The server has stopped and begun anew: no process is left.
+    Restart,
+}
+
+impl Event<'_> {
+    ghost use Rattle.ipc_engine.specs.Event.{moment_of};
+    ghost use Rattle.ipc_engine.specs.View.{plain_event};
+
+    /// When it happens; a restart has the moment 0.
+    pub fn moment(&self) -> Moment
+        ensures { result.0 ≡ moment_of (plain_event self.now) }
+    {
+        match self {
+            Event::Connect { moment, .. }
+            | Event::Call { moment, .. }
+            | Event::Tick { moment }
+            | Event::Exit { moment, .. } => *moment,
+            Event::Restart => Moment(0),
+        }
+    }
 }
 
 /// A reply: `pid` is the process that gets it, or 0 for the HELLO that got none; `errno` is `None`

@@ -4,8 +4,8 @@ ghost use Rattle.std.specs.Prelude.{◌≡◌, ◌≢◌, ◌<◌, ◌≤◌, �
 ghost use Rattle.ipc_base.specs.declared.limits.Limits.{Limits};
 ghost use Rattle.ipc_base.specs.declared.identity.Cred.{Cred};
 ghost use Rattle.ipc_wire.specs.Request.{PlainRequest};
-ghost use Rattle.ipc_state.specs.State.{State, start, is_process, at_moment};
-ghost use Rattle.ipc_engine.specs.Event.{PlainEvent, Connect, Call, Tick, Exit, moment_of};
+ghost use Rattle.ipc_state.specs.State.{State, start, is_process, at_moment, restart};
+ghost use Rattle.ipc_engine.specs.Event.{PlainEvent, Connect, Call, Tick, Exit, Restart, moment_of};
 ghost use Rattle.ipc_engine.specs.Step.{step, run, asked};
 ghost use Rattle.ipc_state.specs.Sound.{IsSound, FitsBody};
 
@@ -80,8 +80,27 @@ pub fn exit_removes_one_process()
         → is_process (step limits s (Exit pid moment)).state other ≡ is_process s other }
 {}
 
+/// After a restart no process is connected.
+pub fn restart_leaves_no_process()
+    ensures { (limits : Limits) (s : State) (pid : ℕ)
+        → is_process (step limits s Restart).state pid ≡ false }
+{}
+
+/// A restart leaves the objects and the numbers of those to come as they are.
+pub fn restart_keeps_objects()
+    ensures next_pid { (limits : Limits) (s : State) → (step limits s Restart).state.next_pid ≡ s.next_pid }
+    ensures queues { (limits : Limits) (s : State) → (step limits s Restart).state.msg ≡ s.msg }
+{}
+
+/// A restart twice is a restart once.
+pub fn restart_twice_is_once()
+    ensures state { (s : State) → restart (restart s) ≡ restart s }
+    ensures step { (limits : Limits) (s : State)
+        → step limits (step limits s Restart).state Restart ≡ step limits s Restart }
+{}
+
 /// A call and a tick leave the processes as they are.
-pub fn only_connect_and_exit_change_processes()
+pub fn call_and_tick_keep_processes()
     ensures call { (limits : Limits) (s : State) (pid moment : ℕ) (request : PlainRequest)
         → (step limits s (Call pid request moment)).state.processes ≡ s.processes }
     ensures tick { (limits : Limits) (s : State) (moment : ℕ)

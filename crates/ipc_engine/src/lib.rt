@@ -8,9 +8,10 @@ mod laws;
 pub use engine::Engine;
 pub use event::{Event, Outcome};
 pub use laws::{
-    connect_adds_one_process, event_sets_clock, exit_removes_one_process, late_tick_does_nothing,
-    only_connect_and_exit_change_processes, pid_is_below_next, refused_call_changes_nothing,
-    replies_fit, run_of_parts, step_keeps_soundness,
+    call_and_tick_keep_processes, connect_adds_one_process, event_sets_clock,
+    exit_removes_one_process, late_tick_does_nothing, pid_is_below_next,
+    refused_call_changes_nothing, replies_fit, restart_keeps_objects, restart_leaves_no_process,
+    restart_twice_is_once, run_of_parts, step_keeps_soundness,
 };
 
 #[cfg(test)]

@@ -78,13 +78,13 @@ fn hello(rt: &impl Abort, engine: &mut Engine, serial: u32) -> Result<(), AllocE
     )
 }
 
-/// The calls of process 1, each with its answer.
+/// The calls of a process, each with its answer.
 fn talk(
     rt: &impl Abort,
     engine: &mut Engine,
+    pid: Pid,
     lines: &[(RequestKind<'_>, Answer<'_>)],
 ) -> Result<(), AllocError> {
-    let pid = Pid(1);
     for (line, (kind, wanted)) in lines.iter().enumerate() {
         assert!(rt; engine.connected(pid));
         let request = Request {
@@ -177,7 +177,7 @@ fn gets_queues_by_key(rt: HostRuntime) -> Result<(), Fail> {
         (get(-5, 0o600), Answer::Refused(Errno::ENOENT)),
         (get(1234, 0), Answer::Number(1)),
     ];
-    talk(&rt, &mut engine, &lines)?;
+    talk(&rt, &mut engine, Pid(1), &lines)?;
     Ok(())
 }
 
@@ -209,7 +209,7 @@ fn sends_until_a_queue_is_full(rt: HostRuntime) -> Result<(), Fail> {
         (receive(1, 64, 0), Answer::Message(1, bytes(64))),
         (receive(1, 0, 0), Answer::Message(1, bytes(0))),
     ];
-    talk(&rt, &mut engine, &lines)?;
+    talk(&rt, &mut engine, Pid(1), &lines)?;
     Ok(())
 }
 
@@ -236,6 +236,33 @@ fn receives_by_type_and_size(rt: HostRuntime) -> Result<(), Fail> {
         (receive(1, 2147483648, 6), Answer::Refused(Errno::EINVAL)),
         (receive(1, 2147483647, 6), Answer::Message(6, b"ten bytes.")),
     ];
-    talk(&rt, &mut engine, &lines)?;
+    talk(&rt, &mut engine, Pid(1), &lines)?;
+    Ok(())
+}
+
+#[test]
+fn a_restart_leaves_the_queues_alone(rt: HostRuntime) -> Result<(), Fail> {
+    let mut engine = small_engine(rt.alloc())?;
+    hello(&rt, &mut engine, 1)?;
+    hello(&rt, &mut engine, 2)?;
+    let lines = [
+        (get(1234, 0o1600), Answer::Number(1)),
+        (send(1, 5, b"kept"), Answer::Done),
+    ];
+    talk(&rt, &mut engine, Pid(1), &lines)?;
+    for _ in 0..2 {
+        take(&rt, &mut engine, Event::Restart)?;
+        assert!(rt; engine.outcomes().is_empty());
+        assert!(rt; !engine.connected(Pid(1)) && !engine.connected(Pid(2)));
+    }
+
+    hello(&rt, &mut engine, 3)?;
+    assert!(rt; is_answer(&engine, Pid(3), 3, Answer::Number(3)));
+    let lines = [
+        (get(1234, 0), Answer::Number(1)),
+        (receive(1, 8, 0), Answer::Message(5, b"kept")),
+        (get(0, 0), Answer::Number(2)),
+    ];
+    talk(&rt, &mut engine, Pid(3), &lines)?;
     Ok(())
 }

@@ -1,4 +1,5 @@
--- Lemmas on sizes, and on numbers side by side.
+-- Lemmas on sizes, on numbers side by side, and on records.
 mod Bounds
 mod Numbers
 mod Reading
+mod EventRecords

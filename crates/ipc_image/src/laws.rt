@@ -1,8 +1,10 @@
 //! What follows from the definitions alone.
 
-ghost use Rattle.std.specs.Prelude.{◌≡◌, ◌≤◌, ◌<◌, ◌^◌, ℕ, List};
+ghost use Rattle.std.specs.Prelude.{◌≡◌, ◌≤◌, ◌<◌, ◌^◌, ◌++◌, ℕ, List};
 ghost use Rattle.ipc_base.specs.Limits.{ArePassed};
 ghost use Rattle.ipc_base.specs.declared.limits.Limits.{Limits};
+ghost use Rattle.ipc_engine.specs.Event.{PlainEvent};
+ghost use Rattle.ipc_image.specs.Records.{record_bytes, HasRecord, BeginsWith};
 ghost use Rattle.ipc_image.specs.Sizes.{need_of};
 ghost use Rattle.ipc_image.specs.Superblock.{IsSuperblock, superblock_bytes};
 
@@ -19,4 +21,14 @@ pub fn a_sector_is_one_superblock()
         → sectors < 2 ^ 32 → others < 2 ^ 32
         → IsSuperblock sectors limits sector → IsSuperblock others more sector
         → (sectors ≡ others) × (limits ≡ more) }
+{}
+
+/// Bytes begin with the record that was written to their front, whatever follows it.
+pub fn record_is_read()
+    ensures { (e : PlainEvent) (rest : List ℕ) → HasRecord e → BeginsWith (record_bytes e ++ rest) e }
+{}
+
+/// Bytes begin with the record of one event at most; so no record is the beginning of another.
+pub fn a_record_is_of_one_event()
+    ensures { (bytes : List ℕ) (e f : PlainEvent) → BeginsWith bytes e → BeginsWith bytes f → e ≡ f }
 {}

@@ -11,11 +11,11 @@ use Rattle.ipc_base.specs.declared.limits.Limits.{Limits}
 use Rattle.ipc_base.specs.declared.identity.Cred.{Cred}
 use Rattle.ipc_base.specs.Table.{keys_of}
 use Rattle.ipc_base.specs.Limits.{ArePassed}
-use Rattle.ipc_base.proofs.CallerLemmas.{rising-push, rising-without, length-without, passed-bounds}
+use Rattle.ipc_base.proofs.CallerLemmas.{rising-push, rising-bounds, rising-without, length-without, passed-bounds}
 use Rattle.sysv_msg.specs.Queue.{Queue, PlainMessage, new_queue, full, byte_count, sent, taken}
 use Rattle.ipc_state.specs.Objects.{Entry, keyed, is_full, last_number}
 use Rattle.ipc_state.specs.declared.perm.Perm.{Perm}
-use Rattle.ipc_state.specs.State.{State, start, at_moment, has_all_processes, with_process, exit, queue_of, with_queue, with_new_queue}
+use Rattle.ipc_state.specs.State.{State, start, at_moment, has_all_processes, with_process, exit, restart, queue_of, with_queue, with_new_queue}
 use Rattle.ipc_base.specs.declared.errno.Errno.{Errno}
 use Rattle.ipc_state.specs.Sound.{IsSound, IsSoundQueue, HasNumbers, FitsBody}
 use Rattle.ipc_wire.specs.Reply.{PlainBody}
@@ -52,6 +52,11 @@ module _ (limits : Limits) where
         processes = omega arith;
         msg = h.msg;
       }
+
+  pub restart-sound : (s : State) → IsSound limits s → IsSound limits (restart s)
+  restart-sound s h =
+      let least = rising-bounds 1 (keys_of s.processes) s.next_pid h.pids in
+      record { pids = least; next_pid = h.next_pid; processes = omega arith; msg = h.msg }
 
   pub with_process-sound : (s : State) (cred : Cred) → has_all_processes limits s ≡ false → IsSound limits s → IsSound limits (with_process s cred)
   with_process-sound s cred room h =

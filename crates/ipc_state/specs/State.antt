@@ -48,6 +48,10 @@ with_process s cred = record s { next_pid = s.next_pid + 1; processes = s.proces
 abbrev pub exit : State → ℕ → State
 exit s pid = record s { processes = without nat_eq s.processes pid }
 
+-- The server has stopped and begun anew: no process is left. The clock, the next numbers and all objects stay.
+abbrev pub restart : State → State
+restart s = record s { processes = [] }
+
 -- the queue that an identifier has
 abbrev pub queue_of : State → ℕ → Option (Entry Queue)
 queue_of s id = entry_of s.msg id

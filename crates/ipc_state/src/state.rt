@@ -32,6 +32,7 @@ ghost use Rattle.ipc_state.specs.State.{
   has_all_processes,
   with_process,
   exit,
+  restart,
   queue_of,
   with_queue,
   with_new_queue,
@@ -162,6 +163,14 @@ impl State {
         ensures limits { self.new.limits ≡ self.old.limits }
     {
         remove_process(&mut self.processes, pid);
+    }
+
+    /// The server has stopped and begun anew: no process is left, and all else stays. It takes no memory.
+    pub fn restart(&mut self)
+        ensures state { self.new.state ≡ restart self.old.state }
+        ensures limits { self.new.limits ≡ self.old.limits }
+    {
+        self.processes.clear();
     }
 
     /// The identifier of the queue that a key names; IPC_PRIVATE names none.

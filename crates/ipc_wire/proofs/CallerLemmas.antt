@@ -1,10 +1,12 @@
--- What the crates above cite of streams and replies.
-use Rattle.std.proofs.Common.{◌≡◌, ℕ, true, refl, ◌+◌, ◌≤◌, ◌<◌, List, ◌++◌, length, drop, ap, ◌∙◌, arith}
+-- What the crates above cite of streams, requests and replies.
+use Rattle.std.proofs.Common.{◌≡◌, ℕ, true, refl, ◌+◌, ◌≤◌, ◌<◌, List, ◌++◌, length, drop, Some, ap, ◌∙◌, arith}
 use Rattle.ipc_wire.specs.Reply.{PlainReply, body_bytes, reply_bytes}
 use Rattle.ipc_wire.specs.Request.{PlainRequest}
+use Rattle.ipc_wire.specs.Spelling.{HasFrame, request_bytes}
 use Rattle.ipc_wire.specs.Stream.{PlainFrame, is_more, TakesBytes, first, missing, begins_with, stream_of, continued}
 use Rattle.ipc_wire.specs.Stream.PlainFrame.{More, Whole, Fault}
 use Rattle.ipc_wire.proofs.Frames as frames
+use Rattle.ipc_wire.proofs.Read as read
 use Rattle.ipc_wire.proofs.Streams as streams
 
 -- a frame that the test finds not whole is not
@@ -46,3 +48,7 @@ stream_pieces = streams.pieces
 pub length-reply_bytes : (r : PlainReply) → length (reply_bytes r) ≡ 10 + length (body_bytes r.body)
 unfolding reply_bytes
 length-reply_bytes r = omega arith
+
+-- no two requests have the same bytes
+pub one_text : (request other : PlainRequest) → HasFrame request → HasFrame other → request_bytes request ≡ request_bytes other → Some request ≡ Some other
+one_text = read.one_text

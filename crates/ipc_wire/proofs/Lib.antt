@@ -1,7 +1,6 @@
 pub mod Fields
 pub mod Rows
 pub mod Frames
-pub mod Puts
 pub mod Read
 pub mod Spellings
 pub mod Streams

@@ -9,11 +9,11 @@ use Rattle.std.proofs.lemmas.Nat.{be_bytes_4}
 use Rattle.ipc_wire.specs.Request.{PlainKind, PlainRequest}
 use Rattle.ipc_wire.specs.Stream.{PlainFrame, part, u32_at, kind_of, request_or_fault, frame_of, first}
 use Rattle.ipc_wire.specs.Stream.PlainFrame.{More, Whole, Fault}
-use Rattle.ipc_wire.specs.Spelling.{opcode_of, fields_of, frame, HasFrame}
+use Rattle.ipc_wire.specs.Spelling.{opcode_of, fields_of, request_bytes, frame, HasFrame}
 use Rattle.ipc_wire.proofs.Fields.{IsBytes, from_all, drop_bytes, take_bytes}
 use Rattle.ipc_wire.proofs.Frames.{first_short, first_long, is_out_of_range, in_range}
-use Rattle.ipc_wire.proofs.Rows.{kind_back}
-use Rattle.ipc_wire.proofs.Spellings.{text_of}
+use Rattle.ipc_wire.proofs.Rows.{kind_again, kind_back}
+use Rattle.ipc_wire.proofs.Spellings.{text_of, text_again}
 
 part_bytes : (at n : ℕ) (bytes : List ℕ) → IsBytes bytes → IsBytes (part at n bytes)
 part_bytes at n bytes fits = take_bytes n (drop at bytes) (drop_bytes at bytes fits)
@@ -95,6 +95,38 @@ text_back text used request fits least most e =
             };
           }
     ]
+
+-- what is read of a frame without its length
+pub request_read : (text : List ℕ) (used : ℕ) (request : PlainRequest) → IsBytes text → 5 ≤ length text → length text ≤ 8448
+    → frame_of text ≡ Whole used request → HasFrame request × (text ≡ request_bytes request)
+request_read text used request fits least most e = let read = text_back text used request fits least most e in (read.has, read.text_is)
+
+-- the frame of a request without its length is no fault, and has a length in range
+pub record Readable (text : List ℕ) (request : PlainRequest) : Type 0 where
+  pub least : 5 ≤ length text
+  pub most : length text ≤ 8448
+  pub whole : frame_of text ≡ Whole (9 + length (fields_of request.kind)) request
+
+pub request_text : (text : List ℕ) (request : PlainRequest) → HasFrame request → text ≡ request_bytes request → Readable text request
+request_text text request has is =
+    let kind : PlainKind = request.kind in
+    let size : length text ≡ 5 + length (fields_of kind) = ap length is ∙ omega arith in
+    record {
+      least = omega arith;
+      most = omega (arith, has.short);
+      whole = ap frame_of is ∙ text_again request.serial (opcode_of kind) (fields_of kind) kind has.serial.0 has.serial.1 (kind_again kind has.fields);
+    }
+
+pub one_request : (f : PlainFrame) (used n : ℕ) (request other : PlainRequest) → f ≡ Whole used request → f ≡ Whole n other → Some request ≡ Some other
+one_request f used n request other is also =
+    let same : Whole used request ≡ Whole n other = sym is ∙ also in
+    cc
+
+-- no two requests have the same bytes
+pub one_text : (request other : PlainRequest) → HasFrame request → HasFrame other → request_bytes request ≡ request_bytes other → Some request ≡ Some other
+one_text request other has also is =
+    one_request (frame_of (request_bytes request)) _ _ request other (request_text (request_bytes request) request has refl).whole
+    (request_text (request_bytes request) other also is).whole
 
 request_back : (bytes : List ℕ) (used : ℕ) (request : PlainRequest) → IsBytes bytes → first bytes ≡ Whole used request
     → (take used bytes ≡ frame request) × HasFrame request

@@ -15,7 +15,7 @@ use Rattle.ipc_wire.proofs.Rows.{kind_again}
 abbrev pub text_of : ℕ → ℕ → List ℕ → List ℕ
 text_of serial opcode fields = to_be_bytes w32 serial ++ opcode ∷ fields
 
-text_again : (serial opcode : ℕ) (fields : List ℕ) (call : PlainKind) → 1 ≤ serial → serial < 2 ^ 32 → kind_of opcode fields ≡ Some call
+pub text_again : (serial opcode : ℕ) (fields : List ℕ) (call : PlainKind) → 1 ≤ serial → serial < 2 ^ 32 → kind_of opcode fields ≡ Some call
     → frame_of (text_of serial opcode fields) ≡ Whole (9 + length fields) (record { serial = serial; kind = call })
 unfolding frame_of u32_at
 text_again serial opcode fields call least most read =

@@ -15,10 +15,13 @@ opcode_of kind = (parts_of kind).row.opcode
 abbrev pub fields_of : PlainKind → List ℕ
 fields_of kind = spelled (parts_of kind)
 
--- the serial, the opcode and the fields, behind their length
+-- the serial, the opcode and the fields: a frame without its length
+abbrev pub request_bytes : PlainRequest → List ℕ
+request_bytes r = to_be_bytes w32 r.serial ++ opcode_of r.kind ∷ fields_of r.kind
+
+-- the frame: these bytes behind their length
 unfoldable pub frame : PlainRequest → List ℕ
-frame r =
-    to_be_bytes w32 (5 + length (fields_of r.kind)) ++ to_be_bytes w32 r.serial ++ opcode_of r.kind ∷ fields_of r.kind
+frame r = to_be_bytes w32 (5 + length (fields_of r.kind)) ++ request_bytes r
 
 -- the requests that have a frame: each number is in the range of its field, and the fields are not too long
 pub record HasFrame (r : PlainRequest) : Type 0 where

@@ -6,16 +6,20 @@ mod reading;
 mod record;
 mod reply;
 mod request;
+mod spelling;
 mod writing;
 
 pub use laws::{
     found_frame_stays, frame_is_bounded, read_request_is_spelled, spelled_request_is_read,
     stream_begins, stream_in_pieces,
 };
-pub use reading::{GREATEST_FRAME, GREATEST_LENGTH, LEAST_LENGTH, bytes_missing, read_frame};
+pub use reading::{
+    GREATEST_FRAME, GREATEST_LENGTH, LEAST_LENGTH, bytes_missing, read_frame, read_request,
+};
 pub use record::{Field, Record};
 pub use reply::{Body, Reply};
 pub use request::{Call, Frame, Request, RequestKind};
+pub use spelling::{put_request, request_len, write_request};
 pub use writing::{reply_len, write_reply};
 
 #[cfg(test)]

@@ -1,7 +1,8 @@
 //! Requests read from the front of a stream.
 
-ghost use Rattle.std.specs.Prelude.{◌≡◌, ◌<◌, ◌≤◌, ◌+◌, length, option_map};
-ghost use Rattle.ipc_wire.specs.Request.{plain_kind};
+ghost use Rattle.std.specs.Prelude.{◌≡◌, ◌<◌, ◌≤◌, ◌+◌, length, option_map, IfSome, Some};
+ghost use Rattle.ipc_wire.specs.Request.{PlainRequest, plain_kind, plain_request};
+ghost use Rattle.ipc_wire.specs.Spelling.{HasFrame, request_bytes};
 ghost use Rattle.ipc_wire.specs.Stream.{
   plain_frame,
   TakesBytes,
@@ -27,16 +28,16 @@ pub const GREATEST_LENGTH: u32 = 8448;
 pub const GREATEST_FRAME: usize = 4 + GREATEST_LENGTH as usize;
 
 /// The opcode of HELLO.
-const HELLO: u8 = 0x01;
+pub(crate) const HELLO: u8 = 0x01;
 
 /// The opcode of msgget(2).
-const MSGGET: u8 = 0x0a;
+pub(crate) const MSGGET: u8 = 0x0a;
 
 /// The opcode of msgsnd(2).
-const MSGSND: u8 = 0x0b;
+pub(crate) const MSGSND: u8 = 0x0b;
 
 /// The opcode of msgrcv(2).
-const MSGRCV: u8 = 0x0c;
+pub(crate) const MSGRCV: u8 = 0x0c;
 
 /// What stands at the front of the bytes. It takes no memory: the text of a message stays where it is.
 #[tactic(auto, unfolding(crate::specs::Stream::first, crate::specs::Stream::u32_at))]
@@ -71,6 +72,23 @@ pub fn bytes_missing(bytes: &[u8]) -> usize
     match cursor.u32() {
         Some(length) => 4 + length as usize - bytes.len(),
         None => 4 - bytes.len(),
+    }
+}
+
+/// The request whose frame without its length is these bytes, or `None` if they are of no request.
+pub fn read_request(text: &[u8]) -> Option<Request<'_>>
+    ensures some { IfSome (option_map plain_request result)
+        (λ r. HasFrame r × (text.now ≡ request_bytes r)) }
+    ensures only { (r : PlainRequest) → HasFrame r → text.now ≡ request_bytes r
+        → option_map plain_request result ≡ Some r }
+{
+    if text.len() < LEAST_LENGTH as usize || text.len() > GREATEST_LENGTH as usize {
+        return None;
+    }
+    match whole_frame(text) {
+        Frame::Whole { request, .. } => Some(request),
+        Frame::More => None,
+        Frame::Fault { .. } => None,
     }
 }
 

@@ -1,4 +1,4 @@
-//! Records: numbers of fixed sizes side by side, as the body of a reply.
+//! Records: numbers of fixed sizes side by side, as the body of a reply or the fields of a request.
 
 ghost use Rattle.std.specs.Prelude.{◌≡◌, ◌≤◌, length};
 ghost use Rattle.std.specs.Bool.{OnTrue};
@@ -14,6 +14,7 @@ pub enum Field {
     U32(u32),
     I32(i32),
     U64(u64),
+    I64(i64),
 }
 
 /// The most bytes of a record: those of what msgctl(2) tells of a queue.
@@ -79,5 +80,6 @@ fn put_field(put: &mut Put, out: &mut [u8], field: Field) -> bool
         Field::U32(number) => put.u32(out, number),
         Field::I32(number) => put.i32(out, number),
         Field::U64(number) => put.u64(out, number),
+        Field::I64(number) => put.i64(out, number),
     }
 }

@@ -28,7 +28,7 @@ fn body_len(body: &Body<&[u8]>) -> usize
     }
 }
 
-fn text_len(text: &[u8]) -> usize
+pub(crate) fn text_len(text: &[u8]) -> usize
     ensures exact { result ≡ length text.now }
     ensures bound { result < 2 ^ 63 }
 {

@@ -1,7 +1,7 @@
 use Rattle.std.proofs.Common.{arith, rules, ◌≡◌, length, w64, FitsSigned}
 use Rattle.std.proofs.lemmas.Int.{to_z-of_z}
 use Rattle.ipc_base.specs.Fields.{signed_bytes}
-use Rattle.ipc_wire.proofs.Puts.{puts_both, puts_room}
+use Rattle.ipc_base.proofs.CallerLemmas.{puts_both, puts_room}
 use Rattle.ipc_wire.proofs.writing.put_body.Goals as goal
 
 pub returns-then-i64-clause-bytes : goal.returns-then-i64-clause-bytes

@@ -2,7 +2,7 @@ use Rattle.std.proofs.Common.{◌≡◌, ◌<◌, map, vec_capacity, subst, sym,
 use Rattle.ipc_base.specs.declared.limits.Limits.{Limits}
 use Rattle.ipc_base.specs.Limits.{ArePassed}
 use Rattle.ipc_wire.specs.Request.{plain_request}
-use Rattle.ipc_engine.specs.Event.{Connect, Call, Exit}
+use Rattle.ipc_engine.specs.Event.{Connect, Call, Exit, Restart}
 use Rattle.ipc_engine.specs.View.{plain_outcome}
 use Rattle.ipc_engine.proofs.Soundness.{after-sound, after-fits}
 use Rattle.ipc_engine.proofs.engine.Engine.step.Goals as goal
@@ -68,5 +68,22 @@ invariant_of-self-in-Exit c =
     let same : new.limits ≡ old.limits = search rules in (
       room,
       after-sound old.limits new.limits old.state new.state event same (search rules) c.self.invariant.1,
+      subst (λ (l : Limits). ArePassed l) (sym same) c.self.invariant.2,
+    )
+
+pub returns-in-Restart-clause-sound : goal.returns-in-Restart-clause-sound
+returns-in-Restart-clause-sound c =
+    let old = c.self.inside.state in
+    let new = c.restart.new.self in
+    after-sound old.limits new.limits old.state new.state Restart (search rules) (search rules) c.self.invariant.1
+
+pub invariant_of-self-in-Restart : goal.invariant_of-self-in-Restart
+invariant_of-self-in-Restart c =
+    let old = c.self.inside.state in
+    let new = c.restart.new.self in
+    let room : 0 < vec_capacity c.clear-in-Restart.new.self = search rules in
+    let same : new.limits ≡ old.limits = search rules in (
+      room,
+      after-sound old.limits new.limits old.state new.state Restart same (search rules) c.self.invariant.1,
       subst (λ (l : Limits). ArePassed l) (sym same) c.self.invariant.2,
     )

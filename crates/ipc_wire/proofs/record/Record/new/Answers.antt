@@ -1,6 +1,6 @@
 use Rattle.std.proofs.Common.{◌≡◌, length, rules}
 use Rattle.ipc_wire.specs.Reply.{field_bytes}
-use Rattle.ipc_wire.proofs.Puts.{puts_next}
+use Rattle.ipc_base.proofs.CallerLemmas.{puts_next}
 use Rattle.ipc_wire.proofs.record.Record.new.Goals as goal
 
 pub loop-field-preserved : goal.loop-field-preserved

@@ -32,11 +32,27 @@ puts_both a b at mid next old between new p q =
     q.2 ∙ ap (λ (x : List ℕ). (x ++ b) ++ drop (mid + length b) between) before ∙ ap (λ (x : List ℕ). ((take at old ++ a) ++ b) ++ x) last in
     (omega arith, omega arith, joined ∙ ap (λ (x : List ℕ). x ++ drop (at + length (a ++ b)) old) (append_assoc (take at old) a b))
 
+-- a field that is put leaves the buffer as long as it was
+pub puts_length : (field : List ℕ) (at next : ℕ) (old new : List ℕ) (written : Bool) → Puts field at next old new written → length new ≡ length old
+puts_length field at next old new true p =
+    let front = length-append (take at old ++ field) (drop (at + length field) old) in
+    let kept : length (take at old) ≡ at = length-take-le at old (omega arith) in
+    ap length p.2 ∙ omega (arith, front, length-append (take at old) field, length-drop (at + length field) old)
+puts_length field at next old new false p = ap length p.2
+
 -- where there is room, a field is put
 pub puts_room : (field : List ℕ) (at next : ℕ) (old new : List ℕ) (written : Bool) → Puts field at next old new written → at + length field ≤ length old
     → Puts field at next old new true
 puts_room field at next old new true p room = p
 puts_room field at next old new false p room = absurd (omega arith)
+
+-- a field put behind one that was put, where there is room for both
+pub puts_more : (a b : List ℕ) (at mid next : ℕ) (old between new : List ℕ) (written : Bool) → Puts a at mid old between true
+    → Puts b mid next between new written → at + length (a ++ b) ≤ length old → Puts (a ++ b) at next old new true
+puts_more a b at mid next old between new written p q room =
+    let kept : length between ≡ length old = puts_length a at mid old between true p in
+    let fits : mid + length b ≤ length between = omega (arith, p.1, kept, length-append a b) in
+    puts_both a b at mid next old between new p (puts_room b mid next between new written q fits)
 
 -- a field put behind others is one more of them
 pub puts_next : {X : Type 0} (spell : X → List ℕ) (xs : List X) (i at next : ℕ) (d : X) (old new : List ℕ) (written : Bool) → i < length xs

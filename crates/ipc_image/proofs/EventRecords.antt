@@ -1,0 +1,303 @@
+-- A record is read where it was written, and what is read was written so.
+use Rattle.std.proofs.Common.{◌≡◌, ℕ, ◌+◌, ◌≤◌, ◌<◌, ◌^◌, List, [], ◌∷◌, ◌++◌, length, take, drop, Option, Some, None}
+use Rattle.std.proofs.Common.{refl, sym, ap, subst, ◌∙◌, append_assoc, arith, inl, inr}
+use Rattle.std.proofs.lemmas.Bool.{cases_lt}
+use Rattle.std.specs.Prelude.{IfSome, slice_index}
+use Rattle.std.specs.Int.{w32, w64, from_be_bytes, to_be_bytes}
+use Rattle.std.proofs.lemmas.List.{length-append, length-take, length-take-le, take_at, take-append-drop, get_or-drop, get_or-take, get_or_past}
+use Rattle.std.proofs.lemmas.Nat.{be_bytes_4, be_bytes_8, from_be_bytes-to_be_bytes_4, from_be_bytes-to_be_bytes_8}
+use Rattle.ipc_base.specs.declared.identity.Cred.{Cred}
+use Rattle.ipc_wire.specs.Request.{PlainRequest}
+use Rattle.ipc_wire.specs.Spelling.{HasFrame, request_bytes, frame}
+use Rattle.ipc_wire.proofs.CallerLemmas.{one_text}
+use Rattle.ipc_engine.specs.Event.{PlainEvent, Connect, Call, Tick, Exit, Restart, moment_of}
+use Rattle.ipc_image.specs.Records.{kind_of, details, text_of, record_bytes, HasDetails, HasRecord, BeginsWith}
+use Rattle.ipc_image.specs.RecordParts.{IsText, IsOf}
+use Rattle.ipc_image.proofs.Numbers.{AreBelow}
+
+-- ---- a number at the front of some bytes
+
+-- a number of four bytes was taken from the front
+abbrev pub Got : List ℕ → List ℕ → ℕ → Type 0
+Got old new n = (4 ≤ length old) × (n ≡ from_be_bytes w32 (take 4 old)) × (new ≡ drop 4 old)
+
+drop_below : (n : ℕ) (bytes : List ℕ) → AreBelow 256 bytes → AreBelow 256 (drop n bytes)
+drop_below n bytes fits i = rw get_or-drop (fits (n + i))
+
+pub record Number (old new : List ℕ) (n : ℕ) : Type 0 where
+  pub spelled : old ≡ to_be_bytes w32 n ++ new
+  pub below : n < 2 ^ 32
+  pub left : AreBelow 256 new
+
+below_4 : (part : List ℕ) → AreBelow 256 part → from_be_bytes w32 part < 2 ^ 32
+below_4 part fits = omega (arith, fits 0, fits 1, fits 2, fits 3)
+
+pub take_below : (n : ℕ) (bytes : List ℕ) → AreBelow 256 bytes → AreBelow 256 (take n bytes)
+take_below n bytes fits i =
+    elim (cases_lt i n) [
+      | inl lt ↦ rw (get_or-take n bytes i 0 lt) (fits i)
+      | inr le ↦ rw (get_or_past (take n bytes) i 0 (omega (arith, length-take n bytes))) (omega arith)
+    ]
+
+pub number_got : (old new : List ℕ) (n : ℕ) → AreBelow 256 old → Got old new n → Number old new n
+number_got old new n fits got =
+    let part = take_below 4 old fits in
+    let front : to_be_bytes w32 n ≡ take 4 old = be_bytes_4 (take 4 old) n (length-take-le 4 old got.0) part got.1 in
+    record {
+      spelled = sym (take-append-drop 4 old) ∙ ap (λ (x : List ℕ). x ++ drop 4 old) (sym front) ∙ ap (λ (x : List ℕ). to_be_bytes w32 n ++ x) (sym got.2);
+      below = rw got.1 (below_4 (take 4 old) part);
+      left = rw got.2 (drop_below 4 old fits);
+    }
+
+-- which number it is
+pub number_known : (n : ℕ) (rest old new : List ℕ) (x : ℕ) → n < 2 ^ 32 → old ≡ to_be_bytes w32 n ++ rest → Got old new x → (x ≡ n) × (new ≡ rest)
+number_known n rest old new x fits is got =
+    (got.1 ∙ ap (λ (bytes : List ℕ). from_be_bytes w32 (take 4 bytes)) is ∙ from_be_bytes-to_be_bytes_4 n fits, got.2 ∙ ap (drop 4) is)
+
+-- ---- the details of each kind
+
+nothing : (xs : List ℕ) → length xs ≡ 0 → xs ≡ []
+nothing [] is = refl
+nothing (x ∷ xs) is = absurd (omega (arith, is))
+
+pub connect_found : (moment : ℕ) (bytes one two three : List ℕ) (serial uid gid : ℕ) → AreBelow 256 bytes
+    → Got bytes one serial → Got one two uid → Got two three gid
+    → length three ≡ 0 → IsOf 1 moment bytes (Connect (record { uid = uid; gid = gid }) serial moment)
+connect_found moment bytes one two three serial uid gid fits a b c empty =
+    let first = number_got bytes one serial fits a in
+    let second = number_got one two uid first.left b in
+    let third = number_got two three gid second.left c in
+    record {
+      has = (first.below, second.below, third.below);
+      kind_is = refl;
+      moment_is = refl;
+      details_are =
+          first.spelled ∙ ap (λ (x : List ℕ). to_be_bytes w32 serial ++ x) (second.spelled ∙ ap (λ (x : List ℕ). to_be_bytes w32 uid ++ x)
+          (third.spelled ∙ ap (λ (x : List ℕ). to_be_bytes w32 gid ++ x) (nothing three empty)));
+    }
+
+same_connect : (cred : Cred) (uid gid serial other moment later : ℕ) → uid ≡ cred.uid → gid ≡ cred.gid → serial ≡ other → moment ≡ later
+    → Connect (record { uid = uid; gid = gid }) serial moment ≡ Connect cred other later
+same_connect cred uid gid serial other moment later p q r t =
+    ap (λ (n : ℕ). Connect (record { uid = n; gid = gid }) serial moment) p
+    ∙ ap (λ (n : ℕ). Connect (record { uid = cred.uid; gid = n }) serial moment) q
+    ∙ ap (λ (n : ℕ). Connect cred n moment) r
+    ∙ ap (λ (n : ℕ). Connect cred other n) t
+
+pub connect_only : (moment : ℕ) (bytes one two three : List ℕ) (serial uid gid : ℕ) → Got bytes one serial → Got one two uid → Got two three gid
+    → (e : PlainEvent) → IsOf 1 moment bytes e → Some (Connect (record { uid = uid; gid = gid }) serial moment) ≡ Some e
+connect_only moment bytes one two three serial uid gid a b c (Connect cred s m) is =
+    let first = number_known s (to_be_bytes w32 cred.uid ++ to_be_bytes w32 cred.gid) bytes one serial is.has.0 is.details_are a in
+    let second = number_known cred.uid (to_be_bytes w32 cred.gid) one two uid is.has.1 first.1 b in
+    let third = number_known cred.gid [] two three gid is.has.2 second.1 c in
+    ap (λ (e : PlainEvent). Some e) (same_connect cred uid gid serial s moment m second.0 third.0 first.0 is.moment_is)
+connect_only moment bytes one two three serial uid gid a b c (Call pid request m) is = absurd (omega (arith, is.kind_is))
+connect_only moment bytes one two three serial uid gid a b c (Tick m) is = absurd (omega (arith, is.kind_is))
+connect_only moment bytes one two three serial uid gid a b c (Exit pid m) is = absurd (omega (arith, is.kind_is))
+connect_only moment bytes one two three serial uid gid a b c Restart is = absurd (omega (arith, is.kind_is))
+
+pub call_found : (moment : ℕ) (bytes rest : List ℕ) (pid : ℕ) (request : PlainRequest) → AreBelow 256 bytes → Got bytes rest pid
+    → HasFrame request → rest ≡ request_bytes request → IsOf 2 moment bytes (Call pid request moment)
+call_found moment bytes rest pid request fits a has is =
+    let first = number_got bytes rest pid fits a in
+    record {
+      has = (first.below, has);
+      kind_is = refl;
+      moment_is = refl;
+      details_are = first.spelled ∙ ap (λ (x : List ℕ). to_be_bytes w32 pid ++ x) is;
+    }
+
+pub call_only : (moment : ℕ) (bytes rest : List ℕ) (pid : ℕ) (request : PlainRequest) → Got bytes rest pid
+    → ((r : PlainRequest) → HasFrame r → rest ≡ request_bytes r → Some request ≡ Some r)
+    → (e : PlainEvent) → IsOf 2 moment bytes e → Some (Call pid request moment) ≡ Some e
+call_only moment bytes rest pid request a only (Call p r m) is =
+    let first = number_known p (request_bytes r) bytes rest pid is.has.0 is.details_are a in
+    let same = only r is.has.1 first.1 in
+    let one : request ≡ r = cc in
+    ap (λ (n : ℕ). Some (Call n request moment)) first.0
+    ∙ ap (λ (q : PlainRequest). Some (Call p q moment)) one ∙ ap (λ (n : ℕ). Some (Call p r n)) is.moment_is
+call_only moment bytes rest pid request a only (Connect cred s m) is = absurd (omega (arith, is.kind_is))
+call_only moment bytes rest pid request a only (Tick m) is = absurd (omega (arith, is.kind_is))
+call_only moment bytes rest pid request a only (Exit p m) is = absurd (omega (arith, is.kind_is))
+call_only moment bytes rest pid request a only Restart is = absurd (omega (arith, is.kind_is))
+
+-- ---- the kind and the moment
+
+-- what holds of what was found, if something was
+pub if_found : {X : Type 0} (o : Option X) (P Q : X → Type 0) → ((x : X) → P x → Q x) → IfSome o P → IfSome o Q
+if_found None P Q more h = tt
+if_found (Some x) P Q more h = more x h
+
+-- a byte, and a number of eight bytes, were taken from the front
+abbrev pub GotByte : List ℕ → List ℕ → ℕ → Type 0
+GotByte old new n = (1 ≤ length old) × (n ≡ slice_index (take 1 old) 0) × (new ≡ drop 1 old)
+
+abbrev pub GotLong : List ℕ → List ℕ → ℕ → Type 0
+GotLong old new n = (8 ≤ length old) × (n ≡ from_be_bytes w64 (take 8 old)) × (new ≡ drop 8 old)
+
+first_byte : (old : List ℕ) → 1 ≤ length old → old ≡ slice_index (take 1 old) 0 ∷ drop 1 old
+first_byte [] some = absurd (omega (arith, some))
+first_byte (x ∷ xs) some = refl
+
+below_8 : (part : List ℕ) → AreBelow 256 part → from_be_bytes w64 part < 2 ^ 64
+below_8 part fits = omega (arith, fits 0, fits 1, fits 2, fits 3, fits 4, fits 5, fits 6, fits 7)
+
+pub text_found : (text one two : List ℕ) (kind moment : ℕ) → AreBelow 256 text → GotByte text one kind → GotLong one two moment
+    → (e : PlainEvent) → IsOf kind moment two e → IsText text e
+text_found text one two kind moment fits a b e is =
+    let left : AreBelow 256 one = rw a.2 (drop_below 1 text fits) in
+    let part = take_below 8 one left in
+    let front : to_be_bytes w64 moment ≡ take 8 one = be_bytes_8 (take 8 one) moment (length-take-le 8 one b.0) part b.1 in
+    let below : moment < 2 ^ 64 = rw b.1 (below_8 (take 8 one) part) in
+    let after : one ≡ to_be_bytes w64 moment ++ two =
+    sym (take-append-drop 8 one) ∙ ap (λ (x : List ℕ). x ++ drop 8 one) (sym front) ∙ ap (λ (x : List ℕ). to_be_bytes w64 moment ++ x) (sym b.2) in
+    let whole : text ≡ kind ∷ to_be_bytes w64 moment ++ two =
+    first_byte text a.0 ∙ ap (λ (x : List ℕ). slice_index (take 1 text) 0 ∷ x) (sym a.2 ∙ after)
+    ∙ ap (λ (n : ℕ). n ∷ to_be_bytes w64 moment ++ two) (sym a.1) in
+    record {
+      has = record { moment = rw is.moment_is at below; details = is.has };
+      text_is =
+          whole ∙ ap (λ (n : ℕ). n ∷ to_be_bytes w64 moment ++ two) is.kind_is ∙ ap (λ (n : ℕ). kind_of e ∷ to_be_bytes w64 n ++ two) is.moment_is
+          ∙ ap (λ (x : List ℕ). kind_of e ∷ to_be_bytes w64 (moment_of e) ++ x) is.details_are;
+    }
+
+pub text_only : (text one two : List ℕ) (kind moment : ℕ) → GotByte text one kind → GotLong one two moment
+    → (e : PlainEvent) → IsText text e → IsOf kind moment two e
+text_only text one two kind moment a b e is =
+    let rest : one ≡ to_be_bytes w64 (moment_of e) ++ details e = a.2 ∙ ap (drop 1) is.text_is in
+    record {
+      has = is.has.details;
+      kind_is = a.1 ∙ ap (λ (x : List ℕ). slice_index (take 1 x) 0) is.text_is;
+      moment_is = b.1 ∙ ap (λ (x : List ℕ). from_be_bytes w64 (take 8 x)) rest ∙ from_be_bytes-to_be_bytes_8 (moment_of e) is.has.moment;
+      details_are = b.2 ∙ ap (drop 8) rest;
+    }
+
+-- ---- a whole record
+
+-- the details of an event that has a record are short
+pub details_short : (e : PlainEvent) → HasDetails e → length (details e) ≤ 8452
+details_short (Connect cred serial moment) has = omega arith
+details_short (Call pid request moment) has = let short = has.1.short in omega (arith, short)
+details_short (Tick moment) has = omega arith
+details_short (Exit pid moment) has = omega arith
+details_short Restart has = omega arith
+
+pub length_text : (e : PlainEvent) → length (text_of e) ≡ 9 + length (details e)
+length_text e = omega arith
+
+pub length_record : (e : PlainEvent) → length (record_bytes e) ≡ 13 + length (details e)
+unfolding record_bytes
+length_record e = omega arith
+
+-- a frame has a length of as many bytes as a pid
+pub length_call : (pid : ℕ) (request : PlainRequest) (moment : ℕ) → length (frame request) ≡ length (details (Call pid request moment))
+unfolding frame
+length_call pid request moment = omega arith
+
+-- the bytes are the length of the record, the record, and more
+pub record Begun (bytes : List ℕ) (e : PlainEvent) : Type 0 where
+  pub below : 9 + length (details e) < 2 ^ 32
+  pub more : List ℕ
+  pub spelled : bytes ≡ to_be_bytes w32 (9 + length (details e)) ++ (text_of e ++ more)
+
+pub begun : (bytes : List ℕ) (e : PlainEvent) → BeginsWith bytes e → Begun bytes e
+unfolding record_bytes
+begun bytes e is =
+    let size : ℕ = length (record_bytes e) in
+    let short = details_short e is.has.details in
+    record {
+      below = omega (arith, short);
+      more = drop size bytes;
+      spelled =
+          sym (take-append-drop size bytes) ∙ ap (λ (x : List ℕ). x ++ drop size bytes) is.front
+          ∙ append_assoc (to_be_bytes w32 (9 + length (details e))) (text_of e) (drop size bytes);
+    }
+
+-- too few bytes for the length, or for what it counts
+pub no_length : (bytes : List ℕ) → length bytes < 4 → (e : PlainEvent) → BeginsWith bytes e → ⊥
+no_length bytes short e is =
+    let b = begun bytes e is in
+    let size = ap length b.spelled in
+    omega (arith, size, short)
+
+pub no_text : (bytes one : List ℕ) (n : ℕ) → Got bytes one n → length one < n → (e : PlainEvent) → BeginsWith bytes e → ⊥
+no_text bytes one n a short e is =
+    let b = begun bytes e is in
+    let known = number_known (9 + length (details e)) (text_of e ++ b.more) bytes one n b.below b.spelled a in
+    omega (arith, short, known.0, ap length known.1, length-append (text_of e) b.more, length_text e)
+
+-- the text that was cut is the event's
+pub text_cut : (bytes one text : List ℕ) (n : ℕ) → Got bytes one n → text ≡ take n one → (e : PlainEvent) → BeginsWith bytes e
+    → IsText text e × (n ≡ 9 + length (details e))
+text_cut bytes one text n a cut e is =
+    let b = begun bytes e is in
+    let known = number_known (9 + length (details e)) (text_of e ++ b.more) bytes one n b.below b.spelled a in
+    let text_is : text ≡ text_of e =
+    cut ∙ ap (λ (m : ℕ). take m one) known.0 ∙ ap (take (9 + length (details e))) known.1
+    ∙ take_at (text_of e) b.more (9 + length (details e)) (length_text e) in
+    (record { has = is.has; text_is = text_is }, known.0)
+
+pub record_found : (bytes one text two : List ℕ) (n : ℕ) → AreBelow 256 bytes → Got bytes one n → n ≤ length one → text ≡ take n one
+    → (e : PlainEvent) → IsText text e → BeginsWith bytes e × (4 + n ≡ length (record_bytes e))
+unfolding record_bytes
+record_found bytes one text two n fits a enough cut e is =
+    let got = number_got bytes one n fits a in
+    let size : n ≡ 9 + length (details e) = sym (length-take-le n one enough) ∙ ap length (sym cut ∙ is.text_is) ∙ length_text e in
+    let whole : bytes ≡ record_bytes e ++ drop n one =
+    got.spelled ∙ ap (λ (x : List ℕ). to_be_bytes w32 n ++ x) (sym (take-append-drop n one))
+    ∙ ap (λ (x : List ℕ). to_be_bytes w32 n ++ (x ++ drop n one)) (sym cut ∙ is.text_is)
+    ∙ ap (λ (m : ℕ). to_be_bytes w32 m ++ (text_of e ++ drop n one)) size
+    ∙ sym (append_assoc (to_be_bytes w32 (9 + length (details e))) (text_of e) (drop n one)) in
+    let front = ap (take (length (record_bytes e))) whole ∙ take_at (record_bytes e) (drop n one) (length (record_bytes e)) refl in
+    (record { has = is.has; front = front }, omega (arith, size))
+
+pub record_read : (e : PlainEvent) (rest : List ℕ) → HasRecord e → BeginsWith (record_bytes e ++ rest) e
+record_read e rest has = record { has = has; front = take_at (record_bytes e) rest (length (record_bytes e)) refl }
+
+-- ---- bytes begin with one record at most
+
+got_spelled : (n : ℕ) (rest : List ℕ) → n < 2 ^ 32 → Got (to_be_bytes w32 n ++ rest) rest n
+got_spelled n rest fits = (omega arith, sym (from_be_bytes-to_be_bytes_4 n fits), refl)
+
+unwrapped : (e f : PlainEvent) → Some e ≡ Some f → e ≡ f
+unwrapped e f is = cc
+
+-- the same bytes are the details of no two events of a kind and a moment
+one_of : (e f : PlainEvent) → HasDetails e → IsOf (kind_of e) (moment_of e) (details e) f → e ≡ f
+one_of (Connect cred serial moment) f has is =
+    let two : List ℕ = to_be_bytes w32 cred.uid ++ to_be_bytes w32 cred.gid in
+    let all = connect_only moment (to_be_bytes w32 serial ++ two) two (to_be_bytes w32 cred.gid) [] serial cred.uid cred.gid
+    (got_spelled serial two has.0) (got_spelled cred.uid (to_be_bytes w32 cred.gid) has.1) (got_spelled cred.gid [] has.2) f is in
+    unwrapped (Connect cred serial moment) f all
+one_of (Call pid request moment) f has is =
+    unwrapped (Call pid request moment) f
+    (call_only moment (to_be_bytes w32 pid ++ request_bytes request) (request_bytes request) pid request (got_spelled pid (request_bytes request) has.0)
+    (λ r other same. one_text request r has.1 other same) f is)
+one_of (Tick moment) (Tick later) has is = ap Tick is.moment_is
+one_of (Tick moment) (Connect cred s m) has is = absurd (omega (arith, is.kind_is))
+one_of (Tick moment) (Call p r m) has is = absurd (omega (arith, is.kind_is))
+one_of (Tick moment) (Exit p m) has is = absurd (omega (arith, is.kind_is))
+one_of (Tick moment) Restart has is = absurd (omega (arith, is.kind_is))
+one_of (Exit pid moment) (Exit other later) has is =
+    let same = number_known other [] (to_be_bytes w32 pid) [] pid is.has is.details_are (got_spelled pid [] has) in
+    ap (λ (n : ℕ). Exit n moment) same.0 ∙ ap (λ (n : ℕ). Exit other n) is.moment_is
+one_of (Exit pid moment) (Connect cred s m) has is = absurd (omega (arith, is.kind_is))
+one_of (Exit pid moment) (Call p r m) has is = absurd (omega (arith, is.kind_is))
+one_of (Exit pid moment) (Tick m) has is = absurd (omega (arith, is.kind_is))
+one_of (Exit pid moment) Restart has is = absurd (omega (arith, is.kind_is))
+one_of Restart Restart has is = refl
+one_of Restart (Connect cred s m) has is = absurd (omega (arith, is.kind_is))
+one_of Restart (Call p r m) has is = absurd (omega (arith, is.kind_is))
+one_of Restart (Tick m) has is = absurd (omega (arith, is.kind_is))
+one_of Restart (Exit p m) has is = absurd (omega (arith, is.kind_is))
+
+pub one_record : (bytes : List ℕ) (e f : PlainEvent) → BeginsWith bytes e → BeginsWith bytes f → e ≡ f
+one_record bytes e f is also =
+    let b = begun bytes e is in
+    let n : ℕ = 9 + length (details e) in
+    let first : Got bytes (text_of e ++ b.more) n =
+    subst (λ (x : List ℕ). Got x (text_of e ++ b.more) n) (sym b.spelled) (got_spelled n (text_of e ++ b.more) b.below) in
+    let cut = text_cut bytes (text_of e ++ b.more) (text_of e) n first (sym (take_at (text_of e) b.more n (length_text e))) f also in
+    let rest : List ℕ = to_be_bytes w64 (moment_of e) ++ details e in
+    let long : GotLong rest (details e) (moment_of e) = (omega arith, sym (from_be_bytes-to_be_bytes_8 (moment_of e) is.has.moment), refl) in
+    one_of e f is.has.details (text_only (text_of e) rest (details e) (kind_of e) (moment_of e) (omega arith, refl, refl) long f cut.0)

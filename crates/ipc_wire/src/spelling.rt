@@ -1,0 +1,147 @@
+//! Requests written into a buffer.
+
+ghost use Rattle.std.specs.Prelude.{
+  ◌≡◌,
+  ◌≤◌,
+  ◌<◌,
+  ◌+◌,
+  ◌^◌,
+  ◌++◌,
+  ◌↔◌,
+  IsTrue,
+  true,
+  length,
+  drop,
+};
+ghost use Rattle.std.specs.Bool.{OnTrue, OnFalse};
+ghost use Rattle.ipc_base.specs.Fields.{Puts};
+ghost use Rattle.ipc_wire.specs.Reply.{fields_bytes};
+ghost use Rattle.ipc_wire.specs.Request.{Calls, plain_call, plain_kind, plain_request};
+ghost use Rattle.ipc_wire.specs.Spelling.{HasFrame, opcode_of, fields_of, request_bytes, frame};
+
+use crate::reading::{HELLO, MSGGET, MSGRCV, MSGSND};
+use crate::record::{Field, Record};
+use crate::request::{Call, Request, RequestKind};
+use crate::writing::text_len;
+use ipc_base::Put;
+
+/// A request taken apart, as it stands in its frame.
+#[derive(Drop)]
+struct Parts<'a> {
+    opcode: u8,
+    fields: Record,
+    /// What follows the fields, to the end of the frame.
+    rest: &'a [u8],
+}
+
+/// How many bytes the frame of the request takes.
+#[tactic(auto, unfolding(crate::specs::Spelling::frame))]
+pub fn request_len(request: &Request<'_>) -> usize
+    ensures exact { result ≡ length (frame (plain_request request.now)) }
+    ensures bounded { HasFrame (plain_request request.now) → result ≤ 8452 }
+    ensures far_from_overflow { result + 2 ^ 32 < 2 ^ 64 }
+{
+    let parts = parts_of(request.kind);
+    9 + parts.fields.as_slice().len() + text_len(parts.rest)
+}
+
+/// Writes the frame of the request to the front of the buffer. Answers `false`, and changes nothing, if the
+/// buffer is shorter than the frame or the request is too long for its length field of four bytes.
+#[tactic(auto, unfolding(crate::specs::Spelling::frame))]
+pub fn write_request(request: &Request<'_>, out: &mut [u8]) -> bool
+    ensures fits { IsTrue result ↔ ((length (frame (plain_request request.now)) ≤ length out.old)
+        × (5 + length (fields_of (plain_kind request.now.kind)) < 2 ^ 32)) }
+    ensures written { OnTrue result (out.new
+        ≡ frame (plain_request request.now) ++ drop (length (frame (plain_request request.now))) out.old) }
+    ensures unchanged { OnFalse result (out.new ≡ out.old) }
+{
+    let whole = request_len(request);
+    let Ok(length) = u32::try_from(whole - 4) else {
+        return false;
+    };
+    if whole > out.len() {
+        return false;
+    }
+    let mut put = Put::new(0);
+    put.u32(out, length);
+    put_request(&mut put, out, request);
+    true
+}
+
+/// Puts the frame of a request without its length into a buffer that has room for it.
+pub fn put_request(put: &mut Put, out: &mut [u8], request: &Request<'_>)
+    requires { put.old + length (request_bytes (plain_request request.now)) ≤ length out.old }
+    ensures { Puts (request_bytes (plain_request request.now)) put.old put.new out.old out.new true }
+{
+    let parts = parts_of(request.kind);
+    put.u32(out, request.serial);
+    put.u8(out, parts.opcode);
+    put.bytes(out, parts.fields.as_slice());
+    put.bytes(out, parts.rest);
+}
+
+/// A request in its parts.
+fn parts_of(kind: RequestKind<'_>) -> Parts<'_>
+    ensures opcode { result.opcode ≡ opcode_of (plain_kind kind.entry) }
+    ensures fields { result.fields ++ result.rest.now ≡ fields_of (plain_kind kind.entry) }
+{
+    match kind {
+        RequestKind::Hello(cred) => spelled(
+            HELLO,
+            &[Field::U32(cred.uid), Field::U32(cred.gid)],
+            &[],
+        ),
+        RequestKind::Call(call) => call_parts(call),
+    }
+}
+
+fn call_parts(call: Call<'_>) -> Parts<'_>
+    ensures opcode { result.opcode ≡ opcode_of (Calls (plain_call call.entry)) }
+    ensures fields { result.fields ++ result.rest.now ≡ fields_of (Calls (plain_call call.entry)) }
+{
+    match call {
+        Call::Msgget { key, flags } => spelled(
+            MSGGET,
+            &[Field::I32(key), Field::U32(flags.0)],
+            &[],
+        ),
+        Call::Msgsnd {
+            id,
+            flags,
+            mtype,
+            text,
+        } => spelled(
+            MSGSND,
+            &[Field::U32(id.0), Field::U32(flags.0), Field::I64(mtype)],
+            text,
+        ),
+        Call::Msgrcv {
+            id,
+            flags,
+            size,
+            mtype,
+        } => spelled(
+            MSGRCV,
+            &[
+                Field::U32(id.0),
+                Field::U32(flags.0),
+                Field::U32(size),
+                Field::I64(mtype),
+            ],
+            &[],
+        ),
+    }
+}
+
+/// These parts.
+fn spelled<'a>(opcode: u8, fields: &[Field], rest: &'a [u8]) -> Parts<'a>
+    requires { length (fields_bytes fields.now) ≤ 68 }
+    ensures opcode { result.opcode ≡ opcode }
+    ensures fields { result.fields ++ result.rest.now ≡ fields_bytes fields.now ++ rest.now }
+{
+    Parts {
+        opcode,
+        fields: Record::new(fields),
+        rest,
+    }
+}
