@@ -11,8 +11,8 @@ returns-then-i64-clause-bytes c =
     let head = rw (c.if-i64.true, to_z-of_z w64 c.in-Message.mtype fits) at c.i64.ensures in
     let kept : length c.i64.new.buffer ≡ length c.args.out.now = search rules in
     let tail = puts_room c.in-Message.text.now c.i64.new.self c.bytes-then-i64.new.self
-        c.i64.new.buffer c.bytes-then-i64.new.buffer c.bytes-then-i64.result c.bytes-then-i64.ensures
-        (omega (arith, room, head, kept)) in
+    c.i64.new.buffer c.bytes-then-i64.new.buffer c.bytes-then-i64.result c.bytes-then-i64.ensures
+    (omega (arith, room, head, kept)) in
     rw c.in-Message.is (puts_both (signed_bytes w64 c.in-Message.mtype) c.in-Message.text.now
-        c.args.put.now c.i64.new.self c.bytes-then-i64.new.self
-        c.args.out.now c.i64.new.buffer c.bytes-then-i64.new.buffer head tail)
+    c.args.put.now c.i64.new.self c.bytes-then-i64.new.self
+    c.args.out.now c.i64.new.buffer c.bytes-then-i64.new.buffer head tail)
