@@ -1,0 +1,23 @@
+-- A batch: the events that one commit makes last.
+use Rattle.std.specs.Prelude.{◌≤◌, ◌+◌, ℕ, List, ◌++◌, length, All}
+use Rattle.std.specs.List.{flat_map}
+use Rattle.byteorder.specs.Endian.{big_bytes}
+use Rattle.ipc_engine.specs.Event.{PlainEvent}
+use Rattle.ipc_image.specs.Records.{record_bytes, HasRecord}
+
+-- the most bytes that a batch has, with its length
+abbrev pub most_bytes : ℕ
+most_bytes = 32768
+
+-- the records of events, each directly behind the one before
+abbrev pub records_of : List PlainEvent → List ℕ
+records_of events = flat_map record_bytes events
+
+-- the bytes of a batch: how many bytes its records have (four bytes), and the records
+unfoldable pub batch_bytes : List PlainEvent → List ℕ
+batch_bytes events = big_bytes 4 (length (records_of events)) ++ records_of events
+
+-- the events make one batch
+pub record AreBatch (events : List PlainEvent) : Type 0 where
+  pub each : All HasRecord events
+  pub size : 4 + length (records_of events) ≤ most_bytes

@@ -1,0 +1,5 @@
+-- What the store keeps on a device, what a store shows, and what joins the two.
+pub mod Batch
+pub mod Image
+pub mod View
+pub mod Relations

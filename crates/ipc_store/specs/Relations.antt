@@ -1,0 +1,4 @@
+-- What joins the code of the store to the definitions. A reader of the definitions alone needs none of it.
+pub mod Batch
+pub mod Matches
+pub mod Replay

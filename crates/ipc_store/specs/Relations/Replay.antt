@@ -1,0 +1,30 @@
+-- What a replay of a journal finds.
+use Rattle.std.specs.Prelude.{◌≡◌, ◌+◌, ◌<◌, ◌≤◌, ℕ, List, map}
+use Rattle.ipc_base.specs.declared.limits.Limits.{Limits}
+use Rattle.ipc_disk.specs.Medium.{Image}
+use Rattle.ipc_journal.specs.Journal.{header_epoch, header_used, sectors_of, Fill}
+use Rattle.ipc_journal.specs.View.{range_of, epoch_of, used_of}
+use Rattle.ipc_journal.specs.declared.journal.Journal.{Journal}
+use Rattle.ipc_state.specs.State.{State}
+use Rattle.ipc_engine.specs.Event.{PlainEvent}
+use Rattle.ipc_store.specs.Batch.{batch_bytes}
+use Rattle.ipc_store.specs.Image.{LeadTo}
+
+-- the batches that the journal uses are these, and they lead to this state
+pub record Replays (limits : Limits) (journal : Journal) (image : Image) (batches : List (List PlainEvent))
+    (s : State) : Type 0 where
+  pub filled : Fill (range_of journal) 0 (used_of journal) (map batch_bytes batches) image
+  pub leads : LeadTo limits batches s
+
+-- the journal is the one whose header stands in the image
+pub record IsOpened (journal : Journal) (image : Image) : Type 0 where
+  pub older : header_epoch (range_of journal) image < epoch_of journal → used_of journal ≡ 0
+  pub current : header_epoch (range_of journal) image ≡ epoch_of journal
+      → used_of journal ≡ header_used (range_of journal) image
+  pub not_newer : header_epoch (range_of journal) image ≤ epoch_of journal
+
+-- the batches before this sector are good ones
+pub record IsGoodUpTo (limits : Limits) (journal : Journal) (image : Image) (sector : ℕ) : Type 0 where
+  pub good : (batches : List (List PlainEvent)) × (s : State) × LeadTo limits batches s
+      × Fill (range_of journal) 0 (sectors_of (map batch_bytes batches)) (map batch_bytes batches) image
+      × (sector ≡ (range_of journal).first + 1 + sectors_of (map batch_bytes batches))

@@ -1,0 +1,104 @@
+//! The batch of the events that wait for a commit.
+
+ghost use Rattle.std.specs.Prelude.{◌≡◌, ◌≤◌, ◌+◌, ◌++◌, [], length};
+ghost use Rattle.byteorder.specs.Endian.{big_bytes};
+ghost use Rattle.ipc_engine.specs.View.{plain_event};
+ghost use Rattle.ipc_image.specs.Records.{record_bytes, HasRecord};
+ghost use Rattle.ipc_store.specs.Batch.{most_bytes};
+
+use byteorder::{BigEndian, ByteOrder};
+use ipc_engine::Event;
+use ipc_image::{record_len, write_event};
+use std::marker::Model;
+
+/// The most bytes of a batch, with its length.
+pub(crate) const MOST_BYTES: usize = 32768;
+
+/// The most bytes of a record.
+const LONGEST_RECORD: usize = 8465;
+
+/// The bytes of a batch as they go to the journal: each record is written straight into its place.
+#[derive(Drop)]
+pub(crate) struct Batch {
+    // The length of the records, the records, and bytes that mean nothing.
+    bytes: Vec<u8>,
+    // How many bytes mean something.
+    len: usize,
+    count: u64,
+}
+
+impl Model for Batch {
+    ghost use Rattle.std.specs.Prelude.{take, drop};
+    ghost use Rattle.ipc_store.specs.View.{BatchView};
+    ghost use Rattle.ipc_store.specs.Relations.Batch.{IsFilled};
+
+    ghost Value = { BatchView };
+
+    ghost view = { λ b. record { records = drop 4 (take b.len b.bytes.items); count = b.count } };
+
+    ghost invariant = { λ b. IsFilled b.bytes.items b.len b.count };
+}
+
+impl Batch {
+    ghost use Rattle.std.specs.Prelude.{◌*◌, ◌↔◌, IsTrue};
+
+    /// A batch without events, in these bytes.
+    pub(crate) fn new(room: Vec<u8>) -> Batch
+        requires { length room.items ≡ most_bytes }
+        ensures { result ≡ record { records = []; count = 0 } }
+    {
+        let mut bytes = room;
+        BigEndian::write_u32(&mut bytes, 0);
+        Batch {
+            bytes,
+            len: 4,
+            count: 0,
+        }
+    }
+
+    /// Whether a record of the greatest length fits.
+    pub(crate) fn has_room(&self) -> bool
+        ensures { IsTrue result ↔ (4 + length self.now.records + 8465 ≤ most_bytes) }
+    {
+        self.len + LONGEST_RECORD <= MOST_BYTES
+    }
+
+    /// How many events wait.
+    pub(crate) fn count(&self) -> u64
+        ensures count { result ≡ self.now.count }
+        ensures few { 13 * self.now.count + 4 ≤ most_bytes }
+        ensures some { 13 * self.now.count ≤ length self.now.records }
+    {
+        self.count
+    }
+
+    /// Adds the record of an event.
+    pub(crate) fn push(&mut self, event: &Event<'_>)
+        requires record { HasRecord (plain_event event.now) }
+        requires room { 4 + length self.old.records + 8465 ≤ most_bytes }
+        ensures records { self.new.records ≡ self.old.records ++ record_bytes (plain_event event.now) }
+        ensures count { self.new.count ≡ self.old.count + 1 }
+    {
+        write_event(event, &mut self.bytes[self.len..]);
+        self.len += record_len(event);
+        self.count += 1;
+        BigEndian::write_u32(&mut self.bytes, (self.len - 4) as u32);
+    }
+
+    /// The bytes of the batch.
+    pub(crate) fn bytes(&self) -> &[u8]
+        ensures bytes { result.now ≡ big_bytes 4 (length self.now.records) ++ self.now.records }
+        ensures size { 4 + length self.now.records ≤ most_bytes }
+    {
+        &self.bytes[..self.len]
+    }
+
+    /// No event waits any more.
+    pub(crate) fn clear(&mut self)
+        ensures { self.new ≡ record { records = []; count = 0 } }
+    {
+        BigEndian::write_u32(&mut self.bytes, 0);
+        self.len = 4;
+        self.count = 0;
+    }
+}

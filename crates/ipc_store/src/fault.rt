@@ -1,0 +1,135 @@
+//! What can go wrong with a store.
+
+ghost use Rattle.std.specs.Prelude.{◌≡◌};
+ghost use Rattle.ipc_store.specs.declared.fault.StepError.TheVariants as step_errors;
+ghost use Rattle.ipc_store.specs.declared.fault.FormatError.TheVariants as format_errors;
+ghost use Rattle.ipc_store.specs.declared.fault.OpenError.TheVariants as open_errors;
+ghost use Rattle.ipc_store.specs.View.{of_journal_error};
+
+use ipc_base::BadLimits;
+use ipc_disk::DiskFault;
+use ipc_journal::JournalError;
+use std::alloc::AllocError;
+use thiserror::Error;
+
+/// Why an event was not accepted.
+#[derive(Clone, Copy, Debug, PartialEq, Eq, Error)]
+pub enum StepError {
+    /// The machine wants memory for it.
+    #[error("no memory")]
+    NoMemory,
+    /// The store goes on no more. It has to be opened again.
+    #[error("the store has stopped")]
+    Stopped,
+}
+
+/// Why what waits was not made last.
+#[derive(Clone, Copy, Debug, PartialEq, Eq, Error)]
+pub enum CommitError {
+    /// A call on the disk has failed. The store goes on no more.
+    #[error("the disk has failed")]
+    Device,
+    /// The journal has no room for the batch. The store goes on no more.
+    #[error("the journal is full")]
+    JournalFull,
+    /// The store goes on no more. It has to be opened again.
+    #[error("the store has stopped")]
+    Stopped,
+}
+
+/// Why a disk was not made a device.
+#[derive(Clone, Copy, Debug, PartialEq, Eq, Error)]
+pub enum FormatError {
+    /// The limits do not pass their check.
+    #[error("{0}")]
+    BadLimits(BadLimits),
+    /// The disk has fewer sectors than a device needs under these limits.
+    #[error("the device needs {need} sectors")]
+    TooSmall {
+        /// How many it needs.
+        need: u32,
+    },
+    /// A call on the disk has failed.
+    #[error("the disk has failed")]
+    Device,
+}
+
+/// Why a device was not opened.
+#[derive(Clone, Copy, Debug, PartialEq, Eq, Error)]
+pub enum OpenError {
+    /// A call on the disk has failed.
+    #[error("the disk has failed")]
+    Device,
+    /// It does not begin as a device of a store.
+    #[error("the device is not formatted")]
+    NotFormatted,
+    /// It is of another version.
+    #[error("the device is of version {found}")]
+    Version {
+        /// The version that it names.
+        found: u32,
+    },
+    /// What stands on it stands for no state.
+    #[error("the device is damaged at sector {sector}")]
+    Damaged {
+        /// The first sector in which the fault is seen.
+        sector: u32,
+    },
+    /// The machine on it wants memory.
+    #[error("no memory")]
+    NoMemory,
+    /// Its journal has no room for a restart.
+    #[error("the journal is full")]
+    JournalFull,
+}
+
+impl From<AllocError> for StepError {
+    ghost from_gives = { λ _ e. e ≡ step_errors.NoMemory };
+
+    fn from(_: AllocError) -> Self {
+        StepError::NoMemory
+    }
+}
+
+impl From<BadLimits> for FormatError {
+    ghost from_gives = { λ fault e. e ≡ format_errors.BadLimits fault };
+
+    fn from(fault: BadLimits) -> Self {
+        FormatError::BadLimits(fault)
+    }
+}
+
+impl From<DiskFault> for FormatError {
+    ghost from_gives = { λ _ e. e ≡ format_errors.Device };
+
+    fn from(_: DiskFault) -> Self {
+        FormatError::Device
+    }
+}
+
+impl From<AllocError> for OpenError {
+    ghost from_gives = { λ _ e. e ≡ open_errors.NoMemory };
+
+    fn from(_: AllocError) -> Self {
+        OpenError::NoMemory
+    }
+}
+
+impl From<DiskFault> for OpenError {
+    ghost from_gives = { λ _ e. e ≡ open_errors.Device };
+
+    fn from(_: DiskFault) -> Self {
+        OpenError::Device
+    }
+}
+
+impl From<JournalError> for OpenError {
+    ghost from_gives = { λ error e. e ≡ of_journal_error error };
+
+    fn from(error: JournalError) -> Self {
+        match error {
+            JournalError::Device => OpenError::Device,
+            JournalError::Damaged { sector } => OpenError::Damaged { sector },
+        }
+    }
+}
