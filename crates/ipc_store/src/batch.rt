@@ -1,6 +1,6 @@
 //! The batch of the events that wait for a commit.
 
-ghost use Rattle.std.specs.Prelude.{◌≡◌, ◌≤◌, ◌+◌, ◌++◌, [], length};
+ghost use Rattle.std.specs.Prelude.{◌≡◌, ◌≤◌, ◌+◌, ◌-◌, ◌++◌, [], length, take, drop};
 ghost use Rattle.byteorder.specs.Endian.{big_bytes};
 ghost use Rattle.ipc_engine.specs.View.{plain_event};
 ghost use Rattle.ipc_image.specs.Records.{record_bytes, HasRecord};
@@ -79,10 +79,8 @@ impl Batch {
         ensures records { self.new.records ≡ self.old.records ++ record_bytes (plain_event event.now) }
         ensures count { self.new.count ≡ self.old.count + 1 }
     {
-        write_event(event, &mut self.bytes[self.len..]);
-        self.len += record_len(event);
+        self.len = put_record(&mut self.bytes, self.len, event);
         self.count += 1;
-        BigEndian::write_u32(&mut self.bytes, (self.len - 4) as u32);
     }
 
     /// The bytes of the batch.
@@ -101,4 +99,25 @@ impl Batch {
         self.len = 4;
         self.count = 0;
     }
+}
+
+// Puts the record of an event directly behind the batch in the first `len` bytes. Answers how many bytes the batch has
+// then.
+fn put_record(bytes: &mut [u8], len: usize, event: &Event<'_>) -> usize
+    requires record { HasRecord (plain_event event.now) }
+    requires size { length bytes.old ≡ most_bytes }
+    requires least { 4 ≤ len }
+    requires room { len + 8465 ≤ most_bytes }
+    ensures len { result ≡ len + length (record_bytes (plain_event event.now)) }
+    ensures least { len + 13 ≤ result }
+    ensures most { result ≤ len + 8465 }
+    ensures size { length bytes.new ≡ most_bytes }
+    ensures field { take 4 bytes.new ≡ big_bytes 4 (result - 4) }
+    ensures records { drop 4 (take result bytes.new)
+        ≡ drop 4 (take len bytes.old) ++ record_bytes (plain_event event.now) }
+{
+    let end = len + record_len(event);
+    write_event(event, &mut bytes[len..]);
+    BigEndian::write_u32(bytes, (end - 4) as u32);
+    end
 }

@@ -1,0 +1,8 @@
+use Rattle.std.proofs.Common.{◌≡◌, ◌≤◌, ◌+◌, length, sym, arith}
+use Rattle.ipc_store.proofs.Batches.{filled-length}
+use Rattle.ipc_store.proofs.batch.Batch.has_room.Goals as goal
+
+pub returns : goal.returns
+returns c =
+    let whole = filled-length c.self.inside.bytes.items c.self.inside.len c.self.inside.count c.self.invariant in
+    rw (sym c.self.view_is) (search arith)
