@@ -45,6 +45,16 @@ EachImageSince-weaken old new P Q run weaker = record {
   earlier = λ t image le left. ⊎_elim inl (λ p. inr (weaker image p)) (run.earlier t image le left);
 }
 
+-- what holds of each image, and what holds of each too
+pub EachImageSince-both : (old new : Medium) (P Q : Image → Type 0) → EachImageSince old new P → EachImageSince old new Q
+    → EachImageSince old new (λ image. P image × Q image)
+EachImageSince-both old new P Q one other = record {
+  later = one.later;
+  each = λ image left. (one.each image left, other.each image left);
+  earlier = λ t image le left. ⊎_elim inl (λ p. ⊎_elim inl (λ q. inr (p, q)) (other.earlier t image le left))
+      (one.earlier t image le left);
+}
+
 -- on an honest disk it holds of each image now
 pub EachImageSince-now : (old new : Medium) (P : Image → Type 0) → EachImageSince old new P → IsHonest new
     → (image : Image) → new.images_now image → P image

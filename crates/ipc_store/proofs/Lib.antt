@@ -1,1 +1,4 @@
 mod Batches
+mod Committing
+mod Devices
+mod Histories

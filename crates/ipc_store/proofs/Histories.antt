@@ -1,0 +1,45 @@
+-- What batches lead to, and what one batch more does.
+use Rattle.std.proofs.Common.{◌≡◌, List, [], ◌∷◌, ◌++◌, refl, sym, ap, subst, ◌∙◌, append-nil}
+use Rattle.std.specs.Prelude.{All, map}
+use Rattle.std.proofs.lemmas.List.Elements.{All-nil, All-cons, All-append}
+use Rattle.std.proofs.lemmas.List.Concat.{flat_map-append}
+use Rattle.ipc_base.specs.declared.limits.Limits.{Limits}
+use Rattle.ipc_state.specs.State.{State, start}
+use Rattle.ipc_engine.specs.Event.{PlainEvent}
+use Rattle.ipc_engine.specs.Step.{step, run}
+use Rattle.ipc_engine.proofs.CallerLemmas.{run-parts}
+use Rattle.ipc_store.specs.Batch.{AreBatch}
+use Rattle.ipc_store.specs.Image.{AreFor, events_of, LeadTo}
+
+-- events that were for the state, and events for the state after them
+pub AreFor-parts : (limits : Limits) (s : State) (before after : List PlainEvent) → AreFor limits s before
+    → AreFor limits (run limits s before).state after → AreFor limits s (before ++ after)
+AreFor-parts limits s [] after here then = then
+AreFor-parts limits s (e ∷ before) after here then = (here.0, AreFor-parts limits (step limits s e).state before after here.1 then)
+
+-- one batch more has its events last
+pub events-more : (batches : List (List PlainEvent)) (events : List PlainEvent)
+    → events_of (batches ++ events ∷ []) ≡ events_of batches ++ events
+events-more batches events =
+    flat_map-append (λ (es : List PlainEvent). es) batches (events ∷ []) ∙ ap (λ (es : List PlainEvent). events_of batches ++ es) (append-nil events)
+
+-- no batch leads to the first state
+pub LeadTo-start : (limits : Limits) → LeadTo limits [] start
+LeadTo-start limits = record { each = All-nil AreBatch; named = tt; state = refl }
+
+-- one batch more leads on
+pub LeadTo-more : (limits : Limits) (batches : List (List PlainEvent)) (events : List PlainEvent) (s : State)
+    → LeadTo limits batches s → AreBatch events → AreFor limits s events
+    → LeadTo limits (batches ++ events ∷ []) (run limits s events).state
+LeadTo-more limits batches events s leads batch named =
+    let all = events-more batches events in
+    let from : AreFor limits (run limits start (events_of batches)).state events =
+    subst (λ (t : State). AreFor limits t events) leads.state named in
+    record {
+      each = All-append AreBatch batches (events ∷ []) leads.each (All-cons AreBatch events [] batch (All-nil AreBatch));
+      named = subst (λ (es : List PlainEvent). AreFor limits start es) (sym all)
+          (AreFor-parts limits start (events_of batches) events leads.named from);
+      state =
+          ap (λ (t : State). (run limits t events).state) leads.state ∙ sym (run-parts limits start (events_of batches) events)
+          ∙ ap (λ (es : List PlainEvent). (run limits start es).state) (sym all);
+    }
