@@ -1,3 +1,4 @@
+mod Accepting
 mod Batches
 mod Committing
 mod Devices

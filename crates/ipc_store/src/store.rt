@@ -3,7 +3,7 @@
 ghost use Rattle.std.specs.Prelude.{◌≡◌, ◌⊎◌, ◌<◌, ◌≤◌, ◌+◌, ◌-◌, ◌^◌, ◌↔◌, ◌++◌, ◌∷◌, ◌≢◌, [], ℕ, List};
 ghost use Rattle.std.specs.Prelude.{length, true, false, IsOk, IsTrue, Ok, Err, OnOk, OnErr, IsErrOf};
 ghost use Rattle.ipc_disk.specs.Counts.{counted, with_calls};
-ghost use Rattle.ipc_disk.specs.Medium.{Image};
+ghost use Rattle.ipc_disk.specs.Medium.{Image, IsHonest};
 ghost use Rattle.ipc_disk.specs.Range.{IsWithin};
 ghost use Rattle.ipc_disk.specs.Since.{EachImageSince};
 ghost use Rattle.ipc_journal.specs.Journal.{sectors_for};
@@ -174,6 +174,7 @@ impl<D: SectorDisk> Store<D> {
             ≡ counted (D.counts self.old.disk).failures 1 }
         ensures counts { OnOk result (0 < self.old.waiting → D.counts self.new.disk
             ≡ with_calls (sectors_for (4 + length self.old.records) + 1) 2 (D.counts self.old.disk)) }
+        ensures honest { IsHonest (D.medium self.old.disk) → IsHonest (D.medium self.new.disk) }
         ensures size { D.size self.new.disk ≡ D.size self.old.disk }
     {
         if self.stopped {
@@ -210,6 +211,7 @@ impl<D: SectorDisk> Store<D> {
             ≡ counted (D.counts self.old.disk).failures 1 }
         ensures counts { OnOk result (D.counts self.new.disk
             ≡ with_calls (sectors_for (4 + length self.old.records) + 1) 2 (D.counts self.old.disk)) }
+        ensures honest { IsHonest (D.medium self.old.disk) → IsHonest (D.medium self.new.disk) }
         ensures size { D.size self.new.disk ≡ D.size self.old.disk }
     {
         let batch = self.batch.bytes();
