@@ -3,3 +3,4 @@ mod Batches
 mod Committing
 mod Devices
 mod Histories
+mod Superblocks

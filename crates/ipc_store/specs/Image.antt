@@ -1,10 +1,10 @@
 -- What an image of a device stands for: the state after the events of its journal, from the first state on.
-use Rattle.std.specs.Prelude.{◌≡◌, ◌≢◌, ◌⊎◌, ◌<◌, ℕ, List, [], ◌∷◌, length, map, All}
+use Rattle.std.specs.Prelude.{◌≡◌, ◌≢◌, ◌⊎◌, ◌<◌, ◌≤◌, ◌+◌, ℕ, List, [], ◌∷◌, length, map, All}
 use Rattle.std.specs.List.{flat_map}
 use Rattle.ipc_base.specs.declared.limits.Limits.{Limits}
 use Rattle.ipc_disk.specs.declared.range.Range.{Range}
 use Rattle.ipc_disk.specs.Medium.{Image}
-use Rattle.ipc_journal.specs.Journal.{sector_at, Holds}
+use Rattle.ipc_journal.specs.Journal.{sector_at, sectors_of, header_epoch, header_used, Fill, Holds}
 use Rattle.ipc_state.specs.State.{State, start}
 use Rattle.ipc_engine.specs.Event.{PlainEvent}
 use Rattle.ipc_engine.specs.Engine.{IsForProcess}
@@ -67,3 +67,13 @@ pub record IsDamaged (image : Image) : Type 0 where
   pub formatted : ¬ IsNotFormatted image
   pub version : version_in (sector_at image 0) ≡ 0
   pub stands_for_none : HasNoState image
+
+-- Where a damage is first seen: in sector 0, which is no superblock of this device; in the header of the journal, which is
+-- of a later epoch or counts sectors past the end; or in the first sector of a batch behind good ones.
+pub data IsFirstFault (image : Image) : ℕ → Type 0 where
+  Superblock : ((limits : Limits) → ¬ IsDevice limits image) → IsFirstFault image 0
+  Header : (first_epoch < header_epoch journal_range image) ⊎ ((header_epoch journal_range image ≡ first_epoch)
+      × (journal_range.count ≤ header_used journal_range image)) → IsFirstFault image 3
+  AtBatch : (limits : Limits) (batches : List (List PlainEvent)) (s : State) → LeadTo limits batches s
+      → Fill journal_range 0 (sectors_of (map batch_bytes batches)) (map batch_bytes batches) image
+      → IsFirstFault image (4 + sectors_of (map batch_bytes batches))

@@ -5,6 +5,7 @@
 mod batch;
 mod fault;
 mod format;
+mod loading;
 mod replay;
 mod store;
 

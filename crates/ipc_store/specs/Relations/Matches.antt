@@ -2,9 +2,11 @@
 use Rattle.std.specs.Prelude.{◌≡◌, ◌⊎◌, false, List, length, map, All}
 use Rattle.ipc_base.specs.declared.limits.Limits.{Limits}
 use Rattle.ipc_disk.specs.Medium.{Image, Medium, IsHonest}
+use Rattle.ipc_journal.specs.declared.journal.Journal.{Journal}
 use Rattle.ipc_journal.specs.Matches.{JournalMatches}
 use Rattle.ipc_journal.specs.View.{range_of, epoch_of}
 use Rattle.ipc_state.specs.State.{State}
+use Rattle.ipc_engine.specs.Engine.{Machine}
 use Rattle.ipc_engine.specs.Event.{PlainEvent}
 use Rattle.ipc_engine.specs.Step.{run}
 use Rattle.ipc_image.specs.Records.{HasRecord}
@@ -37,6 +39,16 @@ pub record StoreMatches {D : Type 0} (medium : Medium) (store : StoreView D) (ba
   pub device : (image : Image) → medium.images_now image → IsDevice store.machine.limits image
   pub history : (batches : List (List PlainEvent)) × HasHistory medium store base batches
   pub waits : HasPending store base pending
+
+-- What stands on the disk, and will still stand there after a crash, is the journal, which leads to the state of the
+-- machine.
+pub record IsLoaded (medium : Medium) (journal : Journal) (machine : Machine) : Type 0 where
+  pub honest : IsHonest medium
+  pub range : range_of journal ≡ journal_range
+  pub epoch : epoch_of journal ≡ first_epoch
+  pub device : (image : Image) → medium.images_now image → IsDevice machine.limits image
+  pub history : (batches : List (List PlainEvent)) × JournalMatches journal (map batch_bytes batches) medium
+      × LeadTo machine.limits batches machine.state
 
 -- an image stands for one of two states
 abbrev pub StandsForEither : Limits → State → State → Image → Type 0

@@ -1,0 +1,36 @@
+use Rattle.std.proofs.Common.{◌≡◌, inl, inr, ℕ, ◌≤◌, length, sym, refl, ap, subst, ◌∙◌, Err, arith}
+use Rattle.ipc_disk.specs.Medium.{Image}
+use Rattle.ipc_image.specs.Superblock.{IsFormatted}
+use Rattle.ipc_journal.specs.Journal.{sector_at}
+use Rattle.ipc_store.specs.Image.{HasVersion, IsDamaged, IsFirstFault}
+use Rattle.ipc_store.proofs.Superblocks.{sector-read, has_version, is_damaged, is_device}
+use Rattle.ipc_store.proofs.loading.read_limits.Goals as goal
+
+pub returns-in-Err-NotFormatted-clause-not_formatted : goal.returns-in-Err-NotFormatted-clause-not_formatted
+returns-in-Err-NotFormatted-clause-not_formatted g c = λ is honest.
+    let image : Image = (g.D.SectorDisk.medium c.args.disk.now).contents in
+    let read = sector-read image 0 c.read.new.into (c.in_ok-read.ensures.bytes honest) in
+    inr (λ formatted. c.read_superblock.ensures.not_formatted.0 (c.in-Err-NotFormatted.is ∙ ap Err c.in-Err-NotFormatted.field-0-is)
+    (subst IsFormatted read formatted))
+
+pub returns-in-Err-Version-clause-version : goal.returns-in-Err-Version-clause-version
+returns-in-Err-Version-clause-version g c = λ found is honest.
+    let image : Image = (g.D.SectorDisk.medium c.args.disk.now).contents in
+    let whole = (g.met.D.SectorDisk.shaped c.args.disk.now image honest.reads).count in
+    let read = sector-read image 0 c.read.new.into (c.in_ok-read.ensures.bytes honest) in
+    let large : 3 ≤ g.D.SectorDisk.size c.args.disk.now = omega (arith, c.sectors-sectors.ensures, c.if-sectors-lt-LEAST_SECTORS.false) in
+    let same : c.in-Err-Version.found ≡ found = cc in
+    subst (λ (n : ℕ). HasVersion n image) same
+    (has_version image (g.D.SectorDisk.size c.args.disk.now) c.read.new.into whole read large c.in-Err-Version.found
+    ((c.read_superblock.ensures.version c.in-Err-Version.found).0 (c.in-Err-Version.is ∙ ap Err c.in-Err-Version.field-0-is)))
+
+pub returns-in-Err-Damaged-clause-damaged : goal.returns-in-Err-Damaged-clause-damaged
+returns-in-Err-Damaged-clause-damaged g c = λ sector is honest.
+    let image : Image = (g.D.SectorDisk.medium c.args.disk.now).contents in
+    let whole = (g.met.D.SectorDisk.shaped c.args.disk.now image honest.reads).count in
+    let read = sector-read image 0 c.read.new.into (c.in_ok-read.ensures.bytes honest) in
+    let large : 3 ≤ g.D.SectorDisk.size c.args.disk.now = omega (arith, c.sectors-sectors.ensures, c.if-sectors-lt-LEAST_SECTORS.false) in
+    let same : 0 ≡ sector = cc in
+    subst (λ (n : ℕ). IsDamaged image × IsFirstFault image n) same
+    (is_damaged image (g.D.SectorDisk.size c.args.disk.now) c.read.new.into whole read large
+    (rw (sym c.sectors-sectors.ensures) (c.read_superblock.ensures.damaged.0 (c.in-Err-Damaged.is ∙ ap Err c.in-Err-Damaged.field-0-is))))
