@@ -3,3 +3,4 @@ mod Bounds
 mod Numbers
 mod Reading
 mod EventRecords
+pub mod CallerLemmas

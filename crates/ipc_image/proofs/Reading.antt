@@ -62,7 +62,7 @@ module _ (sectors : ℕ) (limits : Limits) (sector : List ℕ) where
   unfolding named_bytes
   begins is = sym (take-take 8 100 sector (omega arith)) ∙ ap (take 8) is.named
 
-  numbers_of : IsSuperblock sectors limits sector → take 92 (drop 8 sector) ≡ spelled (superblock_fields sectors limits)
+  pub numbers_of : IsSuperblock sectors limits sector → take 92 (drop 8 sector) ≡ spelled (superblock_fields sectors limits)
   unfolding named_bytes
   numbers_of is = sym (drop-take 8 92 sector) ∙ ap (drop 8) is.named
 

@@ -3,4 +3,5 @@ mod Batches
 mod Committing
 mod Devices
 mod Histories
+mod Opened
 mod Superblocks

@@ -53,7 +53,6 @@ pub(crate) fn replay<D: SectorDisk>(
     ensures failure { IsErrOf result OpenError.Device → D.counts disk.new ≡ with_failure (D.counts disk.old) }
     ensures no_failure { OnOk result (D.counts disk.new ≡ D.counts disk.old) }
 {
-    let _ = (disk, journal, room);
     let engine = Engine::new(alloc, limits)?;
     Ok(engine)
 }
