@@ -1,12 +1,12 @@
 -- What the crates above cite of a step.
-use Rattle.std.proofs.Common.{◌≡◌, ℕ, refl}
+use Rattle.std.proofs.Common.{◌≡◌, ℕ, List, [], ◌∷◌, ◌++◌, refl}
 use Rattle.std.specs.Prelude.{All}
 use Rattle.ipc_base.specs.declared.limits.Limits.{Limits}
 use Rattle.ipc_wire.specs.Request.{PlainKind, Hello, Calls}
 use Rattle.ipc_engine.specs.Event.{PlainEvent, PlainOutcome}
 use Rattle.ipc_state.specs.Sound.{IsSound, FitsBody}
 use Rattle.ipc_state.specs.State.{State}
-use Rattle.ipc_engine.specs.Step.{step, asked}
+use Rattle.ipc_engine.specs.Step.{step, run, asked}
 use Rattle.sysv_calls.proofs.CallerLemmas.{attempt-keeps}
 use Rattle.ipc_engine.proofs.Soundness as soundness
 
@@ -23,3 +23,9 @@ step-fits = soundness.step-fits
 pub asked-keeps : (limits : Limits) (s : State) (pid : ℕ) (kind : PlainKind) → (asked limits s pid kind).state.processes ≡ s.processes
 asked-keeps limits s pid (Hello cred) = refl
 asked-keeps limits s pid (Calls call) = attempt-keeps limits s pid call
+
+-- a run is a run of its parts
+pub run-parts : (limits : Limits) (s : State) (before after : List PlainEvent)
+    → (run limits s (before ++ after)).state ≡ (run limits (run limits s before).state after).state
+run-parts limits s [] after = refl
+run-parts limits s (e ∷ before) after = run-parts limits (step limits s e).state before after
