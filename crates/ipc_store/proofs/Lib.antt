@@ -1,1 +1,1 @@
-
+mod Replaying
