@@ -5,6 +5,30 @@ use Rattle.std.proofs.Common.{inl, inr, ⊎_elim, sym, ◌∙◌, ap, subst, ari
 use Rattle.ipc_disk.specs.Medium.{Image, Medium, IsHonest, Elapses, SetOrNot, Stays, Writes}
 use Rattle.ipc_disk.specs.Since.{EachImageSince, SameAt, LeavesAlone}
 
+-- no call yet
+pub Stays-start : (old : Medium) → Stays old old
+Stays-start old = record {
+  contents = λ honest. refl;
+  images = λ image now. now;
+  time = record { later = omega arith; nothing_else = λ t image le left. inl left; honest = (λ h. h, λ h. h) };
+}
+
+-- a read or a sync more of an honest disk
+pub Stays-join : (old mid new : Medium) → IsHonest old → Stays old mid → Stays mid new → Stays old new
+Stays-join old mid new honest first next = record {
+  contents = λ h. next.contents (first.time.honest.0 h) ∙ first.contents h;
+  images = λ image now. first.images image (next.images image now);
+  time = record {
+    later = omega (arith, first.time.later, next.time.later);
+    nothing_else = λ t image le left. ⊎_elim
+        (λ since. ⊎_elim inl (λ here. inl (honest.since t image le (first.images image here)))
+        (first.time.nothing_else t image le since))
+        inr
+        (next.time.nothing_else t image (omega (arith, le, first.time.later)) left);
+    honest = (λ h. next.time.honest.0 (first.time.honest.0 h), λ h. first.time.honest.1 (next.time.honest.1 h));
+  };
+}
+
 -- before the first call; the law is the trait's `only_now`
 pub EachImageSince-start : (old : Medium) (P : Image → Type 0)
     → ((image : Image) → old.images_since old.moment image → old.images_now image)

@@ -5,22 +5,13 @@ use Rattle.std.specs.Prelude.{slice_set}
 use Rattle.ipc_disk.specs.declared.range.Range.{Range}
 use Rattle.ipc_disk.specs.Medium.{Image}
 use Rattle.ipc_journal.specs.Journal.{sectors_for, sectors_of, epoch_in, used_in, header_epoch, header_used, IsBatch, StandsAt, Fill, Holds}
-use Rattle.ipc_journal.proofs.CallerLemmas.{Fill-end, Fill-same}
+use Rattle.ipc_journal.proofs.CallerLemmas.{Fill-end, Fill-same, Fill-push}
 use Rattle.ipc_journal.proofs.Runs.{sector_at-set_same, sector_at-set_other}
 
 -- the sectors of one batch more
 pub sectors_of-push : (batches : List (List ℕ)) (batch : List ℕ) → sectors_of (batches ++ batch ∷ []) ≡ sectors_of batches + sectors_for (length batch)
 sectors_of-push [] batch = omega arith
 sectors_of-push (first ∷ batches) batch = omega (arith, sectors_of-push batches batch)
-
-module _ (range : Range) where
-  -- one more batch behind them
-  pub Fill-push : (place end : ℕ) (batches : List (List ℕ)) (batch : List ℕ) (image : Image) → Fill range place end batches image
-      → IsBatch batch → StandsAt (range.first + 1 + end) batch image → Fill range place (end + sectors_for (length batch)) (batches ++ batch ∷ []) image
-  Fill-push place end [] batch image fill is stands =
-      (is, subst (λ (n : ℕ). StandsAt (range.first + 1 + n) batch image) (sym fill) stands, ap (λ (n : ℕ). n + sectors_for (length batch)) fill)
-  Fill-push place end (first ∷ batches) batch image fill is stands =
-      (fill.0, fill.1, Fill-push (place + sectors_for (length first)) end batches batch image fill.2 is stands)
 
 module _ (range : Range) (epoch : ℕ) (batches : List (List ℕ)) where
   -- the batches fill the body up to where they end

@@ -1,40 +1,16 @@
--- A batch as its pieces, and the calls that only read.
-use Rattle.std.proofs.Common.{◌≡◌, ◌⊎◌, inl, inr, ⊎_elim, ℕ, zero, suc, ◌+◌, ◌*◌, ◌<◌}
+-- A batch as its pieces, and what stands on a disk.
+use Rattle.std.proofs.Common.{◌≡◌, ◌⊎◌, inl, inr, ⊎_elim, ℕ, ◌+◌, ◌*◌, ◌<◌}
 use Rattle.std.proofs.Common.{◌≤◌, List, [], ◌∷◌, ◌++◌, length, take, drop, refl, sym, ◌∙◌}
-use Rattle.std.proofs.Common.{ap, subst, arith, take-append-drop}
+use Rattle.std.proofs.Common.{ap, subst, arith}
 use borrow.Rule.Slice.PartMut.{put_mid}
-use Rattle.std.proofs.lemmas.List.{take_all, take_at, drop_at, drop_all, append-nil, take-take, drop-take, length-take, length-take-le, length-drop}
+use Rattle.std.proofs.lemmas.List.{take_all, take_at, drop_at, drop_all, append-nil, take-take, drop-take, length-take-le, length-drop}
 use borrow.Author.Count.{below_more}
 use Rattle.ipc_disk.specs.declared.range.Range.{Range}
-use Rattle.ipc_disk.specs.Medium.{Image, Medium, IsHonest, Stays}
+use Rattle.ipc_disk.specs.Medium.{Image}
 use Rattle.byteorder.specs.Endian.{big_number}
-use Rattle.byteorder.specs.Numbers.{big_from-take}
 use Rattle.ipc_journal.specs.Journal.{sectors_for, sectors_of, sector_at, length_in, header_used, IsBatch, piece, StandsAt, Fill, Holds}
-use Rattle.ipc_journal.proofs.CallerLemmas.{Fill-end}
+use Rattle.ipc_journal.proofs.CallerLemmas.{Fill-end, stands-same, length-there}
 use Rattle.ipc_journal.proofs.Runs.{StandsBelow}
-
--- no call yet
-pub Stays-start : (old : Medium) → Stays old old
-Stays-start old = record {
-  contents = λ honest. refl;
-  images = λ image now. now;
-  time = record { later = omega arith; nothing_else = λ t image le left. inl left; honest = (λ h. h, λ h. h) };
-}
-
--- one more
-pub Stays-join : (old mid new : Medium) → IsHonest old → Stays old mid → Stays mid new → Stays old new
-Stays-join old mid new honest first next = record {
-  contents = λ h. next.contents (first.time.honest.0 h) ∙ first.contents h;
-  images = λ image now. first.images image (next.images image now);
-  time = record {
-    later = omega (arith, first.time.later, next.time.later);
-    nothing_else = λ t image le left. ⊎_elim
-        (λ since. ⊎_elim (λ before. inl before) (λ here. inl (honest.since t image le (first.images image here))) (first.time.nothing_else t image le since))
-        (λ now. inr now)
-        (next.time.nothing_else t image (omega (arith, le, first.time.later)) left);
-    honest = (λ h. next.time.honest.0 (first.time.honest.0 h), λ h. first.time.honest.1 (next.time.honest.1 h));
-  };
-}
 
 -- the front decides the pieces in it
 pub piece-same : (k n : ℕ) (xs ys : List ℕ) → k < n → take (512 * n) xs ≡ take (512 * n) ys → piece k xs ≡ piece k ys
@@ -54,46 +30,6 @@ pieces_more n at old new sector image front here read below =
     (λ i less. let S : List ℕ → Type 0 = λ p. take (length p) (sector_at image (at + i)) ≡ p in
     subst S (sym (piece-same i n new old less front)) (below i less))
     (ap (λ (s : List ℕ). take (length (piece n new)) s) read ∙ here)
-
-take_pieces : (n : ℕ) (xs : List ℕ) → take (512 * n + 512) xs ≡ take (512 * n) xs ++ piece n xs
-take_pieces n xs =
-    sym (take-append-drop (512 * n) (take (512 * n + 512) xs))
-    ∙ ap (λ (l : List ℕ). l ++ drop (512 * n) (take (512 * n + 512) xs)) (take-take (512 * n) (512 * n + 512) xs (omega arith))
-    ∙ ap (λ (l : List ℕ). take (512 * n) xs ++ l) (drop-take (512 * n) 512 xs)
-
-length-piece : (i : ℕ) (xs ys : List ℕ) → length xs ≡ length ys → length (piece i xs) ≡ length (piece i ys)
-length-piece i xs ys same =
-    omega (arith, length-take 512 (drop (512 * i) xs), length-take 512 (drop (512 * i) ys), length-drop (512 * i) xs, length-drop (512 * i) ys)
-
--- what stands in the same sectors, and is as long, is the same
-module _ (at : ℕ) (xs ys : List ℕ) (image : Image) (same : length xs ≡ length ys) (first : StandsAt at xs image) (second : StandsAt at ys image) where
-  fronts : (n : ℕ) → n ≤ sectors_for (length xs) → take (512 * n) xs ≡ take (512 * n) ys
-  fronts zero le = refl
-  fronts (suc n) le =
-      let here : piece n xs ≡ piece n ys =
-      sym (first n (omega arith)) ∙ ap (λ (k : ℕ). take k (sector_at image (at + n))) (length-piece n xs ys same) ∙ second n (omega arith) in
-      let before = fronts n (omega arith) in
-      let bound : 512 * suc n ≡ 512 * n + 512 = omega arith in
-      ap (λ (k : ℕ). take k xs) bound ∙ take_pieces n xs
-      ∙ ap (λ (l : List ℕ). l ++ piece n xs) before ∙ ap (λ (l : List ℕ). take (512 * n) ys ++ l) here
-      ∙ sym (take_pieces n ys) ∙ ap (λ (k : ℕ). take k ys) (sym bound)
-
-  pub stands-same : xs ≡ ys
-  stands-same =
-      sym (take_all (512 * sectors_for (length xs)) xs (omega arith)) ∙ fronts (sectors_for (length xs)) (omega arith)
-      ∙ take_all (512 * sectors_for (length xs)) ys (omega arith)
-
--- the first sector of a batch says how long it is
-pub length-there : (at : ℕ) (batch : List ℕ) (image : Image) → IsBatch batch → StandsAt at batch image → length_in (sector_at image at) + 4 ≡ length batch
-unfolding length_in
-length-there at batch image is stands =
-    let some : at + 0 ≡ at = omega arith in
-    let there : take (length (take 512 batch)) (sector_at image at) ≡ take 512 batch =
-    ap (λ (k : ℕ). take (length (take 512 batch)) (sector_at image k)) (sym some) ∙ stands 0 (omega (arith, is.field)) in
-    let field : big_number 4 (sector_at image at) ≡ big_number 4 batch =
-    sym (big_from-take 0 4 (length (take 512 batch)) (sector_at image at) (omega (arith, length-take 512 batch, is.field)))
-    ∙ ap (λ (l : List ℕ). big_number 4 l) there ∙ big_from-take 0 4 512 batch (omega arith) in
-    omega (arith, field, is.right)
 
 -- what is read of a length field
 pub read-length : (image : Image) (at : ℕ) (sector : List ℕ) (found : ℕ) → sector_at image at ≡ sector → found ≡ big_number 4 sector

@@ -152,6 +152,13 @@ impl Journal {
         self.used = 0;
     }
 
+    /// The sectors that it has.
+    pub fn range(&self) -> Range
+        ensures { result ≡ range_of self.now }
+    {
+        self.range
+    }
+
     /// A batch of so many bytes, with the four of its length, can be appended.
     pub fn fits(&self, len: usize) -> bool
         ensures { IsTrue result ↔ Fits self.now len }
@@ -240,6 +247,7 @@ impl Journal {
             → IsHonest (D.medium disk.old)
             → len ≡ length_in (sector_at (D.medium disk.old).contents
             ((range_of self.now).first + 1 + place.old.sector)) + 4) }
+        ensures least { IfOk result (λ found. (len : ℕ) → found ≡ Some len → 4 ≤ len) }
         ensures fits { IfOk result (λ found. (len : ℕ) → found ≡ Some len → len ≤ length into.old) }
         ensures behind { IfOk result (λ found. (len : ℕ) → found ≡ Some len
             → drop len into.new ≡ drop len into.old) }

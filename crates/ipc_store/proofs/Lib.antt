@@ -5,3 +5,4 @@ mod Devices
 mod Histories
 mod Opened
 mod Superblocks
+mod Replaying

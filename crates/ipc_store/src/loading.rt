@@ -1,11 +1,12 @@
 //! The loading of a device: its superblock, its journal, and the machine that the journal leads to.
 
-ghost use Rattle.std.specs.Prelude.{◌≡◌, ◌⊎◌, ℕ, length, List, IfOk, IsErrOf, OnOk};
+ghost use Rattle.std.specs.Prelude.{◌≡◌, ◌⊎◌, ◌≤◌, ℕ, length, List, IfOk, IsErrOf, OnOk};
 ghost use Rattle.ipc_base.specs.Limits.{ArePassed};
 ghost use Rattle.ipc_disk.specs.Counts.{counted, with_failure};
 ghost use Rattle.ipc_disk.specs.Medium.{IsHonest, IsDurable, Stays};
 ghost use Rattle.ipc_disk.specs.Range.{IsWithin};
 ghost use Rattle.ipc_journal.specs.View.{range_of};
+ghost use Rattle.ipc_image.specs.Sizes.{need_of};
 ghost use Rattle.ipc_store.specs.Batch.{most_bytes};
 ghost use Rattle.ipc_store.specs.Image.{IsDevice, IsNotFormatted, HasVersion, IsDamaged, IsFirstFault};
 ghost use Rattle.ipc_store.specs.Relations.Matches.{IsLoaded};
@@ -36,6 +37,7 @@ pub(crate) fn read_limits<D: SectorDisk>(disk: &mut D) -> Result<Limits, OpenErr
     ensures device { IfOk result (λ limits. IsHonest (D.medium disk.old)
         → IsDevice limits (D.medium disk.old).contents) }
     ensures passed { IfOk result (λ limits. ArePassed limits) }
+    ensures room { IfOk result (λ limits. need_of limits ≤ D.size disk.old) }
     // Refusals.
     ensures not_formatted { IsErrOf result OpenError.NotFormatted → IsHonest (D.medium disk.old)
         → IsNotFormatted (D.medium disk.old).contents }

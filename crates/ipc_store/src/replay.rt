@@ -1,22 +1,25 @@
 //! The replay of a journal: a machine goes through the events of its batches.
 
-ghost use Rattle.std.specs.Prelude.{◌≡◌, ◌⊎◌, ℕ, length, List, IfOk, IsErrOf, OnOk, Err};
+ghost use Rattle.std.specs.Prelude.{◌≡◌, ◌⊎◌, ◌↔◌, ℕ, true, length, List, IfOk, IsErrOf, IsTrue, OnOk, Err};
 ghost use Rattle.ipc_base.specs.Limits.{ArePassed};
 ghost use Rattle.ipc_disk.specs.Counts.{with_failure};
 ghost use Rattle.ipc_disk.specs.Medium.{IsHonest, Stays};
 ghost use Rattle.ipc_disk.specs.Range.{IsWithin};
 ghost use Rattle.ipc_journal.specs.View.{range_of};
 ghost use Rattle.ipc_state.specs.State.{State};
+ghost use Rattle.ipc_engine.specs.Engine.{IsForProcess};
 ghost use Rattle.ipc_engine.specs.Event.{PlainEvent};
+ghost use Rattle.ipc_engine.specs.View.{plain_event};
 ghost use Rattle.ipc_store.specs.Batch.{most_bytes};
-ghost use Rattle.ipc_store.specs.Relations.Replay.{Replays, IsGoodUpTo};
+ghost use Rattle.ipc_store.specs.Relations.Replay.{Replays, IsGoodUpTo, AreRecords};
 
 use crate::fault::OpenError;
 use ipc_base::Limits;
 use ipc_disk::SectorDisk;
-use ipc_engine::Engine;
+use ipc_engine::{Engine, Event};
+use ipc_image::read_event;
 use ipc_journal::{Journal, Place};
-use std::alloc::Global;
+use std::alloc::{AllocError, Global};
 
 /// The machine after the events of a journal. Each of its batches is read into `room`.
 pub(crate) fn replay<D: SectorDisk>(
@@ -51,8 +54,51 @@ pub(crate) fn replay<D: SectorDisk>(
     // Failures and counts: `Device` is one failure more, and each other answer none.
     ensures size { D.size disk.new ≡ D.size disk.old }
     ensures failure { IsErrOf result OpenError.Device → D.counts disk.new ≡ with_failure (D.counts disk.old) }
-    ensures no_failure { OnOk result (D.counts disk.new ≡ D.counts disk.old) }
+    ensures no_failure { IsErrOf result OpenError.Device ⊎ (D.counts disk.new ≡ D.counts disk.old) }
 {
-    let engine = Engine::new(alloc, limits)?;
-    Ok(engine)
+    let mut engine = Engine::new(alloc, limits)?;
+    let mut place = Place { sector: 0 };
+    loop {
+        let sector = journal.range().first + 1 + place.sector;
+        let Some(len) = journal.next_batch(disk, &mut place, room)? else {
+            return Ok(engine);
+        };
+        if !go_through(&mut engine, &room[4..len])? {
+            return Err(OpenError::Damaged { sector });
+        }
+    }
+}
+
+/// Leads the machine through the events whose records these are, from the first to the last. `false` if the bytes are
+/// no records, or if one is of an event that is for no connected process.
+fn go_through(engine: &mut Engine, records: &[u8]) -> Result<bool, AllocError>
+    ensures limits { engine.new.limits ≡ engine.old.limits }
+    ensures all { IfOk result (λ good. good ≡ true → (events : List PlainEvent)
+        × AreRecords engine.old.limits engine.old.state records.now events engine.new.state) }
+    ensures only { (events : List PlainEvent) (s : State)
+        → AreRecords engine.old.limits engine.old.state records.now events s
+        → IfOk result (λ good. (good ≡ true) × (engine.new.state ≡ s)) }
+{
+    let mut at = 0;
+    while at < records.len() {
+        let Some((len, event)) = read_event(&records[at..]) else {
+            return Ok(false);
+        };
+        if !is_for_process(engine, &event) {
+            return Ok(false);
+        }
+        engine.step(event)?;
+        at += len;
+    }
+    Ok(true)
+}
+
+/// Whether the process that an event names is connected.
+fn is_for_process(engine: &Engine, event: &Event<'_>) -> bool
+    ensures { IsTrue result ↔ IsForProcess engine.now.state (plain_event event.now) }
+{
+    match event {
+        Event::Call { pid, .. } | Event::Exit { pid, .. } => engine.connected(*pid),
+        Event::Connect { .. } | Event::Tick { .. } | Event::Restart => true,
+    }
 }

@@ -1,5 +1,5 @@
 -- What a replay of a journal finds.
-use Rattle.std.specs.Prelude.{◌≡◌, ◌+◌, ◌<◌, ◌≤◌, ℕ, List, map}
+use Rattle.std.specs.Prelude.{◌≡◌, ◌+◌, ◌<◌, ◌≤◌, ℕ, List, map, All}
 use Rattle.ipc_base.specs.declared.limits.Limits.{Limits}
 use Rattle.ipc_disk.specs.Medium.{Image}
 use Rattle.ipc_journal.specs.Journal.{header_epoch, header_used, sectors_of, Fill}
@@ -7,8 +7,18 @@ use Rattle.ipc_journal.specs.View.{range_of, epoch_of, used_of}
 use Rattle.ipc_journal.specs.declared.journal.Journal.{Journal}
 use Rattle.ipc_state.specs.State.{State}
 use Rattle.ipc_engine.specs.Event.{PlainEvent}
-use Rattle.ipc_store.specs.Batch.{batch_bytes}
-use Rattle.ipc_store.specs.Image.{LeadTo}
+use Rattle.ipc_engine.specs.Step.{run}
+use Rattle.ipc_image.specs.Records.{HasRecord}
+use Rattle.ipc_store.specs.Batch.{records_of, batch_bytes}
+use Rattle.ipc_store.specs.Image.{AreFor, LeadTo}
+
+-- the bytes are the records of these events, which lead from one state to another
+pub record AreRecords (limits : Limits) (from : State) (bytes : List ℕ) (events : List PlainEvent)
+    (to : State) : Type 0 where
+  pub each : All HasRecord events
+  pub spelled : bytes ≡ records_of events
+  pub named : AreFor limits from events
+  pub state : to ≡ (run limits from events).state
 
 -- the batches that the journal uses are these, and they lead to this state
 pub record Replays (limits : Limits) (journal : Journal) (image : Image) (batches : List (List PlainEvent))

@@ -1,0 +1,220 @@
+-- One batch more is replayed, or what stands there is no batch that goes on from here.
+use Rattle.std.proofs.Common.{◌≡◌, ◌⊎◌, inl, inr, ⊎_elim, ◌+◌, ◌-◌, ◌<◌, ◌≤◌, ℕ, List, Result, Option, Ok, Err, None, Some, true, false, length, take, drop}
+use Rattle.std.proofs.Common.{refl, sym, ap, ◌∙◌, subst, arith}
+use Rattle.std.specs.Option.{IsSome}
+use Rattle.std.specs.Result.{IsErrOf, IsErrAnd}
+use Rattle.std.proofs.lemmas.Bool.{false≢true, cases_lt}
+use Rattle.std.proofs.lemmas.Result.{err_from_is_err_and}
+use Rattle.std.proofs.lemmas.List.{length-take-le}
+use Rattle.ipc_disk.specs.declared.range.Range.{Range}
+use Rattle.ipc_disk.specs.Medium.{Image, IsHonest}
+use Rattle.ipc_disk.proofs.CallerLemmas.{Stays-start, Stays-join}
+use Rattle.ipc_journal.specs.declared.error.JournalError.{JournalError}
+use Rattle.ipc_journal.specs.declared.error.JournalError.TheVariants as journal
+use Rattle.ipc_journal.specs.Journal.{sectors_for, sector_at, length_in}
+use Rattle.ipc_journal.specs.View.{range_of, used_of}
+use Rattle.ipc_state.specs.State.{State, start}
+use Rattle.ipc_engine.specs.declared.engine.Engine.{Engine}
+use Rattle.ipc_engine.specs.Event.{PlainEvent}
+use Rattle.ipc_store.specs.Batch.{most_bytes}
+use Rattle.ipc_store.specs.View.{of_journal_error}
+use Rattle.ipc_store.specs.declared.fault.OpenError.{OpenError}
+use Rattle.ipc_store.specs.declared.fault.OpenError.TheVariants.{Damaged}
+use Rattle.ipc_store.specs.Relations.Replay.{AreRecords, Replays}
+use Rattle.ipc_store.proofs.Replaying.{Replayed, Found, replayed_none, replayed_more, replayed_refused, replayed_all, replayed_only, replayed_damaged, replayed_good}
+use Rattle.ipc_store.proofs.Replaying.{found_batch, records_slice, AreRecords-same}
+use Rattle.ipc_store.proofs.replay.replay.Goals as goal
+
+-- the store's fault is the journal's
+from_damaged : (r : Result Engine OpenError) (error : JournalError) (sector : ℕ) → IsErrOf r (Damaged sector)
+    → IsErrAnd r (λ e. e ≡ of_journal_error error) → error ≡ journal.Damaged sector
+from_damaged r error sector is and = let e = err_from_is_err_and r and in which error (sym e.2 ∙ same_err e.0 (sym e.1 ∙ is))
+  where
+    same_err : (x : OpenError) → ◌≡◌ {A = Result Engine OpenError} (Err x) (Err (Damaged sector)) → x ≡ Damaged sector
+    same_err x is = cc
+
+    which : (error : JournalError) → of_journal_error error ≡ Damaged sector → error ≡ journal.Damaged sector
+    which journal.Device is = cc
+    which (journal.Damaged other) is = let same : other ≡ sector = cc in ap journal.Damaged same
+
+-- the sector of the batch that is refused
+named_sector : (at sector : ℕ) → ◌≡◌ {A = Result Engine OpenError} (Err (Damaged at)) (Err (Damaged sector)) → at ≡ sector
+named_sector at sector is = cc
+
+not_some : (found : Option ℕ) → found ≡ None → IsSome found → ⊥
+not_some None is some = false≢true some
+not_some (Some len) is some = cc
+
+-- nothing was found, so no more is used
+at_end : (place used : ℕ) (found : Option ℕ) → place ≤ used → found ≡ None → (place < used → IsSome found) → place ≡ used
+at_end place used found within is more =
+    elim (cases_lt place used) [ inl lt ↦ absurd (not_some found is (more lt)) | inr le ↦ omega (arith, within, le) ]
+
+not_none : (error : JournalError) → ◌≡◌ {A = Result (Option ℕ) JournalError} (Err error) (Ok None) → ⊥
+not_none error is = cc
+
+pub loop-engine-init : goal.loop-engine-init
+loop-engine-init g c =
+    let state = c.in_ok-engine.ensures.state in
+    record {
+      room = refl;
+      within = omega arith;
+      limits = c.in_ok-engine.ensures.limits;
+      replayed = λ honest. let image = (g.D.SectorDisk.medium c.args.disk.now).contents in
+          subst (λ (s : State). Replayed c.args.limits c.args.journal.now image 0 s) (sym state) (replayed_none c.args.limits c.args.journal.now image);
+      reads = λ honest. Stays-start (g.D.SectorDisk.medium c.args.disk.now);
+      size = refl;
+      counts = refl;
+    }
+
+pub shape_of-room-in_err-len : goal.shape_of-room-in_err-len
+shape_of-room-in_err-len g c = omega (arith, c.next_batch.auto.into, c.loop-engine.invariant.room)
+
+pub returns-in_err-len-clause-damaged : goal.returns-in_err-len-clause-damaged
+returns-in_err-len-clause-damaged g c = λ sector batches s is honest good.
+    let inv = c.loop-engine.invariant in
+    let image = (g.D.SectorDisk.medium c.args.disk.now).contents in
+    let journal = c.args.journal.now in
+    let place = c.loop-engine.place.sector in
+    let stays = inv.reads honest in
+    let error = from_damaged c.from_residual-in_err-len.result c.in_err-len.field-0.0 sector is c.from_residual-in_err-len.ensures.1 in
+    let was = ap (λ (x : JournalError). Err x) error in
+    let at : sector ≡ (range_of c.args.journal.now).first + 1 + place = c.in_err-len.ensures.named sector was in
+    let bad = c.in_err-len.ensures.damaged sector was (stays.time.honest.0 honest) in
+    let said = ap (λ (i : Image). length_in (sector_at i sector)) (stays.contents honest) ∙ ap (λ (n : ℕ). length_in (sector_at image n)) at in
+    let more : place < used_of journal = elim (cases_lt place (used_of journal)) [
+      | inl lt ↦ lt
+      | inr le ↦ absurd (not_none c.in_err-len.field-0.0 (c.in_err-len.ensures.end le))
+    ] in
+    replayed_damaged c.args.limits journal image place c.loop-engine.engine.state (inv.replayed honest) (length c.loop-engine.room) _
+    (omega (arith, inv.room, c.requires.room)) said more bad batches s good
+
+pub returns-in_err-len-clause-named : goal.returns-in_err-len-clause-named
+returns-in_err-len-clause-named g c = λ sector is honest.
+    let error = from_damaged c.from_residual-in_err-len.result c.in_err-len.field-0.0 sector is c.from_residual-in_err-len.ensures.1 in
+    replayed_good _ _ _ _ _ (c.loop-engine.invariant.replayed honest) sector (c.in_err-len.ensures.named sector (ap (λ (x : JournalError). Err x) error))
+
+pub returns-in_err-len-clause-reads : goal.returns-in_err-len-clause-reads
+returns-in_err-len-clause-reads g c = λ honest.
+    let stays = c.loop-engine.invariant.reads honest in
+    Stays-join _ _ _ honest stays (c.next_batch.ensures.reads (stays.time.honest.0 honest))
+
+pub returns-in_err-len-clause-room : goal.returns-in_err-len-clause-room
+returns-in_err-len-clause-room g c = omega (arith, c.next_batch.auto.into, c.loop-engine.invariant.room, c.requires.room)
+
+pub shape_of-room-in_default : goal.shape_of-room-in_default
+shape_of-room-in_default g c = omega (arith, c.next_batch.auto.into, c.loop-engine.invariant.room)
+
+pub returns-in_default-clause-replays : goal.returns-in_default-clause-replays
+returns-in_default-clause-replays g c = λ honest.
+    let inv = c.loop-engine.invariant in
+    replayed_all _ _ _ _ _ (inv.replayed honest) (at_end _ _ c.in_ok-len.field-0 inv.within c.in_default.is c.in_ok-len.ensures.more)
+
+pub returns-in_default-clause-only : goal.returns-in_default-clause-only
+returns-in_default-clause-only g c = λ batches s honest good.
+    let inv = c.loop-engine.invariant in
+    replayed_only _ _ _ _ _ (inv.replayed honest) (at_end _ _ c.in_ok-len.field-0 inv.within c.in_default.is c.in_ok-len.ensures.more) batches s good
+
+pub returns-in_default-clause-reads : goal.returns-in_default-clause-reads
+returns-in_default-clause-reads g c = λ honest.
+    let stays = c.loop-engine.invariant.reads honest in
+    Stays-join _ _ _ honest stays (c.next_batch.ensures.reads (stays.time.honest.0 honest))
+
+pub returns-in_default-clause-room : goal.returns-in_default-clause-room
+returns-in_default-clause-room g c = omega (arith, c.next_batch.auto.into, c.loop-engine.invariant.room, c.requires.room)
+
+pub shape_of-room-in_err-go_through : goal.shape_of-room-in_err-go_through
+shape_of-room-in_err-go_through g c = omega (arith, c.next_batch.auto.into, c.loop-engine.invariant.room)
+
+pub returns-in_err-go_through-clause-reads : goal.returns-in_err-go_through-clause-reads
+returns-in_err-go_through-clause-reads g c = λ honest.
+    let stays = c.loop-engine.invariant.reads honest in
+    Stays-join _ _ _ honest stays (c.next_batch.ensures.reads (stays.time.honest.0 honest))
+
+pub returns-in_err-go_through-clause-room : goal.returns-in_err-go_through-clause-room
+returns-in_err-go_through-clause-room g c = omega (arith, c.next_batch.auto.into, c.loop-engine.invariant.room, c.requires.room)
+
+pub shape_of-room-then-not-branch : goal.shape_of-room-then-not-branch
+shape_of-room-then-not-branch g c = omega (arith, c.next_batch.auto.into, c.loop-engine.invariant.room)
+
+pub returns-then-not-branch-clause-damaged : goal.returns-then-not-branch-clause-damaged
+returns-then-not-branch-clause-damaged g c = λ sector batches to is honest good.
+    let inv = c.loop-engine.invariant in
+    let e = c.in_ok-len.ensures in
+    let h = c.in_ok-go_through.ensures in
+    let image = (g.D.SectorDisk.medium c.args.disk.now).contents in
+    let journal = c.args.journal.now in
+    let place = c.loop-engine.place.sector in
+    let room = c.next_batch.new.into in
+    let len = c.in-Some.len in
+    let s = c.loop-engine.engine.state in
+    let slice = records_slice len room (e.least len c.in-Some.is) in
+    let found : IsHonest (g.D.SectorDisk.medium c.args.disk.now) → Found journal image place (take len room) =
+    λ honest. found_batch journal (g.D.SectorDisk.medium c.args.disk.now) (g.D.SectorDisk.medium c.loop-engine.disk) place
+    c.next_batch.new.place.sector len (g.D.SectorDisk.size c.loop-engine.disk) room honest (inv.reads honest)
+    (g.met.D.SectorDisk.shaped c.loop-engine.disk) (omega (arith, c.next_batch.auto.into, inv.room, c.requires.room)) (e.least len c.in-Some.is)
+    (omega (arith, e.fits len c.in-Some.is, inv.room, c.requires.room)) (e.stands len c.in-Some.is) (e.batch len c.in-Some.is)
+    (e.passes len c.in-Some.is) (e.inside len c.in-Some.is) in
+    let only : (es : List PlainEvent) (to : State) → AreRecords c.args.limits s (drop 4 (take len room)) es to
+    → (c.in_ok-go_through.field-0 ≡ true) × (c.go_through.new.engine.state ≡ to) =
+    λ es to are. h.only es to (AreRecords-same _ _ s to _ _ es (sym inv.limits) (sym slice) are) in
+    replayed_refused c.args.limits journal image place s (take len room) (inv.replayed honest) (found honest)
+    (λ es t are. false≢true (sym c.if-not-branch.true ∙ (only es t are).0)) batches to good
+
+pub returns-then-not-branch-clause-named : goal.returns-then-not-branch-clause-named
+returns-then-not-branch-clause-named g c = λ sector is honest.
+    replayed_good _ _ _ _ _ (c.loop-engine.invariant.replayed honest) sector
+    (sym (named_sector _ sector is) ∙ ap (λ (range : Range). range.first + 1 + c.loop-engine.place.sector) c.range.ensures)
+
+pub returns-then-not-branch-clause-reads : goal.returns-then-not-branch-clause-reads
+returns-then-not-branch-clause-reads g c = λ honest.
+    let stays = c.loop-engine.invariant.reads honest in
+    Stays-join _ _ _ honest stays (c.next_batch.ensures.reads (stays.time.honest.0 honest))
+
+pub returns-then-not-branch-clause-room : goal.returns-then-not-branch-clause-room
+returns-then-not-branch-clause-room g c = omega (arith, c.next_batch.auto.into, c.loop-engine.invariant.room, c.requires.room)
+
+pub loop-engine-smaller : goal.loop-engine-smaller
+loop-engine-smaller g c =
+    let e = c.in_ok-len.ensures in
+    omega (arith, c.loop-engine.invariant.within, e.least c.in-Some.len c.in-Some.is, e.passes c.in-Some.len c.in-Some.is, e.inside c.in-Some.len c.in-Some.is)
+
+pub loop-engine-preserved : goal.loop-engine-preserved
+loop-engine-preserved g c =
+    let inv = c.loop-engine.invariant in
+    let e = c.in_ok-len.ensures in
+    let h = c.in_ok-go_through.ensures in
+    let image = (g.D.SectorDisk.medium c.args.disk.now).contents in
+    let journal = c.args.journal.now in
+    let place = c.loop-engine.place.sector in
+    let room = c.next_batch.new.into in
+    let len = c.in-Some.len in
+    let s = c.loop-engine.engine.state in
+    let slice = records_slice len room (e.least len c.in-Some.is) in
+    let found : IsHonest (g.D.SectorDisk.medium c.args.disk.now) → Found journal image place (take len room) =
+    λ honest. found_batch journal (g.D.SectorDisk.medium c.args.disk.now) (g.D.SectorDisk.medium c.loop-engine.disk) place
+    c.next_batch.new.place.sector len (g.D.SectorDisk.size c.loop-engine.disk) room honest (inv.reads honest)
+    (g.met.D.SectorDisk.shaped c.loop-engine.disk) (omega (arith, c.next_batch.auto.into, inv.room, c.requires.room)) (e.least len c.in-Some.is)
+    (omega (arith, e.fits len c.in-Some.is, inv.room, c.requires.room)) (e.stands len c.in-Some.is) (e.batch len c.in-Some.is)
+    (e.passes len c.in-Some.is) (e.inside len c.in-Some.is) in
+    let only : (es : List PlainEvent) (to : State) → AreRecords c.args.limits s (drop 4 (take len room)) es to
+    → (c.in_ok-go_through.field-0 ≡ true) × (c.go_through.new.engine.state ≡ to) =
+    λ es to are. h.only es to (AreRecords-same _ _ s to _ _ es (sym inv.limits) (sym slice) are) in
+    let events = h.all c.if-not-branch.false in
+    let are = AreRecords-same _ _ s c.go_through.new.engine.state _ _ events.0 inv.limits slice events.1 in
+    let next : place + sectors_for (length (take len room)) ≡ c.next_batch.new.place.sector =
+    ap (λ (n : ℕ). place + sectors_for n) (length-take-le len room (omega (arith, e.fits len c.in-Some.is, c.next_batch.auto.into)))
+    ∙ sym (e.passes len c.in-Some.is) in
+    record {
+      room = omega (arith, c.next_batch.auto.into, inv.room);
+      within = omega (arith, e.inside c.in-Some.len c.in-Some.is);
+      limits = h.limits ∙ inv.limits;
+      replayed = λ honest. subst (λ (n : ℕ). Replayed c.args.limits journal image n c.go_through.new.engine.state) next
+          (replayed_more c.args.limits journal image place s (take len room) (inv.replayed honest) (found honest) events.0 c.go_through.new.engine.state are
+          (λ es to good. (only es to good).1));
+      reads = λ honest.
+          let stays = inv.reads honest in
+          Stays-join _ _ _ honest stays (c.next_batch.ensures.reads (stays.time.honest.0 honest));
+      size = c.next_batch.ensures.size ∙ inv.size;
+      counts = e.no_failure ∙ inv.counts;
+    }
