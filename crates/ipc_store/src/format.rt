@@ -1,19 +1,26 @@
 //! The making of a device.
 
-ghost use Rattle.std.specs.Prelude.{◌≡◌, ◌⊎◌, ◌<◌, ◌≤◌, ◌↔◌, ℕ, Some, position, not, OnOk, IsErrOf};
+ghost use Rattle.std.specs.Prelude.{◌≡◌, ◌⊎◌, ◌<◌, ◌≤◌, ◌↔◌, ℕ, Some, position, not, slice_set, OnOk, OnErr, IsErrOf};
 ghost use Rattle.ipc_base.specs.Limits.{ArePassed, tests};
 ghost use Rattle.ipc_base.specs.declared.limits.BadLimits.{BadLimits as BadLimit};
 ghost use Rattle.ipc_disk.specs.Counts.{counted};
-ghost use Rattle.ipc_disk.specs.Medium.{Image, IsHonest, IsDurable};
+ghost use Rattle.ipc_disk.specs.Medium.{Image, IsHonest, IsDurable, SetOrNot};
 ghost use Rattle.ipc_disk.specs.Since.{EachImageSince};
 ghost use Rattle.ipc_state.specs.State.{start};
 ghost use Rattle.ipc_image.specs.Sizes.{need_of};
 ghost use Rattle.ipc_store.specs.Image.{StandsFor, IsNotFormatted};
+ghost use Rattle.ipc_store.specs.Relations.Format.{EachNow, IsErased, IsPrepared};
 
 use crate::fault::FormatError;
 use crate::store::Store;
 use ipc_base::Limits;
-use ipc_disk::SectorDisk;
+use ipc_disk::{DiskFault, Range, SectorDisk};
+use ipc_image::{JOURNAL, JOURNAL_COUNT, ROOT, SUPERBLOCK};
+use ipc_image::{need, superblock_is_read, write_superblock};
+use ipc_journal::Journal;
+
+// The epoch of a new journal.
+const FIRST_EPOCH: u64 = 1;
 
 impl<D: SectorDisk> Store<D> {
     /// Makes a device of the disk: it stands for the first state under these limits. All that stood there is lost.
@@ -44,9 +51,114 @@ impl<D: SectorDisk> Store<D> {
             ≡ counted (D.counts disk.old).failures 1 }
         ensures no_failure { OnOk result ((D.counts disk.new).failures ≡ (D.counts disk.old).failures) }
     {
-        if let Err(fault) = limits.check() {
-            return Err(FormatError::BadLimits(fault));
+        limits.check()?;
+        let need = need(limits);
+        if disk.sectors() < need {
+            return Err(FormatError::TooSmall { need });
         }
+        make(disk, limits)?;
         Ok(())
     }
+}
+
+// Makes a device of a disk that is large enough. What stood there is no device any more before the first sector of the
+// journal is written, and the new one is a device only once its journal lasts.
+fn make<D: SectorDisk>(disk: &mut D, limits: &Limits) -> Result<(), DiskFault>
+    requires passed { ArePassed limits.now }
+    requires room { need_of limits.now ≤ D.size disk.old }
+    ensures ok { OnOk result (IsHonest (D.medium disk.old)
+        → EachNow (D.medium disk.new) (StandsFor limits.now start)) }
+    ensures durable { OnOk result (IsDurable (D.medium disk.new)) }
+    ensures honest { IsHonest (D.medium disk.old) ↔ IsHonest (D.medium disk.new) }
+    ensures any_moment { IsHonest (D.medium disk.old)
+        → EachImageSince (D.medium disk.old) (D.medium disk.new)
+        (λ image. (D.medium disk.old).images_now image ⊎ IsNotFormatted image
+        ⊎ StandsFor limits.now start image) }
+    ensures size { D.size disk.new ≡ D.size disk.old }
+    ensures failure { OnErr result ((D.counts disk.new).failures
+        ≡ counted (D.counts disk.old).failures 1) }
+    ensures no_failure { OnOk result ((D.counts disk.new).failures ≡ (D.counts disk.old).failures) }
+{
+    erase(disk)?;
+    prepare(disk)?;
+    put_superblock(disk, limits)
+}
+
+// The disk is no device any more.
+fn erase<D: SectorDisk>(disk: &mut D) -> Result<(), DiskFault>
+    requires { 0 < D.size disk.old }
+    ensures erased { OnOk result (IsHonest (D.medium disk.old) → EachNow (D.medium disk.new) IsErased) }
+    ensures honest { IsHonest (D.medium disk.old) ↔ IsHonest (D.medium disk.new) }
+    ensures any_moment { IsHonest (D.medium disk.old)
+        → EachImageSince (D.medium disk.old) (D.medium disk.new)
+        (λ image. (D.medium disk.old).images_now image ⊎ IsErased image) }
+    ensures size { D.size disk.new ≡ D.size disk.old }
+    ensures failure { OnErr result ((D.counts disk.new).failures
+        ≡ counted (D.counts disk.old).failures 1) }
+    ensures no_failure { OnOk result ((D.counts disk.new).failures ≡ (D.counts disk.old).failures) }
+{
+    settle(disk, SUPERBLOCK, &[0; 512])
+}
+
+// Clears the root and makes the journal. The disk stays no device.
+fn prepare<D: SectorDisk>(disk: &mut D) -> Result<(), DiskFault>
+    requires room { 260 ≤ D.size disk.old }
+    ensures prepared { OnOk result (IsHonest (D.medium disk.old) → EachNow (D.medium disk.old) IsErased
+        → EachNow (D.medium disk.new) IsPrepared) }
+    ensures honest { IsHonest (D.medium disk.old) ↔ IsHonest (D.medium disk.new) }
+    ensures any_moment { IsHonest (D.medium disk.old) → EachNow (D.medium disk.old) IsErased
+        → EachImageSince (D.medium disk.old) (D.medium disk.new) IsErased }
+    ensures size { D.size disk.new ≡ D.size disk.old }
+    ensures failure { OnErr result ((D.counts disk.new).failures
+        ≡ counted (D.counts disk.old).failures 1) }
+    ensures no_failure { OnOk result ((D.counts disk.new).failures ≡ (D.counts disk.old).failures) }
+{
+    disk.write(ROOT, &[0; 512])?;
+    let range = Range {
+        first: JOURNAL,
+        count: JOURNAL_COUNT,
+    };
+    Journal::create(disk, range, FIRST_EPOCH)?;
+    Ok(())
+}
+
+// The disk becomes a device: its superblock is the last that is written.
+fn put_superblock<D: SectorDisk>(disk: &mut D, limits: &Limits) -> Result<(), DiskFault>
+    requires passed { ArePassed limits.now }
+    requires room { need_of limits.now ≤ D.size disk.old }
+    ensures ok { OnOk result (IsHonest (D.medium disk.old) → EachNow (D.medium disk.old) IsPrepared
+        → EachNow (D.medium disk.new) (StandsFor limits.now start)) }
+    ensures durable { OnOk result (IsDurable (D.medium disk.new)) }
+    ensures honest { IsHonest (D.medium disk.old) ↔ IsHonest (D.medium disk.new) }
+    ensures any_moment { IsHonest (D.medium disk.old) → EachNow (D.medium disk.old) IsPrepared
+        → EachImageSince (D.medium disk.old) (D.medium disk.new)
+        (λ image. IsErased image ⊎ StandsFor limits.now start image) }
+    ensures size { D.size disk.new ≡ D.size disk.old }
+    ensures failure { OnErr result ((D.counts disk.new).failures
+        ≡ counted (D.counts disk.old).failures 1) }
+    ensures no_failure { OnOk result ((D.counts disk.new).failures ≡ (D.counts disk.old).failures) }
+{
+    superblock_is_read();
+    let mut sector = [0; 512];
+    write_superblock(&mut sector, disk.sectors(), limits);
+    settle(disk, SUPERBLOCK, &sector)
+}
+
+// Writes one sector and makes it last.
+fn settle<D: SectorDisk>(disk: &mut D, at: u32, sector: &[u8; 512]) -> Result<(), DiskFault>
+    requires { at < D.size disk.old }
+    ensures written { OnOk result (IsHonest (D.medium disk.old) → EachNow (D.medium disk.new)
+        (λ image. image ≡ slice_set (D.medium disk.old).contents at sector.now)) }
+    ensures durable { OnOk result (IsDurable (D.medium disk.new)) }
+    ensures honest { IsHonest (D.medium disk.old) ↔ IsHonest (D.medium disk.new) }
+    ensures any_moment { IsHonest (D.medium disk.old)
+        → EachImageSince (D.medium disk.old) (D.medium disk.new)
+        (SetOrNot at sector.now (D.medium disk.old)) }
+    ensures size { D.size disk.new ≡ D.size disk.old }
+    ensures failure { OnErr result ((D.counts disk.new).failures
+        ≡ counted (D.counts disk.old).failures 1) }
+    ensures no_failure { OnOk result ((D.counts disk.new).failures ≡ (D.counts disk.old).failures) }
+{
+    disk.write(at, sector)?;
+    disk.sync()
 }
