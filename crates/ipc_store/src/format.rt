@@ -8,6 +8,7 @@ ghost use Rattle.ipc_disk.specs.Medium.{Image, IsHonest, IsDurable, SetOrNot};
 ghost use Rattle.ipc_disk.specs.Since.{EachImageSince};
 ghost use Rattle.ipc_state.specs.State.{start};
 ghost use Rattle.ipc_image.specs.Sizes.{need_of};
+ghost use Rattle.ipc_image.specs.Superblock.{IsSuperblock};
 ghost use Rattle.ipc_store.specs.Image.{StandsFor, IsNotFormatted};
 ghost use Rattle.ipc_store.specs.Relations.Format.{EachNow, IsErased, IsPrepared};
 
@@ -15,12 +16,19 @@ use crate::fault::FormatError;
 use crate::store::Store;
 use ipc_base::Limits;
 use ipc_disk::{DiskFault, Range, SectorDisk};
-use ipc_image::{JOURNAL, JOURNAL_COUNT, ROOT, SUPERBLOCK};
-use ipc_image::{need, superblock_is_read, write_superblock};
+use ipc_image::{
+    JOURNAL, JOURNAL_COUNT, ROOT, SUPERBLOCK, need, superblock_is_read, write_superblock,
+};
 use ipc_journal::Journal;
 
-// The epoch of a new journal.
-const FIRST_EPOCH: u64 = 1;
+// The sectors of the journal.
+pub(crate) const JOURNAL_SECTORS: Range = Range {
+    first: JOURNAL,
+    count: JOURNAL_COUNT,
+};
+
+// Its first epoch.
+pub(crate) const FIRST_EPOCH: u64 = 1;
 
 impl<D: SectorDisk> Store<D> {
     /// Makes a device of the disk: it stands for the first state under these limits. All that stood there is lost.
@@ -86,7 +94,7 @@ fn make<D: SectorDisk>(disk: &mut D, limits: &Limits) -> Result<(), DiskFault>
 
 // The disk is no device any more.
 fn erase<D: SectorDisk>(disk: &mut D) -> Result<(), DiskFault>
-    requires { 0 < D.size disk.old }
+    requires room { 260 ≤ D.size disk.old }
     ensures erased { OnOk result (IsHonest (D.medium disk.old) → EachNow (D.medium disk.new) IsErased) }
     ensures honest { IsHonest (D.medium disk.old) ↔ IsHonest (D.medium disk.new) }
     ensures any_moment { IsHonest (D.medium disk.old)
@@ -114,11 +122,7 @@ fn prepare<D: SectorDisk>(disk: &mut D) -> Result<(), DiskFault>
     ensures no_failure { OnOk result ((D.counts disk.new).failures ≡ (D.counts disk.old).failures) }
 {
     disk.write(ROOT, &[0; 512])?;
-    let range = Range {
-        first: JOURNAL,
-        count: JOURNAL_COUNT,
-    };
-    Journal::create(disk, range, FIRST_EPOCH)?;
+    Journal::create(disk, JOURNAL_SECTORS, FIRST_EPOCH)?;
     Ok(())
 }
 
@@ -138,10 +142,20 @@ fn put_superblock<D: SectorDisk>(disk: &mut D, limits: &Limits) -> Result<(), Di
         ≡ counted (D.counts disk.old).failures 1) }
     ensures no_failure { OnOk result ((D.counts disk.new).failures ≡ (D.counts disk.old).failures) }
 {
+    let sector = superblock_of(disk.sectors(), limits);
+    settle(disk, SUPERBLOCK, &sector)
+}
+
+// The superblock of a device of so many sectors.
+fn superblock_of(sectors: u32, limits: &Limits) -> [u8; 512]
+    requires passed { ArePassed limits.now }
+    requires room { need_of limits.now ≤ sectors }
+    ensures { IsSuperblock sectors limits.now result }
+{
     superblock_is_read();
     let mut sector = [0; 512];
-    write_superblock(&mut sector, disk.sectors(), limits);
-    settle(disk, SUPERBLOCK, &sector)
+    write_superblock(&mut sector, sectors, limits);
+    sector
 }
 
 // Writes one sector and makes it last.

@@ -1,5 +1,5 @@
 -- What a disk is on its way to a device.
-use Rattle.std.specs.Prelude.{ℕ, []}
+use Rattle.std.specs.Prelude.{[]}
 use Rattle.ipc_disk.specs.Medium.{Image, Medium}
 use Rattle.ipc_journal.specs.Journal.{sector_at}
 use Rattle.ipc_image.specs.Superblock.{IsFormatted}
