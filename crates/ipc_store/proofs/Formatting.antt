@@ -6,14 +6,14 @@ use Rattle.ipc_base.specs.declared.limits.Limits.{Limits}
 use Rattle.ipc_disk.specs.Medium.{Image, Medium, IsHonest, Writes}
 use Rattle.ipc_disk.specs.Range.{IsOutside}
 use Rattle.ipc_disk.specs.Since.{EachImageSince, LeavesAlone}
-use Rattle.ipc_disk.proofs.CallerLemmas.{EachImageSince-join, EachImageSince-weaken, EachImageSince-now, LeavesAlone-keeps}
-use Rattle.ipc_disk.proofs.CallerLemmas.{EachImageSince-writes, EachImageSince-set}
+use Rattle.ipc_disk.proofs.CallerLemmas.{EachImageSince-join, EachImageSince-weaken, EachImageSince-now}
+use Rattle.ipc_disk.proofs.CallerLemmas.{EachImageSince-writes, EachImageSince-set, LeavesAlone-keeps}
 use Rattle.ipc_journal.specs.Journal.{sector_at}
 use Rattle.ipc_journal.proofs.CallerLemmas.{sector_at-same, Holds-same}
 use Rattle.ipc_state.specs.State.{start}
 use Rattle.ipc_image.specs.Superblock.{magic, IsFormatted, IsSuperblock}
 use Rattle.ipc_store.specs.Image.{journal_range, first_epoch, HasBatches, StandsFor, IsNotFormatted}
-use Rattle.ipc_store.specs.Relations.Format.{EachNow, IsErased}
+use Rattle.ipc_store.specs.Relations.Format.{EachNow, HasNoRoot, IsErased}
 
 -- a sector of zeros
 abbrev pub zeros : List ℕ
@@ -62,6 +62,17 @@ becomes-device limits size bytes image is count has holds =
         record { each = λ k d lt. absurd (omega (arith, lt)); named = tt; state = refl },
       );
     }
+
+-- the root is cleared, and another sector is written then
+pub no-root-cleared : (old mid new : Image) (bytes : List ℕ) → 1 < length old → mid ≡ slice_set old 1 zeros
+    → new ≡ slice_set mid 3 bytes → HasNoRoot new
+no-root-cleared old mid new bytes has cleared set =
+    ap (λ (image : Image). sector_at image 1) set ∙ get_or-set_other mid 3 1 bytes [] (λ same. absurd (omega (arith, same)))
+    ∙ ap (λ (image : Image). sector_at image 1) cleared ∙ get_or-set_same old 1 zeros [] has
+
+-- the superblock is written, and it stays so
+pub no-root-kept : (image : Image) (bytes : List ℕ) → HasNoRoot image → HasNoRoot (slice_set image 0 bytes)
+no-root-kept image bytes none = get_or-set_other image 0 1 bytes [] (λ same. absurd (omega (arith, same))) ∙ none
 
 module _ (limits : Limits) (old : Medium) where
   -- an image of then, or none of a device, or one of the new device

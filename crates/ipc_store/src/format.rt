@@ -1,16 +1,18 @@
 //! The making of a device.
 
-ghost use Rattle.std.specs.Prelude.{◌≡◌, ◌⊎◌, ◌<◌, ◌≤◌, ◌↔◌, ℕ, Some, position, not, slice_set, OnOk, OnErr, IsErrOf};
+ghost use Rattle.std.specs.Prelude.{◌≡◌, ◌⊎◌, ◌<◌, ◌≤◌, ◌↔◌, ℕ, Some, position, not};
+ghost use Rattle.std.specs.Prelude.{replicate, slice_set, OnOk, OnErr, IsErrOf};
 ghost use Rattle.ipc_base.specs.Limits.{ArePassed, tests};
 ghost use Rattle.ipc_base.specs.declared.limits.BadLimits.{BadLimits as BadLimit};
 ghost use Rattle.ipc_disk.specs.Counts.{counted};
 ghost use Rattle.ipc_disk.specs.Medium.{Image, IsHonest, IsDurable, SetOrNot};
 ghost use Rattle.ipc_disk.specs.Since.{EachImageSince};
+ghost use Rattle.ipc_journal.specs.Journal.{sector_at};
 ghost use Rattle.ipc_state.specs.State.{start};
 ghost use Rattle.ipc_image.specs.Sizes.{need_of};
 ghost use Rattle.ipc_image.specs.Superblock.{IsSuperblock};
 ghost use Rattle.ipc_store.specs.Image.{StandsFor, IsNotFormatted};
-ghost use Rattle.ipc_store.specs.Relations.Format.{EachNow, IsErased, IsPrepared};
+ghost use Rattle.ipc_store.specs.Relations.Format.{EachNow, HasNoRoot, IsErased, IsPrepared};
 
 use crate::fault::FormatError;
 use crate::store::Store;
@@ -35,9 +37,11 @@ impl<D: SectorDisk> Store<D> {
     /// Refused, in this order, for limits that `check` refuses, for a disk with fewer sectors than `need`, and by the
     /// disk. A crash leaves the disk as it was, or not formatted, or formatted.
     pub fn format(disk: &mut D, limits: &Limits) -> Result<(), FormatError>
-        // Each image that a crash may leave from then on stands for the first state.
+        // Each image that a crash may leave from then on stands for the first state, and its root is zeros.
         ensures ok { OnOk result (IsHonest (D.medium disk.old) → (image : Image)
             → (D.medium disk.new).images_now image → StandsFor limits.now start image) }
+        ensures root { OnOk result (IsHonest (D.medium disk.old) → (image : Image)
+            → (D.medium disk.new).images_now image → sector_at image 1 ≡ replicate 512 0) }
         ensures durable { OnOk result (IsDurable (D.medium disk.new)) }
         ensures honest { IsHonest (D.medium disk.old) ↔ IsHonest (D.medium disk.new) }
         // A crash at any moment of the call, also of one that fails.
@@ -69,13 +73,15 @@ impl<D: SectorDisk> Store<D> {
     }
 }
 
-// Makes a device of a disk that is large enough. What stood there is no device any more before the first sector of the
-// journal is written, and the new one is a device only once its journal lasts.
+// Makes a device of a disk that is large enough. The old superblock is gone before the journal is
+// written, and the new one comes once the journal lasts: no crash leaves one of them with a journal
+// that is not its own.
 fn make<D: SectorDisk>(disk: &mut D, limits: &Limits) -> Result<(), DiskFault>
     requires passed { ArePassed limits.now }
     requires room { need_of limits.now ≤ D.size disk.old }
     ensures ok { OnOk result (IsHonest (D.medium disk.old)
         → EachNow (D.medium disk.new) (StandsFor limits.now start)) }
+    ensures root { OnOk result (IsHonest (D.medium disk.old) → EachNow (D.medium disk.new) HasNoRoot) }
     ensures durable { OnOk result (IsDurable (D.medium disk.new)) }
     ensures honest { IsHonest (D.medium disk.old) ↔ IsHonest (D.medium disk.new) }
     ensures any_moment { IsHonest (D.medium disk.old)
@@ -113,6 +119,7 @@ fn prepare<D: SectorDisk>(disk: &mut D) -> Result<(), DiskFault>
     requires room { 260 ≤ D.size disk.old }
     ensures prepared { OnOk result (IsHonest (D.medium disk.old) → EachNow (D.medium disk.old) IsErased
         → EachNow (D.medium disk.new) IsPrepared) }
+    ensures root { OnOk result (IsHonest (D.medium disk.old) → EachNow (D.medium disk.new) HasNoRoot) }
     ensures honest { IsHonest (D.medium disk.old) ↔ IsHonest (D.medium disk.new) }
     ensures any_moment { IsHonest (D.medium disk.old) → EachNow (D.medium disk.old) IsErased
         → EachImageSince (D.medium disk.old) (D.medium disk.new) IsErased }
@@ -132,6 +139,8 @@ fn put_superblock<D: SectorDisk>(disk: &mut D, limits: &Limits) -> Result<(), Di
     requires room { need_of limits.now ≤ D.size disk.old }
     ensures ok { OnOk result (IsHonest (D.medium disk.old) → EachNow (D.medium disk.old) IsPrepared
         → EachNow (D.medium disk.new) (StandsFor limits.now start)) }
+    ensures root { OnOk result (IsHonest (D.medium disk.old) → EachNow (D.medium disk.old) HasNoRoot
+        → EachNow (D.medium disk.new) HasNoRoot) }
     ensures durable { OnOk result (IsDurable (D.medium disk.new)) }
     ensures honest { IsHonest (D.medium disk.old) ↔ IsHonest (D.medium disk.new) }
     ensures any_moment { IsHonest (D.medium disk.old) → EachNow (D.medium disk.old) IsPrepared

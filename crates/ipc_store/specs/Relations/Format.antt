@@ -1,5 +1,5 @@
 -- What a disk is on its way to a device.
-use Rattle.std.specs.Prelude.{[]}
+use Rattle.std.specs.Prelude.{◌≡◌, [], replicate}
 use Rattle.ipc_disk.specs.Medium.{Image, Medium}
 use Rattle.ipc_journal.specs.Journal.{sector_at}
 use Rattle.ipc_image.specs.Superblock.{IsFormatted}
@@ -17,3 +17,7 @@ IsErased image = ¬ IsFormatted (sector_at image 0)
 pub record IsPrepared (image : Image) : Type 0 where
   pub erased : IsErased image
   pub journal : HasBatches [] image
+
+-- the sector of its root is zeros
+abbrev pub HasNoRoot : Image → Type 0
+HasNoRoot image = sector_at image 1 ≡ replicate 512 0

@@ -5,8 +5,8 @@ use Rattle.ipc_disk.proofs.CallerLemmas.{EachImageSince-set}
 use Rattle.ipc_state.specs.State.{start}
 use Rattle.ipc_image.specs.Superblock.{IsSuperblock}
 use Rattle.ipc_store.specs.Image.{StandsFor}
-use Rattle.ipc_store.specs.Relations.Format.{IsErased}
-use Rattle.ipc_store.proofs.Formatting.{becomes-device}
+use Rattle.ipc_store.specs.Relations.Format.{HasNoRoot, IsErased}
+use Rattle.ipc_store.proofs.Formatting.{becomes-device, no-root-kept}
 use Rattle.ipc_store.proofs.format.put_superblock.Goals as goal
 
 pub returns-clause-ok : goal.returns-clause-ok
@@ -35,3 +35,9 @@ returns-clause-any_moment g c = λ honest prepared.
     (λ image now. inr (becomes-device c.args.limits.now size bytes image is
     (g.met.D.SectorDisk.shaped c.args.disk.now image now).count
     (omega (arith, c.requires.room)) (prepared image now).journal))
+
+pub returns-clause-root : goal.returns-clause-root
+returns-clause-root g c =
+    on_ok_weaker c.settle.result (λ written honest none image now. subst HasNoRoot (sym (written honest image now))
+    (no-root-kept (g.D.SectorDisk.medium c.args.disk.now).contents _ (none _ honest.reads)))
+    c.settle.ensures.written
