@@ -79,6 +79,24 @@ EachImageSince-both old new P Q one other = record {
       (one.earlier t image le left);
 }
 
+-- a first call, a write
+pub EachImageSince-writes : (old new : Medium) (at : ℕ) (bytes : List ℕ)
+    → ((image : Image) → old.images_since old.moment image → old.images_now image)
+    → Writes at bytes old new → EachImageSince old new (SetOrNot at bytes old)
+EachImageSince-writes old new at bytes law call =
+    EachImageSince-step old old new (SetOrNot at bytes old)
+    (EachImageSince-start old (SetOrNot at bytes old) law (λ image now. (image, now, inl refl))) call.time call.images
+
+-- a run that writes one sector or not: what each image of then has, and has with that sector
+pub EachImageSince-set : (old new : Medium) (at : ℕ) (bytes : List ℕ) (P : Image → Type 0)
+    → EachImageSince old new (SetOrNot at bytes old)
+    → ((image : Image) → old.images_now image → P image)
+    → ((image : Image) → old.images_now image → P (slice_set image at bytes)) → EachImageSince old new P
+EachImageSince-set old new at bytes P run same set =
+    EachImageSince-weaken old new (SetOrNot at bytes old) P run
+    (λ image from. ⊎_elim (λ is. subst P (sym is) (same from.0 from.1)) (λ is. subst P (sym is) (set from.0 from.1))
+    from.2)
+
 -- on an honest disk it holds of each image now
 pub EachImageSince-now : (old new : Medium) (P : Image → Type 0) → EachImageSince old new P → IsHonest new
     → (image : Image) → new.images_now image → P image

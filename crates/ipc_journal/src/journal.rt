@@ -54,6 +54,7 @@ impl Journal {
             → (D.medium disk.new).contents
             ≡ slice_set (D.medium disk.old).contents range.first (header_bytes epoch 0)) }
         ensures durable { OnOk result (IsDurable (D.medium disk.new)) }
+        ensures honest { IsHonest (D.medium disk.old) ↔ IsHonest (D.medium disk.new) }
         // A crash at any moment of the call, also of one that fails.
         ensures any_moment { IsHonest (D.medium disk.old)
             → EachImageSince (D.medium disk.old) (D.medium disk.new)

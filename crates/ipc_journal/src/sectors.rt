@@ -1,6 +1,6 @@
 //! Sectors as bytes, and runs of them written to a disk.
 
-ghost use Rattle.std.specs.Prelude.{◌≡◌, ◌+◌, ◌*◌, ◌-◌, ◌<◌, ◌≤◌, ◌++◌};
+ghost use Rattle.std.specs.Prelude.{◌≡◌, ◌↔◌, ◌+◌, ◌*◌, ◌-◌, ◌<◌, ◌≤◌, ◌++◌};
 ghost use Rattle.std.specs.Prelude.{length, take, replicate, Some};
 ghost use Rattle.std.specs.Prelude.{OnOk, OnErr, slice_get, slice_set};
 ghost use Rattle.ipc_disk.specs.Counts.{counted, with_failure, with_calls};
@@ -89,6 +89,7 @@ pub(crate) fn settle_sector<D: SectorDisk>(
     ensures any_moment { IsHonest (D.medium disk.old)
         → EachImageSince (D.medium disk.old) (D.medium disk.new)
         (SetOrNot at sector.now (D.medium disk.old)) }
+    ensures honest { IsHonest (D.medium disk.old) ↔ IsHonest (D.medium disk.new) }
     ensures others { IsHonest (D.medium disk.old)
         → LeavesAlone (IsOutside (record { first = at; count = 1 }))
         (D.medium disk.old) (D.medium disk.new) }

@@ -6,3 +6,4 @@ mod Histories
 mod Opened
 mod Superblocks
 mod Replaying
+mod Formatting

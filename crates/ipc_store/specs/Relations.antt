@@ -1,4 +1,5 @@
 -- What joins the code of the store to the definitions. A reader of the definitions alone needs none of it.
 pub mod Batch
+pub mod Format
 pub mod Matches
 pub mod Replay

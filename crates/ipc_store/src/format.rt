@@ -1,28 +1,37 @@
 //! The making of a device.
 
-ghost use Rattle.std.specs.Prelude.{◌≡◌, ◌⊎◌, ◌<◌, ◌≤◌, ◌↔◌, ℕ, Some, position, not, OnOk, IsErrOf};
+ghost use Rattle.std.specs.Prelude.{◌≡◌, ◌⊎◌, ◌<◌, ◌≤◌, ◌↔◌, ℕ, Some, position, not};
+ghost use Rattle.std.specs.Prelude.{replicate, slice_set, OnOk, OnErr, IsErrOf};
 ghost use Rattle.ipc_base.specs.Limits.{ArePassed, tests};
 ghost use Rattle.ipc_base.specs.declared.limits.BadLimits.{BadLimits as BadLimit};
 ghost use Rattle.ipc_disk.specs.Counts.{counted};
-ghost use Rattle.ipc_disk.specs.Medium.{Image, IsHonest, IsDurable};
+ghost use Rattle.ipc_disk.specs.Medium.{Image, IsHonest, IsDurable, SetOrNot};
 ghost use Rattle.ipc_disk.specs.Since.{EachImageSince};
+ghost use Rattle.ipc_journal.specs.Journal.{sector_at};
 ghost use Rattle.ipc_state.specs.State.{start};
 ghost use Rattle.ipc_image.specs.Sizes.{need_of};
+ghost use Rattle.ipc_image.specs.Superblock.{IsSuperblock};
 ghost use Rattle.ipc_store.specs.Image.{StandsFor, IsNotFormatted};
+ghost use Rattle.ipc_store.specs.Relations.Format.{EachNow, HasNoRoot, IsErased, IsPrepared};
 
 use crate::fault::FormatError;
+use crate::places::{FIRST_EPOCH, JOURNAL_RANGE};
 use crate::store::Store;
 use ipc_base::Limits;
-use ipc_disk::SectorDisk;
+use ipc_disk::{DiskFault, SectorDisk};
+use ipc_image::{ROOT, SUPERBLOCK, need, superblock_is_read, write_superblock};
+use ipc_journal::Journal;
 
 impl<D: SectorDisk> Store<D> {
     /// Makes a device of the disk: it stands for the first state under these limits. All that stood there is lost.
     /// Refused, in this order, for limits that `check` refuses, for a disk with fewer sectors than `need`, and by the
     /// disk. A crash leaves the disk as it was, or not formatted, or formatted.
     pub fn format(disk: &mut D, limits: &Limits) -> Result<(), FormatError>
-        // Each image that a crash may leave from then on stands for the first state.
+        // Each image that a crash may leave from then on stands for the first state, and its root is zeros.
         ensures ok { OnOk result (IsHonest (D.medium disk.old) → (image : Image)
             → (D.medium disk.new).images_now image → StandsFor limits.now start image) }
+        ensures root { OnOk result (IsHonest (D.medium disk.old) → (image : Image)
+            → (D.medium disk.new).images_now image → sector_at image 1 ≡ replicate 512 0) }
         ensures durable { OnOk result (IsDurable (D.medium disk.new)) }
         ensures honest { IsHonest (D.medium disk.old) ↔ IsHonest (D.medium disk.new) }
         // A crash at any moment of the call, also of one that fails.
@@ -44,9 +53,125 @@ impl<D: SectorDisk> Store<D> {
             ≡ counted (D.counts disk.old).failures 1 }
         ensures no_failure { OnOk result ((D.counts disk.new).failures ≡ (D.counts disk.old).failures) }
     {
-        if let Err(fault) = limits.check() {
-            return Err(FormatError::BadLimits(fault));
+        limits.check()?;
+        let need = need(limits);
+        if disk.sectors() < need {
+            return Err(FormatError::TooSmall { need });
         }
+        make(disk, limits)?;
         Ok(())
     }
+}
+
+// Makes a device of a disk that is large enough. The old superblock is gone before the journal is
+// written, and the new one comes once the journal lasts: no crash leaves one of them with a journal
+// that is not its own.
+fn make<D: SectorDisk>(disk: &mut D, limits: &Limits) -> Result<(), DiskFault>
+    requires passed { ArePassed limits.now }
+    requires room { need_of limits.now ≤ D.size disk.old }
+    ensures ok { OnOk result (IsHonest (D.medium disk.old)
+        → EachNow (D.medium disk.new) (StandsFor limits.now start)) }
+    ensures root { OnOk result (IsHonest (D.medium disk.old) → EachNow (D.medium disk.new) HasNoRoot) }
+    ensures durable { OnOk result (IsDurable (D.medium disk.new)) }
+    ensures honest { IsHonest (D.medium disk.old) ↔ IsHonest (D.medium disk.new) }
+    ensures any_moment { IsHonest (D.medium disk.old)
+        → EachImageSince (D.medium disk.old) (D.medium disk.new)
+        (λ image. (D.medium disk.old).images_now image ⊎ IsNotFormatted image
+        ⊎ StandsFor limits.now start image) }
+    ensures size { D.size disk.new ≡ D.size disk.old }
+    ensures failure { OnErr result ((D.counts disk.new).failures
+        ≡ counted (D.counts disk.old).failures 1) }
+    ensures no_failure { OnOk result ((D.counts disk.new).failures ≡ (D.counts disk.old).failures) }
+{
+    erase(disk)?;
+    prepare(disk)?;
+    put_superblock(disk, limits)
+}
+
+// The disk is no device any more.
+fn erase<D: SectorDisk>(disk: &mut D) -> Result<(), DiskFault>
+    requires room { 260 ≤ D.size disk.old }
+    ensures erased { OnOk result (IsHonest (D.medium disk.old) → EachNow (D.medium disk.new) IsErased) }
+    ensures honest { IsHonest (D.medium disk.old) ↔ IsHonest (D.medium disk.new) }
+    ensures any_moment { IsHonest (D.medium disk.old)
+        → EachImageSince (D.medium disk.old) (D.medium disk.new)
+        (λ image. (D.medium disk.old).images_now image ⊎ IsErased image) }
+    ensures size { D.size disk.new ≡ D.size disk.old }
+    ensures failure { OnErr result ((D.counts disk.new).failures
+        ≡ counted (D.counts disk.old).failures 1) }
+    ensures no_failure { OnOk result ((D.counts disk.new).failures ≡ (D.counts disk.old).failures) }
+{
+    settle(disk, SUPERBLOCK, &[0; 512])
+}
+
+// Clears the root and makes the journal. The disk stays no device.
+fn prepare<D: SectorDisk>(disk: &mut D) -> Result<(), DiskFault>
+    requires room { 260 ≤ D.size disk.old }
+    ensures prepared { OnOk result (IsHonest (D.medium disk.old) → EachNow (D.medium disk.old) IsErased
+        → EachNow (D.medium disk.new) IsPrepared) }
+    ensures root { OnOk result (IsHonest (D.medium disk.old) → EachNow (D.medium disk.new) HasNoRoot) }
+    ensures honest { IsHonest (D.medium disk.old) ↔ IsHonest (D.medium disk.new) }
+    ensures any_moment { IsHonest (D.medium disk.old) → EachNow (D.medium disk.old) IsErased
+        → EachImageSince (D.medium disk.old) (D.medium disk.new) IsErased }
+    ensures size { D.size disk.new ≡ D.size disk.old }
+    ensures failure { OnErr result ((D.counts disk.new).failures
+        ≡ counted (D.counts disk.old).failures 1) }
+    ensures no_failure { OnOk result ((D.counts disk.new).failures ≡ (D.counts disk.old).failures) }
+{
+    disk.write(ROOT, &[0; 512])?;
+    Journal::create(disk, JOURNAL_RANGE, FIRST_EPOCH)?;
+    Ok(())
+}
+
+// The disk becomes a device: its superblock is the last that is written.
+fn put_superblock<D: SectorDisk>(disk: &mut D, limits: &Limits) -> Result<(), DiskFault>
+    requires passed { ArePassed limits.now }
+    requires room { need_of limits.now ≤ D.size disk.old }
+    ensures ok { OnOk result (IsHonest (D.medium disk.old) → EachNow (D.medium disk.old) IsPrepared
+        → EachNow (D.medium disk.new) (StandsFor limits.now start)) }
+    ensures root { OnOk result (IsHonest (D.medium disk.old) → EachNow (D.medium disk.old) HasNoRoot
+        → EachNow (D.medium disk.new) HasNoRoot) }
+    ensures durable { OnOk result (IsDurable (D.medium disk.new)) }
+    ensures honest { IsHonest (D.medium disk.old) ↔ IsHonest (D.medium disk.new) }
+    ensures any_moment { IsHonest (D.medium disk.old) → EachNow (D.medium disk.old) IsPrepared
+        → EachImageSince (D.medium disk.old) (D.medium disk.new)
+        (λ image. IsErased image ⊎ StandsFor limits.now start image) }
+    ensures size { D.size disk.new ≡ D.size disk.old }
+    ensures failure { OnErr result ((D.counts disk.new).failures
+        ≡ counted (D.counts disk.old).failures 1) }
+    ensures no_failure { OnOk result ((D.counts disk.new).failures ≡ (D.counts disk.old).failures) }
+{
+    let sector = superblock_of(disk.sectors(), limits);
+    settle(disk, SUPERBLOCK, &sector)
+}
+
+// The superblock of a device of so many sectors.
+fn superblock_of(sectors: u32, limits: &Limits) -> [u8; 512]
+    requires passed { ArePassed limits.now }
+    requires room { need_of limits.now ≤ sectors }
+    ensures { IsSuperblock sectors limits.now result }
+{
+    superblock_is_read();
+    let mut sector = [0; 512];
+    write_superblock(&mut sector, sectors, limits);
+    sector
+}
+
+// Writes one sector and makes it last.
+fn settle<D: SectorDisk>(disk: &mut D, at: u32, sector: &[u8; 512]) -> Result<(), DiskFault>
+    requires { at < D.size disk.old }
+    ensures written { OnOk result (IsHonest (D.medium disk.old) → EachNow (D.medium disk.new)
+        (λ image. image ≡ slice_set (D.medium disk.old).contents at sector.now)) }
+    ensures durable { OnOk result (IsDurable (D.medium disk.new)) }
+    ensures honest { IsHonest (D.medium disk.old) ↔ IsHonest (D.medium disk.new) }
+    ensures any_moment { IsHonest (D.medium disk.old)
+        → EachImageSince (D.medium disk.old) (D.medium disk.new)
+        (SetOrNot at sector.now (D.medium disk.old)) }
+    ensures size { D.size disk.new ≡ D.size disk.old }
+    ensures failure { OnErr result ((D.counts disk.new).failures
+        ≡ counted (D.counts disk.old).failures 1) }
+    ensures no_failure { OnOk result ((D.counts disk.new).failures ≡ (D.counts disk.old).failures) }
+{
+    disk.write(at, sector)?;
+    disk.sync()
 }

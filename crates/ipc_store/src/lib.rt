@@ -6,6 +6,7 @@ mod batch;
 mod fault;
 mod format;
 mod loading;
+mod places;
 mod replay;
 mod store;
 

@@ -12,22 +12,14 @@ ghost use Rattle.ipc_store.specs.Image.{IsDevice, IsNotFormatted, HasVersion, Is
 ghost use Rattle.ipc_store.specs.Relations.Matches.{IsLoaded};
 
 use crate::fault::OpenError;
+use crate::places::{FIRST_EPOCH, JOURNAL_RANGE};
 use crate::replay::replay;
 use ipc_base::Limits;
-use ipc_disk::{Range, SectorDisk};
+use ipc_disk::SectorDisk;
 use ipc_engine::Engine;
-use ipc_image::{JOURNAL, JOURNAL_COUNT, SUPERBLOCK, SuperblockFault, read_superblock};
+use ipc_image::{SUPERBLOCK, SuperblockFault, read_superblock};
 use ipc_journal::Journal;
 use std::alloc::Global;
-
-/// The sectors of the journal.
-pub(crate) const JOURNAL_RANGE: Range = Range {
-    first: JOURNAL,
-    count: JOURNAL_COUNT,
-};
-
-/// The epoch with which a device is made.
-pub(crate) const FIRST_EPOCH: u64 = 1;
 
 /// The fewest sectors that a superblock can be read of.
 const LEAST_SECTORS: u32 = 3;

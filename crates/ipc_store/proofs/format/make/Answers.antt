@@ -1,0 +1,38 @@
+-- One call after another.
+use Rattle.std.proofs.lemmas.Result.{on_ok_weaker}
+use Rattle.ipc_store.proofs.Formatting.{way-erase, way-prepare, way-superblock}
+use Rattle.ipc_store.proofs.format.make.Goals as goal
+
+pub returns-in_err-erase-clause-any_moment : goal.returns-in_err-erase-clause-any_moment
+returns-in_err-erase-clause-any_moment g c = λ honest.
+    way-erase c.args.limits.now _ _ (c.erase.ensures.any_moment honest)
+
+pub returns-in_err-prepare-clause-any_moment : goal.returns-in_err-prepare-clause-any_moment
+returns-in_err-prepare-clause-any_moment g c = λ honest.
+    way-prepare c.args.limits.now _ _ _ (way-erase c.args.limits.now _ _ (c.erase.ensures.any_moment honest))
+    (c.prepare.ensures.any_moment (c.erase.ensures.honest.0 honest) (c.in_ok-erase.ensures.erased honest))
+
+pub returns-clause-ok : goal.returns-clause-ok
+returns-clause-ok g c =
+    on_ok_weaker c.put_superblock.result (λ ok honest.
+    let erased = c.erase.ensures.honest.0 honest in
+    ok (c.prepare.ensures.honest.0 erased)
+    (c.in_ok-prepare.ensures.prepared erased (c.in_ok-erase.ensures.erased honest)))
+    c.put_superblock.ensures.ok
+
+pub returns-clause-any_moment : goal.returns-clause-any_moment
+returns-clause-any_moment g c = λ honest.
+    let erased = c.erase.ensures.honest.0 honest in
+    let none = c.in_ok-erase.ensures.erased honest in
+    way-superblock c.args.limits.now _ _ _
+    (way-prepare c.args.limits.now _ _ _ (way-erase c.args.limits.now _ _ (c.erase.ensures.any_moment honest))
+    (c.prepare.ensures.any_moment erased none))
+    (c.put_superblock.ensures.any_moment (c.prepare.ensures.honest.0 erased)
+    (c.in_ok-prepare.ensures.prepared erased none))
+
+pub returns-clause-root : goal.returns-clause-root
+returns-clause-root g c =
+    on_ok_weaker c.put_superblock.result (λ root honest.
+    let erased = c.erase.ensures.honest.0 honest in
+    root (c.prepare.ensures.honest.0 erased) (c.in_ok-prepare.ensures.root erased))
+    c.put_superblock.ensures.root
