@@ -6,9 +6,11 @@ mod batch;
 mod fault;
 mod format;
 mod loading;
+mod opening;
 mod places;
 mod replay;
 mod store;
 
 pub use fault::{CommitError, FormatError, OpenError, StepError};
+pub use opening::Unopened;
 pub use store::Store;

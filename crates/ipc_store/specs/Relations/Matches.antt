@@ -5,7 +5,7 @@ use Rattle.ipc_disk.specs.Medium.{Image, Medium, IsHonest}
 use Rattle.ipc_journal.specs.declared.journal.Journal.{Journal}
 use Rattle.ipc_journal.specs.Matches.{JournalMatches}
 use Rattle.ipc_journal.specs.View.{range_of, epoch_of}
-use Rattle.ipc_state.specs.State.{State}
+use Rattle.ipc_state.specs.State.{State, restart}
 use Rattle.ipc_engine.specs.Engine.{Machine}
 use Rattle.ipc_engine.specs.Event.{PlainEvent}
 use Rattle.ipc_engine.specs.Step.{run}
@@ -53,3 +53,9 @@ pub record IsLoaded (medium : Medium) (journal : Journal) (machine : Machine) : 
 -- an image stands for one of two states
 abbrev pub StandsForEither : Limits → State → State → Image → Type 0
 StandsForEither limits s t image = StandsFor limits s image ⊎ StandsFor limits t image
+
+-- What a crash within an open may leave: what it could leave before, or what stands for the state that was read, or for that
+-- state after a restart.
+abbrev pub OpensTo : Medium → Image → Type 0
+OpensTo old image = old.images_now image
+    ⊎ ((limits : Limits) × (s : State) × StandsFor limits s old.contents × StandsForEither limits s (restart s) image)

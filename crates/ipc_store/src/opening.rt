@@ -1,0 +1,121 @@
+//! The opening of a device.
+
+ghost use Rattle.std.specs.Prelude.{◌≡◌, ◌⊎◌, ◌≤◌, ◌+◌, ℕ, false, [], ◌∷◌, length, Ok, Err, IfOk, IfErr, OnOk};
+ghost use Rattle.ipc_disk.specs.Counts.{counted};
+ghost use Rattle.ipc_disk.specs.Medium.{IsHonest, Stays};
+ghost use Rattle.ipc_disk.specs.Range.{IsWithin};
+ghost use Rattle.ipc_disk.specs.Since.{EachImageSince};
+ghost use Rattle.ipc_journal.specs.Journal.{header_used};
+ghost use Rattle.ipc_journal.specs.View.{range_of};
+ghost use Rattle.ipc_state.specs.State.{State, restart};
+ghost use Rattle.ipc_store.specs.Batch.{most_bytes};
+ghost use Rattle.ipc_store.specs.Image.{
+  journal_range,
+  StandsFor,
+  HasNoState,
+  IsNotFormatted,
+  HasVersion,
+  IsDamaged,
+  IsFirstFault,
+};
+ghost use Rattle.ipc_store.specs.Relations.Matches.{StoreMatches, IsLoaded, OpensTo};
+ghost use Rattle.ipc_store.specs.declared.fault.OpenError.TheVariants as errors;
+
+use crate::batch::{Batch, MOST_BYTES};
+use crate::fault::{CommitError, OpenError, StepError};
+use crate::loading::load;
+use crate::store::Store;
+use ipc_disk::SectorDisk;
+use ipc_engine::{Engine, Event};
+use ipc_journal::Journal;
+use std::alloc::{AllocError, Global};
+
+/// A device that was not opened: why, and its disk.
+#[derive(Drop)]
+pub struct Unopened<D> {
+    pub error: OpenError,
+    pub disk: D,
+}
+
+impl<D: SectorDisk> Store<D> {
+    /// Opens a device: what stands there is made last and read, the machine goes through the events of its journal and
+    /// through a restart, and the restart is made last. All the memory of the store but the machine's is taken here.
+    pub fn open(alloc: Global, disk: D) -> Result<Store<D>, Unopened<D>>
+        // The base is the state for which the disk stood, after a restart; no event waits.
+        ensures ok { IfOk result (λ store. IsHonest (D.medium disk) → (s : State)
+            × StandsFor store.machine.limits s (D.medium disk).contents
+            × StoreMatches (D.medium store.disk) store (restart s) []) }
+        ensures confirmed { IfOk result (λ store. store.confirmed ≡ 1) }
+        // A crash at any moment of the call, also of one that fails.
+        ensures any_moment { IsHonest (D.medium disk)
+            → (IfOk result (λ store. EachImageSince (D.medium disk) (D.medium store.disk) (OpensTo (D.medium disk))))
+            × (IfErr result (λ fault. EachImageSince (D.medium disk) (D.medium fault.disk) (OpensTo (D.medium disk)))) }
+        // Refusals, besides those for want of memory.
+        ensures not_formatted { IfErr result (λ fault. fault.error ≡ errors.NotFormatted → IsHonest (D.medium disk)
+            → IsNotFormatted (D.medium disk).contents) }
+        ensures version { IfErr result (λ fault. (found : ℕ) → fault.error ≡ errors.Version found
+            → IsHonest (D.medium disk) → HasVersion found (D.medium disk).contents) }
+        ensures damaged { IfErr result (λ fault. (sector : ℕ) → fault.error ≡ errors.Damaged sector
+            → IsHonest (D.medium disk)
+            → IsDamaged (D.medium disk).contents × IsFirstFault (D.medium disk).contents sector) }
+        ensures full { IfErr result (λ fault. fault.error ≡ errors.JournalFull → IsHonest (D.medium disk)
+            → header_used journal_range (D.medium disk).contents + 1 ≡ journal_range.count) }
+        ensures unwritten { IfErr result (λ fault. IsHonest (D.medium disk) → HasNoState (D.medium disk).contents
+            → (D.counts fault.disk).writes ≡ (D.counts disk).writes) }
+        // Failures and counts.
+        ensures size { (IfOk result (λ store. D.size store.disk ≡ D.size disk))
+            × (IfErr result (λ fault. D.size fault.disk ≡ D.size disk)) }
+        ensures failure { IfErr result (λ fault. fault.error ≡ errors.Device
+            → (D.counts fault.disk).failures ≡ counted (D.counts disk).failures 1) }
+    {
+        let mut disk = disk;
+        let (journal, engine, batch) = match read_device(alloc, &mut disk) {
+            Ok(found) => found,
+            Err(error) => return Err(Unopened { error, disk }),
+        };
+        let mut store = Store::new(disk, journal, engine, batch);
+        match store.restart() {
+            Ok(()) => Ok(store),
+            Err(error) => Err(Unopened {
+                error,
+                disk: store.close(),
+            }),
+        }
+    }
+
+    // Records a restart and makes it last.
+    fn restart(&mut self) -> Result<(), OpenError>
+        requires { (self.old.stopped ≡ false) × (self.old.confirmed ≡ 0) × (self.old.waiting ≡ 0) }
+    {
+        if let Err(_) = self.step(Event::Restart) {
+            unreachable!()
+        }
+        match self.commit() {
+            Ok(()) => Ok(()),
+            Err(CommitError::Device) => Err(OpenError::Device),
+            Err(CommitError::JournalFull) => Err(OpenError::JournalFull),
+            Err(CommitError::Stopped) => unreachable!(),
+        }
+    }
+}
+
+// Makes what stands on a device last, and reads it into what a store is made of.
+fn read_device<D: SectorDisk>(
+    alloc: Global,
+    disk: &mut D,
+) -> Result<(Journal, Engine, Batch), OpenError>
+    ensures within { IfOk result (λ found. IsWithin (range_of found.0) (D.size disk.new)) }
+{
+    let mut room = room_for_a_batch(alloc)?;
+    let (journal, engine) = load(alloc, disk, &mut room)?;
+    Ok((journal, engine, Batch::new(room)))
+}
+
+// The memory of a batch.
+fn room_for_a_batch(alloc: Global) -> Result<Vec<u8>, AllocError>
+    ensures { IfOk result (λ room. length room.items ≡ most_bytes) }
+{
+    let mut room = Vec::new(alloc);
+    room.resize(MOST_BYTES, 0)?;
+    Ok(room)
+}
