@@ -9,7 +9,9 @@ ghost use Rattle.std.specs.Prelude.{
   position,
   option_map,
   option_copied,
+  IsOk,
   OnOk,
+  OnErr,
 };
 ghost use Rattle.std.specs.Ordering.{int_eq};
 ghost use Rattle.ipc_state.specs.Objects.{no_objects, entry_of, keyed, with_new, is_full as is_full_of};
@@ -53,10 +55,12 @@ impl<T> Objects<T> {
         }
     }
 
-    /// Takes the memory for one object more.
+    /// Takes the memory for one object more; never refused if it is there already.
     pub(crate) fn reserve(&mut self) -> Result<(), AllocError>
         ensures objects { objects_of self.new ≡ objects_of self.old }
         ensures ok { OnOk result (has_place self.new ≡ true) }
+        ensures succeeds { has_place self.old ≡ true → IsOk result }
+        ensures err { OnErr result (has_place self.new ≡ has_place self.old) }
     {
         self.entries.reserve(1)
     }

@@ -1,10 +1,10 @@
 //! What calls change in the message queue that an identifier has.
 
-ghost use Rattle.std.specs.Prelude.{◌≡◌, ◌<◌, length, slice_get, Some, IsSome, OnOk};
+ghost use Rattle.std.specs.Prelude.{◌≡◌, ◌<◌, length, slice_get, Some, IsSome, IsOk, OnOk, OnErr};
 ghost use Rattle.sysv_msg.specs.Queue.{Queue, plain, sent, taken};
 ghost use Rattle.ipc_state.specs.Objects.{Entry, holding, entry_of, with_entry};
 ghost use Rattle.ipc_state.specs.Held.{HasTextRoom};
-ghost use Rattle.ipc_state.specs.Tables.{queues_of, texts_of};
+ghost use Rattle.ipc_state.specs.Tables.{queues_of, texts_of, has_place};
 
 use crate::objects::Objects;
 use ipc_base::{Id, Moment, Pid};
@@ -18,7 +18,10 @@ pub(crate) fn reserve_text(
     len: usize,
 ) -> Result<(), AllocError>
     ensures queues { queues_of queues.new ≡ queues_of queues.old }
+    ensures place { has_place queues.new ≡ has_place queues.old }
     ensures ok { OnOk result (HasTextRoom (texts_of queues.new) id.0 len) }
+    ensures succeeds { HasTextRoom (texts_of queues.old) id.0 len → IsOk result }
+    ensures err { OnErr result (texts_of queues.new ≡ texts_of queues.old) }
 {
     let Some(place) = queues.place(id) else {
         return Ok(());

@@ -4,7 +4,7 @@ use Rattle.std.proofs.lemmas.Result.{on_ok_weaker}
 use Rattle.sysv_msg.specs.Queue.{Kept}
 use Rattle.ipc_state.specs.Objects.{Entry}
 use Rattle.ipc_state.specs.Tables.{queue_in, room_in}
-use Rattle.ipc_state.proofs.Places.{place_of, missing, put_there, put_alike}
+use Rattle.ipc_state.proofs.Places.{place_of, missing, found, put_there, put_alike}
 use Rattle.ipc_state.proofs.queues.reserve_text.Goals as goal
 
 abbrev room : Entry Kept → Option ℕ
@@ -29,3 +29,9 @@ returns-clause-ok c =
     (λ r. subst (λ (o : Option (Option ℕ)). IfSome o (λ n. n ≡ Some c.args.len))
     (sym (put_there room c.args.queues.now c.args.id.0 c.in-Some.place c.index_mut-entry.result.now c.reserve.new.self at c.index_mut-entry.ensures.value)) r)
     c.reserve.ensures.ok
+
+pub returns-clause-succeeds : goal.returns-clause-succeeds
+returns-clause-succeeds c there =
+    let at : place_of c.args.queues.now c.args.id.0 ≡ Some c.in-Some.place = sym c.place.ensures ∙ c.in-Some.is in
+    let stands = found room c.args.queues.now c.args.id.0 c.in-Some.place c.index_mut-entry.result.now at c.index_mut-entry.ensures.value in
+    c.reserve.ensures.succeeds (subst (λ (o : Option (Option ℕ)). IfSome o (λ n. n ≡ Some c.args.len)) stands there)
