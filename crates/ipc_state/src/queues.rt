@@ -23,11 +23,10 @@ pub(crate) fn reserve_text(
     ensures succeeds { HasTextRoom (texts_of queues.old) id.0 len → IsOk result }
     ensures err { OnErr result (texts_of queues.new ≡ texts_of queues.old) }
 {
-    let Some(place) = queues.place(id) else {
-        return Ok(());
-    };
-    let entry = &mut queues.entries[place];
-    entry.object.reserve(len)
+    match queues.get_mut(id) {
+        Some(queue) => queue.reserve(len),
+        None => Ok(()),
+    }
 }
 
 /// Sends a message to a queue that is there. It takes no memory.
@@ -45,9 +44,8 @@ pub(crate) fn send(
         → queues_of queues.new ≡ with_entry (queues_of queues.old) id.0
         (holding e (sent e.object (record { mtype = mtype; text = text.now }) pid.0 now.0)) }
 {
-    let place = queues.place(id).unwrap();
-    let entry = &mut queues.entries[place];
-    entry.object.send(mtype, text, pid, now);
+    let queue = queues.get_mut(id).unwrap();
+    queue.send(mtype, text, pid, now);
 }
 
 /// Takes the message at a place of a queue that is there.
@@ -67,7 +65,6 @@ pub(crate) fn take(
     ensures message { (e : Entry Queue) → entry_of (queues_of queues.old) id.0 ≡ Some e
         → slice_get e.object.messages at ≡ Some (plain result) }
 {
-    let place = queues.place(id).unwrap();
-    let entry = &mut queues.entries[place];
-    entry.object.take(at, pid, now)
+    let queue = queues.get_mut(id).unwrap();
+    queue.take(at, pid, now)
 }
