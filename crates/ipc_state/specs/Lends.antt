@@ -7,9 +7,9 @@ use Rattle.ipc_state.specs.Objects.{Entry, entry_of, holding, with_entry}
 use Rattle.ipc_state.specs.Tables.{objects_of, has_place}
 
 -- the identifier has this object now, and all else is as before
-pub record HasPut {T : Type 0} (old : Tables T) (id : ℕ) (object : T) (new : Tables T) : Type 0 where
+pub record HasPut {T : Type 0} (old : Tables T) (id : ℕ) (x : T) (new : Tables T) : Type 0 where
   pub objects : (e : Entry T) → entry_of (objects_of old) id ≡ Some e
-      → objects_of new ≡ with_entry (objects_of old) id (holding e object)
+      → objects_of new ≡ with_entry (objects_of old) id (holding e x)
   pub place : has_place new ≡ has_place old
 
 module _ (T : RattleType) (o : MutBor (Tables T.Denot)) where

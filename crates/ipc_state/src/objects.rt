@@ -111,7 +111,8 @@ impl<T> Objects<T> {
     /// The object that an identifier has, to be changed.
     pub(crate) fn get_mut(&mut self, id: Id) -> Option<&mut T>
         ensures* writes_back { sem 𝓛 (lends_object T.row self.entry id.0 result) }
-        ensures object { option_copied_mut result ≡ option_map (λ e. e.object) (entry_of (objects_of self.old) id.0) }
+        ensures object { option_copied_mut result
+            ≡ option_map (λ e. e.object) (entry_of (objects_of self.old) id.0) }
     {
         let place = self.place(id)?;
         let entry = &mut self.entries[place];
