@@ -1,5 +1,5 @@
 -- What the crates above cite of fields side by side, of tables, of numbers that rise, and of limits that were checked.
-use Rattle.std.proofs.Common.{◌≡◌, ◌≢◌, ℕ, zero, suc, ◌+◌, ◌<◌, ◌≤◌, Bool, true, false, not, ◌&&◌, leb, eqb, cond, ◌⊎◌, inl, inr, List, [], ◌∷◌, ◌++◌, length}
+use Rattle.std.proofs.Common.{◌≡◌, ◌≢◌, ℕ, zero, suc, ◌+◌, ◌<◌, ◌≤◌, Bool, true, false, not, ◌&&◌, leb, cond, ◌⊎◌, inl, inr, List, [], ◌∷◌, ◌++◌, length}
 use Rattle.std.proofs.Common.{map, find, get_or, set, is_some, Option, Some, None, refl, sym, ap, subst, ◌∙◌, arith}
 use Rattle.std.specs.Prelude.{nat_eq, nat_lt, if◌then◌else◌, All, ◌||◌, option_map}
 use Rattle.std.specs.List.{list_any, remove, position, position_or_len, IsDistinct, AllByRecursion}
@@ -54,11 +54,6 @@ module _ {A K X : Type 0} (row : A → K × X) (same : K → K → Bool) (k : K)
   first_set (x ∷ xs) (suc i) d b within here before key =
       let other : is_at x ≡ false = before 0 (omega arith) in
       rw other (ap (λ (ys : List (K × X)). row x ∷ ys) (first_set xs i d b (omega arith) here (λ j h. before (suc j) (omega arith)) key))
-
-  same_set : (xs : List A) (i : ℕ) (d b : A) → i < length xs → row b ≡ row (get_or xs i d) → map row (set xs i b) ≡ map row xs
-  same_set [] i d b within e = absurd (omega arith)
-  same_set (x ∷ xs) zero d b within e = ap (λ (r : K × X). r ∷ map row xs) e
-  same_set (x ∷ xs) (suc i) d b within e = ap (λ (ys : List (K × X)). row x ∷ ys) (same_set xs i d b (omega arith) e)
 
   first_find : (xs : List A) (i : ℕ) (d : A) → i < length xs → is_at (get_or xs i d) ≡ true
       → ((j : ℕ) → j < i → is_at (get_or xs j d) ≡ false) → find is_at xs ≡ Some (get_or xs i d)
@@ -120,13 +115,6 @@ module _ {A K X : Type 0} (row : A → K × X) (same : K → K → Bool) (k : K)
   set_at_place xs i a b found is key =
       let first = position-Some is_at xs i a found in
       first_set xs i a b first.0 first.1 first.2 (key ∙ ap (λ (c : A). (row c).0) is)
-
-  -- the same value at the place that a search found
-  pub set_same_at_place : (xs : List A) (i : ℕ) (a b : A) → position is_at xs ≡ Some i → a ≡ get_or xs i a → row b ≡ row a
-      → map row (set xs i b) ≡ map row xs
-  set_same_at_place xs i a b found is e =
-      let first = position-Some is_at xs i a found in
-      same_set xs i a b first.0 (e ∙ ap row is)
 
   first_without : (xs : List A) (i : ℕ) (d : A) → i < length xs → is_at (get_or xs i d) ≡ true
       → ((j : ℕ) → j < i → is_at (get_or xs j d) ≡ false) → map row (remove xs i) ≡ without same (map row xs) k

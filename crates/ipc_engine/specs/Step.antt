@@ -46,6 +46,10 @@ step limits s (Tick moment) = record { state = at_moment s moment; outcomes = []
 step limits s (Exit pid moment) = record { state = exit (at_moment s moment) pid; outcomes = [] }
 step limits s Restart = record { state = restart s; outcomes = [] }
 
+-- the most replies that one event causes
+abbrev pub most_replies : ℕ
+most_replies = 1
+
 -- a run: the state after a list of events, and all replies in order
 abbrev pub run : Limits → State → List PlainEvent → Step
 run limits s [] = record { state = s; outcomes = [] }

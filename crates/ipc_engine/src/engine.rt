@@ -2,7 +2,6 @@
 
 ghost use Rattle.std.specs.Prelude.{
   ◌≡◌,
-  ◌<◌,
   ◌≤◌,
   true,
   false,
@@ -23,7 +22,7 @@ ghost use Rattle.ipc_state.specs.Finish.{finish_of};
 ghost use Rattle.ipc_state.specs.Sound.{IsSound, FitsBody};
 ghost use Rattle.ipc_state.specs.State.{State as PlainState, has_all_processes, is_process, start};
 ghost use Rattle.ipc_engine.specs.Engine.{kind_takes_memory, IsReadyFor, IsReadyForHello};
-ghost use Rattle.ipc_engine.specs.Step.{step as step_on, asked, connect as connect_step, replied};
+ghost use Rattle.ipc_engine.specs.Step.{step as step_on, asked, connect as connect_step, replied, most_replies};
 ghost use Rattle.ipc_engine.specs.View.{plain_event, plain_outcome, step_of};
 
 use crate::event::{Event, Outcome};
@@ -34,7 +33,11 @@ use std::alloc::{AllocError, Global};
 use std::marker::Model;
 use sysv_calls::{Answer, attempt, reserve};
 
-/// The machine. A contract sees its limits, its state and the replies of the last event.
+/// The most replies that one event causes.
+const MOST_REPLIES: usize = 1;
+
+/// The machine. A contract sees its limits, its state, the room that is reserved in it, and the
+/// replies of the last event.
 #[derive(Drop)]
 pub struct Engine {
     state: State,
@@ -42,10 +45,11 @@ pub struct Engine {
 }
 
 impl Model for Engine {
-    ghost use Rattle.std.specs.Prelude.{◌<◌, map, vec_capacity};
+    ghost use Rattle.std.specs.Prelude.{◌≤◌, map, vec_capacity};
     ghost use Rattle.ipc_base.specs.Limits.{ArePassed};
     ghost use Rattle.ipc_engine.specs.Engine.{Machine};
     ghost use Rattle.ipc_state.specs.Sound.{IsSound};
+    ghost use Rattle.ipc_engine.specs.Step.{most_replies};
     ghost use Rattle.ipc_engine.specs.View.{plain_outcome};
 
     ghost Value = { Machine };
@@ -53,15 +57,16 @@ impl Model for Engine {
     ghost view = { λ e. record {
       limits = e.state.limits;
       state = e.state.state;
+      room = e.state.room;
       outcomes = map plain_outcome e.outcomes.items;
     } };
 
-    ghost invariant = { λ e. (0 < vec_capacity e.outcomes) × IsSound e.state.limits e.state.state
+    ghost invariant = { λ e. (most_replies ≤ vec_capacity e.outcomes) × IsSound e.state.limits e.state.state
         × ArePassed e.state.limits };
 }
 
 impl Engine {
-    ghost use Rattle.ipc_engine.specs.Engine.{IsForProcess, takes_memory};
+    ghost use Rattle.ipc_engine.specs.Engine.{IsForProcess, IsReady, takes_memory};
 
     /// A machine to which nothing has happened. Refused for want of memory.
     pub fn new(alloc: Global, limits: Limits) -> Result<Engine, AllocError>
@@ -71,7 +76,7 @@ impl Engine {
         ensures limits { IfOk result (λ engine. engine.limits ≡ limits) }
         ensures sound { IfOk result (λ engine. IsSound engine.limits engine.state) }
     {
-        let outcomes = Vec::with_capacity(alloc, 1)?;
+        let outcomes = Vec::with_capacity(alloc, MOST_REPLIES)?;
         Ok(Engine {
             state: State::new(alloc, limits),
             outcomes,
@@ -101,9 +106,10 @@ impl Engine {
         &self.outcomes
     }
 
-    /// One step on an event: `outcomes` are its replies. Refused for want of memory, which only a HELLO that
-    /// gets a process, msgget(2) and msgsnd(2) take, nothing has changed, the clock included. The state is sound
-    /// before and after, and no body of a reply is longer than `Limits::longest_reply` says.
+    /// One step on an event: `outcomes` are its replies. Refused for want of memory, which only a HELLO
+    /// that gets a process, msgget(2) and msgsnd(2) take, nothing has changed, the clock included;
+    /// never refused if the room that the event needs is there. The state is sound before and after,
+    /// and no body of a reply is longer than `Limits::longest_reply` says.
     pub fn step(&mut self, event: Event<'_>) -> Result<(), AllocError>
         requires { IsForProcess self.old.state (plain_event event) }
         ensures state { OnOk result (self.new.state
@@ -113,6 +119,8 @@ impl Engine {
         ensures limits { self.new.limits ≡ self.old.limits }
         ensures err { OnErr result (self.new ≡ self.old) }
         ensures memory { takes_memory self.old.limits self.old.state (plain_event event.entry) ≡ false
+            → IsOk result }
+        ensures succeeds { IsReady self.old.limits self.old.state self.old.room (plain_event event.entry)
             → IsOk result }
         ensures was_sound { IsSound self.old.limits self.old.state }
         ensures sound { IsSound self.new.limits self.new.state }
@@ -159,7 +167,7 @@ impl Engine {
 
 /// The replies are this one alone.
 fn answer(outcomes: &mut Vec<Outcome>, outcome: Outcome)
-    requires { 0 < vec_capacity outcomes.old }
+    requires { most_replies ≤ vec_capacity outcomes.old }
     ensures items { outcomes.new.items ≡ outcome ∷ [] }
     ensures capacity { vec_capacity outcomes.old ≤ vec_capacity outcomes.new }
 {
@@ -172,7 +180,9 @@ fn reserve_hello(state: &mut State) -> Result<(), AllocError>
     ensures state { state.new.state ≡ state.old.state }
     ensures limits { state.new.limits ≡ state.old.limits }
     ensures ok { OnOk result (IsReadyForHello state.new.limits state.new.state state.new.room) }
+    ensures succeeds { IsReadyForHello state.old.limits state.old.state state.old.room → IsOk result }
     ensures memory { not (has_all_processes state.old.limits state.old.state) ≡ false → IsOk result }
+    ensures err { OnErr result (state.new ≡ state.old) }
 {
     if state.has_all_processes() {
         return Ok(());
@@ -208,7 +218,9 @@ fn reserve_kind(state: &mut State, kind: &RequestKind<'_>) -> Result<(), AllocEr
     ensures state { state.new.state ≡ state.old.state }
     ensures limits { state.new.limits ≡ state.old.limits }
     ensures ok { OnOk result (IsReadyFor state.new.room (plain_kind kind.now)) }
+    ensures succeeds { IsReadyFor state.old.room (plain_kind kind.now) → IsOk result }
     ensures memory { kind_takes_memory (plain_kind kind.now) ≡ false → IsOk result }
+    ensures err { OnErr result (state.new ≡ state.old) }
 {
     match kind {
         RequestKind::Hello(_) => Ok(()),

@@ -1,12 +1,13 @@
 //! Laws of the definitions alone. A call of one does nothing; its contract is the law.
 
-ghost use Rattle.std.specs.Prelude.{◌≡◌, ◌≢◌, ◌<◌, ◌≤◌, ℕ, true, false, List, [], ◌++◌, max, Option, None, All, IsSome};
+ghost use Rattle.std.specs.Prelude.{◌≡◌, ◌≢◌, ◌<◌, ◌≤◌, ℕ, true, false, List, [], ◌++◌, length, max};
+ghost use Rattle.std.specs.Prelude.{Option, None, All, IsSome};
 ghost use Rattle.ipc_base.specs.declared.limits.Limits.{Limits};
 ghost use Rattle.ipc_base.specs.declared.identity.Cred.{Cred};
 ghost use Rattle.ipc_wire.specs.Request.{PlainRequest};
 ghost use Rattle.ipc_state.specs.State.{State, start, is_process, at_moment, restart};
 ghost use Rattle.ipc_engine.specs.Event.{PlainEvent, Connect, Call, Tick, Exit, Restart, moment_of};
-ghost use Rattle.ipc_engine.specs.Step.{step, run, asked};
+ghost use Rattle.ipc_engine.specs.Step.{step, run, asked, most_replies};
 ghost use Rattle.ipc_state.specs.Sound.{IsSound, FitsBody};
 
 /// The state is sound before the first event, and after each event if it was before.
@@ -20,6 +21,11 @@ pub fn step_keeps_soundness()
 pub fn replies_fit()
     ensures { (limits : Limits) (s : State) (e : PlainEvent)
         → IsSound limits s → All (λ o. FitsBody limits o.body) (step limits s e).outcomes }
+{}
+
+/// No event causes more replies than `most_replies`.
+pub fn replies_are_few()
+    ensures { (limits : Limits) (s : State) (e : PlainEvent) → length (step limits s e).outcomes ≤ most_replies }
 {}
 
 /// A tick at a moment that has been changes nothing and says nothing.

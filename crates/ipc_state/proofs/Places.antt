@@ -1,69 +1,80 @@
--- The objects that tables keep, found and changed at their places, each seen in some way.
-use Rattle.std.proofs.Common.{◌≡◌, ℕ, ℤ, List, [], ◌∷◌, Option, Some, None, get_or, map, is_some, refl, sym, ap, ◌∙◌}
-use Rattle.std.specs.Prelude.{nat_eq, position, option_map, IfSome}
-use Rattle.std.specs.Vec.{with_item}
-use Rattle.ipc_base.proofs.CallerLemmas.{value_at_place, value_nowhere, set_at_place, set_same_at_place, is_some_value, at-with, at-map}
-use Rattle.ipc_base.specs.Table.{value_at, with_value}
+-- The objects of a kind, found and changed at an identifier, each seen in some way.
+use Rattle.std.proofs.Common.{◌≡◌, ℕ, ℤ, Bool, true, false, cond, List, [], ◌∷◌, Option, Some, None, is_some, refl, sym, ap, ◌∙◌, MutBor}
+use Rattle.std.specs.Prelude.{nat_eq, position, option_map, IfSome, IsSome}
+use Rattle.std.specs.Option.{option_copied_mut}
+use Rattle.ipc_base.proofs.CallerLemmas.{at-with, at-map, own}
+use Rattle.ipc_base.specs.Table.{value_at, with_value, seen_as}
 use Rattle.ipc_state.specs.declared.objects.Entry.{Entry as Row}
 use Rattle.ipc_state.specs.declared.objects.Objects.{Objects as Tables}
 use Rattle.ipc_state.specs.declared.perm.Perm.{Perm}
+use Rattle.ipc_state.specs.Lends.{HasPut}
 use Rattle.ipc_state.specs.Objects.{Objects, Entry, holding, entry_of, with_entry, with_new, entry_map, objects_map, AreSound}
-use Rattle.ipc_state.specs.Tables.{objects_of, entry_in, entry_row}
+use Rattle.ipc_state.specs.Tables.{objects_of, entry_in}
 use Rattle.ipc_state.proofs.SoundObjects.{map-with_new, entry-sound}
 
 -- the place of the entry that has the identifier
 abbrev pub place_of : {T : Type 0} → Tables T → ℕ → Option ℕ
 place_of {T} o id = position (λ (e : Row T). nat_eq e.id.0 id) o.entries.items
 
--- an entry with another object, and the tables with that at its place
-abbrev pub row_with : {T : Type 0} → Row T → T → Row T
-row_with e x = record { id = e.id; key = e.key; perm = e.perm; object = x }
+-- the object of an entry
+abbrev pub object_in : {T : Type 0} → Entry T → T
+object_in e = e.object
 
-abbrev pub with_object : {T : Type 0} → Tables T → ℕ → Row T → T → Tables T
-with_object o place e x = record o { entries = with_item o.entries place (row_with e x) }
+-- the identifier has an entry with this object
+pub record Holds {T : Type 0} (o : Objects T) (id : ℕ) (x : T) : Type 0 where
+  pub entry : Entry T
+  pub is : entry_of o id ≡ Some entry
+  pub object : entry.object ≡ x
+
+-- so it has, where this object is found
+pub held : {T : Type 0} (o : Objects T) (id : ℕ) (x : T) → Some x ≡ option_map object_in (entry_of o id) → Holds o id x
+held {T} o id x found = by_entry (entry_of o id) refl found
+  where
+    by_entry : (r : Option (Entry T)) → entry_of o id ≡ r → Some x ≡ option_map object_in r → Holds o id x
+    by_entry None is found = cc
+    by_entry (Some e) is found = record { entry = e; is = is; object = cc }
+
+-- where no object is found, the identifier has none
+pub holds_none : {T : Type 0} (r : Option (Entry T)) → None ≡ option_map object_in r → r ≡ None
+holds_none None is = refl
+holds_none (Some e) is = cc
+
+-- ---- entries seen in some way
 
 module _ {T Y : Type 0} (see : Entry T → Y) where
-  abbrev pub seen : Tables T → List (ℕ × Y)
-  seen o = map (λ (r : ℕ × Entry T). (r.0, see r.1)) (objects_of o).entries
+  -- another entry at an identifier is seen as another
+  seen-with : (es : List (ℕ × Entry T)) (id : ℕ) (f : Entry T) → seen_as see (with_value nat_eq es id f) ≡ with_value nat_eq (seen_as see es) id (see f)
+  seen-with [] id f = refl
+  seen-with (e ∷ es) id f = by_test (nat_eq e.0 id) (seen-with es id f)
+    where
+      by_test : (b : Bool) → seen_as see (with_value nat_eq es id f) ≡ with_value nat_eq (seen_as see es) id (see f)
+          → seen_as see (cond b ((e.0, f) ∷ es) (e ∷ with_value nat_eq es id f))
+          ≡ cond b ((e.0, see f) ∷ seen_as see es) ((e.0, see e.1) ∷ with_value nat_eq (seen_as see es) id (see f))
+      by_test true same = refl
+      by_test false same = ap (λ (rs : List (ℕ × Y)). (e.0, see e.1) ∷ rs) same
 
-  abbrev row : Row T → ℕ × Y
-  row e = (e.id.0, see (entry_in e))
+  pub nothing : (o : Objects T) (id : ℕ) → entry_of o id ≡ None → value_at nat_eq (seen_as see o.entries) id ≡ None
+  nothing o id none = at-map see o.entries id ∙ ap (option_map see) none
 
-  rows : (es : List (Row T)) → map (λ (r : ℕ × Entry T). (r.0, see r.1)) (map entry_row es) ≡ map row es
-  rows [] = refl
-  rows (e ∷ es) = ap (λ (rs : List (ℕ × Y)). row e ∷ rs) (rows es)
+  pub found : (o : Objects T) (id : ℕ) (e : Entry T) → entry_of o id ≡ Some e → value_at nat_eq (seen_as see o.entries) id ≡ Some (see e)
+  found o id e is = at-map see o.entries id ∙ ap (option_map see) is
 
-  module _ (o : Tables T) (id : ℕ) where
-    pub missing : place_of o id ≡ None → value_at nat_eq (seen o) id ≡ None
-    missing none = ap (λ (es : List (ℕ × Y)). value_at nat_eq es id) (rows o.entries.items) ∙ value_nowhere row nat_eq id o.entries.items none
-
-    pub found : (place : ℕ) (e : Row T) → place_of o id ≡ Some place → e ≡ get_or o.entries.items place e
-        → value_at nat_eq (seen o) id ≡ Some (see (entry_in e))
-    found place e at is =
-        ap (λ (es : List (ℕ × Y)). value_at nat_eq es id) (rows o.entries.items) ∙ value_at_place row nat_eq id o.entries.items place e at is
-
-    pub has_place : is_some (value_at nat_eq (seen o) id) ≡ is_some (place_of o id)
-    has_place = ap (λ (es : List (ℕ × Y)). is_some (value_at nat_eq es id)) (rows o.entries.items) ∙ is_some_value row nat_eq id o.entries.items
-
-    pub put : (place : ℕ) (e : Row T) (x : T) → place_of o id ≡ Some place → e ≡ get_or o.entries.items place e
-        → seen (with_object o place e x) ≡ with_value nat_eq (seen o) id (see (entry_in (row_with e x)))
-    put place e x at is =
-        rows (with_object o place e x).entries.items
-        ∙ (set_at_place row nat_eq id o.entries.items place e (row_with e x) at is refl
-        ∙ ap (λ (es : List (ℕ × Y)). with_value nat_eq es id (see (entry_in (row_with e x)))) (sym (rows o.entries.items)))
-
-    pub put_same : (place : ℕ) (e : Row T) (x : T) → place_of o id ≡ Some place → e ≡ get_or o.entries.items place e
-        → see (entry_in (row_with e x)) ≡ see (entry_in e) → seen (with_object o place e x) ≡ seen o
-    put_same place e x at is same =
-        rows (with_object o place e x).entries.items
-        ∙ (set_same_at_place row nat_eq id o.entries.items place e (row_with e x) at is (ap (λ (y : Y). (e.id.0, y)) same) ∙ sym (rows o.entries.items))
+  module _ (o new : Tables T) (id : ℕ) (e : Entry T) (x : T) (put : HasPut o id x new) (is : entry_of (objects_of o) id ≡ Some e) where
+    changed : seen_as see (objects_of new).entries ≡ with_value nat_eq (seen_as see (objects_of o).entries) id (see (holding e x))
+    changed = ap (λ (n : Objects T). seen_as see n.entries) (put.objects e is) ∙ seen-with (objects_of o).entries id (holding e x)
 
     -- what stands there then
-    pub put_there : (place : ℕ) (e : Row T) (x : T) → place_of o id ≡ Some place → e ≡ get_or o.entries.items place e
-        → value_at nat_eq (seen (with_object o place e x)) id ≡ Some (see (entry_in (row_with e x)))
-    put_there place e x at is =
-        ap (λ (es : List (ℕ × Y)). value_at nat_eq es id) (put place e x at is)
-        ∙ at-with (seen o) id (see (entry_in (row_with e x))) (see (entry_in e)) (found place e at is)
+    pub put_there : value_at nat_eq (seen_as see (objects_of new).entries) id ≡ Some (see (holding e x))
+    put_there =
+        ap (λ (es : List (ℕ × Y)). value_at nat_eq es id) changed
+        ∙ at-with (seen_as see (objects_of o).entries) id (see (holding e x)) (see e) (found (objects_of o) id e is)
+
+    -- an object that is seen alike changes nothing
+    pub put_alike : see (holding e x) ≡ see e → seen_as see (objects_of new).entries ≡ seen_as see (objects_of o).entries
+    put_alike same =
+        changed
+        ∙ (ap (with_value nat_eq (seen_as see (objects_of o).entries) id) same
+        ∙ own (seen_as see (objects_of o).entries) id (see e) (found (objects_of o) id e is))
 
 -- ---- the objects of a kind, each seen in some way
 
@@ -96,28 +107,45 @@ module _ {T X : Type 0} (see : T → X) where
       ∙ (map-with_new see o (record { key = given; perm = perm; object = x })
       ∙ (ap (λ (n : ℤ). with_new (objects_map see o) (made n (see x))) same ∙ ap (λ (z : X). with_new (objects_map see o) (made key z)) seen-is))
 
-  module _ (o : Tables T) (id place : ℕ) (e : Row T) (f : Entry X) where
-    -- what is found at a place is what the identifier has
-    pub found_is : place_of o id ≡ Some place → e ≡ get_or o.entries.items place e → entry_of (objects_map see (objects_of o)) id ≡ Some f → entry_as e ≡ f
-    found_is at is has =
-        let there : entry_of (objects_map see (objects_of o)) id ≡ Some (entry_as e) = found (entry_map see) o id place e at is in
-        cc
+  -- what the definitions have at an identifier is found in the tables
+  pub is_there : (o : Objects T) (id : ℕ) (r : Option (MutBor T)) → option_copied_mut r ≡ option_map object_in (entry_of o id)
+      → IsSome (entry_of (objects_map see o) id) → IsSome r
+  is_there o id r found there = by_cases r (entry_of o id) found (ap is_some (sym (at-map (entry_map see) o.entries id)) ∙ there)
+    where
+      by_cases : (q : Option (MutBor T)) (m : Option (Entry T)) → option_copied_mut q ≡ option_map object_in m → IsSome (option_map (entry_map see) m)
+          → IsSome q
+      by_cases None None same some = some
+      by_cases None (Some e) same some = cc
+      by_cases (Some q) m same some = refl
 
-    -- another object at the place is another at the identifier
-    pub put_object : (x : T) (y : X) → place_of o id ≡ Some place → e ≡ get_or o.entries.items place e
-        → entry_of (objects_map see (objects_of o)) id ≡ Some f → see x ≡ y
-        → objects_map see (objects_of (with_object o place e x)) ≡ with_entry (objects_map see (objects_of o)) id (holding f y)
-    put_object x y at is has same =
-        let before : Objects X = objects_map see (objects_of o) in
-        let new : entry_as (row_with e x) ≡ holding f y =
-        ap (λ (g : Entry X). holding g (see x)) (found_is at is has) ∙ ap (holding f) same in
-        ap (λ (es : List (ℕ × Entry X)). record before { entries = es })
-        (put (entry_map see) o id place e x at is ∙ ap (λ (g : Entry X). with_value nat_eq before.entries id g) new)
+  module _ (o : Tables T) (id : ℕ) (was : T) (at : Some was ≡ option_map object_in (entry_of (objects_of o) id)) where
+    -- what is found is what the identifier has
+    pub found_is : (f : Entry X) → entry_of (objects_map see (objects_of o)) id ≡ Some f → see was ≡ f.object
+    found_is f has =
+        let h = held (objects_of o) id was at in
+        let there = found (entry_map see) (objects_of o) id h.entry h.is in
+        let same : entry_map see h.entry ≡ f = cc in
+        ap see (sym h.object) ∙ ap object_in same
 
-  -- an object that is seen alike changes nothing
-  pub put_alike : (o : Tables T) (id place : ℕ) (e : Row T) (x : T) → place_of o id ≡ Some place → e ≡ get_or o.entries.items place e → see x ≡ see e.object
-      → objects_map see (objects_of (with_object o place e x)) ≡ objects_map see (objects_of o)
-  put_alike o id place e x at is same =
-      let before : Objects X = objects_map see (objects_of o) in
-      ap (λ (es : List (ℕ × Entry X)). record before { entries = es })
-      (put_same (entry_map see) o id place e x at is (ap (λ (z : X). let g : Entry X = record { key = e.key; perm = e.perm; object = z } in g) same))
+    module _ (new : Tables T) (x : T) (put : HasPut o id x new) where
+      -- another object put in its place is another at the identifier
+      pub put_object : (f : Entry X) (y : X) → entry_of (objects_map see (objects_of o)) id ≡ Some f → see x ≡ y
+          → objects_map see (objects_of new) ≡ with_entry (objects_map see (objects_of o)) id (holding f y)
+      put_object f y has same =
+          let h = held (objects_of o) id was at in
+          let before : Objects X = objects_map see (objects_of o) in
+          let there = found (entry_map see) (objects_of o) id h.entry h.is in
+          let e : entry_map see h.entry ≡ f = cc in
+          ap (objects_map see) (put.objects h.entry h.is)
+          ∙ (ap (λ (es : List (ℕ × Entry X)). record before { entries = es }) (seen-with (entry_map see) (objects_of o).entries id (holding h.entry x))
+          ∙ (ap (λ (g : Entry X). with_entry before id (holding g (see x))) e ∙ ap (λ (z : X). with_entry before id (holding f z)) same))
+
+      -- one that is seen alike changes nothing
+      pub put_same : see x ≡ see was → objects_map see (objects_of new) ≡ objects_map see (objects_of o)
+      put_same same =
+          let h = held (objects_of o) id was at in
+          let before : Objects X = objects_map see (objects_of o) in
+          let f : Entry X = entry_map see h.entry in
+          let has = found (entry_map see) (objects_of o) id h.entry h.is in
+          put_object f f.object has (same ∙ found_is f has)
+          ∙ ap (λ (es : List (ℕ × Entry X)). record before { entries = es }) (own before.entries id f has)

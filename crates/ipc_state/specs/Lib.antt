@@ -4,4 +4,5 @@ pub mod State
 pub mod Sound
 pub mod Held
 pub mod Tables
+pub mod Lends
 pub mod Finish

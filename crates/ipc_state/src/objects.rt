@@ -9,9 +9,14 @@ ghost use Rattle.std.specs.Prelude.{
   position,
   option_map,
   option_copied,
+  IsOk,
   OnOk,
+  OnErr,
 };
+ghost use Rattle.std.specs.Borrow.{sem};
+ghost use Rattle.std.specs.Option.{option_copied_mut};
 ghost use Rattle.std.specs.Ordering.{int_eq};
+ghost use Rattle.ipc_state.specs.Lends.{lends_object};
 ghost use Rattle.ipc_state.specs.Objects.{no_objects, entry_of, keyed, with_new, is_full as is_full_of};
 ghost use Rattle.ipc_state.specs.Tables.{objects_of, entry_in, has_place};
 
@@ -32,8 +37,8 @@ pub struct Entry<T> {
 /// The objects of one kind, and the next identifier.
 #[derive(Drop)]
 pub(crate) struct Objects<T> {
-    pub(crate) next: u32,
-    pub(crate) entries: Vec<Entry<T>>,
+    next: u32,
+    entries: Vec<Entry<T>>,
 }
 
 /// Identifiers and pids end here.
@@ -53,10 +58,12 @@ impl<T> Objects<T> {
         }
     }
 
-    /// Takes the memory for one object more.
+    /// Takes the memory for one object more; never refused if it is there already.
     pub(crate) fn reserve(&mut self) -> Result<(), AllocError>
         ensures objects { objects_of self.new ≡ objects_of self.old }
         ensures ok { OnOk result (has_place self.new ≡ true) }
+        ensures succeeds { has_place self.old ≡ true → IsOk result }
+        ensures err { OnErr result (has_place self.new ≡ has_place self.old) }
     {
         self.entries.reserve(1)
     }
@@ -87,7 +94,7 @@ impl<T> Objects<T> {
     }
 
     /// The place of an identifier.
-    pub(crate) fn place(&self, id: Id) -> Option<usize>
+    fn place(&self, id: Id) -> Option<usize>
         ensures { result ≡ position (λ e. e.id.0 == id.0) self.now.entries.items }
     {
         self.entries.iter().position(|entry| entry.id.0 == id.0)
@@ -99,6 +106,17 @@ impl<T> Objects<T> {
     {
         let place = self.place(id)?;
         Some(&self.entries[place])
+    }
+
+    /// The object that an identifier has, to be changed.
+    pub(crate) fn get_mut(&mut self, id: Id) -> Option<&mut T>
+        ensures* writes_back { sem 𝓛 (lends_object T.row self.entry id.0 result) }
+        ensures object { option_copied_mut result
+            ≡ option_map (λ e. e.object) (entry_of (objects_of self.old) id.0) }
+    {
+        let place = self.place(id)?;
+        let entry = &mut self.entries[place];
+        Some(&mut entry.object)
     }
 
     /// Adds an object under the next identifier. It takes no memory.

@@ -1,10 +1,10 @@
 //! What calls change in the message queue that an identifier has.
 
-ghost use Rattle.std.specs.Prelude.{◌≡◌, ◌<◌, length, slice_get, Some, IsSome, OnOk};
+ghost use Rattle.std.specs.Prelude.{◌≡◌, ◌<◌, length, slice_get, Some, IsSome, IsOk, OnOk, OnErr};
 ghost use Rattle.sysv_msg.specs.Queue.{Queue, plain, sent, taken};
 ghost use Rattle.ipc_state.specs.Objects.{Entry, holding, entry_of, with_entry};
 ghost use Rattle.ipc_state.specs.Held.{HasTextRoom};
-ghost use Rattle.ipc_state.specs.Tables.{queues_of, texts_of};
+ghost use Rattle.ipc_state.specs.Tables.{queues_of, texts_of, has_place};
 
 use crate::objects::Objects;
 use ipc_base::{Id, Moment, Pid};
@@ -18,13 +18,15 @@ pub(crate) fn reserve_text(
     len: usize,
 ) -> Result<(), AllocError>
     ensures queues { queues_of queues.new ≡ queues_of queues.old }
+    ensures place { has_place queues.new ≡ has_place queues.old }
     ensures ok { OnOk result (HasTextRoom (texts_of queues.new) id.0 len) }
+    ensures succeeds { HasTextRoom (texts_of queues.old) id.0 len → IsOk result }
+    ensures err { OnErr result (texts_of queues.new ≡ texts_of queues.old) }
 {
-    let Some(place) = queues.place(id) else {
-        return Ok(());
-    };
-    let entry = &mut queues.entries[place];
-    entry.object.reserve(len)
+    match queues.get_mut(id) {
+        Some(queue) => queue.reserve(len),
+        None => Ok(()),
+    }
 }
 
 /// Sends a message to a queue that is there. It takes no memory.
@@ -42,9 +44,8 @@ pub(crate) fn send(
         → queues_of queues.new ≡ with_entry (queues_of queues.old) id.0
         (holding e (sent e.object (record { mtype = mtype; text = text.now }) pid.0 now.0)) }
 {
-    let place = queues.place(id).unwrap();
-    let entry = &mut queues.entries[place];
-    entry.object.send(mtype, text, pid, now);
+    let queue = queues.get_mut(id).unwrap();
+    queue.send(mtype, text, pid, now);
 }
 
 /// Takes the message at a place of a queue that is there.
@@ -64,7 +65,6 @@ pub(crate) fn take(
     ensures message { (e : Entry Queue) → entry_of (queues_of queues.old) id.0 ≡ Some e
         → slice_get e.object.messages at ≡ Some (plain result) }
 {
-    let place = queues.place(id).unwrap();
-    let entry = &mut queues.entries[place];
-    entry.object.take(at, pid, now)
+    let queue = queues.get_mut(id).unwrap();
+    queue.take(at, pid, now)
 }

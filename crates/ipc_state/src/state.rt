@@ -17,7 +17,9 @@ ghost use Rattle.std.specs.Prelude.{
   IsTrue,
   IsSome,
   IfSome,
+  IsOk,
   OnOk,
+  OnErr,
 };
 ghost use Rattle.ipc_base.specs.Limits.{ArePassed};
 ghost use Rattle.sysv_msg.specs.Queue.{Queue, plain, sent, taken, full};
@@ -134,11 +136,14 @@ impl State {
         self.limits.processes as usize <= self.processes.len() || LAST_NUMBER < self.next_pid
     }
 
-    /// Takes the memory for one process more. Refused, the state is as before.
+    /// Takes the memory for one process more; never refused if it is there already. Refused, all is
+    /// as before.
     pub fn reserve_process(&mut self) -> Result<(), AllocError>
         ensures state { self.new.state ≡ self.old.state }
         ensures limits { self.new.limits ≡ self.old.limits }
         ensures ok { OnOk result (self.new.room.process ≡ true) }
+        ensures succeeds { self.old.room.process ≡ true → IsOk result }
+        ensures err { OnErr result (self.new ≡ self.old) }
     {
         self.processes.reserve(1)
     }
@@ -196,11 +201,14 @@ impl State {
         self.msg.is_full(self.limits.msgmni)
     }
 
-    /// Takes the memory for one queue more. Refused, the state is as before.
+    /// Takes the memory for one queue more; never refused if it is there already. Refused, all is as
+    /// before.
     pub fn reserve_queue(&mut self) -> Result<(), AllocError>
         ensures state { self.new.state ≡ self.old.state }
         ensures limits { self.new.limits ≡ self.old.limits }
         ensures ok { OnOk result (self.new.room.queue ≡ true) }
+        ensures succeeds { self.old.room.queue ≡ true → IsOk result }
+        ensures err { OnErr result (self.new ≡ self.old) }
     {
         self.msg.reserve()
     }
@@ -218,12 +226,14 @@ impl State {
         self.msg.add(key, perm, queue)
     }
 
-    /// Takes the memory for one message of `len` bytes in a queue, if it is there. Refused, the state is
-    /// as before.
+    /// Takes the memory for one message of `len` bytes in a queue, if the queue is there; never refused
+    /// if that memory is there already. Refused, all is as before.
     pub fn reserve_text(&mut self, id: Id, len: usize) -> Result<(), AllocError>
         ensures state { self.new.state ≡ self.old.state }
         ensures limits { self.new.limits ≡ self.old.limits }
         ensures ok { OnOk result (HasTextRoom self.new.room.texts id.0 len) }
+        ensures succeeds { HasTextRoom self.old.room.texts id.0 len → IsOk result }
+        ensures err { OnErr result (self.new ≡ self.old) }
     {
         queues::reserve_text(&mut self.msg, id, len)
     }

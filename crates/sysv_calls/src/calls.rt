@@ -1,6 +1,6 @@
 //! The calls. Each has its memory before its attempt, and takes none in it.
 
-ghost use Rattle.std.specs.Prelude.{◌≡◌, true, false, length, IsOk, OnOk};
+ghost use Rattle.std.specs.Prelude.{◌≡◌, true, false, length, IsOk, OnOk, OnErr};
 ghost use Rattle.ipc_wire.specs.Request.{plain_call};
 ghost use Rattle.ipc_state.specs.Held.{HasTextRoom};
 ghost use Rattle.ipc_state.specs.Finish.{finish_of, ended};
@@ -18,13 +18,15 @@ use std::alloc::AllocError;
 /// How a call ends: the body of its reply, or the error.
 pub type Answer = Result<Body<Vec<u8>>, Errno>;
 
-/// Takes the memory that the attempt of a call may need, which a read-only call never does. Refused, the
-/// state is as before.
+/// Takes the memory that the attempt of a call may need, which a read-only call never does; never
+/// refused if that memory is there already. Refused, all is as before.
 pub fn reserve(state: &mut State, call: &Call<'_>) -> Result<(), AllocError>
     ensures state { state.new.state ≡ state.old.state }
     ensures limits { state.new.limits ≡ state.old.limits }
     ensures ok { OnOk result (IsReserved state.new.room (plain_call call.now)) }
+    ensures succeeds { IsReserved state.old.room (plain_call call.now) → IsOk result }
     ensures memory { takes_memory (plain_call call.now) ≡ false → IsOk result }
+    ensures err { OnErr result (state.new ≡ state.old) }
 {
     match needed_by(call) {
         Needs::Nothing => Ok(()),

@@ -1,8 +1,9 @@
-use Rattle.std.proofs.Common.{◌≡◌, ◌<◌, map, vec_capacity, subst, sym, rules}
+use Rattle.std.proofs.Common.{◌≡◌, ◌≤◌, map, vec_capacity, subst, sym, rules}
 use Rattle.ipc_base.specs.declared.limits.Limits.{Limits}
 use Rattle.ipc_base.specs.Limits.{ArePassed}
 use Rattle.ipc_wire.specs.Request.{plain_request}
 use Rattle.ipc_engine.specs.Event.{Connect, Call, Exit, Restart}
+use Rattle.ipc_engine.specs.Step.{most_replies}
 use Rattle.ipc_engine.specs.View.{plain_outcome}
 use Rattle.ipc_engine.proofs.Soundness.{after-sound, after-fits}
 use Rattle.ipc_engine.proofs.engine.Engine.step.Goals as goal
@@ -19,7 +20,7 @@ invariant_of-self-in-Connect c =
     let old = c.self.inside.state in
     let new = c.connect-outcome.new.state in
     let event = Connect c.in-Connect.cred c.in-Connect.serial c.in-Connect.moment.0 in
-    let room : 0 < vec_capacity c.answer.new.outcomes = search rules in
+    let room : most_replies ≤ vec_capacity c.answer.new.outcomes = search rules in
     let same : new.limits ≡ old.limits = search rules in (
       room,
       after-sound old.limits new.limits old.state new.state event same (search rules) c.self.invariant.1,
@@ -38,7 +39,7 @@ invariant_of-self-in-Call c =
     let old = c.self.inside.state in
     let new = c.ask-ended.new.state in
     let event = Call c.in-Call.pid.0 (plain_request c.in-Call.request) c.in-Call.moment.0 in
-    let room : 0 < vec_capacity c.answer-in-Call.new.outcomes = search rules in
+    let room : most_replies ≤ vec_capacity c.answer-in-Call.new.outcomes = search rules in
     let same : new.limits ≡ old.limits = search rules in (
       room,
       after-sound old.limits new.limits old.state new.state event same (search rules) c.self.invariant.1,
@@ -64,7 +65,7 @@ invariant_of-self-in-Exit c =
     let old = c.self.inside.state in
     let new = c.remove_process.new.self in
     let event = Exit c.in-Exit.pid.0 c.in-Exit.moment.0 in
-    let room : 0 < vec_capacity c.clear-in-Exit.new.self = search rules in
+    let room : most_replies ≤ vec_capacity c.clear-in-Exit.new.self = search rules in
     let same : new.limits ≡ old.limits = search rules in (
       room,
       after-sound old.limits new.limits old.state new.state event same (search rules) c.self.invariant.1,
@@ -81,7 +82,7 @@ pub invariant_of-self-in-Restart : goal.invariant_of-self-in-Restart
 invariant_of-self-in-Restart c =
     let old = c.self.inside.state in
     let new = c.restart.new.self in
-    let room : 0 < vec_capacity c.clear-in-Restart.new.self = search rules in
+    let room : most_replies ≤ vec_capacity c.clear-in-Restart.new.self = search rules in
     let same : new.limits ≡ old.limits = search rules in (
       room,
       after-sound old.limits new.limits old.state new.state Restart same (search rules) c.self.invariant.1,
