@@ -4,6 +4,7 @@ mod Committing
 mod Devices
 mod Histories
 mod Opened
+mod Openings
 mod Superblocks
 mod Replaying
 mod Formatting

@@ -102,6 +102,14 @@ is_opened journal image range epoch older current not_newer =
     subst (λ (r : Range). P r (epoch_of journal)) (sym range) (subst (P journal_range) (sym epoch) (older, current, not_newer)) in
     record { older = all.0; current = all.1; not_newer = all.2 }
 
+-- a journal that uses some sector has a header of its epoch
+pub used-is : (image : Image) (used : ℕ) → (header_epoch journal_range image < first_epoch → used ≡ 0)
+    → (header_epoch journal_range image ≡ first_epoch → used ≡ header_used journal_range image)
+    → header_epoch journal_range image ≤ first_epoch → 0 < used → used ≡ header_used journal_range image
+used-is image used older current not_newer some =
+    ⊎_elim (λ lt. absurd (omega (arith, some, older lt))) (λ le. current (omega (arith, le, not_newer)))
+    (cases_lt (header_epoch journal_range image) first_epoch)
+
 module _ (limits : Limits) (journal : Journal) (image : Image) (range : range_of journal ≡ journal_range) (epoch : epoch_of journal ≡ first_epoch)
     (device : IsDevice limits image) (opened : IsOpened journal image) where
   -- the batches of the image, as the journal has them

@@ -1,14 +1,15 @@
 //! The loading of a device: its superblock, its journal, and the machine that the journal leads to.
 
-ghost use Rattle.std.specs.Prelude.{◌≡◌, ◌⊎◌, ◌≤◌, ℕ, length, List, IfOk, IsErrOf, OnOk};
+ghost use Rattle.std.specs.Prelude.{◌≡◌, ◌⊎◌, ◌<◌, ◌≤◌, ℕ, length, List, IfOk, IsErrOf, OnOk};
 ghost use Rattle.ipc_base.specs.Limits.{ArePassed};
 ghost use Rattle.ipc_disk.specs.Counts.{counted, with_failure};
 ghost use Rattle.ipc_disk.specs.Medium.{IsHonest, IsDurable, Stays};
 ghost use Rattle.ipc_disk.specs.Range.{IsWithin};
-ghost use Rattle.ipc_journal.specs.View.{range_of};
+ghost use Rattle.ipc_journal.specs.Journal.{header_used};
+ghost use Rattle.ipc_journal.specs.View.{range_of, used_of};
 ghost use Rattle.ipc_image.specs.Sizes.{need_of};
 ghost use Rattle.ipc_store.specs.Batch.{most_bytes};
-ghost use Rattle.ipc_store.specs.Image.{IsDevice, IsNotFormatted, HasVersion, IsDamaged, IsFirstFault};
+ghost use Rattle.ipc_store.specs.Image.{journal_range, IsDevice, IsNotFormatted, HasVersion, IsDamaged, IsFirstFault};
 ghost use Rattle.ipc_store.specs.Relations.Matches.{IsLoaded};
 
 use crate::fault::OpenError;
@@ -69,6 +70,8 @@ pub(crate) fn load<D: SectorDisk>(
     ensures within { IfOk result (λ found. IsWithin (range_of found.0) (D.size disk.new)) }
     ensures loaded { IfOk result (λ found. IsHonest (D.medium disk.old)
         → IsLoaded (D.medium disk.new) found.0 found.1) }
+    ensures used { IfOk result (λ found. IsHonest (D.medium disk.old) → 0 < used_of found.0
+        → used_of found.0 ≡ header_used journal_range (D.medium disk.old).contents) }
     ensures room { length room.new ≡ most_bytes }
     // Refusals.
     ensures not_formatted { IsErrOf result OpenError.NotFormatted → IsHonest (D.medium disk.old)

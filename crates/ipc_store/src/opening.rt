@@ -1,12 +1,12 @@
 //! The opening of a device.
 
-ghost use Rattle.std.specs.Prelude.{◌≡◌, ◌⊎◌, ◌≤◌, ◌+◌, ℕ, false, [], ◌∷◌, length, Ok, Err, IfOk, IfErr, OnOk};
+ghost use Rattle.std.specs.Prelude.{◌≡◌, ◌≢◌, ◌⊎◌, ◌<◌, ◌+◌, ℕ, false, [], length, Err, IfOk, IfErr, OnOk, OnErr};
 ghost use Rattle.ipc_disk.specs.Counts.{counted};
 ghost use Rattle.ipc_disk.specs.Medium.{IsHonest, Stays};
 ghost use Rattle.ipc_disk.specs.Range.{IsWithin};
 ghost use Rattle.ipc_disk.specs.Since.{EachImageSince};
 ghost use Rattle.ipc_journal.specs.Journal.{header_used};
-ghost use Rattle.ipc_journal.specs.View.{range_of};
+ghost use Rattle.ipc_journal.specs.View.{range_of, used_of};
 ghost use Rattle.ipc_state.specs.State.{State, restart};
 ghost use Rattle.ipc_store.specs.Batch.{most_bytes};
 ghost use Rattle.ipc_store.specs.Image.{
@@ -18,11 +18,11 @@ ghost use Rattle.ipc_store.specs.Image.{
   IsDamaged,
   IsFirstFault,
 };
-ghost use Rattle.ipc_store.specs.Relations.Matches.{StoreMatches, IsLoaded, OpensTo};
+ghost use Rattle.ipc_store.specs.Relations.Matches.{StoreMatches, StandsForEither, IsLoaded, OpensTo};
 ghost use Rattle.ipc_store.specs.declared.fault.OpenError.TheVariants as errors;
 
 use crate::batch::{Batch, MOST_BYTES};
-use crate::fault::{CommitError, OpenError, StepError};
+use crate::fault::{CommitError, OpenError};
 use crate::loading::load;
 use crate::store::Store;
 use ipc_disk::SectorDisk;
@@ -83,9 +83,25 @@ impl<D: SectorDisk> Store<D> {
         }
     }
 
-    // Records a restart and makes it last.
+    // Takes a restart as its first event, and makes it last.
     fn restart(&mut self) -> Result<(), OpenError>
-        requires { (self.old.stopped ≡ false) × (self.old.confirmed ≡ 0) × (self.old.waiting ≡ 0) }
+        requires goes_on { self.old.stopped ≡ false }
+        requires first { self.old.confirmed ≡ 0 }
+        requires none { self.old.waiting ≡ 0 }
+        requires empty { self.old.records ≡ [] }
+        ensures matches { OnOk result ((base : State) → StoreMatches (D.medium self.old.disk) self.old base []
+            → StoreMatches (D.medium self.new.disk) self.new (restart base) []) }
+        ensures confirmed { OnOk result (self.new.confirmed ≡ 1) }
+        ensures limits { self.new.machine.limits ≡ self.old.machine.limits }
+        ensures any_moment { (base : State) → StoreMatches (D.medium self.old.disk) self.old base []
+            → EachImageSince (D.medium self.old.disk) (D.medium self.new.disk)
+            (StandsForEither self.old.machine.limits base (restart base)) }
+        ensures faults { OnErr result ((result ≡ Err OpenError.Device) ⊎ (result ≡ Err OpenError.JournalFull)) }
+        ensures full { result ≡ Err OpenError.JournalFull
+            → used_of self.old.journal + 1 ≡ (range_of self.old.journal).count }
+        ensures size { D.size self.new.disk ≡ D.size self.old.disk }
+        ensures failure { result ≡ Err OpenError.Device → (D.counts self.new.disk).failures
+            ≡ counted (D.counts self.old.disk).failures 1 }
     {
         if let Err(_) = self.step(Event::Restart) {
             unreachable!()
@@ -105,10 +121,33 @@ fn read_device<D: SectorDisk>(
     disk: &mut D,
 ) -> Result<(Journal, Engine, Batch), OpenError>
     ensures within { IfOk result (λ found. IsWithin (range_of found.0) (D.size disk.new)) }
+    ensures loaded { IfOk result (λ found. IsHonest (D.medium disk.old)
+        → IsLoaded (D.medium disk.new) found.0 found.1) }
+    ensures used { IfOk result (λ found. IsHonest (D.medium disk.old) → 0 < used_of found.0
+        → used_of found.0 ≡ header_used journal_range (D.medium disk.old).contents) }
+    ensures batch { IfOk result (λ found. found.2 ≡ record { records = []; count = 0 }) }
+    ensures not_formatted { result ≡ Err OpenError.NotFormatted → IsHonest (D.medium disk.old)
+        → IsNotFormatted (D.medium disk.old).contents }
+    ensures version { (found : ℕ) → result ≡ Err (OpenError.Version found) → IsHonest (D.medium disk.old)
+        → HasVersion found (D.medium disk.old).contents }
+    ensures damaged { (sector : ℕ) → result ≡ Err (OpenError.Damaged sector) → IsHonest (D.medium disk.old)
+        → IsDamaged (D.medium disk.old).contents × IsFirstFault (D.medium disk.old).contents sector }
+    ensures faults { result ≢ Err OpenError.JournalFull }
+    ensures reads { IsHonest (D.medium disk.old) → Stays (D.medium disk.old) (D.medium disk.new) }
+    ensures size { D.size disk.new ≡ D.size disk.old }
+    ensures failure { result ≡ Err OpenError.Device
+        → (D.counts disk.new).failures ≡ counted (D.counts disk.old).failures 1 }
+    ensures no_failure { OnOk result ((D.counts disk.new).failures ≡ (D.counts disk.old).failures) }
+    ensures no_write { (D.counts disk.new).writes ≡ (D.counts disk.old).writes }
 {
-    let mut room = room_for_a_batch(alloc)?;
-    let (journal, engine) = load(alloc, disk, &mut room)?;
-    Ok((journal, engine, Batch::new(room)))
+    let mut room = match room_for_a_batch(alloc) {
+        Ok(room) => room,
+        Err(AllocError) => return Err(OpenError::NoMemory),
+    };
+    match load(alloc, disk, &mut room) {
+        Ok((journal, engine)) => Ok((journal, engine, Batch::new(room))),
+        Err(error) => Err(error),
+    }
 }
 
 // The memory of a batch.

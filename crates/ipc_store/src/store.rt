@@ -13,7 +13,7 @@ ghost use Rattle.ipc_engine.specs.Engine.{IsForProcess, takes_memory};
 ghost use Rattle.ipc_engine.specs.Event.{PlainEvent};
 ghost use Rattle.ipc_engine.specs.Step.{step as step_on, run};
 ghost use Rattle.ipc_engine.specs.View.{plain_event};
-ghost use Rattle.ipc_image.specs.Records.{HasRecord};
+ghost use Rattle.ipc_image.specs.Records.{record_bytes, HasRecord};
 ghost use Rattle.ipc_store.specs.View.{HasRoom, IsStopped};
 ghost use Rattle.ipc_store.specs.Relations.Matches.{StoreMatches, StandsForEither};
 
@@ -117,10 +117,13 @@ impl<D: SectorDisk> Store<D> {
             ≡ (step_on self.old.machine.limits self.old.machine.state (plain_event event.entry)).outcomes) }
         ensures limits { self.new.machine.limits ≡ self.old.machine.limits }
         ensures waiting { OnOk result (self.new.waiting ≡ self.old.waiting + 1) }
+        ensures records { OnOk result (self.new.records
+            ≡ self.old.records ++ record_bytes (plain_event event.entry)) }
         ensures matches { OnOk result ((base : State) (pending : List PlainEvent)
             → StoreMatches (D.medium self.old.disk) self.old base pending
             → StoreMatches (D.medium self.new.disk) self.new base (pending ++ plain_event event.entry ∷ [])) }
         ensures disk { self.new.disk ≡ self.old.disk }
+        ensures journal { self.new.journal ≡ self.old.journal }
         ensures confirmed { self.new.confirmed ≡ self.old.confirmed }
         ensures goes_on { self.new.stopped ≡ self.old.stopped }
         // Refusals.

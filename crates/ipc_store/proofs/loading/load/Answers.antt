@@ -12,14 +12,14 @@ use Rattle.ipc_disk.specs.Medium.{Image, Medium, IsHonest, Stays}
 use Rattle.ipc_disk.proofs.CallerLemmas.{Stays-join}
 use Rattle.ipc_store.specs.declared.fault.OpenError.{OpenError}
 use Rattle.ipc_store.specs.declared.fault.OpenError.TheVariants as errors
-use Rattle.ipc_journal.specs.Journal.{Holds}
-use Rattle.ipc_journal.specs.View.{epoch_of}
+use Rattle.ipc_journal.specs.Journal.{header_used, Holds}
+use Rattle.ipc_journal.specs.View.{epoch_of, used_of}
 use Rattle.ipc_journal.proofs.CallerLemmas.{JournalMatches-stays}
 use Rattle.ipc_store.specs.Batch.{batch_bytes}
 use Rattle.ipc_store.specs.Image.{journal_range, first_epoch, IsDevice, IsNotFormatted, HasVersion, IsDamaged, IsFirstFault}
 use Rattle.ipc_store.specs.View.{of_journal_error}
 use Rattle.ipc_store.specs.Relations.Replay.{IsOpened, Replays, IsGoodUpTo}
-use Rattle.ipc_store.proofs.Opened.{header-damaged, is_opened, batch-damaged, holds, loaded}
+use Rattle.ipc_store.proofs.Opened.{header-damaged, is_opened, batch-damaged, used-is, holds, loaded}
 use Rattle.ipc_store.proofs.loading.load.Goals as goal
 
 err-same : {T : Type 0} (r : Result T OpenError) (a b : OpenError) → r ≡ Err a → r ≡ Err b → a ≡ b
@@ -159,3 +159,12 @@ returns-clause-loaded g c = λ honest.
     c.in_ok-engine.ensures.limits replays
     (JournalMatches-stays c.in_ok-journal.journal batches (m c.open.new.disk) (m c.replay.new.disk) (c.replay.ensures.reads h3)
     (c.in_ok-journal.ensures.stands h2 batches (λ now left. subst (Holds journal_range first_epoch batches) (sym (only now left)) stands)))
+
+pub returns-clause-used : goal.returns-clause-used
+returns-clause-used g c = λ honest some.
+    let m : g.row.D.Denot → Medium = g.D.SectorDisk.medium in
+    let s02 = chain _ _ _ honest c.sync.ensures.medium c.read_limits.ensures.reads in
+    let h2 = s02.time.honest.0 honest in
+    subst (λ (x : Image). used_of c.in_ok-journal.journal ≡ header_used journal_range x) (s02.contents honest)
+    (used-is (m c.read_limits.new.disk).contents (used_of c.in_ok-journal.journal)
+    (c.in_ok-journal.ensures.older h2) (c.in_ok-journal.ensures.current h2) (c.in_ok-journal.ensures.not_newer h2) some)
