@@ -3,10 +3,9 @@ use Rattle.std.proofs.Common.{◌≡◌, ◌⊎◌, inl, inr, ⊎_elim, ℕ, ◌
 use Rattle.std.proofs.Common.{refl, sym, ◌∙◌, ap, subst, arith}
 use Rattle.std.specs.Prelude.{All, slice_index}
 use Rattle.std.specs.Int.{w32, from_be_bytes}
-use Rattle.std.proofs.lemmas.List.{take_at, drop_at, take_all, append-nil, take-append-drop, drop-take, drop-drop}
+use Rattle.std.proofs.lemmas.List.{take_at, drop_at, take_all, take-append-drop, drop-take, drop-drop}
 use Rattle.std.proofs.lemmas.List.{length-take, length-take-le, length-drop, length-append, get_or-take, get_or_past, map-append}
 use Rattle.std.proofs.lemmas.Bool.{cases_lt}
-use Rattle.std.proofs.lemmas.List.Concat.{flat_map-append}
 use Rattle.std.proofs.lemmas.List.Elements.{All-nil, All-head, All-tail, All-push}
 use Rattle.std.proofs.lemmas.Nat.{be_bytes_4}
 use Rattle.std.proofs.Math.Seq.{take-add}
@@ -27,28 +26,18 @@ use Rattle.ipc_image.specs.Records.{record_bytes, HasRecord, BeginsWith}
 use Rattle.ipc_store.specs.Batch.{most_bytes, records_of, batch_bytes, AreBatch}
 use Rattle.ipc_store.specs.Image.{AreFor, events_of, LeadTo}
 use Rattle.ipc_store.specs.Relations.Replay.{AreRecords, Replays, IsGoodUpTo}
+use Rattle.ipc_store.proofs.Accepting.{records-more}
+use Rattle.ipc_store.proofs.Histories.{AreFor-parts, LeadTo-start, LeadTo-more}
 
 -- ---- events in parts
 
-pub AreFor-parts : (limits : Limits) (s : State) (xs ys : List PlainEvent) → AreFor limits s xs → AreFor limits (run limits s xs).state ys
-    → AreFor limits s (xs ++ ys)
-AreFor-parts limits s [] ys first next = next
-AreFor-parts limits s (x ∷ xs) ys first next = (first.0, AreFor-parts limits (step limits s x).state xs ys first.1 next)
-
-pub AreFor-first : (limits : Limits) (s : State) (xs ys : List PlainEvent) → AreFor limits s (xs ++ ys) → AreFor limits s xs
+AreFor-first : (limits : Limits) (s : State) (xs ys : List PlainEvent) → AreFor limits s (xs ++ ys) → AreFor limits s xs
 AreFor-first limits s [] ys all = tt
 AreFor-first limits s (x ∷ xs) ys all = (all.0, AreFor-first limits (step limits s x).state xs ys all.1)
 
-pub AreFor-next : (limits : Limits) (s : State) (xs ys : List PlainEvent) → AreFor limits s (xs ++ ys) → AreFor limits (run limits s xs).state ys
+AreFor-next : (limits : Limits) (s : State) (xs ys : List PlainEvent) → AreFor limits s (xs ++ ys) → AreFor limits (run limits s xs).state ys
 AreFor-next limits s [] ys all = all
 AreFor-next limits s (x ∷ xs) ys all = AreFor-next limits (step limits s x).state xs ys all.1
-
-pub records_of-push : (xs : List PlainEvent) (e : PlainEvent) → records_of (xs ++ e ∷ []) ≡ records_of xs ++ record_bytes e
-records_of-push xs e = flat_map-append record_bytes xs (e ∷ []) ∙ ap (λ (l : List ℕ). records_of xs ++ l) (append-nil (record_bytes e))
-
-pub events_of-push : (xs : List (List PlainEvent)) (es : List PlainEvent) → events_of (xs ++ es ∷ []) ≡ events_of xs ++ es
-events_of-push xs es =
-    flat_map-append (λ (l : List PlainEvent). l) xs (es ∷ []) ∙ ap (λ (l : List PlainEvent). events_of xs ++ l) (append-nil es)
 
 -- ---- the records of a batch
 
@@ -119,7 +108,7 @@ gone_more limits from bytes at n s e gone is size one for_one =
       each = All-push HasRecord events e are.each is.has;
       spelled =
           take-add at (length (record_bytes e)) bytes ∙ ap (λ (l : List ℕ). l ++ take (length (record_bytes e)) (drop at bytes)) are.spelled
-          ∙ ap (λ (l : List ℕ). records_of events ++ l) is.front ∙ sym (records_of-push events e);
+          ∙ ap (λ (l : List ℕ). records_of events ++ l) is.front ∙ sym (records-more events e);
       named = AreFor-parts limits from events (e ∷ []) are.named (subst (λ (t : State). IsForProcess t e) reached for_one, tt);
       state = ap (λ (t : State). (step limits t e).state) reached ∙ sym (run-parts limits from events (e ∷ []));
     } in
@@ -217,7 +206,7 @@ pub record Replayed (limits : Limits) (journal : Journal) (image : Image) (place
 
 pub replayed_none : (limits : Limits) (journal : Journal) (image : Image) → Replayed limits journal image 0 start
 replayed_none limits journal image = record {
-  so_far = ([], record { each = All-nil AreBatch; named = tt; state = refl }, refl);
+  so_far = ([], LeadTo-start limits, refl);
   ahead = λ batches to is. (batches, record { filled = is.filled; each = is.leads.each; named = is.leads.named; state = is.leads.state });
 }
 
@@ -305,18 +294,9 @@ module _ (limits : Limits) (journal : Journal) (image : Image) (place : ℕ) (s 
       (only : (es : List PlainEvent) (to : State) → AreRecords limits s (drop 4 batch) es to → t ≡ to) where
     next_leads : LeadTo limits (replayed.so_far.0 ++ events ∷ []) t
     next_leads =
-        let batches = replayed.so_far.0 in
-        let leads = replayed.so_far.1 in
-        let all : events_of (batches ++ events ∷ []) ≡ events_of batches ++ events = events_of-push batches events in
-        record {
-          each = All-push AreBatch batches events leads.each
-              (record { each = are.each; size = omega (arith, ap length are.spelled, length-drop 4 batch, found.is.field, found.short) });
-          named = subst (AreFor limits start) (sym all)
-              (AreFor-parts limits start (events_of batches) events leads.named (subst (λ (u : State). AreFor limits u events) leads.state are.named));
-          state =
-              are.state ∙ ap (λ (u : State). (run limits u events).state) leads.state ∙ sym (run-parts limits start (events_of batches) events)
-              ∙ ap (λ (es : List PlainEvent). (run limits start es).state) (sym all);
-        }
+        let batch_of : AreBatch events = record { each = are.each; size = omega (arith, ap length are.spelled, length-drop 4 batch, found.is.field, found.short) } in
+        subst (λ (u : State). LeadTo limits (replayed.so_far.0 ++ events ∷ []) u) (sym are.state)
+        (LeadTo-more limits replayed.so_far.0 events s replayed.so_far.1 batch_of are.named)
 
     next_filled : Fill (range_of journal) 0 (place + sectors_for (length batch)) (map batch_bytes (replayed.so_far.0 ++ events ∷ [])) image
     next_filled =
