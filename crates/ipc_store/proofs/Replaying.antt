@@ -294,7 +294,10 @@ module _ (limits : Limits) (journal : Journal) (image : Image) (place : ℕ) (s 
       (only : (es : List PlainEvent) (to : State) → AreRecords limits s (drop 4 batch) es to → t ≡ to) where
     next_leads : LeadTo limits (replayed.so_far.0 ++ events ∷ []) t
     next_leads =
-        let batch_of : AreBatch events = record { each = are.each; size = omega (arith, ap length are.spelled, length-drop 4 batch, found.is.field, found.short) } in
+        let batch_of : AreBatch events = record {
+          each = are.each;
+          size = omega (arith, ap length are.spelled, length-drop 4 batch, found.is.field, found.short);
+        } in
         subst (λ (u : State). LeadTo limits (replayed.so_far.0 ++ events ∷ []) u) (sym are.state)
         (LeadTo-more limits replayed.so_far.0 events s replayed.so_far.1 batch_of are.named)
 

@@ -134,6 +134,9 @@ returns-in_default-clause-only g c = λ batches s honest good.
     let inv = c.loop-engine.invariant in
     replayed_only _ _ _ _ _ (inv.replayed honest) (at_end _ _ c.in_ok-len.field-0 inv.within c.in_default.is c.in_ok-len.ensures.more) batches s good
 
+pub returns-in_default-clause-reads : goal.returns-in_default-clause-reads
+returns-in_default-clause-reads g c = reads_on g (goal.at.returns-in_default-clause-reads g c).After-next_batch
+
 pub returns-in_err-go_through-clause-reads : goal.returns-in_err-go_through-clause-reads
 returns-in_err-go_through-clause-reads g c = reads_on g (goal.at.returns-in_err-go_through-clause-reads g c).After-next_batch
 
