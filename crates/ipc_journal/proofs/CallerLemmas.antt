@@ -83,15 +83,22 @@ module _ (at : ℕ) (xs ys : List ℕ) (image : Image) (same : length xs ≡ len
       ∙ take_all (512 * sectors_for (length xs)) ys (omega arith)
 
 -- the first sector of a batch begins with its length field
-pub length-front : (at : ℕ) (batch : List ℕ) (image : Image) → 4 ≤ length batch → StandsAt at batch image
+pub StandsAt-front : (at : ℕ) (batch : List ℕ) (image : Image) → 4 ≤ length batch → StandsAt at batch image
+    → take 4 (sector_at image at) ≡ take 4 batch
+StandsAt-front at batch image long stands =
+    let some : at + 0 ≡ at = omega arith in
+    let front : ℕ = length (take 512 batch) in
+    let there : take front (sector_at image at) ≡ take 512 batch =
+    ap (λ (k : ℕ). take front (sector_at image k)) (sym some) ∙ stands 0 (omega (arith, long)) in
+    sym (take-take 4 front (sector_at image at) (omega (arith, length-take 512 batch, long)))
+    ∙ ap (take 4) there ∙ take-take 4 512 batch (omega arith)
+
+length-front : (at : ℕ) (batch : List ℕ) (image : Image) → 4 ≤ length batch → StandsAt at batch image
     → length_in (sector_at image at) ≡ length_in batch
 unfolding length_in
 length-front at batch image long stands =
-    let some : at + 0 ≡ at = omega arith in
-    let there : take (length (take 512 batch)) (sector_at image at) ≡ take 512 batch =
-    ap (λ (k : ℕ). take (length (take 512 batch)) (sector_at image k)) (sym some) ∙ stands 0 (omega (arith, long)) in
-    sym (big_from-take 0 4 (length (take 512 batch)) (sector_at image at) (omega (arith, length-take 512 batch, long)))
-    ∙ ap (λ (l : List ℕ). big_number 4 l) there ∙ big_from-take 0 4 512 batch (omega arith)
+    sym (big_from-take 0 4 4 (sector_at image at) (omega arith))
+    ∙ ap (λ (l : List ℕ). big_number 4 l) (StandsAt-front at batch image long stands) ∙ big_from-take 0 4 4 batch (omega arith)
 
 -- so it says how long it is
 pub length-there : (at : ℕ) (batch : List ℕ) (image : Image) → IsBatch batch → StandsAt at batch image

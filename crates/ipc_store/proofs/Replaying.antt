@@ -2,11 +2,10 @@
 use Rattle.std.proofs.Common.{◌≡◌, ◌⊎◌, inl, inr, ⊎_elim, ℕ, ◌+◌, ◌-◌, ◌<◌, ◌≤◌, List, [], ◌∷◌, ◌++◌, length, take, drop, map}
 use Rattle.std.proofs.Common.{refl, sym, ◌∙◌, ap, subst, arith}
 use Rattle.std.specs.Prelude.{All, slice_index}
-use Rattle.std.specs.Int.{w32, from_be_bytes, to_be_bytes}
-use Rattle.std.proofs.lemmas.List.{take_at, drop_at, take_all, drop_all, append-nil, take-append-drop, take-take, drop-take, drop-drop, length-take, length-take-le, length-drop, length-append}
+use Rattle.std.specs.Int.{w32, from_be_bytes}
+use Rattle.std.proofs.lemmas.List.{take_at, drop_at, take_all, take-append-drop, drop-take, drop-drop}
+use Rattle.std.proofs.lemmas.List.{length-take, length-take-le, length-drop, length-append, get_or-take, get_or_past, map-append}
 use Rattle.std.proofs.lemmas.Bool.{cases_lt}
-use Rattle.std.proofs.lemmas.List.{get_or-take, get_or_past, map-append}
-use Rattle.std.proofs.lemmas.List.Concat.{flat_map-append}
 use Rattle.std.proofs.lemmas.List.Elements.{All-nil, All-head, All-tail, All-push}
 use Rattle.std.proofs.lemmas.Nat.{be_bytes_4}
 use Rattle.std.proofs.Math.Seq.{take-add}
@@ -17,7 +16,7 @@ use Rattle.ipc_disk.specs.Medium.{Image, Medium, IsHonest, IsShaped, Stays}
 use Rattle.ipc_journal.specs.declared.journal.Journal.{Journal}
 use Rattle.ipc_journal.specs.Journal.{sectors_for, sectors_of, sector_at, length_in, IsBatch, StandsAt, Fill}
 use Rattle.ipc_journal.specs.View.{range_of, used_of}
-use Rattle.ipc_journal.proofs.CallerLemmas.{Fill-end, Fill-push, IsBatch-there, stands-same, length-there}
+use Rattle.ipc_journal.proofs.CallerLemmas.{Fill-end, Fill-push, StandsAt-front, IsBatch-there, stands-same, length-there}
 use Rattle.ipc_state.specs.State.{State, start}
 use Rattle.ipc_engine.specs.Engine.{IsForProcess}
 use Rattle.ipc_engine.specs.Event.{PlainEvent}
@@ -27,28 +26,18 @@ use Rattle.ipc_image.specs.Records.{record_bytes, HasRecord, BeginsWith}
 use Rattle.ipc_store.specs.Batch.{most_bytes, records_of, batch_bytes, AreBatch}
 use Rattle.ipc_store.specs.Image.{AreFor, events_of, LeadTo}
 use Rattle.ipc_store.specs.Relations.Replay.{AreRecords, Replays, IsGoodUpTo}
+use Rattle.ipc_store.proofs.Accepting.{records-more}
+use Rattle.ipc_store.proofs.Histories.{AreFor-parts, LeadTo-start, LeadTo-more}
 
 -- ---- events in parts
 
-pub AreFor-parts : (limits : Limits) (s : State) (xs ys : List PlainEvent) → AreFor limits s xs → AreFor limits (run limits s xs).state ys
-    → AreFor limits s (xs ++ ys)
-AreFor-parts limits s [] ys first next = next
-AreFor-parts limits s (x ∷ xs) ys first next = (first.0, AreFor-parts limits (step limits s x).state xs ys first.1 next)
-
-pub AreFor-first : (limits : Limits) (s : State) (xs ys : List PlainEvent) → AreFor limits s (xs ++ ys) → AreFor limits s xs
+AreFor-first : (limits : Limits) (s : State) (xs ys : List PlainEvent) → AreFor limits s (xs ++ ys) → AreFor limits s xs
 AreFor-first limits s [] ys all = tt
 AreFor-first limits s (x ∷ xs) ys all = (all.0, AreFor-first limits (step limits s x).state xs ys all.1)
 
-pub AreFor-next : (limits : Limits) (s : State) (xs ys : List PlainEvent) → AreFor limits s (xs ++ ys) → AreFor limits (run limits s xs).state ys
+AreFor-next : (limits : Limits) (s : State) (xs ys : List PlainEvent) → AreFor limits s (xs ++ ys) → AreFor limits (run limits s xs).state ys
 AreFor-next limits s [] ys all = all
 AreFor-next limits s (x ∷ xs) ys all = AreFor-next limits (step limits s x).state xs ys all.1
-
-pub records_of-push : (xs : List PlainEvent) (e : PlainEvent) → records_of (xs ++ e ∷ []) ≡ records_of xs ++ record_bytes e
-records_of-push xs e = flat_map-append record_bytes xs (e ∷ []) ∙ ap (λ (l : List ℕ). records_of xs ++ l) (append-nil (record_bytes e))
-
-pub events_of-push : (xs : List (List PlainEvent)) (es : List PlainEvent) → events_of (xs ++ es ∷ []) ≡ events_of xs ++ es
-events_of-push xs es =
-    flat_map-append (λ (l : List PlainEvent). l) xs (es ∷ []) ∙ ap (λ (l : List PlainEvent). events_of xs ++ l) (append-nil es)
 
 -- ---- the records of a batch
 
@@ -119,7 +108,7 @@ gone_more limits from bytes at n s e gone is size one for_one =
       each = All-push HasRecord events e are.each is.has;
       spelled =
           take-add at (length (record_bytes e)) bytes ∙ ap (λ (l : List ℕ). l ++ take (length (record_bytes e)) (drop at bytes)) are.spelled
-          ∙ ap (λ (l : List ℕ). records_of events ++ l) is.front ∙ sym (records_of-push events e);
+          ∙ ap (λ (l : List ℕ). records_of events ++ l) is.front ∙ sym (records-more events e);
       named = AreFor-parts limits from events (e ∷ []) are.named (subst (λ (t : State). IsForProcess t e) reached for_one, tt);
       state = ap (λ (t : State). (step limits t e).state) reached ∙ sym (run-parts limits from events (e ∷ []));
     } in
@@ -176,20 +165,11 @@ sector_below size image at shaped i =
     byte_below sector all i =
         elim (cases_lt i (length sector)) [ inl lt ↦ all i 0 lt | inr le ↦ rw (get_or_past sector i 0 le) (omega arith) ]
 
--- the length field is what the first sector begins with
-front_is : (at : ℕ) (batch : List ℕ) (image : Image) → 4 ≤ length batch → StandsAt at batch image → take 4 batch ≡ take 4 (sector_at image at)
-front_is at batch image long stands =
-    let some : at + 0 ≡ at = omega arith in
-    let front : ℕ = length (take 512 batch) in
-    let there : take front (sector_at image at) ≡ take 512 batch =
-    ap (λ (k : ℕ). take front (sector_at image k)) (sym some) ∙ stands 0 (omega (arith, long)) in
-    sym (take-take 4 512 batch (omega arith)) ∙ ap (take 4) (sym there) ∙ take-take 4 front (sector_at image at) (omega (arith, length-take 512 batch, long))
-
+-- so is each of a length field
 field_below : (size : ℕ) (at : ℕ) (batch : List ℕ) (image : Image) → IsShaped size image → 4 ≤ length batch → StandsAt at batch image
     → (i : ℕ) → slice_index (take 4 batch) i < 256
 field_below size at batch image shaped long stands i =
-    let front : take 4 batch ≡ take 4 (sector_at image at) = front_is at batch image long stands in
-    subst (λ (l : List ℕ). slice_index l i < 256) (sym front)
+    subst (λ (l : List ℕ). slice_index l i < 256) (StandsAt-front at batch image long stands)
     (elim (cases_lt i 4) [
       | inl lt ↦ rw (get_or-take 4 (sector_at image at) i 0 lt) (sector_below size image at shaped i)
       | inr le ↦ rw (get_or_past (take 4 (sector_at image at)) i 0 (omega (arith, length-take 4 (sector_at image at)))) (omega arith)
@@ -226,7 +206,7 @@ pub record Replayed (limits : Limits) (journal : Journal) (image : Image) (place
 
 pub replayed_none : (limits : Limits) (journal : Journal) (image : Image) → Replayed limits journal image 0 start
 replayed_none limits journal image = record {
-  so_far = ([], record { each = All-nil AreBatch; named = tt; state = refl }, refl);
+  so_far = ([], LeadTo-start limits, refl);
   ahead = λ batches to is. (batches, record { filled = is.filled; each = is.leads.each; named = is.leads.named; state = is.leads.state });
 }
 
@@ -314,18 +294,12 @@ module _ (limits : Limits) (journal : Journal) (image : Image) (place : ℕ) (s 
       (only : (es : List PlainEvent) (to : State) → AreRecords limits s (drop 4 batch) es to → t ≡ to) where
     next_leads : LeadTo limits (replayed.so_far.0 ++ events ∷ []) t
     next_leads =
-        let batches = replayed.so_far.0 in
-        let leads = replayed.so_far.1 in
-        let all : events_of (batches ++ events ∷ []) ≡ events_of batches ++ events = events_of-push batches events in
-        record {
-          each = All-push AreBatch batches events leads.each
-              (record { each = are.each; size = omega (arith, ap length are.spelled, length-drop 4 batch, found.is.field, found.short) });
-          named = subst (AreFor limits start) (sym all)
-              (AreFor-parts limits start (events_of batches) events leads.named (subst (λ (u : State). AreFor limits u events) leads.state are.named));
-          state =
-              are.state ∙ ap (λ (u : State). (run limits u events).state) leads.state ∙ sym (run-parts limits start (events_of batches) events)
-              ∙ ap (λ (es : List PlainEvent). (run limits start es).state) (sym all);
-        }
+        let batch_of : AreBatch events = record {
+          each = are.each;
+          size = omega (arith, ap length are.spelled, length-drop 4 batch, found.is.field, found.short);
+        } in
+        subst (λ (u : State). LeadTo limits (replayed.so_far.0 ++ events ∷ []) u) (sym are.state)
+        (LeadTo-more limits replayed.so_far.0 events s replayed.so_far.1 batch_of are.named)
 
     next_filled : Fill (range_of journal) 0 (place + sectors_for (length batch)) (map batch_bytes (replayed.so_far.0 ++ events ∷ [])) image
     next_filled =
@@ -340,9 +314,11 @@ module _ (limits : Limits) (journal : Journal) (image : Image) (place : ℕ) (s 
         → (rest : List (List PlainEvent)) × GoOn limits journal image (place + sectors_for (length batch)) t rest to
     ahead_next [] to left = absurd (something to left)
     ahead_next (m ∷ ms) to left =
-        let same : t ≡ (run limits s m).state = only m (run limits s m).state (first_records limits journal image place s batch found m ms to left) in
-        (ms, subst (λ (u : State). GoOn limits journal image (place + sectors_for (length batch)) u ms to) (sym same)
-        (after_first limits journal image place s batch found m ms to left))
+        let same : t ≡ (run limits s m).state = only m (run limits s m).state (first_records limits journal image place s batch found m ms to left) in (
+          ms,
+          subst (λ (u : State). GoOn limits journal image (place + sectors_for (length batch)) u ms to) (sym same)
+              (after_first limits journal image place s batch found m ms to left),
+        )
 
     -- one batch more
     pub replayed_more : Replayed limits journal image (place + sectors_for (length batch)) t
@@ -355,11 +331,13 @@ module _ (limits : Limits) (journal : Journal) (image : Image) (place : ℕ) (s 
   -- where no more is used, the journal is gone through
   pub replayed_all : place ≡ used_of journal → (batches : List (List PlainEvent)) × Replays limits journal image batches s
   replayed_all end =
-      let batches = replayed.so_far.0 in
-      (batches, record {
-        filled = subst (λ (n : ℕ). Fill (range_of journal) 0 n (map batch_bytes batches) image) end replayed.so_far.2;
-        leads = replayed.so_far.1;
-      })
+      let batches = replayed.so_far.0 in (
+        batches,
+        record {
+          filled = subst (λ (n : ℕ). Fill (range_of journal) 0 n (map batch_bytes batches) image) end replayed.so_far.2;
+          leads = replayed.so_far.1;
+        },
+      )
 
   pub replayed_only : place ≡ used_of journal → (batches : List (List PlainEvent)) (to : State) → Replays limits journal image batches to → s ≡ to
   replayed_only end batches to good = let rest = replayed.ahead batches to good in last rest.0 rest.1
@@ -392,7 +370,9 @@ module _ (limits : Limits) (journal : Journal) (image : Image) (place : ℕ) (s 
       omega (arith, Fill-end (range_of journal) 0 place (map batch_bytes batches) image replayed.so_far.2) in
       record {
         good = (
-          batches, s, replayed.so_far.1,
+          batches,
+          s,
+          replayed.so_far.1,
           subst (λ (n : ℕ). Fill (range_of journal) 0 n (map batch_bytes batches) image) end replayed.so_far.2,
           is ∙ ap (λ (n : ℕ). (range_of journal).first + 1 + n) end,
         );

@@ -1,6 +1,7 @@
 //! The replay of a journal: a machine goes through the events of its batches.
 
-ghost use Rattle.std.specs.Prelude.{◌≡◌, ◌⊎◌, ◌↔◌, ℕ, true, length, List, IfOk, IsErrOf, IsTrue, OnOk, Err};
+ghost use Rattle.std.specs.Prelude.{◌≡◌, ◌⊎◌, ◌↔◌, ℕ, true, List, length};
+ghost use Rattle.std.specs.Prelude.{IfOk, IsErrOf, IsTrue, Err};
 ghost use Rattle.ipc_base.specs.Limits.{ArePassed};
 ghost use Rattle.ipc_disk.specs.Counts.{with_failure};
 ghost use Rattle.ipc_disk.specs.Medium.{IsHonest, Stays};
@@ -44,16 +45,19 @@ pub(crate) fn replay<D: SectorDisk>(
     ensures damaged { (sector : ℕ) (batches : List (List PlainEvent)) (s : State)
         → IsErrOf result (OpenError.Damaged sector) → IsHonest (D.medium disk.old)
         → ¬ Replays limits journal.now (D.medium disk.old).contents batches s }
-    ensures named { (sector : ℕ) → IsErrOf result (OpenError.Damaged sector) → IsHonest (D.medium disk.old)
+    ensures named { (sector : ℕ) → IsErrOf result (OpenError.Damaged sector)
+        → IsHonest (D.medium disk.old)
         → IsGoodUpTo limits journal.now (D.medium disk.old).contents sector }
-    ensures faults { (sector : ℕ) → IsErrOf result OpenError.JournalFull ⊎ IsErrOf result OpenError.NotFormatted
+    ensures faults { (sector : ℕ)
+        → IsErrOf result OpenError.JournalFull ⊎ IsErrOf result OpenError.NotFormatted
         ⊎ IsErrOf result (OpenError.Version sector) → ⊥ }
     // It only reads.
     ensures reads { IsHonest (D.medium disk.old) → Stays (D.medium disk.old) (D.medium disk.new) }
     ensures room { length room.new ≡ most_bytes }
     // Failures and counts: `Device` is one failure more, and each other answer none.
     ensures size { D.size disk.new ≡ D.size disk.old }
-    ensures failure { IsErrOf result OpenError.Device → D.counts disk.new ≡ with_failure (D.counts disk.old) }
+    ensures failure { IsErrOf result OpenError.Device
+        → D.counts disk.new ≡ with_failure (D.counts disk.old) }
     ensures no_failure { IsErrOf result OpenError.Device ⊎ (D.counts disk.new ≡ D.counts disk.old) }
 {
     let mut engine = Engine::new(alloc, limits)?;
@@ -69,8 +73,8 @@ pub(crate) fn replay<D: SectorDisk>(
     }
 }
 
-/// Leads the machine through the events whose records these are, from the first to the last. `false` if the bytes are
-/// no records, or if one is of an event that is for no connected process.
+/// Leads the machine through the events whose records these are, from the first to the last.
+/// `false` if the bytes are no records, or if an event names a process that is not connected.
 fn go_through(engine: &mut Engine, records: &[u8]) -> Result<bool, AllocError>
     ensures limits { engine.new.limits ≡ engine.old.limits }
     ensures all { IfOk result (λ good. good ≡ true → (events : List PlainEvent)

@@ -1,5 +1,5 @@
 -- One batch more is replayed, or what stands there is no batch that goes on from here.
-use Rattle.std.proofs.Common.{◌≡◌, ◌⊎◌, inl, inr, ⊎_elim, ◌+◌, ◌-◌, ◌<◌, ◌≤◌, ℕ, List, Result, Option, Ok, Err, None, Some, true, false, length, take, drop}
+use Rattle.std.proofs.Common.{◌≡◌, inl, inr, ◌+◌, ◌<◌, ◌≤◌, ℕ, List, Result, Option, Ok, Err, None, Some, true, length, take, drop}
 use Rattle.std.proofs.Common.{refl, sym, ap, ◌∙◌, subst, arith}
 use Rattle.std.specs.Option.{IsSome}
 use Rattle.std.specs.Result.{IsErrOf, IsErrAnd}
@@ -7,23 +7,24 @@ use Rattle.std.proofs.lemmas.Bool.{false≢true, cases_lt}
 use Rattle.std.proofs.lemmas.Result.{err_from_is_err_and}
 use Rattle.std.proofs.lemmas.List.{length-take-le}
 use Rattle.ipc_disk.specs.declared.range.Range.{Range}
-use Rattle.ipc_disk.specs.Medium.{Image, IsHonest}
+use Rattle.ipc_disk.specs.Medium.{Image, IsHonest, Stays}
 use Rattle.ipc_disk.proofs.CallerLemmas.{Stays-start, Stays-join}
 use Rattle.ipc_journal.specs.declared.error.JournalError.{JournalError}
 use Rattle.ipc_journal.specs.declared.error.JournalError.TheVariants as journal
 use Rattle.ipc_journal.specs.Journal.{sectors_for, sector_at, length_in}
 use Rattle.ipc_journal.specs.View.{range_of, used_of}
-use Rattle.ipc_state.specs.State.{State, start}
+use Rattle.ipc_state.specs.State.{State}
 use Rattle.ipc_engine.specs.declared.engine.Engine.{Engine}
 use Rattle.ipc_engine.specs.Event.{PlainEvent}
-use Rattle.ipc_store.specs.Batch.{most_bytes}
 use Rattle.ipc_store.specs.View.{of_journal_error}
 use Rattle.ipc_store.specs.declared.fault.OpenError.{OpenError}
 use Rattle.ipc_store.specs.declared.fault.OpenError.TheVariants.{Damaged}
-use Rattle.ipc_store.specs.Relations.Replay.{AreRecords, Replays}
-use Rattle.ipc_store.proofs.Replaying.{Replayed, Found, replayed_none, replayed_more, replayed_refused, replayed_all, replayed_only, replayed_damaged, replayed_good}
-use Rattle.ipc_store.proofs.Replaying.{found_batch, records_slice, AreRecords-same}
+use Rattle.ipc_store.specs.Relations.Replay.{AreRecords}
+use Rattle.ipc_store.proofs.Replaying.{Replayed, Found, replayed_none, replayed_more, replayed_refused, replayed_all, replayed_only}
+use Rattle.ipc_store.proofs.Replaying.{replayed_damaged, replayed_good, found_batch, records_slice, AreRecords-same}
+use Rattle.ipc_store.proofs.replay.replay.Given.{Over}
 use Rattle.ipc_store.proofs.replay.replay.Goals as goal
+use Rattle.ipc_store.proofs.replay.replay.Goals.{After-next_batch, In_ok-go_through}
 
 -- the store's fault is the journal's
 from_damaged : (r : Result Engine OpenError) (error : JournalError) (sector : ℕ) → IsErrOf r (Damaged sector)
@@ -53,6 +54,35 @@ at_end place used found within is more =
 not_none : (error : JournalError) → ◌≡◌ {A = Result (Option ℕ) JournalError} (Err error) (Ok None) → ⊥
 not_none error is = cc
 
+-- a batch is read: the disk is as it was
+reads_on : (g : Over) (c : After-next_batch g) → IsHonest (g.D.SectorDisk.medium c.args.disk.now)
+    → Stays (g.D.SectorDisk.medium c.args.disk.now) (g.D.SectorDisk.medium c.next_batch.new.disk)
+reads_on g c honest =
+    let stays = c.loop-engine.invariant.reads honest in
+    Stays-join _ _ _ honest stays (c.next_batch.ensures.reads (stays.time.honest.0 honest))
+
+-- it is the batch that stands there
+found_there : (g : Over) (c : In_ok-go_through g) → IsHonest (g.D.SectorDisk.medium c.args.disk.now)
+    → Found c.args.journal.now (g.D.SectorDisk.medium c.args.disk.now).contents c.loop-engine.place.sector (take c.in-Some.len c.next_batch.new.into)
+found_there g c honest =
+    let inv = c.loop-engine.invariant in
+    let e = c.in_ok-len.ensures in
+    let len = c.in-Some.len in
+    let is = c.in-Some.is in
+    found_batch c.args.journal.now (g.D.SectorDisk.medium c.args.disk.now) (g.D.SectorDisk.medium c.loop-engine.disk) c.loop-engine.place.sector
+    c.next_batch.new.place.sector len (g.D.SectorDisk.size c.loop-engine.disk) c.next_batch.new.into honest (inv.reads honest)
+    (g.met.D.SectorDisk.shaped c.loop-engine.disk) (omega (arith, c.next_batch.auto.into, inv.room, c.requires.room)) (e.least len is)
+    (omega (arith, e.fits len is, inv.room, c.requires.room)) (e.stands len is) (e.batch len is) (e.passes len is) (e.inside len is)
+
+-- whatever events its records are of, the machine has gone through them
+only_there : (g : Over) (c : In_ok-go_through g) (events : List PlainEvent) (to : State)
+    → AreRecords c.args.limits c.loop-engine.engine.state (drop 4 (take c.in-Some.len c.next_batch.new.into)) events to
+    → (c.in_ok-go_through.field-0 ≡ true) × (c.go_through.new.engine.state ≡ to)
+only_there g c events to are =
+    c.in_ok-go_through.ensures.only events to
+    (AreRecords-same _ _ c.loop-engine.engine.state to _ _ events (sym c.loop-engine.invariant.limits)
+    (sym (records_slice c.in-Some.len c.next_batch.new.into (c.in_ok-len.ensures.least c.in-Some.len c.in-Some.is))) are)
+
 pub loop-engine-init : goal.loop-engine-init
 loop-engine-init g c =
     let state = c.in_ok-engine.ensures.state in
@@ -66,9 +96,6 @@ loop-engine-init g c =
       size = refl;
       counts = refl;
     }
-
-pub shape_of-room-in_err-len : goal.shape_of-room-in_err-len
-shape_of-room-in_err-len g c = omega (arith, c.next_batch.auto.into, c.loop-engine.invariant.room)
 
 pub returns-in_err-len-clause-damaged : goal.returns-in_err-len-clause-damaged
 returns-in_err-len-clause-damaged g c = λ sector batches s is honest good.
@@ -95,15 +122,7 @@ returns-in_err-len-clause-named g c = λ sector is honest.
     replayed_good _ _ _ _ _ (c.loop-engine.invariant.replayed honest) sector (c.in_err-len.ensures.named sector (ap (λ (x : JournalError). Err x) error))
 
 pub returns-in_err-len-clause-reads : goal.returns-in_err-len-clause-reads
-returns-in_err-len-clause-reads g c = λ honest.
-    let stays = c.loop-engine.invariant.reads honest in
-    Stays-join _ _ _ honest stays (c.next_batch.ensures.reads (stays.time.honest.0 honest))
-
-pub returns-in_err-len-clause-room : goal.returns-in_err-len-clause-room
-returns-in_err-len-clause-room g c = omega (arith, c.next_batch.auto.into, c.loop-engine.invariant.room, c.requires.room)
-
-pub shape_of-room-in_default : goal.shape_of-room-in_default
-shape_of-room-in_default g c = omega (arith, c.next_batch.auto.into, c.loop-engine.invariant.room)
+returns-in_err-len-clause-reads g c = reads_on g (goal.at.returns-in_err-len-clause-reads g c).After-next_batch
 
 pub returns-in_default-clause-replays : goal.returns-in_default-clause-replays
 returns-in_default-clause-replays g c = λ honest.
@@ -116,50 +135,16 @@ returns-in_default-clause-only g c = λ batches s honest good.
     replayed_only _ _ _ _ _ (inv.replayed honest) (at_end _ _ c.in_ok-len.field-0 inv.within c.in_default.is c.in_ok-len.ensures.more) batches s good
 
 pub returns-in_default-clause-reads : goal.returns-in_default-clause-reads
-returns-in_default-clause-reads g c = λ honest.
-    let stays = c.loop-engine.invariant.reads honest in
-    Stays-join _ _ _ honest stays (c.next_batch.ensures.reads (stays.time.honest.0 honest))
-
-pub returns-in_default-clause-room : goal.returns-in_default-clause-room
-returns-in_default-clause-room g c = omega (arith, c.next_batch.auto.into, c.loop-engine.invariant.room, c.requires.room)
-
-pub shape_of-room-in_err-go_through : goal.shape_of-room-in_err-go_through
-shape_of-room-in_err-go_through g c = omega (arith, c.next_batch.auto.into, c.loop-engine.invariant.room)
+returns-in_default-clause-reads g c = reads_on g (goal.at.returns-in_default-clause-reads g c).After-next_batch
 
 pub returns-in_err-go_through-clause-reads : goal.returns-in_err-go_through-clause-reads
-returns-in_err-go_through-clause-reads g c = λ honest.
-    let stays = c.loop-engine.invariant.reads honest in
-    Stays-join _ _ _ honest stays (c.next_batch.ensures.reads (stays.time.honest.0 honest))
-
-pub returns-in_err-go_through-clause-room : goal.returns-in_err-go_through-clause-room
-returns-in_err-go_through-clause-room g c = omega (arith, c.next_batch.auto.into, c.loop-engine.invariant.room, c.requires.room)
-
-pub shape_of-room-then-not-branch : goal.shape_of-room-then-not-branch
-shape_of-room-then-not-branch g c = omega (arith, c.next_batch.auto.into, c.loop-engine.invariant.room)
+returns-in_err-go_through-clause-reads g c = reads_on g (goal.at.returns-in_err-go_through-clause-reads g c).After-next_batch
 
 pub returns-then-not-branch-clause-damaged : goal.returns-then-not-branch-clause-damaged
 returns-then-not-branch-clause-damaged g c = λ sector batches to is honest good.
-    let inv = c.loop-engine.invariant in
-    let e = c.in_ok-len.ensures in
-    let h = c.in_ok-go_through.ensures in
-    let image = (g.D.SectorDisk.medium c.args.disk.now).contents in
-    let journal = c.args.journal.now in
-    let place = c.loop-engine.place.sector in
-    let room = c.next_batch.new.into in
-    let len = c.in-Some.len in
-    let s = c.loop-engine.engine.state in
-    let slice = records_slice len room (e.least len c.in-Some.is) in
-    let found : IsHonest (g.D.SectorDisk.medium c.args.disk.now) → Found journal image place (take len room) =
-    λ honest. found_batch journal (g.D.SectorDisk.medium c.args.disk.now) (g.D.SectorDisk.medium c.loop-engine.disk) place
-    c.next_batch.new.place.sector len (g.D.SectorDisk.size c.loop-engine.disk) room honest (inv.reads honest)
-    (g.met.D.SectorDisk.shaped c.loop-engine.disk) (omega (arith, c.next_batch.auto.into, inv.room, c.requires.room)) (e.least len c.in-Some.is)
-    (omega (arith, e.fits len c.in-Some.is, inv.room, c.requires.room)) (e.stands len c.in-Some.is) (e.batch len c.in-Some.is)
-    (e.passes len c.in-Some.is) (e.inside len c.in-Some.is) in
-    let only : (es : List PlainEvent) (to : State) → AreRecords c.args.limits s (drop 4 (take len room)) es to
-    → (c.in_ok-go_through.field-0 ≡ true) × (c.go_through.new.engine.state ≡ to) =
-    λ es to are. h.only es to (AreRecords-same _ _ s to _ _ es (sym inv.limits) (sym slice) are) in
-    replayed_refused c.args.limits journal image place s (take len room) (inv.replayed honest) (found honest)
-    (λ es t are. false≢true (sym c.if-not-branch.true ∙ (only es t are).0)) batches to good
+    let here = (goal.at.returns-then-not-branch-clause-damaged g c).In_ok-go_through in
+    replayed_refused _ _ _ _ _ _ (c.loop-engine.invariant.replayed honest) (found_there g here honest)
+    (λ es t are. false≢true (sym c.if-not-branch.true ∙ (only_there g here es t are).0)) batches to good
 
 pub returns-then-not-branch-clause-named : goal.returns-then-not-branch-clause-named
 returns-then-not-branch-clause-named g c = λ sector is honest.
@@ -167,54 +152,38 @@ returns-then-not-branch-clause-named g c = λ sector is honest.
     (sym (named_sector _ sector is) ∙ ap (λ (range : Range). range.first + 1 + c.loop-engine.place.sector) c.range.ensures)
 
 pub returns-then-not-branch-clause-reads : goal.returns-then-not-branch-clause-reads
-returns-then-not-branch-clause-reads g c = λ honest.
-    let stays = c.loop-engine.invariant.reads honest in
-    Stays-join _ _ _ honest stays (c.next_batch.ensures.reads (stays.time.honest.0 honest))
-
-pub returns-then-not-branch-clause-room : goal.returns-then-not-branch-clause-room
-returns-then-not-branch-clause-room g c = omega (arith, c.next_batch.auto.into, c.loop-engine.invariant.room, c.requires.room)
+returns-then-not-branch-clause-reads g c = reads_on g (goal.at.returns-then-not-branch-clause-reads g c).After-next_batch
 
 pub loop-engine-smaller : goal.loop-engine-smaller
 loop-engine-smaller g c =
     let e = c.in_ok-len.ensures in
-    omega (arith, c.loop-engine.invariant.within, e.least c.in-Some.len c.in-Some.is, e.passes c.in-Some.len c.in-Some.is, e.inside c.in-Some.len c.in-Some.is)
+    let len = c.in-Some.len in
+    let is = c.in-Some.is in
+    omega (arith, c.loop-engine.invariant.within, e.least len is, e.passes len is, e.inside len is)
 
 pub loop-engine-preserved : goal.loop-engine-preserved
 loop-engine-preserved g c =
+    let here = (goal.at.loop-engine-preserved g c).In_ok-go_through in
     let inv = c.loop-engine.invariant in
     let e = c.in_ok-len.ensures in
-    let h = c.in_ok-go_through.ensures in
-    let image = (g.D.SectorDisk.medium c.args.disk.now).contents in
-    let journal = c.args.journal.now in
-    let place = c.loop-engine.place.sector in
-    let room = c.next_batch.new.into in
     let len = c.in-Some.len in
+    let room = c.next_batch.new.into in
     let s = c.loop-engine.engine.state in
-    let slice = records_slice len room (e.least len c.in-Some.is) in
-    let found : IsHonest (g.D.SectorDisk.medium c.args.disk.now) → Found journal image place (take len room) =
-    λ honest. found_batch journal (g.D.SectorDisk.medium c.args.disk.now) (g.D.SectorDisk.medium c.loop-engine.disk) place
-    c.next_batch.new.place.sector len (g.D.SectorDisk.size c.loop-engine.disk) room honest (inv.reads honest)
-    (g.met.D.SectorDisk.shaped c.loop-engine.disk) (omega (arith, c.next_batch.auto.into, inv.room, c.requires.room)) (e.least len c.in-Some.is)
-    (omega (arith, e.fits len c.in-Some.is, inv.room, c.requires.room)) (e.stands len c.in-Some.is) (e.batch len c.in-Some.is)
-    (e.passes len c.in-Some.is) (e.inside len c.in-Some.is) in
-    let only : (es : List PlainEvent) (to : State) → AreRecords c.args.limits s (drop 4 (take len room)) es to
-    → (c.in_ok-go_through.field-0 ≡ true) × (c.go_through.new.engine.state ≡ to) =
-    λ es to are. h.only es to (AreRecords-same _ _ s to _ _ es (sym inv.limits) (sym slice) are) in
-    let events = h.all c.if-not-branch.false in
-    let are = AreRecords-same _ _ s c.go_through.new.engine.state _ _ events.0 inv.limits slice events.1 in
-    let next : place + sectors_for (length (take len room)) ≡ c.next_batch.new.place.sector =
-    ap (λ (n : ℕ). place + sectors_for n) (length-take-le len room (omega (arith, e.fits len c.in-Some.is, c.next_batch.auto.into)))
+    let t = c.go_through.new.engine.state in
+    let events = c.in_ok-go_through.ensures.all c.if-not-branch.false in
+    let are = AreRecords-same _ _ s t _ _ events.0 inv.limits (records_slice len room (e.least len c.in-Some.is)) events.1 in
+    let next : c.loop-engine.place.sector + sectors_for (length (take len room)) ≡ c.next_batch.new.place.sector =
+    ap (λ (n : ℕ). c.loop-engine.place.sector + sectors_for n)
+    (length-take-le len room (omega (arith, e.fits len c.in-Some.is, c.next_batch.auto.into)))
     ∙ sym (e.passes len c.in-Some.is) in
     record {
       room = omega (arith, c.next_batch.auto.into, inv.room);
-      within = omega (arith, e.inside c.in-Some.len c.in-Some.is);
-      limits = h.limits ∙ inv.limits;
-      replayed = λ honest. subst (λ (n : ℕ). Replayed c.args.limits journal image n c.go_through.new.engine.state) next
-          (replayed_more c.args.limits journal image place s (take len room) (inv.replayed honest) (found honest) events.0 c.go_through.new.engine.state are
-          (λ es to good. (only es to good).1));
-      reads = λ honest.
-          let stays = inv.reads honest in
-          Stays-join _ _ _ honest stays (c.next_batch.ensures.reads (stays.time.honest.0 honest));
+      within = omega (arith, e.inside len c.in-Some.is);
+      limits = c.in_ok-go_through.ensures.limits ∙ inv.limits;
+      replayed = λ honest.
+          subst (λ (n : ℕ). Replayed c.args.limits c.args.journal.now (g.D.SectorDisk.medium c.args.disk.now).contents n t) next
+          (replayed_more _ _ _ _ s _ (inv.replayed honest) (found_there g here honest) events.0 t are (λ es to good. (only_there g here es to good).1));
+      reads = reads_on g (goal.at.loop-engine-preserved g c).After-next_batch;
       size = c.next_batch.ensures.size ∙ inv.size;
       counts = e.no_failure ∙ inv.counts;
     }
