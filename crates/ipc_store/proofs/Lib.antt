@@ -3,6 +3,7 @@ mod Batches
 mod Committing
 mod Devices
 mod Histories
+mod Lives
 mod Opened
 mod Openings
 mod Superblocks

@@ -1,5 +1,6 @@
 -- What the store keeps on a device, what a store shows, and what joins the two.
 pub mod Batch
 pub mod Image
+pub mod Histories
 pub mod View
 pub mod Relations

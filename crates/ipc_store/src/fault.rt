@@ -1,7 +1,6 @@
 //! What can go wrong with a store.
 
 ghost use Rattle.std.specs.Prelude.{◌≡◌};
-ghost use Rattle.ipc_store.specs.declared.fault.StepError.TheVariants as step_errors;
 ghost use Rattle.ipc_store.specs.declared.fault.FormatError.TheVariants as format_errors;
 ghost use Rattle.ipc_store.specs.declared.fault.OpenError.TheVariants as open_errors;
 ghost use Rattle.ipc_store.specs.View.{of_journal_error};
@@ -81,14 +80,6 @@ pub enum OpenError {
     /// Its journal has no room for a restart.
     #[error("the journal is full")]
     JournalFull,
-}
-
-impl From<AllocError> for StepError {
-    ghost from_gives = { λ _ e. e ≡ step_errors.NoMemory };
-
-    fn from(_: AllocError) -> Self {
-        StepError::NoMemory
-    }
 }
 
 impl From<BadLimits> for FormatError {

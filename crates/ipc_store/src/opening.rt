@@ -18,6 +18,7 @@ ghost use Rattle.ipc_store.specs.Image.{
   IsDamaged,
   IsFirstFault,
 };
+ghost use Rattle.ipc_store.specs.Histories.{OpensOn};
 ghost use Rattle.ipc_store.specs.Relations.Matches.{StoreMatches, StandsForEither, IsLoaded, OpensTo};
 ghost use Rattle.ipc_store.specs.declared.fault.OpenError.TheVariants as errors;
 
@@ -42,9 +43,8 @@ impl<D: SectorDisk> Store<D> {
     /// through a restart, and the restart is made last. All the memory of the store but the machine's is taken here.
     pub fn open(alloc: Global, disk: D) -> Result<Store<D>, Unopened<D>>
         // The base is the state for which the disk stood, after a restart; no event waits.
-        ensures ok { IfOk result (λ store. IsHonest (D.medium disk) → (s : State)
-            × StandsFor store.machine.limits s (D.medium disk).contents
-            × StoreMatches (D.medium store.disk) store (restart s) []) }
+        ensures ok { IfOk result (λ store. IsHonest (D.medium disk)
+            → OpensOn (D.medium disk).contents (D.medium store.disk) store) }
         ensures confirmed { IfOk result (λ store. store.confirmed ≡ 1) }
         // A crash at any moment of the call, also of one that fails.
         ensures any_moment { IsHonest (D.medium disk)

@@ -14,6 +14,7 @@ ghost use Rattle.ipc_engine.specs.Event.{PlainEvent};
 ghost use Rattle.ipc_engine.specs.Step.{step as step_on, run};
 ghost use Rattle.ipc_engine.specs.View.{plain_event};
 ghost use Rattle.ipc_image.specs.Records.{record_bytes, HasRecord};
+ghost use Rattle.ipc_store.specs.Histories.{History, HasLived, Moves, accepted};
 ghost use Rattle.ipc_store.specs.View.{HasRoom, IsStopped};
 ghost use Rattle.ipc_store.specs.Relations.Matches.{StoreMatches, StandsForEither};
 
@@ -22,6 +23,7 @@ use crate::fault::{CommitError, StepError};
 use ipc_disk::{DiskFault, SectorDisk};
 use ipc_engine::{Engine, Event};
 use ipc_journal::Journal;
+use std::alloc::AllocError;
 use std::marker::Model;
 
 /// A machine whose events last: it owns its disk until it is closed. A contract sees the disk, the machine, the journal,
@@ -122,6 +124,9 @@ impl<D: SectorDisk> Store<D> {
         ensures matches { OnOk result ((base : State) (pending : List PlainEvent)
             → StoreMatches (D.medium self.old.disk) self.old base pending
             → StoreMatches (D.medium self.new.disk) self.new base (pending ++ plain_event event.entry ∷ [])) }
+        ensures moves { (before : History) → HasLived (D.medium self.old.disk) self.old before
+            → (OnOk result (Moves D.medium self.old self.new before (plain_event event.entry ∷ [])))
+            × (OnErr result (Moves D.medium self.old self.new before [])) }
         ensures disk { self.new.disk ≡ self.old.disk }
         ensures journal { self.new.journal ≡ self.old.journal }
         ensures confirmed { self.new.confirmed ≡ self.old.confirmed }
@@ -136,7 +141,9 @@ impl<D: SectorDisk> Store<D> {
         if self.stopped || self.confirmed + self.batch.count() == u64::MAX {
             return Err(StepError::Stopped);
         }
-        self.engine.step(event)?;
+        if let Err(AllocError) = self.engine.step(event) {
+            return Err(StepError::NoMemory);
+        }
         self.batch.push(&event);
         Ok(())
     }
@@ -153,6 +160,12 @@ impl<D: SectorDisk> Store<D> {
         ensures waiting { OnOk result (self.new.waiting ≡ 0) }
         ensures confirmed { OnOk result (self.new.confirmed ≡ self.old.confirmed + self.old.waiting) }
         ensures machine { self.new.machine ≡ self.old.machine }
+        ensures moves { (before : History) → HasLived (D.medium self.old.disk) self.old before
+            → Moves D.medium self.old self.new before [] }
+        ensures acknowledged { OnOk result ((before : History)
+            → HasLived (D.medium self.old.disk) self.old before
+            → HasLived (D.medium self.new.disk) self.new
+            (record { acknowledged = accepted before; waiting = [] })) }
         // A crash at any moment of the call, also of one that fails.
         ensures any_moment { (base : State) (pending : List PlainEvent)
             → StoreMatches (D.medium self.old.disk) self.old base pending
@@ -186,9 +199,13 @@ impl<D: SectorDisk> Store<D> {
         if self.batch.count() == 0 {
             return Ok(());
         }
-        let appended = self.append();
-        self.stopped = appended.is_err();
-        appended
+        match self.append() {
+            Ok(()) => Ok(()),
+            Err(error) => {
+                self.stopped = true;
+                Err(error)
+            }
+        }
     }
 
     // Appends what waits to the journal, if it fits.
