@@ -17,7 +17,7 @@ use Rattle.ipc_store.specs.Batch.{records_of, batch_bytes, AreBatch}
 use Rattle.ipc_store.specs.Image.{journal_range, first_epoch, events_of, StandsFor}
 use Rattle.ipc_store.proofs.Batches.{record-length}
 
--- where there is an event, there is a byte
+-- if there is an event, there is a byte
 no_records : (e : PlainEvent) (events : List PlainEvent) → [] ≡ records_of (e ∷ events) → ⊥
 no_records e events same = omega (arith, ap length same, length-append (record_bytes e) (records_of events), record-length e)
 
