@@ -1,10 +1,16 @@
--- What the crates above cite of superblocks.
-use Rattle.std.proofs.Common.{◌≡◌, ℕ, ◌<◌, ◌^◌, List, ◌++◌, take, drop, refl, sym, ap, ◌∙◌, arith}
-use Rattle.std.specs.Int.{w32, from_be_bytes, to_be_bytes}
+-- What the crates above cite of superblocks and of records.
+use Rattle.std.proofs.Common.{◌≡◌, ℕ, ◌+◌, ◌<◌, ◌^◌, List, [], ◌++◌, length, take, drop, Some, refl, sym, ap, subst, ◌∙◌, arith}
+use Rattle.std.specs.Int.{w32, w64, from_be_bytes, to_be_bytes}
 use Rattle.std.proofs.lemmas.List.{take_at, take-take}
-use Rattle.std.proofs.lemmas.Nat.{from_be_bytes-to_be_bytes_4}
+use Rattle.std.proofs.lemmas.Nat.{from_be_bytes-to_be_bytes_4, from_be_bytes-to_be_bytes_8}
 use Rattle.ipc_base.specs.declared.limits.Limits.{Limits}
+use Rattle.ipc_wire.specs.Spelling.{request_bytes}
+use Rattle.ipc_wire.proofs.CallerLemmas.{one_text}
+use Rattle.ipc_engine.specs.Event.{PlainEvent, Connect, Call, Tick, Exit, Restart, moment_of}
+use Rattle.ipc_image.specs.Records.{kind_of, details, text_of, record_bytes, HasDetails, HasRecord, BeginsWith}
+use Rattle.ipc_image.specs.RecordParts.{IsOf}
 use Rattle.ipc_image.specs.Superblock.{superblock_fields, IsFormatted, version_in, IsSuperblock}
+use Rattle.ipc_image.proofs.EventRecords.{Got, GotLong, number_known, connect_only, call_only, text_only, length_text, begun, text_cut}
 use Rattle.ipc_image.proofs.Numbers.{spelled}
 use Rattle.ipc_image.proofs.Reading as reading
 
@@ -24,3 +30,55 @@ superblock-version sectors limits sector is =
 pub one-superblock : (sectors others : ℕ) (limits more : Limits) (sector : List ℕ) → sectors < 2 ^ 32 → others < 2 ^ 32
     → IsSuperblock sectors limits sector → IsSuperblock others more sector → (sectors ≡ others) × (limits ≡ more)
 one-superblock = reading.one_superblock
+
+-- bytes begin with the record that was written to their front
+pub record-read : (e : PlainEvent) (rest : List ℕ) → HasRecord e → BeginsWith (record_bytes e ++ rest) e
+record-read e rest has = record { has = has; front = take_at (record_bytes e) rest (length (record_bytes e)) refl }
+
+-- ---- bytes begin with one record at most
+
+got_spelled : (n : ℕ) (rest : List ℕ) → n < 2 ^ 32 → Got (to_be_bytes w32 n ++ rest) rest n
+got_spelled n rest fits = (omega arith, sym (from_be_bytes-to_be_bytes_4 n fits), refl)
+
+unwrapped : (e f : PlainEvent) → Some e ≡ Some f → e ≡ f
+unwrapped e f is = cc
+
+-- the same bytes are the details of no two events of a kind and a moment
+one_of : (e f : PlainEvent) → HasDetails e → IsOf (kind_of e) (moment_of e) (details e) f → e ≡ f
+one_of (Connect cred serial moment) f has is =
+    let two : List ℕ = to_be_bytes w32 cred.uid ++ to_be_bytes w32 cred.gid in
+    let all = connect_only moment (to_be_bytes w32 serial ++ two) two (to_be_bytes w32 cred.gid) [] serial cred.uid cred.gid
+    (got_spelled serial two has.0) (got_spelled cred.uid (to_be_bytes w32 cred.gid) has.1) (got_spelled cred.gid [] has.2) f is in
+    unwrapped (Connect cred serial moment) f all
+one_of (Call pid request moment) f has is =
+    unwrapped (Call pid request moment) f
+    (call_only moment (to_be_bytes w32 pid ++ request_bytes request) (request_bytes request) pid request (got_spelled pid (request_bytes request) has.0)
+    (λ r other same. one_text request r has.1 other same) f is)
+one_of (Tick moment) (Tick later) has is = ap Tick is.moment_is
+one_of (Tick moment) (Connect cred s m) has is = absurd (omega (arith, is.kind_is))
+one_of (Tick moment) (Call p r m) has is = absurd (omega (arith, is.kind_is))
+one_of (Tick moment) (Exit p m) has is = absurd (omega (arith, is.kind_is))
+one_of (Tick moment) Restart has is = absurd (omega (arith, is.kind_is))
+one_of (Exit pid moment) (Exit other later) has is =
+    let same = number_known other [] (to_be_bytes w32 pid) [] pid is.has is.details_are (got_spelled pid [] has) in
+    ap (λ (n : ℕ). Exit n moment) same.0 ∙ ap (λ (n : ℕ). Exit other n) is.moment_is
+one_of (Exit pid moment) (Connect cred s m) has is = absurd (omega (arith, is.kind_is))
+one_of (Exit pid moment) (Call p r m) has is = absurd (omega (arith, is.kind_is))
+one_of (Exit pid moment) (Tick m) has is = absurd (omega (arith, is.kind_is))
+one_of (Exit pid moment) Restart has is = absurd (omega (arith, is.kind_is))
+one_of Restart Restart has is = refl
+one_of Restart (Connect cred s m) has is = absurd (omega (arith, is.kind_is))
+one_of Restart (Call p r m) has is = absurd (omega (arith, is.kind_is))
+one_of Restart (Tick m) has is = absurd (omega (arith, is.kind_is))
+one_of Restart (Exit p m) has is = absurd (omega (arith, is.kind_is))
+
+pub one-record : (bytes : List ℕ) (e f : PlainEvent) → BeginsWith bytes e → BeginsWith bytes f → e ≡ f
+one-record bytes e f is also =
+    let b = begun bytes e is in
+    let n : ℕ = 9 + length (details e) in
+    let first : Got bytes (text_of e ++ b.more) n =
+    subst (λ (x : List ℕ). Got x (text_of e ++ b.more) n) (sym b.spelled) (got_spelled n (text_of e ++ b.more) b.below) in
+    let cut = text_cut bytes (text_of e ++ b.more) (text_of e) n first (sym (take_at (text_of e) b.more n (length_text e))) f also in
+    let rest : List ℕ = to_be_bytes w64 (moment_of e) ++ details e in
+    let long : GotLong rest (details e) (moment_of e) = (omega arith, sym (from_be_bytes-to_be_bytes_8 (moment_of e) is.has.moment), refl) in
+    one_of e f is.has.details (text_only (text_of e) rest (details e) (kind_of e) (moment_of e) (omega arith, refl, refl) long f cut.0)

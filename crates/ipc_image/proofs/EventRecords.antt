@@ -1,6 +1,6 @@
 -- A record is read where it was written, and what is read was written so.
 use Rattle.std.proofs.Common.{◌≡◌, ℕ, ◌+◌, ◌≤◌, ◌<◌, ◌^◌, List, [], ◌∷◌, ◌++◌, length, take, drop, Option, Some, None}
-use Rattle.std.proofs.Common.{refl, sym, ap, subst, ◌∙◌, append_assoc, arith, inl, inr}
+use Rattle.std.proofs.Common.{refl, sym, ap, ◌∙◌, append_assoc, arith, inl, inr}
 use Rattle.std.proofs.lemmas.Bool.{cases_lt}
 use Rattle.std.specs.Prelude.{IfSome, slice_index}
 use Rattle.std.specs.Int.{w32, w64, from_be_bytes, to_be_bytes}
@@ -9,9 +9,8 @@ use Rattle.std.proofs.lemmas.Nat.{be_bytes_4, be_bytes_8, from_be_bytes-to_be_by
 use Rattle.ipc_base.specs.declared.identity.Cred.{Cred}
 use Rattle.ipc_wire.specs.Request.{PlainRequest}
 use Rattle.ipc_wire.specs.Spelling.{HasFrame, request_bytes, frame}
-use Rattle.ipc_wire.proofs.CallerLemmas.{one_text}
 use Rattle.ipc_engine.specs.Event.{PlainEvent, Connect, Call, Tick, Exit, Restart, moment_of}
-use Rattle.ipc_image.specs.Records.{kind_of, details, text_of, record_bytes, HasDetails, HasRecord, BeginsWith}
+use Rattle.ipc_image.specs.Records.{kind_of, details, text_of, record_bytes, HasDetails, BeginsWith}
 use Rattle.ipc_image.specs.RecordParts.{IsText, IsOf}
 use Rattle.ipc_image.proofs.Numbers.{AreBelow}
 
@@ -250,54 +249,3 @@ record_found bytes one text two n fits a enough cut e is =
     ∙ sym (append_assoc (to_be_bytes w32 (9 + length (details e))) (text_of e) (drop n one)) in
     let front = ap (take (length (record_bytes e))) whole ∙ take_at (record_bytes e) (drop n one) (length (record_bytes e)) refl in
     (record { has = is.has; front = front }, omega (arith, size))
-
-pub record_read : (e : PlainEvent) (rest : List ℕ) → HasRecord e → BeginsWith (record_bytes e ++ rest) e
-record_read e rest has = record { has = has; front = take_at (record_bytes e) rest (length (record_bytes e)) refl }
-
--- ---- bytes begin with one record at most
-
-got_spelled : (n : ℕ) (rest : List ℕ) → n < 2 ^ 32 → Got (to_be_bytes w32 n ++ rest) rest n
-got_spelled n rest fits = (omega arith, sym (from_be_bytes-to_be_bytes_4 n fits), refl)
-
-unwrapped : (e f : PlainEvent) → Some e ≡ Some f → e ≡ f
-unwrapped e f is = cc
-
--- the same bytes are the details of no two events of a kind and a moment
-one_of : (e f : PlainEvent) → HasDetails e → IsOf (kind_of e) (moment_of e) (details e) f → e ≡ f
-one_of (Connect cred serial moment) f has is =
-    let two : List ℕ = to_be_bytes w32 cred.uid ++ to_be_bytes w32 cred.gid in
-    let all = connect_only moment (to_be_bytes w32 serial ++ two) two (to_be_bytes w32 cred.gid) [] serial cred.uid cred.gid
-    (got_spelled serial two has.0) (got_spelled cred.uid (to_be_bytes w32 cred.gid) has.1) (got_spelled cred.gid [] has.2) f is in
-    unwrapped (Connect cred serial moment) f all
-one_of (Call pid request moment) f has is =
-    unwrapped (Call pid request moment) f
-    (call_only moment (to_be_bytes w32 pid ++ request_bytes request) (request_bytes request) pid request (got_spelled pid (request_bytes request) has.0)
-    (λ r other same. one_text request r has.1 other same) f is)
-one_of (Tick moment) (Tick later) has is = ap Tick is.moment_is
-one_of (Tick moment) (Connect cred s m) has is = absurd (omega (arith, is.kind_is))
-one_of (Tick moment) (Call p r m) has is = absurd (omega (arith, is.kind_is))
-one_of (Tick moment) (Exit p m) has is = absurd (omega (arith, is.kind_is))
-one_of (Tick moment) Restart has is = absurd (omega (arith, is.kind_is))
-one_of (Exit pid moment) (Exit other later) has is =
-    let same = number_known other [] (to_be_bytes w32 pid) [] pid is.has is.details_are (got_spelled pid [] has) in
-    ap (λ (n : ℕ). Exit n moment) same.0 ∙ ap (λ (n : ℕ). Exit other n) is.moment_is
-one_of (Exit pid moment) (Connect cred s m) has is = absurd (omega (arith, is.kind_is))
-one_of (Exit pid moment) (Call p r m) has is = absurd (omega (arith, is.kind_is))
-one_of (Exit pid moment) (Tick m) has is = absurd (omega (arith, is.kind_is))
-one_of (Exit pid moment) Restart has is = absurd (omega (arith, is.kind_is))
-one_of Restart Restart has is = refl
-one_of Restart (Connect cred s m) has is = absurd (omega (arith, is.kind_is))
-one_of Restart (Call p r m) has is = absurd (omega (arith, is.kind_is))
-one_of Restart (Tick m) has is = absurd (omega (arith, is.kind_is))
-one_of Restart (Exit p m) has is = absurd (omega (arith, is.kind_is))
-
-pub one_record : (bytes : List ℕ) (e f : PlainEvent) → BeginsWith bytes e → BeginsWith bytes f → e ≡ f
-one_record bytes e f is also =
-    let b = begun bytes e is in
-    let n : ℕ = 9 + length (details e) in
-    let first : Got bytes (text_of e ++ b.more) n =
-    subst (λ (x : List ℕ). Got x (text_of e ++ b.more) n) (sym b.spelled) (got_spelled n (text_of e ++ b.more) b.below) in
-    let cut = text_cut bytes (text_of e ++ b.more) (text_of e) n first (sym (take_at (text_of e) b.more n (length_text e))) f also in
-    let rest : List ℕ = to_be_bytes w64 (moment_of e) ++ details e in
-    let long : GotLong rest (details e) (moment_of e) = (omega arith, sym (from_be_bytes-to_be_bytes_8 (moment_of e) is.has.moment), refl) in
-    one_of e f is.has.details (text_only (text_of e) rest (details e) (kind_of e) (moment_of e) (omega arith, refl, refl) long f cut.0)

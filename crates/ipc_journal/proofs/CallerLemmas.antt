@@ -105,6 +105,27 @@ pub length-there : (at : ℕ) (batch : List ℕ) (image : Image) → IsBatch bat
     → length_in (sector_at image at) + 4 ≡ length batch
 length-there at batch image is stands = omega (arith, length-front at batch image is.field stands, is.right)
 
+-- a part of the body is filled by one list of batches alone
+Fill-one : (range : Range) (place end : ℕ) (xs ys : List (List ℕ)) (image : Image) → Fill range place end xs image → Fill range place end ys image → xs ≡ ys
+Fill-one range place end [] [] image first second = refl
+Fill-one range place end [] (y ∷ ys) image first second =
+    absurd (omega (arith, first, second.0.field, Fill-end range (place + sectors_for (length y)) end ys image second.2))
+Fill-one range place end (x ∷ xs) [] image first second =
+    absurd (omega (arith, second, first.0.field, Fill-end range (place + sectors_for (length x)) end xs image first.2))
+Fill-one range place end (x ∷ xs) (y ∷ ys) image first second =
+    let at = range.first + 1 + place in
+    let same : x ≡ y = stands-same at x y image (sym (length-there at x image first.0 first.1) ∙ length-there at y image second.0 second.1) first.1 second.1 in
+    let next : Fill range (place + sectors_for (length x)) end ys image =
+    subst (λ (l : List ℕ). Fill range (place + sectors_for (length l)) end ys image) (sym same) second.2 in
+    ap (λ (l : List ℕ). l ∷ xs) same ∙ ap (λ (l : List (List ℕ)). y ∷ l) (Fill-one range (place + sectors_for (length x)) end xs ys image first.2 next)
+
+-- an image is one journal at an epoch
+pub Holds-one : (range : Range) (epoch : ℕ) (xs ys : List (List ℕ)) (image : Image) → Holds range epoch xs image → Holds range epoch ys image → xs ≡ ys
+Holds-one range epoch xs ys image (inl first) (inl second) = first.1 ∙ sym second.1
+Holds-one range epoch xs ys image (inl first) (inr second) = absurd (omega (arith, first.0.older, second.current))
+Holds-one range epoch xs ys image (inr first) (inl second) = absurd (omega (arith, second.0.older, first.current))
+Holds-one range epoch xs ys image (inr first) (inr second) = Fill-one range 0 (header_used range image) xs ys image first.filled second.filled
+
 -- what stands there and is as long as the first sector says is a batch
 pub IsBatch-there : (at : ℕ) (batch : List ℕ) (image : Image) → 4 ≤ length batch → StandsAt at batch image
     → length_in (sector_at image at) + 4 ≡ length batch → IsBatch batch

@@ -1,6 +1,6 @@
 -- A batch as its pieces, and what stands on a disk.
-use Rattle.std.proofs.Common.{◌≡◌, ◌⊎◌, inl, inr, ⊎_elim, ℕ, ◌+◌, ◌*◌, ◌<◌}
-use Rattle.std.proofs.Common.{◌≤◌, List, [], ◌∷◌, ◌++◌, length, take, drop, refl, sym, ◌∙◌}
+use Rattle.std.proofs.Common.{◌≡◌, ◌⊎◌, ⊎_elim, ℕ, ◌+◌, ◌*◌, ◌<◌}
+use Rattle.std.proofs.Common.{◌≤◌, List, [], ◌∷◌, ◌++◌, length, take, drop, sym, ◌∙◌}
 use Rattle.std.proofs.Common.{ap, subst, arith}
 use borrow.Rule.Slice.PartMut.{put_mid}
 use Rattle.std.proofs.lemmas.List.{take_all, take_at, drop_at, drop_all, append-nil, take-take, drop-take, length-take-le, length-drop}
@@ -8,7 +8,7 @@ use borrow.Author.Count.{below_more}
 use Rattle.ipc_disk.specs.declared.range.Range.{Range}
 use Rattle.ipc_disk.specs.Medium.{Image}
 use Rattle.byteorder.specs.Endian.{big_number}
-use Rattle.ipc_journal.specs.Journal.{sectors_for, sectors_of, sector_at, length_in, header_used, IsBatch, piece, StandsAt, Fill, Holds}
+use Rattle.ipc_journal.specs.Journal.{sectors_for, sectors_of, sector_at, length_in, IsBatch, piece, StandsAt, Fill}
 use Rattle.ipc_journal.proofs.CallerLemmas.{Fill-end, stands-same, length-there}
 use Rattle.ipc_journal.proofs.Runs.{StandsBelow}
 
@@ -78,24 +78,3 @@ piece-put i k xs ys sector le cases long is =
     cases in
     let same : piece i (put_mid (512 * i) k xs ys) ≡ ys = whole ∙ only in
     ap (λ (l : List ℕ). take (length l) sector) same ∙ ap (λ (n : ℕ). take n sector) long ∙ sym is ∙ sym same
-
--- a part of the body is filled by one list of batches alone
-pub Fill-one : (range : Range) (place end : ℕ) (xs ys : List (List ℕ)) (image : Image) → Fill range place end xs image → Fill range place end ys image → xs ≡ ys
-Fill-one range place end [] [] image first second = refl
-Fill-one range place end [] (y ∷ ys) image first second =
-    absurd (omega (arith, first, second.0.field, Fill-end range (place + sectors_for (length y)) end ys image second.2))
-Fill-one range place end (x ∷ xs) [] image first second =
-    absurd (omega (arith, second, first.0.field, Fill-end range (place + sectors_for (length x)) end xs image first.2))
-Fill-one range place end (x ∷ xs) (y ∷ ys) image first second =
-    let at = range.first + 1 + place in
-    let same : x ≡ y = stands-same at x y image (sym (length-there at x image first.0 first.1) ∙ length-there at y image second.0 second.1) first.1 second.1 in
-    let next : Fill range (place + sectors_for (length x)) end ys image =
-    subst (λ (l : List ℕ). Fill range (place + sectors_for (length l)) end ys image) (sym same) second.2 in
-    ap (λ (l : List ℕ). l ∷ xs) same ∙ ap (λ (l : List (List ℕ)). y ∷ l) (Fill-one range (place + sectors_for (length x)) end xs ys image first.2 next)
-
--- an image is one journal at an epoch
-pub Holds-one : (range : Range) (epoch : ℕ) (xs ys : List (List ℕ)) (image : Image) → Holds range epoch xs image → Holds range epoch ys image → xs ≡ ys
-Holds-one range epoch xs ys image (inl first) (inl second) = first.1 ∙ sym second.1
-Holds-one range epoch xs ys image (inl first) (inr second) = absurd (omega (arith, first.0.older, second.current))
-Holds-one range epoch xs ys image (inr first) (inl second) = absurd (omega (arith, second.0.older, first.current))
-Holds-one range epoch xs ys image (inr first) (inr second) = Fill-one range 0 (header_used range image) xs ys image first.filled second.filled

@@ -1,5 +1,6 @@
 mod Accepting
 mod Batches
+pub mod CallerLemmas
 mod Committing
 mod Devices
 mod Histories

@@ -5,6 +5,7 @@
 mod batch;
 mod fault;
 mod format;
+mod laws;
 mod loading;
 mod opening;
 mod places;
@@ -12,5 +13,6 @@ mod replay;
 mod store;
 
 pub use fault::{CommitError, FormatError, OpenError, StepError};
+pub use laws::{a_batch_is_of_one_list, an_image_stands_for_one_state};
 pub use opening::Unopened;
 pub use store::Store;
