@@ -1,123 +1,195 @@
 -- What the calls on a store do to its history.
-use Rattle.std.proofs.Common.{◌≡◌, ◌⊎◌, inl, inr, ⊎_elim, List, [], ◌∷◌, ◌++◌, refl, sym, ap, subst, ◌∙◌, append-nil, append_assoc}
+use Rattle.std.proofs.Common.{◌≡◌, ◌⊎◌, inl, inr, ⊎_elim, ℕ, ◌+◌, Bool, true, false, List, [], ◌∷◌, ◌++◌, length, refl, sym, ap, subst, ◌∙◌, append-nil, append_assoc, arith}
+use Rattle.std.proofs.lemmas.List.{length-append}
 use Rattle.ipc_base.specs.declared.limits.Limits.{Limits}
-use Rattle.ipc_disk.specs.Medium.{Image, Medium}
+use Rattle.ipc_disk.specs.Medium.{Image, Medium, IsHonest}
 use Rattle.ipc_disk.specs.Since.{EachImageSince}
-use Rattle.ipc_disk.proofs.CallerLemmas.{EachImageSince-start, EachImageSince-weaken}
+use Rattle.ipc_disk.proofs.CallerLemmas.{EachImageSince-start, EachImageSince-weaken, EachImageSince-now}
 use Rattle.ipc_state.specs.State.{State, start}
 use Rattle.ipc_engine.specs.Event.{PlainEvent}
 use Rattle.ipc_engine.specs.Step.{run}
 use Rattle.ipc_engine.proofs.CallerLemmas.{run-parts}
-use Rattle.ipc_store.specs.Histories.{History, accepted, state_after, StandsForPrefix, HasLived, Follows, Moves}
+use Rattle.ipc_store.specs.Histories.{History, acknowledged, accepted, state_after, StandsForPrefix, GoesOn, HasHalted, Keeps, Follows, Moves, Takes}
 use Rattle.ipc_store.specs.Image.{StandsFor}
 use Rattle.ipc_store.specs.View.{StoreView, IsStopped}
 use Rattle.ipc_store.specs.Relations.Matches.{StoreMatches, StandsForEither}
 use Rattle.ipc_store.proofs.Committing.{stands_now}
 
--- nothing was accepted, and nothing acknowledged
+-- nothing was accepted, and nothing confirmed
 follows-none : (before : History) → Follows before [] before
-follows-none before = record {
-  accepts = sym (append-nil (accepted before));
-  acknowledges = ([], sym (append-nil before.acknowledged));
-}
+follows-none before =
+    record { found = refl; accepts = sym (append-nil (accepted before)); more = []; confirms = sym (append-nil before.confirmed) }
 
 -- one event waits more
-follows-one : (before : History) (e : PlainEvent)
-    → Follows before (e ∷ []) (record { acknowledged = before.acknowledged; waiting = before.waiting ++ e ∷ [] })
+follows-one : (before : History) (e : PlainEvent) → Follows before (e ∷ []) (record before { waiting = before.waiting ++ e ∷ [] })
 follows-one before e = record {
-  accepts = sym (append_assoc before.acknowledged before.waiting (e ∷ []));
-  acknowledges = ([], sym (append-nil before.acknowledged));
+  found = refl;
+  accepts = sym (append_assoc (acknowledged before) before.waiting (e ∷ []));
+  more = [];
+  confirms = sym (append-nil before.confirmed);
 }
 
--- all that waited is acknowledged
-follows-all : (before : History) → Follows before [] (record { acknowledged = accepted before; waiting = [] })
-follows-all before = record { accepts = refl; acknowledges = (before.waiting, refl) }
+-- all that waited is confirmed
+abbrev confirmed-all : History → History
+confirmed-all before = record before { confirmed = before.confirmed ++ before.waiting; waiting = [] }
 
--- the state after all accepted events
-pub state-accepted : (limits : Limits) (before : History)
-    → (run limits (state_after limits before.acknowledged) before.waiting).state ≡ state_after limits (accepted before)
-state-accepted limits before = sym (run-parts limits start before.acknowledged before.waiting)
+acknowledged-all : (before : History) → acknowledged (confirmed-all before) ≡ accepted before
+acknowledged-all before = sym (append_assoc before.found before.confirmed before.waiting)
 
-module _ (limits : Limits) (before : History) (others : List PlainEvent) where
+follows-all : (before : History) → Follows before [] (confirmed-all before)
+follows-all before = record {
+  found = refl;
+  accepts = ap (λ (es : List PlainEvent). es ++ []) (acknowledged-all before);
+  more = before.waiting;
+  confirms = refl;
+}
+
+module _ (limits : Limits) (acked : List PlainEvent) where
   -- what stands for the state after the acknowledged events keeps none of the others
-  keeps-none : (image : Image) → StandsFor limits (state_after limits before.acknowledged) image
-      → StandsForPrefix limits before.acknowledged others image
-  keeps-none image stands = record {
+  keeps-none : (others : List PlainEvent) (image : Image) → StandsFor limits (state_after limits acked) image
+      → StandsForPrefix limits acked others image
+  keeps-none others image stands = record {
     kept = [];
     lost = others;
     prefix = refl;
-    stands = subst (λ (es : List PlainEvent). StandsFor limits (state_after limits es) image) (sym (append-nil before.acknowledged)) stands;
+    stands = subst (λ (es : List PlainEvent). StandsFor limits (state_after limits es) image) (sym (append-nil acked)) stands;
   }
 
--- what stands for either state of a commit keeps none, or all that waited
-keeps-either : (limits : Limits) (before : History) (image : Image)
-    → StandsForEither limits (state_after limits before.acknowledged)
-    (run limits (state_after limits before.acknowledged) before.waiting).state image
-    → StandsForPrefix limits before.acknowledged (before.waiting ++ []) image
-keeps-either limits before image (inl stands) = keeps-none limits before (before.waiting ++ []) image stands
-keeps-either limits before image (inr stands) = record {
-  kept = before.waiting;
-  lost = [];
-  prefix = refl;
-  stands = subst (λ (s : State). StandsFor limits s image) (state-accepted limits before) stands;
-}
+  -- a prefix of some events is one of these and more
+  keeps-more : (others more : List PlainEvent) (image : Image) → StandsForPrefix limits acked others image
+      → StandsForPrefix limits acked (others ++ more) image
+  keeps-more others more image is = record {
+    kept = is.kept;
+    lost = is.lost ++ more;
+    prefix = sym (append_assoc is.kept is.lost more) ∙ ap (λ (es : List PlainEvent). es ++ more) is.prefix;
+    stands = is.stands;
+  }
 
-module _ {D : Type 0} (medium : D → Medium) (old : StoreView D) (before : History) (at : HasLived (medium old.disk) old before)
-    (law : (image : Image) → (medium old.disk).images_since (medium old.disk).moment image → (medium old.disk).images_now image) where
-  -- no call on the disk was made
-  unmoved-since : (others : List PlainEvent)
-      → EachImageSince (medium old.disk) (medium old.disk) (StandsForPrefix old.machine.limits before.acknowledged others)
-  unmoved-since others =
-      EachImageSince-start (medium old.disk) (StandsForPrefix old.machine.limits before.acknowledged others) law
-      (λ image now. keeps-none old.machine.limits before others image
-      (stands_now (medium old.disk) old (state_after old.machine.limits before.acknowledged) before.waiting at image now))
+  -- what stands for either state of a commit keeps none, or all that waited
+  keeps-either : (waiting : List PlainEvent) (image : Image)
+      → StandsForEither limits (state_after limits acked) (run limits (state_after limits acked) waiting).state image
+      → StandsForPrefix limits acked waiting image
+  keeps-either waiting image (inl stands) = keeps-none waiting image stands
+  keeps-either waiting image (inr stands) = record {
+    kept = waiting;
+    lost = [];
+    prefix = append-nil waiting;
+    stands = subst (λ (s : State). StandsFor limits s image) (sym (run-parts limits start acked waiting)) stands;
+  }
+
+-- a store that goes on has not stopped
+going : {D : Type 0} (medium : Medium) (store : StoreView D) (h : History) → Keeps medium store h → store.stopped ≡ false → GoesOn medium store h
+going medium store h keeps is = ⊎_elim (λ goes. goes) (λ halted. absurd (both store.stopped halted.stopped is)) keeps.stands
+  where
+    both : (b : Bool) → b ≡ true → b ≡ false → ⊥
+    both b is-so is-not = cc
+
+module _ {D : Type 0} (medium : D → Medium) (law : (d : D) (image : Image) → (medium d).images_since (medium d).moment image → (medium d).images_now image)
+    (old : StoreView D) where
+  -- each image now keeps what was acknowledged
+  now-keeps : (h : History) → Keeps (medium old.disk) old h → (others : List PlainEvent) (image : Image) → (medium old.disk).images_now image
+      → StandsForPrefix old.machine.limits (acknowledged h) (h.waiting ++ others) image
+  now-keeps h keeps others image now =
+      ⊎_elim
+      (λ goes. keeps-none old.machine.limits (acknowledged h) (h.waiting ++ others) image
+      (stands_now (medium old.disk) old (state_after old.machine.limits (acknowledged h)) h.waiting goes image now))
+      (λ halted. keeps-more old.machine.limits (acknowledged h) h.waiting others image (halted.left image now)) keeps.stands
 
   -- nothing has changed
-  pub unmoved : Moves medium old old before []
-  unmoved = record { crash = unmoved-since (before.waiting ++ []); after = inr (before, follows-none before, at) }
+  pub takes-none : Takes medium old [] old
+  takes-none before keeps = record {
+    crash = EachImageSince-start (medium old.disk) (StandsForPrefix old.machine.limits (acknowledged before) (before.waiting ++ [])) (law old.disk)
+        (now-keeps before keeps []);
+    limits = refl;
+    after = before;
+    follows = follows-none before;
+    keeps = keeps;
+  }
 
   -- an event was accepted
-  pub moved-on : (new : StoreView D) (e : PlainEvent) → new.disk ≡ old.disk → new.machine.limits ≡ old.machine.limits
-      → StoreMatches (medium new.disk) new (state_after old.machine.limits before.acknowledged) (before.waiting ++ e ∷ [])
-      → Moves medium old new before (e ∷ [])
-  moved-on new e disk limits matches =
-      let after : History = record { acknowledged = before.acknowledged; waiting = before.waiting ++ e ∷ [] } in
+  pub takes-one : (new : StoreView D) (e : PlainEvent) → old.stopped ≡ false → new.disk ≡ old.disk → new.machine.limits ≡ old.machine.limits
+      → new.confirmed ≡ old.confirmed
+      → ((base : State) (pending : List PlainEvent) → StoreMatches (medium old.disk) old base pending
+      → StoreMatches (medium new.disk) new base (pending ++ e ∷ []))
+      → Takes medium old (e ∷ []) new
+  takes-one new e going-on disk limits confirmed matches before keeps =
+      let goes = going (medium old.disk) old before keeps going-on in
+      let after : History = record before { waiting = before.waiting ++ e ∷ [] } in
       record {
         crash = subst (λ (d : D). EachImageSince (medium old.disk) (medium d)
-            (StandsForPrefix old.machine.limits before.acknowledged (before.waiting ++ e ∷ []))) (sym disk)
-            (unmoved-since (before.waiting ++ e ∷ []));
-        after = inr (
-          after,
-          follows-one before e,
-          subst (λ (l : Limits). StoreMatches (medium new.disk) new (state_after l before.acknowledged) (before.waiting ++ e ∷ []))
-              (sym limits) matches,
-        );
+            (StandsForPrefix old.machine.limits (acknowledged before) (before.waiting ++ e ∷ []))) (sym disk)
+            (EachImageSince-start (medium old.disk) (StandsForPrefix old.machine.limits (acknowledged before) (before.waiting ++ e ∷ []))
+            (law old.disk) (now-keeps before keeps (e ∷ [])));
+        limits = limits;
+        after = after;
+        follows = follows-one before e;
+        keeps = record {
+          stands = inl (subst (λ (l : Limits). StoreMatches (medium new.disk) new (state_after l (acknowledged before)) (before.waiting ++ e ∷ []))
+              (sym limits) (matches (state_after old.machine.limits (acknowledged before)) before.waiting goes));
+          count = confirmed ∙ keeps.count;
+        };
       }
 
-module _ {D : Type 0} (medium : D → Medium) (old new : StoreView D) (before : History)
-    (moments : EachImageSince (medium old.disk) (medium new.disk)
-    (StandsForEither old.machine.limits (state_after old.machine.limits before.acknowledged)
-    (run old.machine.limits (state_after old.machine.limits before.acknowledged) before.waiting).state)) where
-  committed-since : EachImageSince (medium old.disk) (medium new.disk)
-      (StandsForPrefix old.machine.limits before.acknowledged (before.waiting ++ []))
-  committed-since =
-      EachImageSince-weaken (medium old.disk) (medium new.disk)
-      (StandsForEither old.machine.limits (state_after old.machine.limits before.acknowledged)
-      (run old.machine.limits (state_after old.machine.limits before.acknowledged) before.waiting).state)
-      (StandsForPrefix old.machine.limits before.acknowledged (before.waiting ++ [])) moments (keeps-either old.machine.limits before)
+  module _ (new : StoreView D) (going-on : old.stopped ≡ false) (limits : new.machine.limits ≡ old.machine.limits)
+      (moments : (base : State) (pending : List PlainEvent) → StoreMatches (medium old.disk) old base pending
+      → EachImageSince (medium old.disk) (medium new.disk) (StandsForEither old.machine.limits base (run old.machine.limits base pending).state)) where
+    since : (before : History) → GoesOn (medium old.disk) old before
+        → EachImageSince (medium old.disk) (medium new.disk) (StandsForPrefix old.machine.limits (acknowledged before) before.waiting)
+    since before goes =
+        let base : State = state_after old.machine.limits (acknowledged before) in
+        EachImageSince-weaken (medium old.disk) (medium new.disk)
+        (StandsForEither old.machine.limits base (run old.machine.limits base before.waiting).state)
+        (StandsForPrefix old.machine.limits (acknowledged before) before.waiting) (moments base before.waiting goes)
+        (keeps-either old.machine.limits (acknowledged before) before.waiting)
 
-  -- a commit that failed
-  pub moved-stopped : IsStopped new → Moves medium old new before []
-  moved-stopped stopped = record { crash = committed-since; after = inl stopped }
+    crash-since : (before : History) → GoesOn (medium old.disk) old before
+        → EachImageSince (medium old.disk) (medium new.disk) (StandsForPrefix old.machine.limits (acknowledged before) (before.waiting ++ []))
+    crash-since before goes =
+        EachImageSince-weaken (medium old.disk) (medium new.disk) (StandsForPrefix old.machine.limits (acknowledged before) before.waiting)
+        (StandsForPrefix old.machine.limits (acknowledged before) (before.waiting ++ [])) (since before goes)
+        (keeps-more old.machine.limits (acknowledged before) before.waiting [])
 
-  -- what waited is acknowledged
-  pub lived-all : new.machine.limits ≡ old.machine.limits
-      → StoreMatches (medium new.disk) new (run old.machine.limits (state_after old.machine.limits before.acknowledged) before.waiting).state []
-      → HasLived (medium new.disk) new (record { acknowledged = accepted before; waiting = [] })
-  lived-all limits matches =
-      subst (λ (l : Limits). StoreMatches (medium new.disk) new (state_after l (accepted before)) []) (sym limits)
-      (subst (λ (s : State). StoreMatches (medium new.disk) new s []) (state-accepted old.machine.limits before) matches)
+    -- a commit
+    pub takes-all : new.confirmed ≡ old.confirmed + old.waiting
+        → ((base : State) (pending : List PlainEvent) → StoreMatches (medium old.disk) old base pending
+        → StoreMatches (medium new.disk) new (run old.machine.limits base pending).state [])
+        → Takes medium old [] new
+    takes-all confirmed matches before keeps =
+        let goes = going (medium old.disk) old before keeps going-on in
+        let base : State = state_after old.machine.limits (acknowledged before) in
+        let state : (run old.machine.limits base before.waiting).state ≡ state_after old.machine.limits (acknowledged (confirmed-all before)) =
+        sym (run-parts old.machine.limits start (acknowledged before) before.waiting)
+        ∙ ap (λ (es : List PlainEvent). state_after old.machine.limits es) (sym (acknowledged-all before)) in
+        record {
+          crash = crash-since before goes;
+          limits = limits;
+          after = confirmed-all before;
+          follows = follows-all before;
+          keeps = record {
+            stands = inl (subst (λ (l : Limits). StoreMatches (medium new.disk) new (state_after l (acknowledged (confirmed-all before))) []) (sym limits)
+                (subst (λ (s : State). StoreMatches (medium new.disk) new s []) state (matches base before.waiting goes)));
+            count = omega (arith, confirmed, keeps.count, goes.waits.count, length-append before.confirmed before.waiting);
+          };
+        }
 
-  -- a commit
-  pub moved-all : HasLived (medium new.disk) new (record { acknowledged = accepted before; waiting = [] }) → Moves medium old new before []
-  moved-all lived = record { crash = committed-since; after = inr (record { acknowledged = accepted before; waiting = [] }, follows-all before, lived) }
+    -- a commit that failed
+    pub takes-halted : new.confirmed ≡ old.confirmed → IsStopped new → (IsHonest (medium old.disk) → IsHonest (medium new.disk))
+        → Takes medium old [] new
+    takes-halted confirmed stopped honest before keeps =
+        let goes = going (medium old.disk) old before keeps going-on in
+        record {
+          crash = crash-since before goes;
+          limits = limits;
+          after = before;
+          follows = follows-none before;
+          keeps = record {
+            stands = inr (record {
+              stopped = stopped;
+              honest = honest goes.honest;
+              left = λ image now. subst (λ (l : Limits). StandsForPrefix l (acknowledged before) before.waiting image) (sym limits)
+                  (EachImageSince-now (medium old.disk) (medium new.disk) (StandsForPrefix old.machine.limits (acknowledged before) before.waiting)
+                  (since before goes) (honest goes.honest) image now);
+            });
+            count = confirmed ∙ keeps.count;
+          };
+        }

@@ -1,8 +1,9 @@
--- What a user of a store may count on. The events that were accepted since the device was made are in two parts: a crash
--- leaves all that are acknowledged, and of those that wait some, from the first on. An open adds a restart to what was left.
-use Rattle.std.specs.Prelude.{◌≡◌, ◌⊎◌, ℕ, List, [], ◌∷◌, ◌++◌}
+-- What a user of a store may count on. The events that were accepted since the device was made are in three parts: those that
+-- the last open found on the device, those that were confirmed since then, the restart first, and those that wait for a commit.
+-- A crash leaves all of the first two parts, and of the third some, from the first on. An open adds a restart to what was left.
+use Rattle.std.specs.Prelude.{◌≡◌, ◌⊎◌, ℕ, ◌+◌, ◌≤◌, List, [], ◌∷◌, ◌++◌, length}
 use Rattle.ipc_base.specs.declared.limits.Limits.{Limits}
-use Rattle.ipc_disk.specs.Medium.{Image, Medium}
+use Rattle.ipc_disk.specs.Medium.{Image, Medium, IsHonest}
 use Rattle.ipc_disk.specs.Since.{EachImageSince}
 use Rattle.ipc_state.specs.State.{State, start, restart}
 use Rattle.ipc_engine.specs.Event.{PlainEvent, Restart}
@@ -11,47 +12,88 @@ use Rattle.ipc_store.specs.Image.{StandsFor}
 use Rattle.ipc_store.specs.View.{StoreView, IsStopped}
 use Rattle.ipc_store.specs.Relations.Matches.{StoreMatches}
 
--- the accepted events, from the making of the device on
 pub record History : Type 0 where
-  pub acknowledged : List PlainEvent
+  pub found : List PlainEvent
+  pub confirmed : List PlainEvent
   pub waiting : List PlainEvent
 
+-- those that no crash takes
+abbrev pub acknowledged : History → List PlainEvent
+acknowledged h = h.found ++ h.confirmed
+
 abbrev pub accepted : History → List PlainEvent
-accepted h = h.acknowledged ++ h.waiting
+accepted h = acknowledged h ++ h.waiting
 
 -- the state after events, from the first state on
 abbrev pub state_after : Limits → List PlainEvent → State
 state_after limits events = (run limits start events).state
 
--- the history of a device that was opened with these events on it
+-- the history of a device on which an open has found these events
 abbrev pub reopened : List PlainEvent → History
-reopened events = record { acknowledged = events ++ Restart ∷ []; waiting = [] }
+reopened events = record { found = events; confirmed = Restart ∷ []; waiting = [] }
 
 -- the image stands for the state after the acknowledged events and those of the others that were kept, from the first on
-pub record StandsForPrefix (limits : Limits) (acknowledged others : List PlainEvent) (image : Image) : Type 0 where
+pub record StandsForPrefix (limits : Limits) (acked others : List PlainEvent) (image : Image) : Type 0 where
   pub kept : List PlainEvent
   pub lost : List PlainEvent
   pub prefix : kept ++ lost ≡ others
-  pub stands : StandsFor limits (state_after limits (acknowledged ++ kept)) image
+  pub stands : StandsFor limits (state_after limits (acked ++ kept)) image
 
--- The store has this history: its disk stands for the state after the acknowledged events, and its machine is in the state
--- after the waiting ones too.
-abbrev pub HasLived : {D : Type 0} → Medium → StoreView D → History → Type 0
-HasLived medium store h = StoreMatches medium store (state_after store.machine.limits h.acknowledged) h.waiting
+-- the store goes on: its disk stands for the state after the acknowledged events, and its machine is in the state after the
+-- waiting ones too
+abbrev pub GoesOn : {D : Type 0} → Medium → StoreView D → History → Type 0
+GoesOn medium store h = StoreMatches medium store (state_after store.machine.limits (acknowledged h)) h.waiting
 
--- after these events were accepted, some of all may be acknowledged that were not
+-- the store has stopped: a crash leaves what was acknowledged, and some of what waited
+pub record HasHalted {D : Type 0} (medium : Medium) (store : StoreView D) (h : History) : Type 0 where
+  pub stopped : IsStopped store
+  pub honest : IsHonest medium
+  pub left : (image : Image) → medium.images_now image
+      → StandsForPrefix store.machine.limits (acknowledged h) h.waiting image
+
+-- the store has this history, and counts what it has confirmed
+pub record Keeps {D : Type 0} (medium : Medium) (store : StoreView D) (h : History) : Type 0 where
+  pub stands : GoesOn medium store h ⊎ HasHalted medium store h
+  pub count : store.confirmed ≡ length h.confirmed
+
+-- a history goes on: these events are accepted, and some of all may be confirmed
 pub record Follows (before : History) (events : List PlainEvent) (after : History) : Type 0 where
+  pub found : after.found ≡ before.found
   pub accepts : accepted after ≡ accepted before ++ events
-  pub acknowledges : (more : List PlainEvent) × (after.acknowledged ≡ before.acknowledged ++ more)
+  pub more : List PlainEvent
+  pub confirms : after.confirmed ≡ before.confirmed ++ more
 
 -- What a call does that accepts these events. A crash at any moment of it leaves what was acknowledged before it, and some of
--- the other events; and if the store goes on, its history does.
+-- the other events; and the history goes on.
 pub record Moves {D : Type 0} (medium : D → Medium) (old new : StoreView D) (before : History)
     (events : List PlainEvent) : Type 0 where
   pub crash : EachImageSince (medium old.disk) (medium new.disk)
-      (StandsForPrefix old.machine.limits before.acknowledged (before.waiting ++ events))
-  pub after : IsStopped new ⊎ ((h : History) × Follows before events h × HasLived (medium new.disk) new h)
+      (StandsForPrefix old.machine.limits (acknowledged before) (before.waiting ++ events))
+  pub limits : new.machine.limits ≡ old.machine.limits
+  pub after : History
+  pub follows : Follows before events after
+  pub keeps : Keeps (medium new.disk) new after
+
+-- A call did so, whatever the history before it was: what the clause of each call on a store says.
+abbrev pub Takes : {D : Type 0} → (D → Medium) → StoreView D → List PlainEvent → StoreView D → Type 0
+Takes medium old events new = (before : History) → Keeps (medium old.disk) old before → Moves medium old new before events
+
+-- a list of calls, one after another, and all the events that they accepted
+pub data Calls {D : Type 0} (medium : D → Medium) : StoreView D → List PlainEvent → StoreView D → Type 0 where
+  None : (store : StoreView D) → Calls medium store [] store
+  More : (first last next : StoreView D) (events others : List PlainEvent) → Calls medium first events last
+      → Takes medium last others next → Calls medium first (events ++ others) next
 
 -- What an open gives on a disk that reads so: a store that goes on from the state for which the image stands, after a restart.
-abbrev pub OpensOn : {D : Type 0} → Image → Medium → StoreView D → Type 0
-OpensOn image medium store = (s : State) × StandsFor store.machine.limits s image × StoreMatches medium store (restart s) []
+pub record OpensOn {D : Type 0} (image : Image) (medium : Medium) (store : StoreView D) : Type 0 where
+  pub found : (s : State) × StandsFor store.machine.limits s image × StoreMatches medium store (restart s) []
+  pub confirmed : store.confirmed ≡ 1
+
+-- What a crash left of these events is some of them, from the first on, with at least so many of them; and the store that was
+-- opened on it has them as its history, and a restart.
+pub record Survives {D : Type 0} (medium : Medium) (store : StoreView D) (least : ℕ) (events : List PlainEvent) : Type 0 where
+  pub kept : List PlainEvent
+  pub lost : List PlainEvent
+  pub prefix : kept ++ lost ≡ events
+  pub holds : least ≤ length kept
+  pub goes_on : GoesOn medium store (reopened kept)

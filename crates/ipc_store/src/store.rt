@@ -14,7 +14,7 @@ ghost use Rattle.ipc_engine.specs.Event.{PlainEvent};
 ghost use Rattle.ipc_engine.specs.Step.{step as step_on, run};
 ghost use Rattle.ipc_engine.specs.View.{plain_event};
 ghost use Rattle.ipc_image.specs.Records.{record_bytes, HasRecord};
-ghost use Rattle.ipc_store.specs.Histories.{History, HasLived, Moves, accepted};
+ghost use Rattle.ipc_store.specs.Histories.{Takes};
 ghost use Rattle.ipc_store.specs.View.{HasRoom, IsStopped};
 ghost use Rattle.ipc_store.specs.Relations.Matches.{StoreMatches, StandsForEither};
 
@@ -124,9 +124,8 @@ impl<D: SectorDisk> Store<D> {
         ensures matches { OnOk result ((base : State) (pending : List PlainEvent)
             → StoreMatches (D.medium self.old.disk) self.old base pending
             → StoreMatches (D.medium self.new.disk) self.new base (pending ++ plain_event event.entry ∷ [])) }
-        ensures moves { (before : History) → HasLived (D.medium self.old.disk) self.old before
-            → (OnOk result (Moves D.medium self.old self.new before (plain_event event.entry ∷ [])))
-            × (OnErr result (Moves D.medium self.old self.new before [])) }
+        ensures takes { (OnOk result (Takes D.medium self.old (plain_event event.entry ∷ []) self.new))
+            × (OnErr result (Takes D.medium self.old [] self.new)) }
         ensures disk { self.new.disk ≡ self.old.disk }
         ensures journal { self.new.journal ≡ self.old.journal }
         ensures confirmed { self.new.confirmed ≡ self.old.confirmed }
@@ -160,12 +159,7 @@ impl<D: SectorDisk> Store<D> {
         ensures waiting { OnOk result (self.new.waiting ≡ 0) }
         ensures confirmed { OnOk result (self.new.confirmed ≡ self.old.confirmed + self.old.waiting) }
         ensures machine { self.new.machine ≡ self.old.machine }
-        ensures moves { (before : History) → HasLived (D.medium self.old.disk) self.old before
-            → Moves D.medium self.old self.new before [] }
-        ensures acknowledged { OnOk result ((before : History)
-            → HasLived (D.medium self.old.disk) self.old before
-            → HasLived (D.medium self.new.disk) self.new
-            (record { acknowledged = accepted before; waiting = [] })) }
+        ensures takes { Takes D.medium self.old [] self.new }
         // A crash at any moment of the call, also of one that fails.
         ensures any_moment { (base : State) (pending : List PlainEvent)
             → StoreMatches (D.medium self.old.disk) self.old base pending

@@ -22,14 +22,17 @@ returns-in-Ok-restart-clause-ok g c = λ honest.
     let matches : StoreMatches (m c.new-store.result.disk) c.new-store.result machine.state [] =
     subst (λ v. StoreMatches (m v.disk) v machine.state []) (sym c.new-store.ensures)
     (begins (m c.read_device.new.disk) c.read_device.new.disk c.in-Ok.found.0 machine loaded) in
-    (
-      machine.state,
-      subst (λ (l : Limits). StandsFor l machine.state (m c.args.disk).contents)
-          (sym (c.restart.ensures.limits ∙ ap (λ v. v.machine.limits) c.new-store.ensures))
-          (stood (m c.read_device.new.disk) c.read_device.new.disk c.in-Ok.found.0 machine loaded (m c.args.disk)
-          ((c.read_device.ensures.reads honest).contents honest)),
-      c.in-Ok-restart.ensures.matches machine.state matches,
-    )
+    record {
+      found = (
+        machine.state,
+        subst (λ (l : Limits). StandsFor l machine.state (m c.args.disk).contents)
+            (sym (c.restart.ensures.limits ∙ ap (λ v. v.machine.limits) c.new-store.ensures))
+            (stood (m c.read_device.new.disk) c.read_device.new.disk c.in-Ok.found.0 machine loaded (m c.args.disk)
+            ((c.read_device.ensures.reads honest).contents honest)),
+        c.in-Ok-restart.ensures.matches machine.state matches,
+      );
+      confirmed = c.in-Ok-restart.ensures.confirmed;
+    }
 
 pub returns-in-Ok-restart-clause-any_moment : goal.returns-in-Ok-restart-clause-any_moment
 returns-in-Ok-restart-clause-any_moment g c = λ honest.

@@ -1,10 +1,10 @@
 use Rattle.std.proofs.Common.{◌≡◌, [], sym, ap, subst, ◌∙◌}
 use Rattle.ipc_engine.specs.Engine.{Machine, IsForProcess}
 use Rattle.ipc_engine.specs.View.{plain_event}
-use Rattle.ipc_store.specs.Histories.{Moves}
+use Rattle.ipc_store.specs.Histories.{Takes}
 use Rattle.ipc_store.specs.View.{StoreView}
 use Rattle.ipc_store.proofs.Accepting.{accepted}
-use Rattle.ipc_store.proofs.Lives.{unmoved, moved-on}
+use Rattle.ipc_store.proofs.Lives.{takes-none, takes-one}
 use Rattle.ipc_store.proofs.store.Store.step.Goals as goal
 
 pub returns-clause-matches : goal.returns-clause-matches
@@ -15,12 +15,11 @@ returns-clause-matches g c =
     accepted _ _ base pending at (plain_event c.args.event) c.requires.record for c.step.new.self c.step.ensures.limits
     c.in_default.ensures.state c.push.new.self.records c.push.ensures.records c.push.new.self.count c.push.ensures.count)
 
-pub returns-then-self-clause-moves : goal.returns-then-self-clause-moves
-returns-then-self-clause-moves g c = λ before at.
-    (tt, unmoved g.D.SectorDisk.medium c.args.self.now before at (g.met.D.SectorDisk.only_now c.args.self.now.disk))
+pub returns-then-self-clause-takes : goal.returns-then-self-clause-takes
+returns-then-self-clause-takes g c = (tt, takes-none g.D.SectorDisk.medium g.met.D.SectorDisk.only_now c.args.self.now)
 
-pub returns-in-Err-clause-moves : goal.returns-in-Err-clause-moves
-returns-in-Err-clause-moves g c = λ before at.
+pub returns-in-Err-clause-takes : goal.returns-in-Err-clause-takes
+returns-in-Err-clause-takes g c =
     let view : Machine → StoreView g.row.D.Denot = λ machine. record {
       disk = c.self.inside.disk;
       machine = machine;
@@ -33,15 +32,16 @@ returns-in-Err-clause-moves g c = λ before at.
     let same : c.args.self.now ≡ view c.step.new.self = sym c.self.view_is ∙ ap view (sym c.in-Err.ensures.err) in
     (
       tt,
-      subst (λ v. Moves g.D.SectorDisk.medium c.args.self.now v before []) same
-          (unmoved g.D.SectorDisk.medium c.args.self.now before at (g.met.D.SectorDisk.only_now c.args.self.now.disk)),
+      subst (λ v. Takes g.D.SectorDisk.medium c.args.self.now [] v) same
+          (takes-none g.D.SectorDisk.medium g.met.D.SectorDisk.only_now c.args.self.now),
     )
 
-pub returns-clause-moves : goal.returns-clause-moves
-returns-clause-moves g c = λ before at.
+pub returns-clause-takes : goal.returns-clause-takes
+returns-clause-takes g c =
     (
-      moved-on g.D.SectorDisk.medium c.args.self.now before at (g.met.D.SectorDisk.only_now c.args.self.now.disk) _ (plain_event c.args.event)
-          (ap (λ v. v.disk) c.self.view_is) (c.step.ensures.limits ∙ ap (λ v. v.machine.limits) c.self.view_is)
-          (returns-clause-matches g c _ before.waiting at),
+      takes-one g.D.SectorDisk.medium g.met.D.SectorDisk.only_now c.args.self.now _ (plain_event c.args.event)
+          (sym (ap (λ v. v.stopped) c.self.view_is) ∙ c.if-self.false)
+          (ap (λ v. v.disk) c.self.view_is) (c.step.ensures.limits ∙ ap (λ v. v.machine.limits) c.self.view_is) (ap (λ v. v.confirmed) c.self.view_is)
+          (returns-clause-matches g c),
       tt,
     )
