@@ -8,5 +8,6 @@ mod Lives
 mod Opened
 mod Openings
 mod Superblocks
+mod Surviving
 mod Replaying
 mod Formatting

@@ -89,11 +89,11 @@ pub record OpensOn {D : Type 0} (image : Image) (medium : Medium) (store : Store
   pub found : (s : State) × StandsFor store.machine.limits s image × StoreMatches medium store (restart s) []
   pub confirmed : store.confirmed ≡ 1
 
--- What a crash left of these events is some of them, from the first on, with at least so many of them; and the store that was
--- opened on it has them as its history, and a restart.
+-- What a crash left of these events is some of them, from the first on, and at least so many. The store that was opened on it
+-- has them as its history, and a restart.
 pub record Survives {D : Type 0} (medium : Medium) (store : StoreView D) (least : ℕ) (events : List PlainEvent) : Type 0 where
   pub kept : List PlainEvent
   pub lost : List PlainEvent
   pub prefix : kept ++ lost ≡ events
   pub holds : least ≤ length kept
-  pub goes_on : GoesOn medium store (reopened kept)
+  pub goes_on : Keeps medium store (reopened kept)

@@ -13,6 +13,9 @@ mod replay;
 mod store;
 
 pub use fault::{CommitError, FormatError, OpenError, StepError};
-pub use laws::{a_batch_is_of_one_list, an_image_stands_for_one_state};
+pub use laws::{
+    a_batch_is_of_one_list, a_crash_takes_nothing_acknowledged, an_image_stands_for_one_state,
+    an_open_that_stops_changes_nothing,
+};
 pub use opening::Unopened;
 pub use store::Store;
