@@ -8,4 +8,5 @@ returns-clause-bytes c =
 
 pub returns-clause-size : goal.returns-clause-size
 returns-clause-size c =
-    rw (sym c.self.view_is) (omega (arith, c.self.invariant.within, filled-length c.self.inside.bytes.items c.self.inside.len c.self.inside.count c.self.invariant))
+    let whole = filled-length c.self.inside.bytes.items c.self.inside.len c.self.inside.count c.self.invariant in
+    rw (sym c.self.view_is) (omega (arith, c.self.invariant.within, whole))

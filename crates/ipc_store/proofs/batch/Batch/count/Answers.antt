@@ -4,4 +4,5 @@ use Rattle.ipc_store.proofs.batch.Batch.count.Goals as goal
 
 pub returns-clause-some : goal.returns-clause-some
 returns-clause-some c =
-    rw (sym c.self.view_is) (omega (arith, c.self.invariant.least, filled-length c.self.inside.bytes.items c.self.inside.len c.self.inside.count c.self.invariant))
+    let whole = filled-length c.self.inside.bytes.items c.self.inside.len c.self.inside.count c.self.invariant in
+    rw (sym c.self.view_is) (omega (arith, c.self.invariant.least, whole))
