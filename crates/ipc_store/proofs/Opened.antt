@@ -126,10 +126,13 @@ module _ (limits : Limits) (journal : Journal) (image : Image) (range : range_of
       let same : other ≡ limits = (one-superblock (length image) (length image) other limits (sector_at image 0) fits fits stands.device device).1 in
       let batches = stands.history.0 in (
         same,
-        (batches, record {
-          filled = fills journal image opened (map batch_bytes batches) (of-journal batches stands.history.1);
-          leads = subst (λ (l : Limits). LeadTo l batches s) same stands.history.2;
-        }),
+        (
+          batches,
+          record {
+            filled = fills journal image opened (map batch_bytes batches) (of-journal batches stands.history.1);
+            leads = subst (λ (l : Limits). LeadTo l batches s) same stands.history.2;
+          },
+        ),
       )
 
   -- where a replay finds none, the image stands for none

@@ -1,6 +1,5 @@
 -- What an open leaves at each moment, and the store that it gives.
-use Rattle.std.proofs.Common.{◌≡◌, ◌⊎◌, inl, inr, ⊎_elim, ℕ, ◌+◌, ◌<◌, ◌≤◌, List, [], ◌∷◌, false, length, refl, sym, ap, subst, ◌∙◌, arith}
-use Rattle.std.specs.Prelude.{All}
+use Rattle.std.proofs.Common.{◌≡◌, inl, inr, ⊎_elim, ℕ, ◌+◌, ◌<◌, List, [], false, length, refl, sym, ap, subst, ◌∙◌, arith}
 use Rattle.std.proofs.lemmas.Bool.{cases_lt}
 use Rattle.std.proofs.lemmas.List.Elements.{All-nil}
 use Rattle.ipc_base.specs.declared.limits.Limits.{Limits}
@@ -14,9 +13,9 @@ use Rattle.ipc_state.specs.State.{State, restart}
 use Rattle.ipc_engine.specs.Engine.{Machine}
 use Rattle.ipc_engine.specs.Event.{Restart}
 use Rattle.ipc_image.specs.Records.{record_bytes, HasRecord}
-use Rattle.ipc_store.specs.Image.{StandsFor, HasNoState}
+use Rattle.ipc_store.specs.Image.{StandsFor}
 use Rattle.ipc_store.specs.View.{StoreView}
-use Rattle.ipc_store.specs.Relations.Matches.{HasHistory, HasPending, StoreMatches, StandsForEither, IsLoaded, OpensTo}
+use Rattle.ipc_store.specs.Relations.Matches.{StoreMatches, StandsForEither, IsLoaded, OpensTo}
 use Rattle.ipc_store.proofs.Batches.{record-length}
 use Rattle.ipc_store.proofs.Committing.{stands_now}
 
@@ -29,9 +28,20 @@ only_read old new call law = record {
   earlier = λ t image le left. ⊎_elim inl (λ now. inr (inl (call.images image now))) (call.time.nothing_else t image le left);
 }
 
--- What was loaded, and the store over it.
+-- the store over what was loaded
+abbrev store_over : {D : Type 0} → D → Journal → Machine → StoreView D
+store_over disk journal machine = record {
+  disk = disk;
+  machine = machine;
+  journal = journal;
+  records = [];
+  waiting = 0;
+  confirmed = 0;
+  stopped = false;
+}
+
 module _ {D : Type 0} (m : D → Medium) (disk : D) (journal : Journal) (machine : Machine) (loaded : IsLoaded (m disk) journal machine)
-    (store : StoreView D) (over : store ≡ record { disk = disk; machine = machine; journal = journal; records = []; waiting = 0; confirmed = 0; stopped = false }) where
+    (store : StoreView D) (over : store ≡ store_over disk journal machine) where
   -- it goes on from the state of the machine
   pub begins : StoreMatches (m store.disk) store machine.state []
   begins =

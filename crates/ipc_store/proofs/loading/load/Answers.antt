@@ -1,5 +1,5 @@
 -- Each exit: what was read is what stood there before.
-use Rattle.std.proofs.Common.{◌≡◌, ◌⊎◌, inl, inr, ⊎_elim, ℕ, ◌≤◌, ◌<◌, ◌^◌, List, Err, length, refl, sym, ap, subst, ◌∙◌, arith}
+use Rattle.std.proofs.Common.{◌≡◌, inl, inr, ⊎_elim, ℕ, ◌<◌, ◌^◌, List, Err, length, sym, ap, subst, ◌∙◌, arith}
 use Rattle.std.specs.Prelude.{Result, IsErrOf, map}
 use Rattle.std.specs.Result.{IsErrAnd}
 use Rattle.std.proofs.lemmas.Result.{err_from_is_err_and}
@@ -16,7 +16,7 @@ use Rattle.ipc_journal.specs.Journal.{header_used, Holds}
 use Rattle.ipc_journal.specs.View.{epoch_of, used_of}
 use Rattle.ipc_journal.proofs.CallerLemmas.{JournalMatches-stays}
 use Rattle.ipc_store.specs.Batch.{batch_bytes}
-use Rattle.ipc_store.specs.Image.{journal_range, first_epoch, IsDevice, IsNotFormatted, HasVersion, IsDamaged, IsFirstFault}
+use Rattle.ipc_store.specs.Image.{journal_range, first_epoch, IsDevice, IsDamaged, IsFirstFault}
 use Rattle.ipc_store.specs.View.{of_journal_error}
 use Rattle.ipc_store.specs.Relations.Replay.{IsOpened, Replays, IsGoodUpTo}
 use Rattle.ipc_store.proofs.Opened.{header-damaged, is_opened, batch-damaged, used-is, holds, loaded}

@@ -1,5 +1,5 @@
 -- Each exit: the images since the start, and the store after it.
-use Rattle.std.proofs.Common.{◌≡◌, sym, refl}
+use Rattle.std.proofs.Common.{sym}
 use Rattle.ipc_store.proofs.Committing.{is_batch, any_moment-none, any_moment-append, committed}
 use Rattle.ipc_store.proofs.store.Store.append.Goals as goal
 

@@ -1,4 +1,4 @@
-use Rattle.std.proofs.Common.{◌≡◌, ap, subst}
+use Rattle.std.proofs.Common.{ap, subst}
 use Rattle.ipc_disk.proofs.CallerLemmas.{EachImageSince-now}
 use Rattle.ipc_store.proofs.store.Store.commit.Goals as goal
 

@@ -1,10 +1,9 @@
 -- Each exit: what a crash leaves, and what was read.
-use Rattle.std.proofs.Common.{◌≡◌, [], Err, sym, ap, subst, ◌∙◌}
+use Rattle.std.proofs.Common.{Err, sym, ap, subst, ◌∙◌}
 use Rattle.ipc_base.specs.declared.limits.Limits.{Limits}
 use Rattle.ipc_disk.specs.Since.{EachImageSince}
-use Rattle.ipc_state.specs.State.{restart}
 use Rattle.ipc_store.specs.Image.{StandsFor}
-use Rattle.ipc_store.specs.Relations.Matches.{StoreMatches, StandsForEither, OpensTo}
+use Rattle.ipc_store.specs.Relations.Matches.{OpensTo}
 use Rattle.ipc_store.proofs.Openings.{only_read, begins, stood, restart_leaves}
 use Rattle.ipc_store.proofs.store.Store.open.Goals as goal
 
@@ -18,8 +17,7 @@ pub returns-in-Ok-restart-clause-ok : goal.returns-in-Ok-restart-clause-ok
 returns-in-Ok-restart-clause-ok g c = λ honest.
     let m = g.D.SectorDisk.medium in
     let machine = c.in-Ok.found.1 in
-    let loaded = c.in-Ok.ensures.loaded honest in
-    (
+    let loaded = c.in-Ok.ensures.loaded honest in (
       machine.state,
       subst (λ (l : Limits). StandsFor l machine.state (m c.args.disk).contents) (sym c.restart.ensures.limits)
           (stood m c.read_device.new.disk c.in-Ok.found.0 machine loaded c.new-store.result c.new-store.ensures (m c.args.disk)
@@ -30,8 +28,7 @@ returns-in-Ok-restart-clause-ok g c = λ honest.
 
 pub returns-in-Ok-restart-clause-any_moment : goal.returns-in-Ok-restart-clause-any_moment
 returns-in-Ok-restart-clause-any_moment g c = λ honest.
-    let m = g.D.SectorDisk.medium in
-    (
+    let m = g.D.SectorDisk.medium in (
       restart_leaves m c.read_device.new.disk c.in-Ok.found.0 c.in-Ok.found.1 (c.in-Ok.ensures.loaded honest) c.new-store.result c.new-store.ensures
           (m c.args.disk) (m c.restart.new.self.disk) honest (c.read_device.ensures.reads honest)
           (g.met.D.SectorDisk.only_now c.args.disk) (c.restart.ensures.any_moment c.in-Ok.found.1.state),
@@ -40,8 +37,7 @@ returns-in-Ok-restart-clause-any_moment g c = λ honest.
 
 pub returns-in-Err-restart-clause-any_moment : goal.returns-in-Err-restart-clause-any_moment
 returns-in-Err-restart-clause-any_moment g c = λ honest.
-    let m = g.D.SectorDisk.medium in
-    (
+    let m = g.D.SectorDisk.medium in (
       tt,
       subst (λ d. EachImageSince (m c.args.disk) (m d) (OpensTo (m c.args.disk))) (sym c.close.ensures)
           (restart_leaves m c.read_device.new.disk c.in-Ok.found.0 c.in-Ok.found.1 (c.in-Ok.ensures.loaded honest) c.new-store.result c.new-store.ensures

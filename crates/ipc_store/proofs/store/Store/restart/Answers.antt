@@ -1,13 +1,9 @@
 -- The restart is the one event that waits.
-use Rattle.std.proofs.Common.{◌≡◌, ℕ, ◌+◌, List, [], ◌∷◌, ◌++◌, Err, sym, ap, subst, ◌∙◌}
-use Rattle.ipc_base.specs.declared.limits.Limits.{Limits}
-use Rattle.ipc_disk.specs.Since.{EachImageSince}
+use Rattle.std.proofs.Common.{◌≡◌, ℕ, ◌+◌, List, [], ◌∷◌, ◌++◌, Err, ap, subst, ◌∙◌}
 use Rattle.ipc_journal.specs.declared.journal.Journal.{Journal}
 use Rattle.ipc_journal.specs.View.{range_of, used_of}
-use Rattle.ipc_state.specs.State.{restart}
 use Rattle.ipc_engine.specs.Event.{Restart}
 use Rattle.ipc_image.specs.Records.{record_bytes}
-use Rattle.ipc_store.specs.Relations.Matches.{StandsForEither}
 use Rattle.ipc_store.proofs.Openings.{taken, full_journal}
 use Rattle.ipc_store.proofs.store.Store.restart.Goals as goal
 

@@ -1,4 +1,4 @@
-use Rattle.std.proofs.Common.{◌≡◌, sym, ap, subst}
+use Rattle.std.proofs.Common.{sym, subst}
 use Rattle.ipc_engine.specs.Engine.{IsForProcess}
 use Rattle.ipc_engine.specs.View.{plain_event}
 use Rattle.ipc_store.proofs.Accepting.{accepted}
