@@ -1,12 +1,10 @@
 -- An event that is accepted waits behind the others.
-use Rattle.std.proofs.Common.{◌≡◌, ℕ, ◌+◌, ◌++◌, List, [], ◌∷◌, Bool, length, refl, sym, ap, subst, ◌∙◌, append-nil, arith}
-use Rattle.std.specs.Prelude.{All}
+use Rattle.std.proofs.Common.{◌≡◌, ℕ, ◌+◌, ◌++◌, List, [], ◌∷◌, sym, ap, subst, ◌∙◌, append-nil, arith}
 use Rattle.std.proofs.lemmas.List.{length-append}
 use Rattle.std.proofs.lemmas.List.Elements.{All-nil, All-cons, All-append}
 use Rattle.std.proofs.lemmas.List.Concat.{flat_map-append}
 use Rattle.ipc_base.specs.declared.limits.Limits.{Limits}
-use Rattle.ipc_disk.specs.Medium.{Image, Medium}
-use Rattle.ipc_journal.specs.declared.journal.Journal.{Journal}
+use Rattle.ipc_disk.specs.Medium.{Medium}
 use Rattle.ipc_state.specs.State.{State}
 use Rattle.ipc_engine.specs.Engine.{Machine, IsForProcess}
 use Rattle.ipc_engine.specs.Event.{PlainEvent}
@@ -16,7 +14,7 @@ use Rattle.ipc_image.specs.Records.{record_bytes, HasRecord}
 use Rattle.ipc_store.specs.Batch.{records_of}
 use Rattle.ipc_store.specs.Image.{AreFor, LeadTo, IsDevice}
 use Rattle.ipc_store.specs.View.{StoreView}
-use Rattle.ipc_store.specs.Relations.Matches.{HasHistory, HasPending, StoreMatches}
+use Rattle.ipc_store.specs.Relations.Matches.{StoreMatches}
 use Rattle.ipc_store.proofs.Histories.{AreFor-parts}
 
 -- the records with one more
@@ -45,10 +43,13 @@ module _ {D : Type 0} (medium : Medium) (store : StoreView D) (base : State) (pe
         range = at.range;
         epoch = at.epoch;
         device = λ image now. subst (λ (l : Limits). IsDevice l image) (sym limits) (at.device image now);
-        history = (at.history.0, record {
-          journal = history.journal;
-          leads = subst (λ (l : Limits). LeadTo l at.history.0 base) (sym limits) history.leads;
-        });
+        history = (
+          at.history.0,
+          record {
+            journal = history.journal;
+            leads = subst (λ (l : Limits). LeadTo l at.history.0 base) (sym limits) history.leads;
+          },
+        );
         waits = record {
           records = records-are ∙ ap (λ (x : List ℕ). x ++ record_bytes e) waits.records ∙ sym (records-more pending e);
           count = omega (arith, waiting-is, waits.count, length-append pending (e ∷ []));

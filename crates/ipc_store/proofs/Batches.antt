@@ -1,11 +1,10 @@
 -- The bytes of a batch in its buffer.
-use Rattle.std.proofs.Common.{◌≡◌, ◌≤◌, ◌+◌, ◌*◌, ◌-◌, ◌++◌, ℕ, List, length, take, drop, refl, sym, ap, ◌∙◌, arith}
+use Rattle.std.proofs.Common.{◌≡◌, ◌≤◌, ◌+◌, ◌-◌, ◌++◌, ℕ, List, length, take, drop, sym, ap, ◌∙◌, arith}
 use Rattle.std.proofs.lemmas.List.{take-append-drop, take-take, length-take, length-drop, length-append, take_at, drop_at, append_assoc, drop-append-le}
 use Rattle.byteorder.specs.Endian.{big_bytes}
 use Rattle.std.specs.Int.{w32, w64, to_be_bytes}
 use Rattle.ipc_engine.specs.Event.{PlainEvent, moment_of}
 use Rattle.ipc_image.specs.Records.{record_bytes, details, text_of}
-use Rattle.ipc_store.specs.Batch.{most_bytes}
 use Rattle.ipc_store.specs.Relations.Batch.{IsFilled}
 
 -- what means something in the buffer are the length and the records
@@ -44,8 +43,16 @@ pub records_behind : (old front new rec rest : List ℕ) (len : ℕ) → 4 ≤ l
 records_behind old front new rec rest len least within four is =
     let all : List ℕ = front ++ (drop 4 (take len old) ++ rec) in
     let size : length all ≡ len + length rec =
-    omega (arith, four, length-append front (drop 4 (take len old) ++ rec), length-append (drop 4 (take len old)) rec,
-    length-drop 4 (take len old), length-take len old, least, within) in
+    omega (
+      arith,
+      four,
+      length-append front (drop 4 (take len old) ++ rec),
+      length-append (drop 4 (take len old)) rec,
+      length-drop 4 (take len old),
+      length-take len old,
+      least,
+      within,
+    ) in
     ap (λ (x : List ℕ). drop 4 (take (len + length rec) x)) (put_behind old front new rec rest len least within four is)
     ∙ ap (drop 4) (take_at all rest (len + length rec) size) ∙ drop_at front (drop 4 (take len old) ++ rec) 4 four
 

@@ -1,13 +1,12 @@
 -- A commit takes a store from its base to the state after what waits.
-use Rattle.std.proofs.Common.{◌≡◌, ◌⊎◌, inl, inr, ⊎_elim, ℕ, ◌+◌, ◌<◌, ◌≤◌, ◌^◌, ◌++◌, List, [], ◌∷◌, length, refl, sym, ap, subst, ◌∙◌, arith}
-use Rattle.std.specs.Prelude.{All, map, false}
+use Rattle.std.proofs.Common.{◌≡◌, inl, inr, ℕ, ◌+◌, ◌≤◌, ◌++◌, List, [], ◌∷◌, length, refl, sym, ap, subst, ◌∙◌, arith}
+use Rattle.std.specs.Prelude.{map}
 use Rattle.std.proofs.lemmas.List.{map-append, length-append}
 use Rattle.std.proofs.lemmas.List.Elements.{All-nil}
 use Rattle.byteorder.specs.Endian.{big_bytes}
 use Rattle.byteorder.specs.Numbers.{big_number-reads_back}
-use Rattle.ipc_base.specs.declared.limits.Limits.{Limits}
 use Rattle.ipc_disk.specs.declared.range.Range.{Range}
-use Rattle.ipc_disk.specs.Medium.{Image, Medium, IsHonest}
+use Rattle.ipc_disk.specs.Medium.{Image, Medium}
 use Rattle.ipc_disk.specs.Range.{IsOutside}
 use Rattle.ipc_disk.specs.Since.{EachImageSince, LeavesAlone}
 use Rattle.ipc_disk.proofs.CallerLemmas.{EachImageSince-start, EachImageSince-both, EachImageSince-weaken, EachImageSince-now, LeavesAlone-keeps}
@@ -19,10 +18,10 @@ use Rattle.ipc_state.specs.State.{State}
 use Rattle.ipc_engine.specs.Event.{PlainEvent}
 use Rattle.ipc_engine.specs.Step.{run}
 use Rattle.ipc_image.specs.Records.{HasRecord}
-use Rattle.ipc_store.specs.Batch.{most_bytes, records_of, batch_bytes, AreBatch}
-use Rattle.ipc_store.specs.Image.{journal_range, first_epoch, IsDevice, HasBatches, LeadTo, StandsFor}
+use Rattle.ipc_store.specs.Batch.{most_bytes, batch_bytes, AreBatch}
+use Rattle.ipc_store.specs.Image.{journal_range, IsDevice, HasBatches, StandsFor}
 use Rattle.ipc_store.specs.View.{StoreView}
-use Rattle.ipc_store.specs.Relations.Matches.{HasHistory, HasPending, StoreMatches, StandsForEither}
+use Rattle.ipc_store.specs.Relations.Matches.{HasHistory, StoreMatches, StandsForEither}
 use Rattle.ipc_store.proofs.Devices.{IsDevice-same}
 use Rattle.ipc_store.proofs.Histories.{LeadTo-more}
 
@@ -84,7 +83,7 @@ module _ {D : Type 0} (medium : Medium) (store : StoreView D) (base : State) (pe
         history = (
           batches ++ pending ∷ [],
           has_batches at (batches ++ pending ∷ []) image
-          (subst (λ (bs : List (List ℕ)). Holds (range_of store.journal) (epoch_of store.journal) bs image) more holds),
+              (subst (λ (bs : List (List ℕ)). Holds (range_of store.journal) (epoch_of store.journal) bs image) more holds),
           LeadTo-more store.machine.limits batches pending base history.leads (waits-batch at size) at.waits.named,
         );
       })
@@ -143,9 +142,12 @@ module _ {D : Type 0} (old new : Medium) (store : StoreView D) (base : State) (p
         range = range ∙ at.range;
         epoch = epoch ∙ at.epoch;
         device = EachImageSince-now old new (IsDevice store.machine.limits) (device_since at alone) alone.honest;
-        history = (all, record {
-          journal = subst (λ (bs : List (List ℕ)). JournalMatches journal bs new) more (acknowledged (map batch_bytes batches) history.journal);
-          leads = LeadTo-more store.machine.limits batches pending base history.leads (waits-batch old store base pending at size) at.waits.named;
-        });
+        history = (
+          all,
+          record {
+            journal = subst (λ (bs : List (List ℕ)). JournalMatches journal bs new) more (acknowledged (map batch_bytes batches) history.journal);
+            leads = LeadTo-more store.machine.limits batches pending base history.leads (waits-batch old store base pending at size) at.waits.named;
+          },
+        );
         waits = record { records = refl; count = refl; each = All-nil HasRecord; named = tt; state = at.waits.state };
       }

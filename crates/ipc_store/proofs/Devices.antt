@@ -1,5 +1,5 @@
 -- A device is one by its first sector and its size, which calls on the journal leave alone.
-use Rattle.std.proofs.Common.{◌≡◌, ◌⊎◌, inl, inr, ⊎_elim, ℕ, ◌+◌, ◌-◌, ◌<◌, ◌≤◌, List, [], length, get_or, refl, sym, ap, subst, ◌∙◌, arith}
+use Rattle.std.proofs.Common.{◌≡◌, inl, inr, ⊎_elim, ℕ, ◌-◌, ◌<◌, ◌≤◌, List, [], length, get_or, sym, subst, ◌∙◌, arith}
 use Rattle.std.specs.Prelude.{slice_get, Some, None}
 use Rattle.std.proofs.lemmas.Bool.{cases_lt}
 use Rattle.std.proofs.lemmas.Option.{slice_get-get_or, slice_get_past}
@@ -25,7 +25,9 @@ same-length a b from has same =
     λ lt. is-there b a (length a) lt (omega arith) (sym (same (length a) (omega (arith, has)))) in
     let shorter : length b < length a → ⊥ =
     λ lt. is-there a b (length a - 1) (omega (arith, has)) (omega (arith, lt)) (same (length a - 1) (omega (arith, has))) in
-    ⊎_elim (λ lt. absurd (longer lt)) (λ le. ⊎_elim (λ lt. absurd (shorter lt)) (λ ge. omega (arith, le, ge)) (cases_lt (length b) (length a))) (cases_lt (length a) (length b))
+    ⊎_elim (λ lt. absurd (longer lt))
+    (λ le. ⊎_elim (λ lt. absurd (shorter lt)) (λ ge. omega (arith, le, ge)) (cases_lt (length b) (length a)))
+    (cases_lt (length a) (length b))
 
 -- outside the journal, a device is a device
 pub IsDevice-same : (limits : Limits) (a b : Image) → SameAt (IsOutside journal_range) a b → IsDevice limits a → IsDevice limits b

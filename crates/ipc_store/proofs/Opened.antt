@@ -91,16 +91,16 @@ header-damaged limits image device sector at fault = (
 )
 
 -- the value that an open of the journal gives
-pub is_opened : (journal : Journal) (image : Image) → range_of journal ≡ journal_range → epoch_of journal ≡ first_epoch
-    → (header_epoch journal_range image < first_epoch → used_of journal ≡ 0)
-    → (header_epoch journal_range image ≡ first_epoch → used_of journal ≡ header_used journal_range image)
-    → header_epoch journal_range image ≤ first_epoch → IsOpened journal image
-is_opened journal image range epoch older current not_newer =
-    let P : Range → ℕ → Type 0 = λ r n. (header_epoch r image < n → used_of journal ≡ 0)
-    × (header_epoch r image ≡ n → used_of journal ≡ header_used r image) × (header_epoch r image ≤ n) in
+pub is_opened : (journal : Journal) (found image : Image) → found ≡ image → range_of journal ≡ journal_range → epoch_of journal ≡ first_epoch
+    → (header_epoch journal_range found < first_epoch → used_of journal ≡ 0)
+    → (header_epoch journal_range found ≡ first_epoch → used_of journal ≡ header_used journal_range found)
+    → header_epoch journal_range found ≤ first_epoch → IsOpened journal image
+is_opened journal found image same range epoch older current not_newer =
+    let P : Range → ℕ → Type 0 = λ r n. (header_epoch r found < n → used_of journal ≡ 0)
+    × (header_epoch r found ≡ n → used_of journal ≡ header_used r found) × (header_epoch r found ≤ n) in
     let all : P (range_of journal) (epoch_of journal) =
     subst (λ (r : Range). P r (epoch_of journal)) (sym range) (subst (P journal_range) (sym epoch) (older, current, not_newer)) in
-    record { older = all.0; current = all.1; not_newer = all.2 }
+    subst (IsOpened journal) same (record { older = all.0; current = all.1; not_newer = all.2 })
 
 -- a journal that uses some sector has a header of its epoch
 pub used-is : (image : Image) (used : ℕ) → (header_epoch journal_range image < first_epoch → used ≡ 0)
@@ -126,10 +126,13 @@ module _ (limits : Limits) (journal : Journal) (image : Image) (range : range_of
       let same : other ≡ limits = (one-superblock (length image) (length image) other limits (sector_at image 0) fits fits stands.device device).1 in
       let batches = stands.history.0 in (
         same,
-        (batches, record {
-          filled = fills journal image opened (map batch_bytes batches) (of-journal batches stands.history.1);
-          leads = subst (λ (l : Limits). LeadTo l batches s) same stands.history.2;
-        }),
+        (
+          batches,
+          record {
+            filled = fills journal image opened (map batch_bytes batches) (of-journal batches stands.history.1);
+            leads = subst (λ (l : Limits). LeadTo l batches s) same stands.history.2;
+          },
+        ),
       )
 
   -- where a replay finds none, the image stands for none

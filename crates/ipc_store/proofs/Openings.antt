@@ -1,6 +1,5 @@
 -- What an open leaves at each moment, and the store that it gives.
-use Rattle.std.proofs.Common.{◌≡◌, ◌⊎◌, inl, inr, ⊎_elim, ℕ, ◌+◌, ◌<◌, ◌≤◌, List, [], ◌∷◌, false, length, refl, sym, ap, subst, ◌∙◌, arith}
-use Rattle.std.specs.Prelude.{All}
+use Rattle.std.proofs.Common.{◌≡◌, inl, inr, ⊎_elim, ℕ, ◌+◌, ◌<◌, List, [], false, length, refl, sym, ap, subst, ◌∙◌, arith}
 use Rattle.std.proofs.lemmas.Bool.{cases_lt}
 use Rattle.std.proofs.lemmas.List.Elements.{All-nil}
 use Rattle.ipc_base.specs.declared.limits.Limits.{Limits}
@@ -14,9 +13,9 @@ use Rattle.ipc_state.specs.State.{State, restart}
 use Rattle.ipc_engine.specs.Engine.{Machine}
 use Rattle.ipc_engine.specs.Event.{Restart}
 use Rattle.ipc_image.specs.Records.{record_bytes, HasRecord}
-use Rattle.ipc_store.specs.Image.{StandsFor, HasNoState}
+use Rattle.ipc_store.specs.Image.{StandsFor}
 use Rattle.ipc_store.specs.View.{StoreView}
-use Rattle.ipc_store.specs.Relations.Matches.{HasHistory, HasPending, StoreMatches, StandsForEither, IsLoaded, OpensTo}
+use Rattle.ipc_store.specs.Relations.Matches.{StoreMatches, StandsForEither, IsLoaded, OpensTo}
 use Rattle.ipc_store.proofs.Batches.{record-length}
 use Rattle.ipc_store.proofs.Committing.{stands_now}
 
@@ -29,37 +28,61 @@ only_read old new call law = record {
   earlier = λ t image le left. ⊎_elim inl (λ now. inr (inl (call.images image now))) (call.time.nothing_else t image le left);
 }
 
-module _ {D : Type 0} (medium : Medium) (disk : D) (journal : Journal) (machine : Machine) (loaded : IsLoaded medium journal machine) where
-  -- the store over what was loaded
-  abbrev pub store_over : StoreView D
-  store_over = record { disk = disk; machine = machine; journal = journal; records = []; waiting = 0; confirmed = 0; stopped = false }
+-- the store over what was loaded
+abbrev store_over : {D : Type 0} → D → Journal → Machine → StoreView D
+store_over disk journal machine = record {
+  disk = disk;
+  machine = machine;
+  journal = journal;
+  records = [];
+  waiting = 0;
+  confirmed = 0;
+  stopped = false;
+}
 
+module _ {D : Type 0} (m : D → Medium) (disk : D) (journal : Journal) (machine : Machine) (loaded : IsLoaded (m disk) journal machine)
+    (store : StoreView D) (over : store ≡ store_over disk journal machine) where
   -- it goes on from the state of the machine
-  pub begins : StoreMatches medium store_over machine.state []
-  begins = record {
-    honest = loaded.honest;
-    goes_on = refl;
-    range = loaded.range;
-    epoch = loaded.epoch;
-    device = loaded.device;
-    history = (loaded.history.0, record { journal = loaded.history.1; leads = loaded.history.2 });
-    waits = record { records = refl; count = refl; each = All-nil HasRecord; named = tt; state = refl };
-  }
+  pub begins : StoreMatches (m store.disk) store machine.state []
+  begins =
+      subst (λ v. StoreMatches (m v.disk) v machine.state []) (sym over) (record {
+        honest = loaded.honest;
+        goes_on = refl;
+        range = loaded.range;
+        epoch = loaded.epoch;
+        device = loaded.device;
+        history = (loaded.history.0, record { journal = loaded.history.1; leads = loaded.history.2 });
+        waits = record { records = refl; count = refl; each = All-nil HasRecord; named = tt; state = refl };
+      })
 
   -- the disk stands for that state
-  pub stood : (old : Medium) → medium.contents ≡ old.contents → StandsFor machine.limits machine.state old.contents
+  pub stood : (old : Medium) → (m disk).contents ≡ old.contents → StandsFor store.machine.limits machine.state old.contents
   stood old same =
-      subst (StandsFor machine.limits machine.state) same
-      (stands_now medium store_over machine.state [] begins medium.contents loaded.honest.reads)
+      subst (StandsFor store.machine.limits machine.state) same
+      (stands_now (m store.disk) store machine.state [] begins (m disk).contents
+      (subst (λ v. (m v.disk).images_now (m disk).contents) (sym over) loaded.honest.reads))
 
   -- the calls of the restart leave that state, or the state after the restart
-  pub restart_leaves : (old new : Medium) → medium.contents ≡ old.contents → EachImageSince old medium (OpensTo old)
-      → EachImageSince medium new (StandsForEither machine.limits machine.state (restart machine.state))
+  pub restart_leaves : (old new : Medium) → IsHonest old → Stays old (m disk)
+      → ((image : Image) → old.images_since old.moment image → old.images_now image)
+      → (StoreMatches (m store.disk) store machine.state []
+      → EachImageSince (m store.disk) new (StandsForEither store.machine.limits machine.state (restart machine.state)))
       → EachImageSince old new (OpensTo old)
-  restart_leaves old new same read restarted =
-      EachImageSince-join old medium new (OpensTo old) read
-      (EachImageSince-weaken medium new (StandsForEither machine.limits machine.state (restart machine.state)) (OpensTo old) restarted
-      (λ image either. inr (machine.limits, machine.state, stood old same, either)))
+  restart_leaves old new honest reads law restarted =
+      EachImageSince-join old (m disk) new (OpensTo old) (only_read old (m disk) reads law)
+      (EachImageSince-weaken (m disk) new (StandsForEither store.machine.limits machine.state (restart machine.state)) (OpensTo old)
+      (subst (λ (d : D). EachImageSince (m d) new (StandsForEither store.machine.limits machine.state (restart machine.state)))
+      (ap (λ v. v.disk) over) (restarted begins))
+      (λ image either. inr (store.machine.limits, machine.state, stood old (reads.contents honest), either)))
+
+-- an event that is taken makes no call on the disk
+pub taken : {D : Type 0} (m : D → Medium) (before after : StoreView D) (new : Medium) (base : State)
+    → after.disk ≡ before.disk → after.machine.limits ≡ before.machine.limits
+    → EachImageSince (m after.disk) new (StandsForEither after.machine.limits base (restart base))
+    → EachImageSince (m before.disk) new (StandsForEither before.machine.limits base (restart base))
+taken m before after new base disk limits moments =
+    subst (λ (l : Limits). EachImageSince (m before.disk) new (StandsForEither l base (restart base))) limits
+    (subst (λ d. EachImageSince (m d) new (StandsForEither after.machine.limits base (restart base))) disk moments)
 
 -- a journal in which a restart does not fit has one sector left for its header alone
 pub full_journal : (journal : Journal) (records : List ℕ) → records ≡ record_bytes Restart → ¬ Fits journal (4 + length records)

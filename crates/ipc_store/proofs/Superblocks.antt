@@ -1,14 +1,13 @@
 -- What a superblock that was read says of the image.
-use Rattle.std.proofs.Common.{◌≡◌, ◌≢◌, ◌⊎◌, inl, inr, ⊎_elim, ℕ, ◌<◌, ◌≤◌, List, [], length, refl, sym, ap, subst, ◌∙◌, arith}
-use Rattle.std.specs.Prelude.{Option, Some, slice_get, Result, Err, IsErrOf}
+use Rattle.std.proofs.Common.{◌≡◌, ◌≢◌, inl, inr, ℕ, ◌≤◌, List, [], length, sym, ap, subst, ◌∙◌, arith}
+use Rattle.std.specs.Prelude.{Option, Some, slice_get}
 use Rattle.std.specs.Option.{unwrap_or}
 use Rattle.std.proofs.lemmas.Option.{unwrap_or-slice_get}
 use Rattle.ipc_base.specs.declared.limits.Limits.{Limits}
 use Rattle.ipc_disk.specs.Medium.{Image}
 use Rattle.ipc_journal.specs.Journal.{sector_at}
-use Rattle.ipc_state.specs.State.{State}
 use Rattle.ipc_image.specs.Superblock.{IsFormatted, version_in, IsSuperblock}
-use Rattle.ipc_store.specs.Image.{IsDevice, IsNotFormatted, HasVersion, IsDamaged, HasNoState, IsFirstFault, StandsFor}
+use Rattle.ipc_store.specs.Image.{IsDevice, IsNotFormatted, HasVersion, IsDamaged, IsFirstFault}
 
 -- a sector that was read
 pub sector-read : (image : Image) (i : ℕ) (sector : List ℕ) → slice_get image i ≡ Some sector → sector_at image i ≡ sector

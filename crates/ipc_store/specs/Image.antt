@@ -68,8 +68,8 @@ pub record IsDamaged (image : Image) : Type 0 where
   pub version : version_in (sector_at image 0) ≡ 0
   pub stands_for_none : HasNoState image
 
--- Where a damage is first seen: in sector 0, which is no superblock of this device; in the header of the journal, which is
--- of a later epoch or counts sectors past the end; or in the first sector of a batch behind good ones.
+-- Where a damage is first seen: in sector 0, which is no superblock of this device; in the header of the journal, which
+-- is of a later epoch or counts sectors past the end; or in the first sector of a batch after good ones.
 pub data IsFirstFault (image : Image) : ℕ → Type 0 where
   Superblock : ((limits : Limits) → ¬ IsDevice limits image) → IsFirstFault image 0
   Header : (first_epoch < header_epoch journal_range image) ⊎ ((header_epoch journal_range image ≡ first_epoch)

@@ -26,8 +26,8 @@ use ipc_journal::Journal;
 use std::alloc::AllocError;
 use std::marker::Model;
 
-/// A machine whose events last: it owns its disk until it is closed. A contract sees the disk, the machine, the journal,
-/// the records that wait, how many events it has made last since it was opened, and whether it has stopped.
+/// A machine whose events last. It owns its disk until it is closed. A contract sees the disk, the machine, the
+/// journal, the records that wait, how many events it has made last since it was opened, and whether it has stopped.
 #[derive(Drop)]
 pub struct Store<D: SectorDisk> {
     disk: D,

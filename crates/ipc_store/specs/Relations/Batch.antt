@@ -1,5 +1,5 @@
 -- The bytes of a batch in a buffer.
-use Rattle.std.specs.Prelude.{◌≡◌, ◌≤◌, ◌+◌, ◌*◌, ◌-◌, ◌++◌, ℕ, List, length, take}
+use Rattle.std.specs.Prelude.{◌≡◌, ◌≤◌, ◌+◌, ◌*◌, ◌-◌, ℕ, List, length, take}
 use Rattle.byteorder.specs.Endian.{big_bytes}
 use Rattle.ipc_store.specs.Batch.{most_bytes}
 

@@ -54,8 +54,8 @@ pub record IsLoaded (medium : Medium) (journal : Journal) (machine : Machine) : 
 abbrev pub StandsForEither : Limits → State → State → Image → Type 0
 StandsForEither limits s t image = StandsFor limits s image ⊎ StandsFor limits t image
 
--- What a crash within an open may leave: what it could leave before, or what stands for the state that was read, or for that
--- state after a restart.
+-- What a crash within an open may leave: what it could leave before, or what stands for the state that was read, or for
+-- that state after a restart.
 abbrev pub OpensTo : Medium → Image → Type 0
 OpensTo old image = old.images_now image
     ⊎ ((limits : Limits) × (s : State) × StandsFor limits s old.contents × StandsForEither limits s (restart s) image)

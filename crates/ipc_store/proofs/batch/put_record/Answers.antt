@@ -1,4 +1,4 @@
-use Rattle.std.proofs.Common.{◌≡◌, ◌≤◌, ◌<◌, ◌^◌, ◌++◌, ◌+◌, ◌-◌, length, take, drop, List, ℕ, sym, ap, ◌∙◌, refl, arith}
+use Rattle.std.proofs.Common.{◌≤◌, ◌<◌, ◌^◌, ◌++◌, ◌+◌, ◌-◌, length, take, drop, List, ℕ, ap, ◌∙◌, refl, arith}
 use Rattle.byteorder.specs.Endian.{big_bytes}
 use Rattle.ipc_engine.specs.View.{plain_event}
 use Rattle.std.proofs.lemmas.Bool.{OnTrue_at}
@@ -16,7 +16,15 @@ returns-clause-records c =
     let part : List ℕ = take (length c.args.bytes.now - c.args.len) (drop c.args.len c.args.bytes.now) in
     let post : List ℕ = drop (length c.args.bytes.now - c.args.len) (drop c.args.len c.args.bytes.now) in
     let room : length rec ≤ length part =
-    omega (arith, c.record_len.ensures.exact, c.record_len.ensures.bounded c.requires.record, length-take (length c.args.bytes.now - c.args.len) (drop c.args.len c.args.bytes.now), length-drop c.args.len c.args.bytes.now, c.requires.size, c.requires.room) in
+    omega (
+      arith,
+      c.record_len.ensures.exact,
+      c.record_len.ensures.bounded c.requires.record,
+      length-take (length c.args.bytes.now - c.args.len) (drop c.args.len c.args.bytes.now),
+      length-drop c.args.len c.args.bytes.now,
+      c.requires.size,
+      c.requires.room,
+    ) in
     let short : 9 + length (details (plain_event c.args.event.now)) < 2 ^ 32 =
     omega (arith, record-length (plain_event c.args.event.now), c.record_len.ensures.exact, c.record_len.ensures.bounded c.requires.record) in
     let written = OnTrue_at (c.write_event.ensures.fits.1 (room, short)) c.write_event.ensures.written in

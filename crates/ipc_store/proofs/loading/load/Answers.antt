@@ -1,5 +1,5 @@
 -- Each exit: what was read is what stood there before.
-use Rattle.std.proofs.Common.{◌≡◌, ◌⊎◌, inl, inr, ⊎_elim, ℕ, ◌≤◌, ◌<◌, ◌^◌, List, Err, length, refl, sym, ap, subst, ◌∙◌, arith}
+use Rattle.std.proofs.Common.{◌≡◌, inl, inr, ⊎_elim, ℕ, ◌<◌, ◌^◌, List, Err, length, sym, ap, subst, ◌∙◌, arith}
 use Rattle.std.specs.Prelude.{Result, IsErrOf, map}
 use Rattle.std.specs.Result.{IsErrAnd}
 use Rattle.std.proofs.lemmas.Result.{err_from_is_err_and}
@@ -16,7 +16,7 @@ use Rattle.ipc_journal.specs.Journal.{header_used, Holds}
 use Rattle.ipc_journal.specs.View.{epoch_of, used_of}
 use Rattle.ipc_journal.proofs.CallerLemmas.{JournalMatches-stays}
 use Rattle.ipc_store.specs.Batch.{batch_bytes}
-use Rattle.ipc_store.specs.Image.{journal_range, first_epoch, IsDevice, IsNotFormatted, HasVersion, IsDamaged, IsFirstFault}
+use Rattle.ipc_store.specs.Image.{journal_range, first_epoch, IsDevice, IsDamaged, IsFirstFault}
 use Rattle.ipc_store.specs.View.{of_journal_error}
 use Rattle.ipc_store.specs.Relations.Replay.{IsOpened, Replays, IsGoodUpTo}
 use Rattle.ipc_store.proofs.Opened.{header-damaged, is_opened, batch-damaged, used-is, holds, loaded}
@@ -117,10 +117,10 @@ returns-in_err-engine-clause-damaged g c = λ sector is honest.
     let image : Image = (m c.args.disk.now).contents in
     let device : IsDevice limits image = subst (IsDevice limits) (c.sync.ensures.medium.contents honest) (c.in_ok-limits.ensures.device h1) in
     let opened : IsOpened c.in_ok-journal.journal image =
-    subst (IsOpened c.in_ok-journal.journal) (s02.contents honest)
-    (is_opened c.in_ok-journal.journal (m c.read_limits.new.disk).contents c.in_ok-journal.ensures.range c.in_ok-journal.ensures.epoch
-    (c.in_ok-journal.ensures.older h2) (c.in_ok-journal.ensures.current h2) (c.in_ok-journal.ensures.not_newer h2)) in
-    let fits : length image < 2 ^ 32 = omega (arith, (g.met.D.SectorDisk.shaped c.args.disk.now image honest.reads).count, g.met.D.SectorDisk.fits c.args.disk.now) in
+    is_opened c.in_ok-journal.journal (m c.read_limits.new.disk).contents image (s02.contents honest) c.in_ok-journal.ensures.range
+    c.in_ok-journal.ensures.epoch (c.in_ok-journal.ensures.older h2) (c.in_ok-journal.ensures.current h2) (c.in_ok-journal.ensures.not_newer h2) in
+    let fits : length image < 2 ^ 32 =
+    omega (arith, (g.met.D.SectorDisk.shaped c.args.disk.now image honest.reads).count, g.met.D.SectorDisk.fits c.args.disk.now) in
     batch-damaged limits c.in_ok-journal.journal image c.in_ok-journal.ensures.range c.in_ok-journal.ensures.epoch device opened fits
     (λ batches s found. c.replay.ensures.damaged sector batches s err h3
     (subst (λ (x : Image). Replays limits c.in_ok-journal.journal x batches s) (sym (s03.contents honest)) found))
@@ -140,9 +140,8 @@ returns-clause-loaded g c = λ honest.
     let image : Image = (m c.args.disk.now).contents in
     let device : IsDevice limits image = subst (IsDevice limits) (c.sync.ensures.medium.contents honest) (c.in_ok-limits.ensures.device h1) in
     let opened : IsOpened c.in_ok-journal.journal image =
-    subst (IsOpened c.in_ok-journal.journal) (s02.contents honest)
-    (is_opened c.in_ok-journal.journal (m c.read_limits.new.disk).contents c.in_ok-journal.ensures.range c.in_ok-journal.ensures.epoch
-    (c.in_ok-journal.ensures.older h2) (c.in_ok-journal.ensures.current h2) (c.in_ok-journal.ensures.not_newer h2)) in
+    is_opened c.in_ok-journal.journal (m c.read_limits.new.disk).contents image (s02.contents honest) c.in_ok-journal.ensures.range
+    c.in_ok-journal.ensures.epoch (c.in_ok-journal.ensures.older h2) (c.in_ok-journal.ensures.current h2) (c.in_ok-journal.ensures.not_newer h2) in
     let found = c.in_ok-engine.ensures.replays h3 in
     let replays : Replays limits c.in_ok-journal.journal image found.0 c.in_ok-engine.engine.state =
     subst (λ (x : Image). Replays limits c.in_ok-journal.journal x found.0 c.in_ok-engine.engine.state) (s03.contents honest) found.1 in

@@ -1,9 +1,8 @@
-use Rattle.std.proofs.Common.{◌≡◌, inl, inr, ℕ, ◌≤◌, length, sym, refl, ap, subst, ◌∙◌, Err, arith}
+use Rattle.std.proofs.Common.{◌≡◌, inr, ℕ, ◌≤◌, sym, ap, subst, ◌∙◌, Err, arith}
 use Rattle.ipc_disk.specs.Medium.{Image}
 use Rattle.ipc_image.specs.Superblock.{IsFormatted}
-use Rattle.ipc_journal.specs.Journal.{sector_at}
 use Rattle.ipc_store.specs.Image.{HasVersion, IsDamaged, IsFirstFault}
-use Rattle.ipc_store.proofs.Superblocks.{sector-read, has_version, is_damaged, is_device}
+use Rattle.ipc_store.proofs.Superblocks.{sector-read, has_version, is_damaged}
 use Rattle.ipc_store.proofs.loading.read_limits.Goals as goal
 
 pub returns-in-Err-NotFormatted-clause-not_formatted : goal.returns-in-Err-NotFormatted-clause-not_formatted

@@ -1,4 +1,4 @@
-use Rattle.std.proofs.Common.{rules, ◌≡◌, ◌≤◌, ◌+◌, ◌++◌, [], length, ◌*◌, ◌↔◌, IsTrue, ℕ, ◌-◌, ◌<◌, List, take, drop, sym, arith}
+use Rattle.std.proofs.Common.{sym, arith}
 use Rattle.ipc_store.proofs.Batches.{filled-length, filled-bytes}
 use Rattle.ipc_store.proofs.batch.Batch.bytes.Goals as goal
 
@@ -8,4 +8,5 @@ returns-clause-bytes c =
 
 pub returns-clause-size : goal.returns-clause-size
 returns-clause-size c =
-    rw (sym c.self.view_is) (omega (arith, c.self.invariant.within, filled-length c.self.inside.bytes.items c.self.inside.len c.self.inside.count c.self.invariant))
+    let whole = filled-length c.self.inside.bytes.items c.self.inside.len c.self.inside.count c.self.invariant in
+    rw (sym c.self.view_is) (omega (arith, c.self.invariant.within, whole))

@@ -1,4 +1,4 @@
-use Rattle.std.proofs.Common.{◌≡◌, ◌≤◌, ◌+◌, length, sym, arith}
+use Rattle.std.proofs.Common.{sym, arith}
 use Rattle.ipc_store.proofs.Batches.{filled-length}
 use Rattle.ipc_store.proofs.batch.Batch.has_room.Goals as goal
 

@@ -1,5 +1,5 @@
 -- Each exit: the images since the start, and the store after it.
-use Rattle.std.proofs.Common.{◌≡◌, sym, refl}
+use Rattle.std.proofs.Common.{sym}
 use Rattle.ipc_store.proofs.Committing.{is_batch, any_moment-none, any_moment-append, committed}
 use Rattle.ipc_store.proofs.store.Store.append.Goals as goal
 
@@ -8,7 +8,8 @@ append-requires-clause-batch g c = is_batch c.self.inside.batch.records _ c.byte
 
 pub returns-then-not-fits-clause-any_moment : goal.returns-then-not-fits-clause-any_moment
 returns-then-not-fits-clause-any_moment g c = λ base pending at.
-    any_moment-none (g.D.SectorDisk.medium c.args.self.now.disk) (g.D.SectorDisk.medium c.args.self.now.disk) c.args.self.now base pending at (g.met.D.SectorDisk.only_now _)
+    any_moment-none (g.D.SectorDisk.medium c.args.self.now.disk) (g.D.SectorDisk.medium c.args.self.now.disk) c.args.self.now base pending at
+    (g.met.D.SectorDisk.only_now _)
 
 pub returns-in-Err-clause-any_moment : goal.returns-in-Err-clause-any_moment
 returns-in-Err-clause-any_moment g c = rw (sym c.self.view_is) (λ base pending at.

@@ -1,10 +1,9 @@
 -- Each exit: what a crash leaves, and what was read.
-use Rattle.std.proofs.Common.{◌≡◌, [], Err, sym, ap, subst, ◌∙◌}
+use Rattle.std.proofs.Common.{Err, sym, ap, subst, ◌∙◌}
 use Rattle.ipc_base.specs.declared.limits.Limits.{Limits}
 use Rattle.ipc_disk.specs.Since.{EachImageSince}
-use Rattle.ipc_state.specs.State.{restart}
 use Rattle.ipc_store.specs.Image.{StandsFor}
-use Rattle.ipc_store.specs.Relations.Matches.{StoreMatches, StandsForEither, OpensTo}
+use Rattle.ipc_store.specs.Relations.Matches.{OpensTo}
 use Rattle.ipc_store.proofs.Openings.{only_read, begins, stood, restart_leaves}
 use Rattle.ipc_store.proofs.store.Store.open.Goals as goal
 
@@ -19,60 +18,40 @@ returns-in-Ok-restart-clause-ok g c = λ honest.
     let m = g.D.SectorDisk.medium in
     let machine = c.in-Ok.found.1 in
     let loaded = c.in-Ok.ensures.loaded honest in
-    let matches : StoreMatches (m c.new-store.result.disk) c.new-store.result machine.state [] =
-    subst (λ v. StoreMatches (m v.disk) v machine.state []) (sym c.new-store.ensures)
-    (begins (m c.read_device.new.disk) c.read_device.new.disk c.in-Ok.found.0 machine loaded) in
     record {
       found = (
         machine.state,
-        subst (λ (l : Limits). StandsFor l machine.state (m c.args.disk).contents)
-            (sym (c.restart.ensures.limits ∙ ap (λ v. v.machine.limits) c.new-store.ensures))
-            (stood (m c.read_device.new.disk) c.read_device.new.disk c.in-Ok.found.0 machine loaded (m c.args.disk)
+        subst (λ (l : Limits). StandsFor l machine.state (m c.args.disk).contents) (sym c.restart.ensures.limits)
+            (stood m c.read_device.new.disk c.in-Ok.found.0 machine loaded c.new-store.result c.new-store.ensures (m c.args.disk)
             ((c.read_device.ensures.reads honest).contents honest)),
-        c.in-Ok-restart.ensures.matches machine.state matches,
+        c.in-Ok-restart.ensures.matches machine.state
+            (begins m c.read_device.new.disk c.in-Ok.found.0 machine loaded c.new-store.result c.new-store.ensures),
       );
       confirmed = c.in-Ok-restart.ensures.confirmed;
     }
 
 pub returns-in-Ok-restart-clause-any_moment : goal.returns-in-Ok-restart-clause-any_moment
 returns-in-Ok-restart-clause-any_moment g c = λ honest.
-    let m = g.D.SectorDisk.medium in
-    let machine = c.in-Ok.found.1 in
-    let loaded = c.in-Ok.ensures.loaded honest in
-    let reads = c.read_device.ensures.reads honest in
-    let matches : StoreMatches (m c.new-store.result.disk) c.new-store.result machine.state [] =
-    subst (λ v. StoreMatches (m v.disk) v machine.state []) (sym c.new-store.ensures)
-    (begins (m c.read_device.new.disk) c.read_device.new.disk c.in-Ok.found.0 machine loaded) in
-    (
-      restart_leaves (m c.read_device.new.disk) c.read_device.new.disk c.in-Ok.found.0 machine loaded (m c.args.disk) (m c.restart.new.self.disk)
-          (reads.contents honest) (only_read _ _ reads (g.met.D.SectorDisk.only_now c.args.disk))
-          (subst (λ v. EachImageSince (m v.disk) (m c.restart.new.self.disk) (StandsForEither v.machine.limits machine.state (restart machine.state)))
-          c.new-store.ensures (c.restart.ensures.any_moment machine.state matches)),
+    let m = g.D.SectorDisk.medium in (
+      restart_leaves m c.read_device.new.disk c.in-Ok.found.0 c.in-Ok.found.1 (c.in-Ok.ensures.loaded honest) c.new-store.result c.new-store.ensures
+          (m c.args.disk) (m c.restart.new.self.disk) honest (c.read_device.ensures.reads honest)
+          (g.met.D.SectorDisk.only_now c.args.disk) (c.restart.ensures.any_moment c.in-Ok.found.1.state),
       tt,
     )
 
 pub returns-in-Err-restart-clause-any_moment : goal.returns-in-Err-restart-clause-any_moment
 returns-in-Err-restart-clause-any_moment g c = λ honest.
-    let m = g.D.SectorDisk.medium in
-    let machine = c.in-Ok.found.1 in
-    let loaded = c.in-Ok.ensures.loaded honest in
-    let reads = c.read_device.ensures.reads honest in
-    let matches : StoreMatches (m c.new-store.result.disk) c.new-store.result machine.state [] =
-    subst (λ v. StoreMatches (m v.disk) v machine.state []) (sym c.new-store.ensures)
-    (begins (m c.read_device.new.disk) c.read_device.new.disk c.in-Ok.found.0 machine loaded) in
-    (
+    let m = g.D.SectorDisk.medium in (
       tt,
       subst (λ d. EachImageSince (m c.args.disk) (m d) (OpensTo (m c.args.disk))) (sym c.close.ensures)
-          (restart_leaves (m c.read_device.new.disk) c.read_device.new.disk c.in-Ok.found.0 machine loaded (m c.args.disk) (m c.restart.new.self.disk)
-          (reads.contents honest) (only_read _ _ reads (g.met.D.SectorDisk.only_now c.args.disk))
-          (subst (λ v. EachImageSince (m v.disk) (m c.restart.new.self.disk) (StandsForEither v.machine.limits machine.state (restart machine.state)))
-          c.new-store.ensures (c.restart.ensures.any_moment machine.state matches))),
+          (restart_leaves m c.read_device.new.disk c.in-Ok.found.0 c.in-Ok.found.1 (c.in-Ok.ensures.loaded honest) c.new-store.result c.new-store.ensures
+          (m c.args.disk) (m c.restart.new.self.disk) honest (c.read_device.ensures.reads honest)
+          (g.met.D.SectorDisk.only_now c.args.disk) (c.restart.ensures.any_moment c.in-Ok.found.1.state)),
     )
 
 pub returns-in-Err-restart-clause-unwritten : goal.returns-in-Err-restart-clause-unwritten
 returns-in-Err-restart-clause-unwritten g c = λ honest none.
     let m = g.D.SectorDisk.medium in
-    let machine = c.in-Ok.found.1 in
-    absurd (none machine.limits machine.state
-    (stood (m c.read_device.new.disk) c.read_device.new.disk c.in-Ok.found.0 machine (c.in-Ok.ensures.loaded honest) (m c.args.disk)
-    ((c.read_device.ensures.reads honest).contents honest)))
+    absurd (none c.new-store.result.machine.limits c.in-Ok.found.1.state
+    (stood m c.read_device.new.disk c.in-Ok.found.0 c.in-Ok.found.1 (c.in-Ok.ensures.loaded honest) c.new-store.result c.new-store.ensures
+    (m c.args.disk) ((c.read_device.ensures.reads honest).contents honest)))

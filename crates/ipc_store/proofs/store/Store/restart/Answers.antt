@@ -1,14 +1,10 @@
 -- The restart is the one event that waits.
-use Rattle.std.proofs.Common.{◌≡◌, ℕ, ◌+◌, List, [], ◌∷◌, ◌++◌, Err, sym, ap, subst, ◌∙◌}
-use Rattle.ipc_base.specs.declared.limits.Limits.{Limits}
-use Rattle.ipc_disk.specs.Since.{EachImageSince}
+use Rattle.std.proofs.Common.{◌≡◌, ℕ, ◌+◌, List, [], ◌∷◌, ◌++◌, Err, ap, subst, ◌∙◌}
 use Rattle.ipc_journal.specs.declared.journal.Journal.{Journal}
 use Rattle.ipc_journal.specs.View.{range_of, used_of}
-use Rattle.ipc_state.specs.State.{restart}
 use Rattle.ipc_engine.specs.Event.{Restart}
 use Rattle.ipc_image.specs.Records.{record_bytes}
-use Rattle.ipc_store.specs.Relations.Matches.{StandsForEither}
-use Rattle.ipc_store.proofs.Openings.{full_journal}
+use Rattle.ipc_store.proofs.Openings.{taken, full_journal}
 use Rattle.ipc_store.proofs.store.Store.restart.Goals as goal
 
 pub returns-in-Ok-clause-matches : goal.returns-in-Ok-clause-matches
@@ -16,24 +12,21 @@ returns-in-Ok-clause-matches g c = λ base at. c.in-Ok.ensures.matches base (Res
 
 pub returns-in-Ok-clause-any_moment : goal.returns-in-Ok-clause-any_moment
 returns-in-Ok-clause-any_moment g c = λ base at.
-    let m = g.D.SectorDisk.medium in
-    subst (λ (l : Limits). EachImageSince (m c.args.self.now.disk) (m c.commit.new.self.disk) (StandsForEither l base (restart base))) c.step.ensures.limits
-    (subst (λ d. EachImageSince (m d) (m c.commit.new.self.disk) (StandsForEither c.step.new.self.machine.limits base (restart base))) c.step.ensures.disk
-    (c.commit.ensures.any_moment base (Restart ∷ []) (c.in_default.ensures.matches base [] at)))
+    taken g.D.SectorDisk.medium c.args.self.now c.step.new.self (g.D.SectorDisk.medium c.commit.new.self.disk) base
+    c.step.ensures.disk c.step.ensures.limits
+    (c.commit.ensures.any_moment base (Restart ∷ []) (c.in_default.ensures.matches base [] at))
 
 pub returns-in-Err-Device-clause-any_moment : goal.returns-in-Err-Device-clause-any_moment
 returns-in-Err-Device-clause-any_moment g c = λ base at.
-    let m = g.D.SectorDisk.medium in
-    subst (λ (l : Limits). EachImageSince (m c.args.self.now.disk) (m c.commit.new.self.disk) (StandsForEither l base (restart base))) c.step.ensures.limits
-    (subst (λ d. EachImageSince (m d) (m c.commit.new.self.disk) (StandsForEither c.step.new.self.machine.limits base (restart base))) c.step.ensures.disk
-    (c.commit.ensures.any_moment base (Restart ∷ []) (c.in_default.ensures.matches base [] at)))
+    taken g.D.SectorDisk.medium c.args.self.now c.step.new.self (g.D.SectorDisk.medium c.commit.new.self.disk) base
+    c.step.ensures.disk c.step.ensures.limits
+    (c.commit.ensures.any_moment base (Restart ∷ []) (c.in_default.ensures.matches base [] at))
 
 pub returns-in-Err-JournalFull-clause-any_moment : goal.returns-in-Err-JournalFull-clause-any_moment
 returns-in-Err-JournalFull-clause-any_moment g c = λ base at.
-    let m = g.D.SectorDisk.medium in
-    subst (λ (l : Limits). EachImageSince (m c.args.self.now.disk) (m c.commit.new.self.disk) (StandsForEither l base (restart base))) c.step.ensures.limits
-    (subst (λ d. EachImageSince (m d) (m c.commit.new.self.disk) (StandsForEither c.step.new.self.machine.limits base (restart base))) c.step.ensures.disk
-    (c.commit.ensures.any_moment base (Restart ∷ []) (c.in_default.ensures.matches base [] at)))
+    taken g.D.SectorDisk.medium c.args.self.now c.step.new.self (g.D.SectorDisk.medium c.commit.new.self.disk) base
+    c.step.ensures.disk c.step.ensures.limits
+    (c.commit.ensures.any_moment base (Restart ∷ []) (c.in_default.ensures.matches base [] at))
 
 pub returns-in-Err-JournalFull-clause-full : goal.returns-in-Err-JournalFull-clause-full
 returns-in-Err-JournalFull-clause-full g c = λ is.
