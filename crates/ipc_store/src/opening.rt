@@ -45,6 +45,7 @@ impl<D: SectorDisk> Store<D> {
         // The base is the state for which the disk stood, after a restart; no event waits.
         ensures ok { IfOk result (λ store. IsHonest (D.medium disk)
             → OpensOn (D.medium disk).contents (D.medium store.disk) store) }
+        ensures confirmed { IfOk result (λ store. store.confirmed ≡ 1) }
         // A crash at any moment of the call, also of one that fails.
         ensures any_moment { IsHonest (D.medium disk)
             → (IfOk result (λ store. EachImageSince (D.medium disk) (D.medium store.disk) (OpensTo (D.medium disk))))
