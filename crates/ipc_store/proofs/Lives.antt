@@ -1,5 +1,5 @@
 -- What the calls on a store do to its history.
-use Rattle.std.proofs.Common.{◌≡◌, ◌⊎◌, inl, inr, ⊎_elim, ℕ, ◌+◌, Bool, true, false, List, [], ◌∷◌, ◌++◌, length, refl, sym, ap, subst, ◌∙◌, append-nil, append_assoc, arith}
+use Rattle.std.proofs.Common.{◌≡◌, inl, inr, ⊎_elim, ◌+◌, Bool, true, false, List, [], ◌∷◌, ◌++◌, refl, sym, ap, subst, ◌∙◌, append-nil, append_assoc, arith}
 use Rattle.std.proofs.lemmas.List.{length-append}
 use Rattle.ipc_base.specs.declared.limits.Limits.{Limits}
 use Rattle.ipc_disk.specs.Medium.{Image, Medium, IsHonest}
@@ -9,7 +9,7 @@ use Rattle.ipc_state.specs.State.{State, start}
 use Rattle.ipc_engine.specs.Event.{PlainEvent}
 use Rattle.ipc_engine.specs.Step.{run}
 use Rattle.ipc_engine.proofs.CallerLemmas.{run-parts}
-use Rattle.ipc_store.specs.Histories.{History, acknowledged, accepted, state_after, StandsForPrefix, GoesOn, HasHalted, Keeps, Follows, Moves, Takes}
+use Rattle.ipc_store.specs.Histories.{History, acknowledged, accepted, state_after, StandsForPrefix, GoesOn, Keeps, Follows, Takes}
 use Rattle.ipc_store.specs.Image.{StandsFor}
 use Rattle.ipc_store.specs.View.{StoreView, IsStopped}
 use Rattle.ipc_store.specs.Relations.Matches.{StoreMatches, StandsForEither}

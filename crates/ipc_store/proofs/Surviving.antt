@@ -1,12 +1,12 @@
 -- What an open finds after a crash.
-use Rattle.std.proofs.Common.{◌≡◌, ◌⊎◌, inl, inr, ⊎_elim, ℕ, ◌+◌, ◌<◌, ◌≤◌, ◌^◌, List, [], ◌∷◌, ◌++◌, length, refl, sym, ap, subst, ◌∙◌, append-nil, append_assoc, arith}
+use Rattle.std.proofs.Common.{◌≡◌, inl, inr, ⊎_elim, ◌+◌, ◌<◌, ◌^◌, List, [], ◌∷◌, ◌++◌, length, refl, sym, ap, subst, ◌∙◌, append-nil, append_assoc, arith}
 use Rattle.std.proofs.lemmas.List.{length-append}
 use Rattle.ipc_base.specs.declared.limits.Limits.{Limits}
 use Rattle.ipc_disk.specs.Medium.{Image, Medium, IsHonest}
 use Rattle.ipc_state.specs.State.{State, start, restart}
 use Rattle.ipc_engine.specs.Event.{PlainEvent, Restart}
 use Rattle.ipc_engine.proofs.CallerLemmas.{run-parts}
-use Rattle.ipc_store.specs.Histories.{History, acknowledged, accepted, state_after, reopened, StandsForPrefix, GoesOn, Keeps, Follows, Moves, Takes, Calls, None, More, OpensOn, Survives}
+use Rattle.ipc_store.specs.Histories.{History, acknowledged, accepted, state_after, reopened, Keeps, Takes, Calls, None, More, OpensOn, Survives}
 use Rattle.ipc_store.specs.Image.{StandsFor}
 use Rattle.ipc_store.specs.View.{StoreView}
 use Rattle.ipc_store.specs.Relations.Matches.{StoreMatches, OpensTo}
@@ -61,8 +61,13 @@ survives medium first last next opened before events others image fits keeps cal
       prefix =
           append_assoc (acknowledged h) left.kept left.lost ∙ ap (λ (es : List PlainEvent). acknowledged h ++ es) left.prefix
           ∙ sym (append_assoc (acknowledged h) h.waiting others) ∙ ap (λ (es : List PlainEvent). es ++ others) so_far.accepts;
-      holds = omega (arith, length-append (acknowledged h) left.kept, length-append h.found h.confirmed, so_far.keeps.count,
-          ap (λ (es : List PlainEvent). length es) so_far.found);
+      holds = omega (
+        arith,
+        length-append (acknowledged h) left.kept,
+        length-append h.found h.confirmed,
+        so_far.keeps.count,
+        ap (λ (es : List PlainEvent). length es) so_far.found,
+      );
       goes_on = reopens (medium opened.disk) opened image last.machine.limits (state_after last.machine.limits kept) kept fits left.stands refl opens;
     }
 

@@ -1,7 +1,7 @@
 -- What a user of a store may count on. The events that were accepted since the device was made are in three parts: those that
 -- the last open found on the device, those that were confirmed since then, the restart first, and those that wait for a commit.
 -- A crash leaves all of the first two parts, and of the third some, from the first on. An open adds a restart to what was left.
-use Rattle.std.specs.Prelude.{◌≡◌, ◌⊎◌, ℕ, ◌+◌, ◌≤◌, List, [], ◌∷◌, ◌++◌, length}
+use Rattle.std.specs.Prelude.{◌≡◌, ◌⊎◌, ℕ, ◌≤◌, List, [], ◌∷◌, ◌++◌, length}
 use Rattle.ipc_base.specs.declared.limits.Limits.{Limits}
 use Rattle.ipc_disk.specs.Medium.{Image, Medium, IsHonest}
 use Rattle.ipc_disk.specs.Since.{EachImageSince}

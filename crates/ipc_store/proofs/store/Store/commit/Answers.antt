@@ -1,5 +1,5 @@
 -- Each exit: what a crash leaves, and the history of the store.
-use Rattle.std.proofs.Common.{◌≡◌, inl, refl, sym, ap, subst, ◌∙◌}
+use Rattle.std.proofs.Common.{inl, refl, sym, ap, subst, ◌∙◌}
 use Rattle.ipc_disk.proofs.CallerLemmas.{EachImageSince-now}
 use Rattle.ipc_disk.specs.Since.{EachImageSince}
 use Rattle.ipc_disk.specs.Medium.{IsHonest}

@@ -29,19 +29,17 @@ returns-in-Err-clause-takes g c =
       confirmed = c.self.inside.confirmed;
       stopped = c.self.inside.stopped;
     } in
-    let same : c.args.self.now ≡ view c.step.new.self = sym c.self.view_is ∙ ap view (sym c.in-Err.ensures.err) in
-    (
+    let same : c.args.self.now ≡ view c.step.new.self = sym c.self.view_is ∙ ap view (sym c.in-Err.ensures.err) in (
       tt,
       subst (λ v. Takes g.D.SectorDisk.medium c.args.self.now [] v) same
           (takes-none g.D.SectorDisk.medium g.met.D.SectorDisk.only_now c.args.self.now),
     )
 
 pub returns-clause-takes : goal.returns-clause-takes
-returns-clause-takes g c =
-    (
-      takes-one g.D.SectorDisk.medium g.met.D.SectorDisk.only_now c.args.self.now _ (plain_event c.args.event)
-          (sym (ap (λ v. v.stopped) c.self.view_is) ∙ c.if-self.false)
-          (ap (λ v. v.disk) c.self.view_is) (c.step.ensures.limits ∙ ap (λ v. v.machine.limits) c.self.view_is) (ap (λ v. v.confirmed) c.self.view_is)
-          (returns-clause-matches g c),
-      tt,
-    )
+returns-clause-takes g c = (
+  takes-one g.D.SectorDisk.medium g.met.D.SectorDisk.only_now c.args.self.now _ (plain_event c.args.event)
+      (sym (ap (λ v. v.stopped) c.self.view_is) ∙ c.if-self.false)
+      (ap (λ v. v.disk) c.self.view_is) (c.step.ensures.limits ∙ ap (λ v. v.machine.limits) c.self.view_is) (ap (λ v. v.confirmed) c.self.view_is)
+      (returns-clause-matches g c),
+  tt,
+)
