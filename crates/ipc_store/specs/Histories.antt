@@ -1,6 +1,7 @@
--- What a user of a store may count on. The events that were accepted since the device was made are in three parts: those that
--- the last open found on the device, those that were confirmed since then, the restart first, and those that wait for a commit.
--- A crash leaves all of the first two parts, and of the third some, from the first on. An open adds a restart to what was left.
+-- What a user of a store may count on. The events that were accepted since the device was made are
+-- in three parts: those that the last open found on the device, those that were confirmed since
+-- then, the restart first, and those that wait for a commit. A crash leaves all of the first two
+-- parts, and of the third some, from the first on. An open adds a restart to what was left.
 use Rattle.std.specs.Prelude.{◌≡◌, ◌⊎◌, ℕ, ◌≤◌, List, [], ◌∷◌, ◌++◌, length}
 use Rattle.ipc_base.specs.declared.limits.Limits.{Limits}
 use Rattle.ipc_disk.specs.Medium.{Image, Medium, IsHonest}
@@ -32,15 +33,16 @@ state_after limits events = (run limits start events).state
 abbrev pub reopened : List PlainEvent → History
 reopened events = record { found = events; confirmed = Restart ∷ []; waiting = [] }
 
--- the image stands for the state after the acknowledged events and those of the others that were kept, from the first on
+-- the image stands for the state after the acknowledged events and those of the others that were
+-- kept, from the first on
 pub record StandsForPrefix (limits : Limits) (acked others : List PlainEvent) (image : Image) : Type 0 where
   pub kept : List PlainEvent
   pub lost : List PlainEvent
   pub prefix : kept ++ lost ≡ others
   pub stands : StandsFor limits (state_after limits (acked ++ kept)) image
 
--- the store goes on: its disk stands for the state after the acknowledged events, and its machine is in the state after the
--- waiting ones too
+-- the store goes on: its disk stands for the state after the acknowledged events, and its machine
+-- is in the state after the waiting ones too
 abbrev pub GoesOn : {D : Type 0} → Medium → StoreView D → History → Type 0
 GoesOn medium store h = StoreMatches medium store (state_after store.machine.limits (acknowledged h)) h.waiting
 
@@ -63,8 +65,8 @@ pub record Follows (before : History) (events : List PlainEvent) (after : Histor
   pub more : List PlainEvent
   pub confirms : after.confirmed ≡ before.confirmed ++ more
 
--- What a call does that accepts these events. A crash at any moment of it leaves what was acknowledged before it, and some of
--- the other events; and the history goes on.
+-- What a call does that accepts these events. A crash at any moment of it leaves what was
+-- acknowledged before it, and some of the other events; and the history goes on.
 pub record Moves {D : Type 0} (medium : D → Medium) (old new : StoreView D) (before : History)
     (events : List PlainEvent) : Type 0 where
   pub crash : EachImageSince (medium old.disk) (medium new.disk)
@@ -84,13 +86,14 @@ pub data Calls {D : Type 0} (medium : D → Medium) : StoreView D → List Plain
   More : (first last next : StoreView D) (events others : List PlainEvent) → Calls medium first events last
       → Takes medium last others next → Calls medium first (events ++ others) next
 
--- What an open gives on a disk that reads so: a store that goes on from the state for which the image stands, after a restart.
+-- What an open gives on a disk that reads so: a store that goes on from the state for which the
+-- image stands, after a restart.
 pub record OpensOn {D : Type 0} (image : Image) (medium : Medium) (store : StoreView D) : Type 0 where
   pub found : (s : State) × StandsFor store.machine.limits s image × StoreMatches medium store (restart s) []
   pub confirmed : store.confirmed ≡ 1
 
--- What a crash left of these events is some of them, from the first on, and at least so many. The store that was opened on it
--- has them as its history, and a restart.
+-- What a crash left of these events is some of them, from the first on, and at least so many. The
+-- store that was opened on it has them as its history, and a restart.
 pub record Survives {D : Type 0} (medium : Medium) (store : StoreView D) (least : ℕ) (events : List PlainEvent) : Type 0 where
   pub kept : List PlainEvent
   pub lost : List PlainEvent

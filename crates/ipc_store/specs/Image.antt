@@ -1,4 +1,5 @@
--- What an image of a device stands for: the state after the events of its journal, from the first state on.
+-- What an image of a device stands for: the state after the events of its journal, from the first
+-- state on.
 use Rattle.std.specs.Prelude.{◌≡◌, ◌≢◌, ◌⊎◌, ◌<◌, ◌≤◌, ◌+◌, ℕ, List, [], ◌∷◌, length, map, All}
 use Rattle.std.specs.List.{flat_map}
 use Rattle.ipc_base.specs.declared.limits.Limits.{Limits}
@@ -52,7 +53,8 @@ pub record StandsFor (limits : Limits) (s : State) (image : Image) : Type 0 wher
 abbrev pub HasNoState : Image → Type 0
 HasNoState image = (limits : Limits) (s : State) → ¬ StandsFor limits s image
 
--- The faults that a superblock has, in their order. The device has too few sectors for one, or begins otherwise.
+-- The faults that a superblock has, in their order. The device has too few sectors for one, or
+-- begins otherwise.
 abbrev pub IsNotFormatted : Image → Type 0
 IsNotFormatted image = (length image < 3) ⊎ (¬ IsFormatted (sector_at image 0))
 
@@ -68,8 +70,9 @@ pub record IsDamaged (image : Image) : Type 0 where
   pub version : version_in (sector_at image 0) ≡ 0
   pub stands_for_none : HasNoState image
 
--- Where a damage is first seen: in sector 0, which is no superblock of this device; in the header of the journal, which
--- is of a later epoch or counts sectors past the end; or in the first sector of a batch after good ones.
+-- Where a damage is first seen: in sector 0, which is no superblock of this device; in the header
+-- of the journal, which is of a later epoch or counts sectors past the end; or in the first sector
+-- of a batch after good ones.
 pub data IsFirstFault (image : Image) : ℕ → Type 0 where
   Superblock : ((limits : Limits) → ¬ IsDevice limits image) → IsFirstFault image 0
   Header : (first_epoch < header_epoch journal_range image) ⊎ ((header_epoch journal_range image ≡ first_epoch)

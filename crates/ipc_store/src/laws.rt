@@ -35,10 +35,10 @@ pub fn an_image_stands_for_one_state()
         → StandsFor limits s image → StandsFor others t image → (limits ≡ others) × (s ≡ t) }
 {}
 
-/// Over any list of calls on a store, and a crash at any moment of one more: opening what it leaves gives a store in the
-/// state after the accepted events, from the first of all on, up to some one of them, and a restart. All that were
-/// found at the last open are among them, and all that were confirmed since. That store has a history again, so the same
-/// holds of the calls on it.
+/// Over any list of calls on a store, and a crash at any moment of one more: opening what it leaves
+/// gives a store in the state after the accepted events, from the first of all on, up to some one
+/// of them, and a restart. All that were found at the last open are among them, and all that were
+/// confirmed since. That store has a history again, so the same holds of the calls on it.
 pub fn a_crash_takes_nothing_acknowledged<D: SectorDisk>()
     ensures { (first last next opened : StoreView D) (before : History) (events others : List PlainEvent) (disk : D)
         → Keeps (D.medium first.disk) first before → Calls D.medium first events last
@@ -49,7 +49,8 @@ pub fn a_crash_takes_nothing_acknowledged<D: SectorDisk>()
         ((accepted before ++ events) ++ others) }
 {}
 
-/// A crash at any moment of an open: opening what it leaves gives the state that the first open would have given.
+/// A crash at any moment of an open: opening what it leaves gives the state that the first open
+/// would have given.
 pub fn an_open_that_stops_changes_nothing<D: SectorDisk>()
     ensures { (disk left : D) (opened : StoreView D) (limits : Limits) (events : List PlainEvent)
         → IsHonest (D.medium disk) → IsHonest (D.medium left)

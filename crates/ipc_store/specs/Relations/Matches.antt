@@ -28,8 +28,8 @@ pub record HasPending {D : Type 0} (store : StoreView D) (base : State) (pending
   pub named : AreFor store.machine.limits base pending
   pub state : store.machine.state ≡ (run store.machine.limits base pending).state
 
--- The store goes on from the base, which each image that a crash now may leave stands for, and these events wait. Its
--- engine is in the state after them.
+-- The store goes on from the base, which each image that a crash now may leave stands for, and
+-- these events wait. Its engine is in the state after them.
 pub record StoreMatches {D : Type 0} (medium : Medium) (store : StoreView D) (base : State)
     (pending : List PlainEvent) : Type 0 where
   pub honest : IsHonest medium
@@ -40,8 +40,8 @@ pub record StoreMatches {D : Type 0} (medium : Medium) (store : StoreView D) (ba
   pub history : (batches : List (List PlainEvent)) × HasHistory medium store base batches
   pub waits : HasPending store base pending
 
--- What stands on the disk, and will still stand there after a crash, is the journal, which leads to the state of the
--- machine.
+-- What stands on the disk, and will still stand there after a crash, is the journal, which leads to
+-- the state of the machine.
 pub record IsLoaded (medium : Medium) (journal : Journal) (machine : Machine) : Type 0 where
   pub honest : IsHonest medium
   pub range : range_of journal ≡ journal_range
@@ -54,8 +54,8 @@ pub record IsLoaded (medium : Medium) (journal : Journal) (machine : Machine) : 
 abbrev pub StandsForEither : Limits → State → State → Image → Type 0
 StandsForEither limits s t image = StandsFor limits s image ⊎ StandsFor limits t image
 
--- What a crash within an open may leave: what it could leave before, or what stands for the state that was read, or for
--- that state after a restart.
+-- What a crash within an open may leave: what it could leave before, or what stands for the state
+-- that was read, or for that state after a restart.
 abbrev pub OpensTo : Medium → Image → Type 0
 OpensTo old image = old.images_now image
     ⊎ ((limits : Limits) × (s : State) × StandsFor limits s old.contents × StandsForEither limits s (restart s) image)
