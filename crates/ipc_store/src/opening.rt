@@ -67,6 +67,9 @@ impl<D: SectorDisk> Store<D> {
             × (IfErr result (λ fault. D.size fault.disk ≡ D.size disk)) }
         ensures failure { IfErr result (λ fault. fault.error ≡ errors.Device
             → (D.counts fault.disk).failures ≡ counted (D.counts disk).failures 1) }
+        ensures no_failure { (IfOk result (λ store. (D.counts store.disk).failures ≡ (D.counts disk).failures))
+            × (IfErr result (λ fault. (fault.error ≡ errors.Device)
+            ⊎ ((D.counts fault.disk).failures ≡ (D.counts disk).failures))) }
     {
         let mut disk = disk;
         let (journal, engine, batch) = match read_device(alloc, &mut disk) {
@@ -102,6 +105,8 @@ impl<D: SectorDisk> Store<D> {
         ensures size { D.size self.new.disk ≡ D.size self.old.disk }
         ensures failure { result ≡ Err OpenError.Device → (D.counts self.new.disk).failures
             ≡ counted (D.counts self.old.disk).failures 1 }
+        ensures no_failure { (result ≡ Err OpenError.Device)
+            ⊎ ((D.counts self.new.disk).failures ≡ (D.counts self.old.disk).failures) }
     {
         if let Err(_) = self.step(Event::Restart) {
             unreachable!()
@@ -137,7 +142,8 @@ fn read_device<D: SectorDisk>(
     ensures size { D.size disk.new ≡ D.size disk.old }
     ensures failure { result ≡ Err OpenError.Device
         → (D.counts disk.new).failures ≡ counted (D.counts disk.old).failures 1 }
-    ensures no_failure { OnOk result ((D.counts disk.new).failures ≡ (D.counts disk.old).failures) }
+    ensures no_failure { (result ≡ Err OpenError.Device)
+        ⊎ ((D.counts disk.new).failures ≡ (D.counts disk.old).failures) }
     ensures no_write { (D.counts disk.new).writes ≡ (D.counts disk.old).writes }
 {
     let mut room = match room_for_a_batch(alloc) {

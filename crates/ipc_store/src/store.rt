@@ -147,9 +147,9 @@ impl<D: SectorDisk> Store<D> {
         Ok(())
     }
 
-    /// Makes all events that wait last: a batch of them joins the journal. If none waits, it makes no call on the disk.
-    /// A crash at any moment leaves what was there before, with all of these events or with none. After an `Err` the
-    /// store is stopped.
+    /// Makes all events that wait last: a batch of them joins the journal. If none waits, nothing changes, and it makes
+    /// no call on the disk. A crash at any moment leaves what was there before, with all of these events or with none.
+    /// After an `Err` the store is stopped.
     pub fn commit(&mut self) -> Result<(), CommitError>
         // The base is the state of now, and no event waits.
         ensures matches { OnOk result ((base : State) (pending : List PlainEvent)
@@ -178,7 +178,7 @@ impl<D: SectorDisk> Store<D> {
         ensures full { result ≡ Err CommitError.JournalFull
             → ¬ Fits self.old.journal (4 + length self.old.records) }
         ensures full_keeps { result ≡ Err CommitError.JournalFull → self.new.disk ≡ self.old.disk }
-        ensures nothing { self.old.waiting ≡ 0 → self.new.disk ≡ self.old.disk }
+        ensures nothing { self.old.waiting ≡ 0 → self.new ≡ self.old }
         ensures nothing_ok { self.old.waiting ≡ 0 → self.old.stopped ≡ false → IsOk result }
         ensures failure { result ≡ Err CommitError.Device → (D.counts self.new.disk).failures
             ≡ counted (D.counts self.old.disk).failures 1 }
