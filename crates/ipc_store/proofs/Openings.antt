@@ -1,5 +1,5 @@
 -- What an open leaves at each moment, and the store that it gives.
-use Rattle.std.proofs.Common.{◌≡◌, inl, inr, ⊎_elim, ℕ, ◌+◌, ◌<◌, List, [], false, length, refl, sym, ap, subst, ◌∙◌, arith}
+use Rattle.std.proofs.Common.{◌≡◌, ◌⊎◌, inl, inr, ⊎_elim, ℕ, ◌+◌, ◌<◌, List, [], false, length, refl, sym, ap, subst, ◌∙◌, arith}
 use Rattle.std.proofs.lemmas.Bool.{cases_lt}
 use Rattle.std.proofs.lemmas.List.Elements.{All-nil}
 use Rattle.ipc_base.specs.declared.limits.Limits.{Limits}
@@ -13,7 +13,10 @@ use Rattle.ipc_state.specs.State.{State, restart}
 use Rattle.ipc_engine.specs.Engine.{Machine}
 use Rattle.ipc_engine.specs.Event.{Restart}
 use Rattle.ipc_image.specs.Records.{record_bytes, HasRecord}
-use Rattle.ipc_store.specs.Image.{StandsFor}
+use Rattle.ipc_store.specs.declared.fault.OpenError.{OpenError}
+use Rattle.ipc_store.specs.declared.fault.OpenError.TheVariants as errors
+use Rattle.ipc_store.proofs.Opened.{device-begins}
+use Rattle.ipc_store.specs.Image.{IsNotFormatted, HasVersion, IsDamaged, IsFirstFault, StandsFor}
 use Rattle.ipc_store.specs.View.{StoreView}
 use Rattle.ipc_store.specs.Relations.Matches.{StoreMatches, StandsForEither, IsLoaded, OpensTo}
 use Rattle.ipc_store.proofs.Batches.{record-length}
@@ -91,3 +94,17 @@ full_journal journal records are full =
     let size : length records ≡ 13 = ap (λ (x : List ℕ). length x) are ∙ record-length Restart in
     ⊎_elim (λ lt. absurd (full (subst (λ (n : ℕ). used_of journal + sectors_for (4 + n) < (range_of journal).count) (sym size) lt)))
     (λ ge. omega (arith, ge, journal.room)) (cases_lt (used_of journal + 1) (range_of journal).count)
+
+-- a disk that stands for a state has no fault of its own
+pub refused_by : (image : Image) (limits : Limits) (s : State) (error : OpenError) → StandsFor limits s image
+    → (error ≡ errors.NotFormatted → IsNotFormatted image) → ((found : ℕ) → error ≡ errors.Version found → HasVersion found image)
+    → ((sector : ℕ) → error ≡ errors.Damaged sector → IsDamaged image × IsFirstFault image sector)
+    → (error ≡ errors.Device) ⊎ (error ≡ errors.NoMemory) ⊎ (error ≡ errors.JournalFull)
+refused_by image limits s errors.Device stands not version damaged = inl refl
+refused_by image limits s errors.NotFormatted stands not version damaged = absurd ((device-begins limits image stands.device).0 (not refl))
+refused_by image limits s (errors.Version found) stands not version damaged =
+    let other = version found refl in
+    absurd (other.other (sym other.version ∙ (device-begins limits image stands.device).1))
+refused_by image limits s (errors.Damaged sector) stands not version damaged = absurd ((damaged sector refl).0.stands_for_none limits s stands)
+refused_by image limits s errors.NoMemory stands not version damaged = inr (inl refl)
+refused_by image limits s errors.JournalFull stands not version damaged = inr (inr refl)

@@ -1,14 +1,25 @@
 -- Each exit: what a crash leaves, and what was read.
-use Rattle.std.proofs.Common.{Err, sym, ap, subst, ◌∙◌}
+use Rattle.std.proofs.Common.{inl, inr, ⊎_elim, Err, sym, ap, subst, ◌∙◌}
 use Rattle.ipc_base.specs.declared.limits.Limits.{Limits}
 use Rattle.ipc_disk.specs.Since.{EachImageSince}
 use Rattle.ipc_store.specs.Image.{StandsFor}
 use Rattle.ipc_store.specs.Relations.Matches.{OpensTo}
-use Rattle.ipc_store.proofs.Openings.{only_read, begins, stood, restart_leaves}
+use Rattle.ipc_store.proofs.Openings.{refused_by, only_read, begins, stood, restart_leaves}
 use Rattle.ipc_store.proofs.store.Store.open.Goals as goal
 
 pub returns-in-Err-clause-any_moment : goal.returns-in-Err-clause-any_moment
 returns-in-Err-clause-any_moment g c = λ honest. (tt, only_read _ _ (c.read_device.ensures.reads honest) (g.met.D.SectorDisk.only_now c.args.disk))
+
+pub returns-in-Err-clause-refusals : goal.returns-in-Err-clause-refusals
+returns-in-Err-clause-refusals g c = λ limits s honest stands.
+    refused_by (g.D.SectorDisk.medium c.args.disk).contents limits s c.in-Err.error stands
+    (λ e. c.read_device.ensures.not_formatted (c.in-Err.is ∙ ap Err e) honest)
+    (λ found e. c.read_device.ensures.version found (c.in-Err.is ∙ ap Err e) honest)
+    (λ sector e. c.read_device.ensures.damaged sector (c.in-Err.is ∙ ap Err e) honest)
+
+pub returns-in-Err-restart-clause-refusals : goal.returns-in-Err-restart-clause-refusals
+returns-in-Err-restart-clause-refusals g c = λ limits s honest stands.
+    ⊎_elim (λ device. inl cc) (λ full. inr (inr cc)) c.in-Err-restart.ensures.faults
 
 pub returns-in-Err-clause-damaged : goal.returns-in-Err-clause-damaged
 returns-in-Err-clause-damaged g c = λ sector e honest. c.read_device.ensures.damaged sector (c.in-Err.is ∙ ap Err e) honest
