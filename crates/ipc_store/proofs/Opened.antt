@@ -18,7 +18,7 @@ use Rattle.ipc_image.proofs.CallerLemmas.{superblock-begins, superblock-version,
 use Rattle.ipc_store.specs.Batch.{batch_bytes}
 use Rattle.ipc_store.specs.Image.{journal_range, first_epoch, IsDevice, HasBatches, LeadTo, StandsFor, HasNoState, IsNotFormatted, IsDamaged, IsFirstFault}
 use Rattle.ipc_store.specs.Relations.Matches.{IsLoaded}
-use Rattle.ipc_store.specs.Relations.Replay.{IsOpened, Replays, IsGoodUpTo}
+use Rattle.ipc_store.specs.Relations.Replay.{IsOpened, Replays, HasNoBatchAt, IsGoodUpTo}
 
 -- no batch has no sector
 none-fill : (range : Range) (batches : List (List ℕ)) (image : Image) → Fill range 0 0 batches image → batches ≡ []
@@ -143,12 +143,16 @@ module _ (limits : Limits) (journal : Journal) (image : Image) (range : range_of
   -- the sector of a fault behind good batches
   pub first-fault : (sector : ℕ) → IsGoodUpTo limits journal image sector → IsFirstFault image sector
   first-fault sector up_to =
-      let batches = up_to.good.0 in
-      let at : 4 + sectors_of (map batch_bytes batches) ≡ sector =
-      sym (up_to.good.4 ∙ ap (λ (r : Range). r.first + 1 + sectors_of (map batch_bytes batches)) range) in
-      subst (IsFirstFault image) at
-      (IsFirstFault.AtBatch limits batches up_to.good.1 up_to.good.2
-      (subst (λ (r : Range). Fill r 0 (sectors_of (map batch_bytes batches)) (map batch_bytes batches) image) range up_to.good.3))
+      let end : ℕ = sectors_of (map batch_bytes up_to.batches) in
+      let used : used_of journal ≡ header_used journal_range image =
+      ⊎_elim (λ lt. absurd (omega (arith, up_to.used, opened.older lt)))
+      (λ le. opened.current (omega (arith, le, opened.not_newer)) ∙ ap (λ (r : Range). header_used r image) range)
+      (cases_lt (header_epoch (range_of journal) image) (epoch_of journal)) in
+      let P : Range → ℕ → Type 0 = λ r n. Fill r 0 end (map batch_bytes up_to.batches) image × (end < n)
+      × HasNoBatchAt limits up_to.state r end n image × (sector ≡ r.first + 1 + end) in
+      let all : P journal_range (header_used journal_range image) =
+      subst (P journal_range) used (subst (λ (r : Range). P r (used_of journal)) range (up_to.filled, up_to.used, up_to.none, up_to.sector_is)) in
+      subst (IsFirstFault image) (sym all.3) (IsFirstFault.AtBatch limits up_to.batches up_to.state up_to.leads all.0 all.1 all.2)
 
   -- a fault of a batch
   pub batch-damaged : length image < 2 ^ 32 → ((batches : List (List PlainEvent)) (s : State) → ¬ Replays limits journal image batches s)

@@ -25,8 +25,9 @@ use Rattle.ipc_engine.proofs.CallerLemmas.{run-parts}
 use Rattle.ipc_image.specs.Records.{record_bytes, HasRecord, BeginsWith}
 use Rattle.ipc_store.specs.Batch.{most_bytes, records_of, batch_bytes, AreBatch}
 use Rattle.ipc_store.specs.Image.{AreFor, events_of, LeadTo}
-use Rattle.ipc_store.specs.Relations.Replay.{AreRecords, Replays, IsGoodUpTo}
+use Rattle.ipc_store.specs.Relations.Replay.{AreRecords, Replays, HasNoBatchAt, IsGoodUpTo}
 use Rattle.ipc_store.proofs.Accepting.{records-more}
+use Rattle.ipc_store.proofs.Committing.{is_batch}
 use Rattle.ipc_store.proofs.Histories.{AreFor-parts, LeadTo-start, LeadTo-more}
 
 -- ---- events in parts
@@ -210,6 +211,11 @@ replayed_none limits journal image = record {
   ahead = λ batches to is. (batches, record { filled = is.filled; each = is.leads.each; named = is.leads.named; state = is.leads.state });
 }
 
+-- the bytes of a batch say how many they are
+batch-right : (events : List PlainEvent) → AreBatch events → IsBatch (batch_bytes events)
+unfolding batch_bytes
+batch-right events batch = is_batch (records_of events) (batch_bytes events) refl batch.size
+
 -- the batch that was found at a place
 pub record Found (journal : Journal) (image : Image) (place : ℕ) (batch : List ℕ) : Type 0 where
   pub is : IsBatch batch
@@ -290,6 +296,18 @@ module _ (limits : Limits) (journal : Journal) (image : Image) (place : ℕ) (s 
       first [] left = something to left
       first (m ∷ ms) left = refuses m (run limits s m).state (first_records limits journal image place s batch found m ms to left)
 
+  -- nor does one stand there that can come
+  pub none_refused : ((events : List PlainEvent) (to : State) → AreRecords limits s (drop 4 batch) events to → ⊥)
+      → HasNoBatchAt limits s (range_of journal) place (used_of journal) image
+  none_refused refuses events each named stands =
+      let at = (range_of journal).first + 1 + place in
+      let right = batch-right events each in
+      let same : batch_bytes events ≡ batch =
+      stands-same at (batch_bytes events) batch image
+      (sym (length-there at (batch_bytes events) image right stands) ∙ length-there at batch image found.is found.stands) stands found.stands in
+      absurd (refuses events (run limits s events).state
+      (record { each = each.each; spelled = ap (drop 4) (sym same) ∙ records_in events; named = named; state = refl }))
+
   module _ (events : List PlainEvent) (t : State) (are : AreRecords limits s (drop 4 batch) events t)
       (only : (es : List PlainEvent) (to : State) → AreRecords limits s (drop 4 batch) es to → t ≡ to) where
     next_leads : LeadTo limits (replayed.so_far.0 ++ events ∷ []) t
@@ -362,18 +380,27 @@ module _ (limits : Limits) (journal : Journal) (image : Image) (place : ℕ) (s 
           let short = (All-head AreBatch m ms left.each).size in
           ⊎_elim (λ over. omega (arith, over, long, there, after)) (λ over. omega (arith, over, long, there, room, length_batch m, short)) bad
 
+  -- a batch that does not fit is none that can come
+  pub none_damaged : (size said : ℕ) → size ≡ most_bytes → said ≡ length_in (sector_at image ((range_of journal).first + 1 + place))
+      → (used_of journal < place + sectors_for (said + 4)) ⊎ (size < said + 4)
+      → HasNoBatchAt limits s (range_of journal) place (used_of journal) image
+  none_damaged size said room there bad events batch named stands =
+      let long = length-there ((range_of journal).first + 1 + place) (batch_bytes events) image (batch-right events batch) stands in
+      ⊎_elim (λ over. omega (arith, over, long, there)) (λ over. absurd (omega (arith, over, long, there, room, length_batch events, batch.size))) bad
+
   -- what is before the place is good
-  pub replayed_good : (sector : ℕ) → sector ≡ (range_of journal).first + 1 + place → IsGoodUpTo limits journal image sector
-  replayed_good sector is =
+  pub replayed_good : (sector : ℕ) → sector ≡ (range_of journal).first + 1 + place → place < used_of journal
+      → HasNoBatchAt limits s (range_of journal) place (used_of journal) image → IsGoodUpTo limits journal image sector
+  replayed_good sector is more_used none =
       let batches = replayed.so_far.0 in
       let end : place ≡ sectors_of (map batch_bytes batches) =
       omega (arith, Fill-end (range_of journal) 0 place (map batch_bytes batches) image replayed.so_far.2) in
       record {
-        good = (
-          batches,
-          s,
-          replayed.so_far.1,
-          subst (λ (n : ℕ). Fill (range_of journal) 0 n (map batch_bytes batches) image) end replayed.so_far.2,
-          is ∙ ap (λ (n : ℕ). (range_of journal).first + 1 + n) end,
-        );
+        batches = batches;
+        state = s;
+        leads = replayed.so_far.1;
+        filled = subst (λ (n : ℕ). Fill (range_of journal) 0 n (map batch_bytes batches) image) end replayed.so_far.2;
+        sector_is = is ∙ ap (λ (n : ℕ). (range_of journal).first + 1 + n) end;
+        used = subst (λ (n : ℕ). n < used_of journal) end more_used;
+        none = subst (λ (n : ℕ). HasNoBatchAt limits s (range_of journal) n (used_of journal) image) end none;
       }

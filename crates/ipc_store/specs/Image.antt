@@ -5,7 +5,7 @@ use Rattle.std.specs.List.{flat_map}
 use Rattle.ipc_base.specs.declared.limits.Limits.{Limits}
 use Rattle.ipc_disk.specs.declared.range.Range.{Range}
 use Rattle.ipc_disk.specs.Medium.{Image}
-use Rattle.ipc_journal.specs.Journal.{sector_at, sectors_of, header_epoch, header_used, Fill, Holds}
+use Rattle.ipc_journal.specs.Journal.{sector_at, sectors_for, sectors_of, header_epoch, header_used, StandsAt, Fill, Holds}
 use Rattle.ipc_state.specs.State.{State, start}
 use Rattle.ipc_engine.specs.Event.{PlainEvent}
 use Rattle.ipc_engine.specs.Engine.{IsForProcess}
@@ -71,12 +71,16 @@ pub record IsDamaged (image : Image) : Type 0 where
   pub stands_for_none : HasNoState image
 
 -- Where a damage is first seen: in sector 0, which is no superblock of this device; in the header
--- of the journal, which is of a later epoch or counts sectors past the end; or in the first sector
--- of a batch after good ones.
+-- of the journal, which is of a later epoch or counts sectors past the end; or behind good batches,
+-- where more is used but no batch of events that can come there stands within it.
 pub data IsFirstFault (image : Image) : ℕ → Type 0 where
   Superblock : ((limits : Limits) → ¬ IsDevice limits image) → IsFirstFault image 0
   Header : (first_epoch < header_epoch journal_range image) ⊎ ((header_epoch journal_range image ≡ first_epoch)
       × (journal_range.count ≤ header_used journal_range image)) → IsFirstFault image 3
   AtBatch : (limits : Limits) (batches : List (List PlainEvent)) (s : State) → LeadTo limits batches s
       → Fill journal_range 0 (sectors_of (map batch_bytes batches)) (map batch_bytes batches) image
+      → sectors_of (map batch_bytes batches) < header_used journal_range image
+      → ((events : List PlainEvent) → AreBatch events → AreFor limits s events
+      → StandsAt (4 + sectors_of (map batch_bytes batches)) (batch_bytes events) image
+      → header_used journal_range image < sectors_of (map batch_bytes batches) + sectors_for (length (batch_bytes events)))
       → IsFirstFault image (4 + sectors_of (map batch_bytes batches))

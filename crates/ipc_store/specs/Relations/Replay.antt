@@ -1,15 +1,16 @@
 -- What a replay of a journal finds.
-use Rattle.std.specs.Prelude.{◌≡◌, ◌+◌, ◌<◌, ◌≤◌, ℕ, List, map, All}
+use Rattle.std.specs.Prelude.{◌≡◌, ◌+◌, ◌<◌, ◌≤◌, ℕ, List, length, map, All}
 use Rattle.ipc_base.specs.declared.limits.Limits.{Limits}
+use Rattle.ipc_disk.specs.declared.range.Range.{Range}
 use Rattle.ipc_disk.specs.Medium.{Image}
-use Rattle.ipc_journal.specs.Journal.{header_epoch, header_used, sectors_of, Fill}
+use Rattle.ipc_journal.specs.Journal.{header_epoch, header_used, sectors_for, sectors_of, StandsAt, Fill}
 use Rattle.ipc_journal.specs.View.{range_of, epoch_of, used_of}
 use Rattle.ipc_journal.specs.declared.journal.Journal.{Journal}
 use Rattle.ipc_state.specs.State.{State}
 use Rattle.ipc_engine.specs.Event.{PlainEvent}
 use Rattle.ipc_engine.specs.Step.{run}
 use Rattle.ipc_image.specs.Records.{HasRecord}
-use Rattle.ipc_store.specs.Batch.{records_of, batch_bytes}
+use Rattle.ipc_store.specs.Batch.{records_of, batch_bytes, AreBatch}
 use Rattle.ipc_store.specs.Image.{AreFor, LeadTo}
 
 -- the bytes are the records of these events, which lead from one state to another
@@ -33,8 +34,19 @@ pub record IsOpened (journal : Journal) (image : Image) : Type 0 where
       → used_of journal ≡ header_used (range_of journal) image
   pub not_newer : header_epoch (range_of journal) image ≤ epoch_of journal
 
--- the batches before this sector are good ones
+-- no batch of events that can come here stands at this place, within the sectors that are used
+abbrev pub HasNoBatchAt : Limits → State → Range → ℕ → ℕ → Image → Type 0
+HasNoBatchAt limits s range place used image =
+    (events : List PlainEvent) → AreBatch events → AreFor limits s events
+    → StandsAt (range.first + 1 + place) (batch_bytes events) image
+    → used < place + sectors_for (length (batch_bytes events))
+
+-- the batches before this sector are good ones, and none follows there
 pub record IsGoodUpTo (limits : Limits) (journal : Journal) (image : Image) (sector : ℕ) : Type 0 where
-  pub good : (batches : List (List PlainEvent)) × (s : State) × LeadTo limits batches s
-      × Fill (range_of journal) 0 (sectors_of (map batch_bytes batches)) (map batch_bytes batches) image
-      × (sector ≡ (range_of journal).first + 1 + sectors_of (map batch_bytes batches))
+  pub batches : List (List PlainEvent)
+  pub state : State
+  pub leads : LeadTo limits batches state
+  pub filled : Fill (range_of journal) 0 (sectors_of (map batch_bytes batches)) (map batch_bytes batches) image
+  pub sector_is : sector ≡ (range_of journal).first + 1 + sectors_of (map batch_bytes batches)
+  pub used : sectors_of (map batch_bytes batches) < used_of journal
+  pub none : HasNoBatchAt limits state (range_of journal) (sectors_of (map batch_bytes batches)) (used_of journal) image

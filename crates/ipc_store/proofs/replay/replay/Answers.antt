@@ -21,7 +21,7 @@ use Rattle.ipc_store.specs.declared.fault.OpenError.{OpenError}
 use Rattle.ipc_store.specs.declared.fault.OpenError.TheVariants.{Damaged}
 use Rattle.ipc_store.specs.Relations.Replay.{AreRecords}
 use Rattle.ipc_store.proofs.Replaying.{Replayed, Found, replayed_none, replayed_more, replayed_refused, replayed_all, replayed_only}
-use Rattle.ipc_store.proofs.Replaying.{replayed_damaged, replayed_good, found_batch, records_slice, AreRecords-same}
+use Rattle.ipc_store.proofs.Replaying.{replayed_damaged, replayed_good, none_damaged, none_refused, found_batch, records_slice, AreRecords-same}
 use Rattle.ipc_store.proofs.replay.replay.Given.{Over}
 use Rattle.ipc_store.proofs.replay.replay.Goals as goal
 use Rattle.ipc_store.proofs.replay.replay.Goals.{After-next_batch, In_ok-go_through}
@@ -118,8 +118,23 @@ returns-in_err-len-clause-damaged g c = λ sector batches s is honest good.
 
 pub returns-in_err-len-clause-named : goal.returns-in_err-len-clause-named
 returns-in_err-len-clause-named g c = λ sector is honest.
+    let inv = c.loop-engine.invariant in
+    let image = (g.D.SectorDisk.medium c.args.disk.now).contents in
+    let journal = c.args.journal.now in
+    let place = c.loop-engine.place.sector in
+    let stays = inv.reads honest in
     let error = from_damaged c.from_residual-in_err-len.result c.in_err-len.field-0.0 sector is c.from_residual-in_err-len.ensures.1 in
-    replayed_good _ _ _ _ _ (c.loop-engine.invariant.replayed honest) sector (c.in_err-len.ensures.named sector (ap (λ (x : JournalError). Err x) error))
+    let was = ap (λ (x : JournalError). Err x) error in
+    let at : sector ≡ (range_of c.args.journal.now).first + 1 + place = c.in_err-len.ensures.named sector was in
+    let said = ap (λ (i : Image). length_in (sector_at i sector)) (stays.contents honest) ∙ ap (λ (n : ℕ). length_in (sector_at image n)) at in
+    let more : place < used_of journal = elim (cases_lt place (used_of journal)) [
+      | inl lt ↦ lt
+      | inr le ↦ absurd (not_none c.in_err-len.field-0.0 (c.in_err-len.ensures.end le))
+    ] in
+    let replayed = inv.replayed honest in
+    replayed_good _ _ _ _ _ replayed sector at more
+    (none_damaged _ _ _ _ _ replayed (length c.loop-engine.room) _ (omega (arith, inv.room, c.requires.room)) said
+    (c.in_err-len.ensures.damaged sector was (stays.time.honest.0 honest)))
 
 pub returns-in_err-len-clause-reads : goal.returns-in_err-len-clause-reads
 returns-in_err-len-clause-reads g c = reads_on g (goal.at.returns-in_err-len-clause-reads g c).After-next_batch
@@ -148,8 +163,13 @@ returns-then-not-branch-clause-damaged g c = λ sector batches to is honest good
 
 pub returns-then-not-branch-clause-named : goal.returns-then-not-branch-clause-named
 returns-then-not-branch-clause-named g c = λ sector is honest.
-    replayed_good _ _ _ _ _ (c.loop-engine.invariant.replayed honest) sector
+    let here = (goal.at.returns-then-not-branch-clause-named g c).In_ok-go_through in
+    let replayed = c.loop-engine.invariant.replayed honest in
+    let found = found_there g here honest in
+    replayed_good _ _ _ _ _ replayed sector
     (sym (named_sector _ sector is) ∙ ap (λ (range : Range). range.first + 1 + c.loop-engine.place.sector) c.range.ensures)
+    (omega (arith, found.inside, found.is.field))
+    (none_refused _ _ _ _ _ _ replayed found (λ es t are. false≢true (sym c.if-not-branch.true ∙ (only_there g here es t are).0)))
 
 pub returns-then-not-branch-clause-reads : goal.returns-then-not-branch-clause-reads
 returns-then-not-branch-clause-reads g c = reads_on g (goal.at.returns-then-not-branch-clause-reads g c).After-next_batch
