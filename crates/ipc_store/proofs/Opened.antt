@@ -140,7 +140,7 @@ module _ (limits : Limits) (journal : Journal) (image : Image) (range : range_of
       → HasNoState image
   none-replays fits none other s stands = let found = replays fits other s stands in none found.1.0 s found.1.1
 
-  -- the sector of a fault behind good batches
+  -- the sector of a fault after good batches
   pub first-fault : (sector : ℕ) → IsGoodUpTo limits journal image sector → IsFirstFault image sector
   first-fault sector up_to =
       let end : ℕ = sectors_of (map batch_bytes up_to.batches) in

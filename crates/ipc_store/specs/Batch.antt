@@ -9,7 +9,7 @@ use Rattle.ipc_image.specs.Records.{record_bytes, HasRecord}
 abbrev pub most_bytes : ℕ
 most_bytes = 32768
 
--- the records of events, each directly behind the one before
+-- the records of events, each directly after the one before
 abbrev pub records_of : List PlainEvent → List ℕ
 records_of events = flat_map record_bytes events
 

@@ -101,7 +101,7 @@ impl Batch {
     }
 }
 
-// Puts the record of an event directly behind the batch in the first `len` bytes. Answers how many bytes the batch has
+// Puts the record of an event directly after the batch in the first `len` bytes. Answers how many bytes the batch has
 // then.
 fn put_record(bytes: &mut [u8], len: usize, event: &Event<'_>) -> usize
     requires record { HasRecord (plain_event event.now) }

@@ -22,7 +22,7 @@ pub enum StepError {
     Stopped,
 }
 
-/// Why what waits was not made last.
+/// Why the events that wait were not made to last.
 #[derive(Clone, Copy, Debug, PartialEq, Eq, Error)]
 pub enum CommitError {
     /// A call on the disk has failed. The store goes on no more.
@@ -68,7 +68,7 @@ pub enum OpenError {
         /// The version that it names.
         found: u32,
     },
-    /// What stands on it stands for no state.
+    /// It stands for no state.
     #[error("the device is damaged at sector {sector}")]
     Damaged {
         /// The first sector in which the fault is seen.
