@@ -14,3 +14,6 @@ mod store;
 pub use fault::{CommitError, FormatError, OpenError, StepError};
 pub use opening::Unopened;
 pub use store::Store;
+
+#[cfg(test)]
+mod tests;
