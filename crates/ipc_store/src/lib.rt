@@ -16,4 +16,8 @@ pub use opening::Unopened;
 pub use store::Store;
 
 #[cfg(test)]
+mod damage;
+#[cfg(test)]
+mod stops;
+#[cfg(test)]
 mod tests;
