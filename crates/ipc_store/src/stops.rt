@@ -36,7 +36,7 @@ enum Line {
 use Line::{Commit, Exit, Get, Hello, Receive, Refused, Send, Tick};
 
 // Each commit brings something that the probes see.
-const SCRIPT: [Line; 67] = [
+const SCRIPT: [Line; 61] = [
     Hello(1000),
     Get(1, 7, 0x380),
     Commit, // 59 bytes, one sector
@@ -44,7 +44,6 @@ const SCRIPT: [Line; 67] = [
     Tick,
     Get(2, 7, 0),
     Get(2, 8, 0),
-    Commit,
     Hello(1002),
     Get(3, 0, 0x380),
     Send(3, 2, 1, b"first"),
@@ -58,15 +57,14 @@ const SCRIPT: [Line; 67] = [
     Receive(2, 1, 64, 4),
     Send(2, 1, 7, b""),
     Commit,
-    Refused(1, 3000),
+    Refused(1, 2100),
     Send(1, 1, 4, b"after"),
-    Commit, // 3085 bytes, seven sectors
+    Commit, // 2185 bytes, five sectors
     Exit(3),
     Tick,
     Hello(1000),
     Get(4, 7, 0x780),
     Get(4, 8, 0x380),
-    Commit,
     Receive(4, 1, 2, 0),
     Receive(4, 1, 64, 0),
     Commit,
@@ -77,7 +75,6 @@ const SCRIPT: [Line; 67] = [
     Send(1, 2, 0, b"no type"),
     Send(1, 3, 1, b"no queue"),
     Receive(1, 2, 64, 2),
-    Commit,
     Tick,
     Send(1, 1, 6, b"last"),
     Exit(1),
@@ -91,33 +88,25 @@ const SCRIPT: [Line; 67] = [
         6,
         1,
         1,
-        b"sixty-four bytes of a message that fills one half of a queue now",
+        b"half of a queue: a message of sixty-four bytes, and not one more",
     ),
     Send(
         6,
         2,
         1,
-        b"sixty-four bytes of a message that fills one half of a queue now",
+        b"half of a queue: a message of sixty-four bytes, and not one more",
     ),
     Send(
         6,
         1,
         1,
-        b"sixty-four bytes of a message that fills one half of a queue now",
-    ),
-    Send(
-        6,
-        2,
-        1,
-        b"sixty-four bytes of a message that fills one half of a queue now",
+        b"half of a queue: a message of sixty-four bytes, and not one more",
     ),
     Send(6, 2, 1, b"one more"),
-    Refused(2, 1100),
-    Commit, // 1596 bytes, four sectors
+    Commit,
     Receive(6, 1, 64, 0),
     Receive(4, 1, 64, 0),
     Receive(2, 2, 64, 0),
-    Commit,
     Exit(2),
     Exit(4),
     Exit(6),
@@ -328,13 +317,6 @@ fn choice(before: u32, unsynced: u32) -> Option<u64> {
     }
 }
 
-// How many times a disk was stopped, and how many disks the crashes left.
-#[derive(Clone, Copy, Debug, PartialEq, Eq)]
-struct Count {
-    stops: u64,
-    crashes: u64,
-}
-
 // What the probes find on a device that opens.
 fn probe_disk(rt: &impl Abort, alloc: Global, disk: MemoryDisk) -> Result<Vec<u8>, Fail> {
     let mut store = opened(alloc, disk)?;
@@ -344,69 +326,9 @@ fn probe_disk(rt: &impl Abort, alloc: Global, disk: MemoryDisk) -> Result<Vec<u8
     Ok(found)
 }
 
-// An open of a device that passes so many calls; none if they are enough.
-fn stopped_open(rt: &impl Abort, alloc: Global, fuse: FuseDisk) -> Option<FuseDisk> {
-    let Err(unopened) = Store::open(alloc, fuse) else {
-        return None;
-    };
-    assert_eq!(rt; unopened.error, OpenError::Device);
-    Some(unopened.disk)
-}
-
-// Opens a device, stopped after so many calls, and with each choice of a crash again. How many crashes there were,
-// or 0 if the calls were enough.
-fn open_again(
-    rt: &impl Abort,
-    alloc: Global,
-    disk: &mut MemoryDisk,
-    calls: u64,
-    wanted: &[u8],
-) -> Result<u64, Fail> {
-    let mut crashes = 0;
-    let mut unsynced = 0;
-    for before in 0..70 {
-        let Some(keep) = choice(before, unsynced) else {
-            break;
-        };
-        let fuse = FuseDisk::new(copied(alloc, disk, SMALL_DEVICE)?, calls, keep);
-        let Some(left) = stopped_open(rt, alloc, fuse) else {
-            break;
-        };
-        unsynced = left.unsynced();
-        let found = probe_disk(rt, alloc, left.crash())?;
-        assert_eq!(rt; found.as_slice(), wanted, "an open with {calls} calls");
-        crashes += 1;
-    }
-    Ok(crashes)
-}
-
-// Stops the opening of a device at each of its calls.
-fn stop_openings(
-    rt: &impl Abort,
-    alloc: Global,
-    disk: &mut MemoryDisk,
-    wanted: &[u8],
-    count: &mut Count,
-) -> Result<(), Fail> {
-    for calls in 0..100 {
-        let crashes = open_again(rt, alloc, disk, calls, wanted)?;
-        if crashes == 0 {
-            return Ok(());
-        }
-        count.stops += 1;
-        count.crashes += crashes;
-    }
-    panic!(rt; "no end of an opening");
-}
-
 // Stops the work after so many calls, with each choice of a crash. Each device that is left opens to the events that
-// were confirmed, or to all that were accepted. How many crashes there were, or 0 if the calls were enough.
-fn work_again(
-    rt: &impl Abort,
-    alloc: Global,
-    calls: u64,
-    openings: &mut Count,
-) -> Result<u64, Fail> {
+// were confirmed, or to all that were accepted. How many devices that were, or 0 if the calls were enough.
+fn work_again(rt: &impl Abort, alloc: Global, calls: u64) -> Result<u64, Fail> {
     let mut crashes = 0;
     let mut unsynced = 0;
     for before in 0..70 {
@@ -417,55 +339,75 @@ fn work_again(
         if !left.failed {
             break;
         }
-        unsynced = left.disk.unsynced();
-        let mut disk = left.disk.crash();
-        let found = probe_disk(rt, alloc, copied(alloc, &mut disk, SMALL_DEVICE)?)?;
+        if before == 0 {
+            unsynced = left.disk.unsynced();
+        }
         let confirmed = probe_after(rt, alloc, left.confirmed)?;
         let accepted = probe_after(rt, alloc, left.accepted)?;
+        let found = probe_disk(rt, alloc, left.disk.crash())?;
         assert!(rt;
             found == confirmed || found == accepted,
             "{calls} calls, choice {keep}"
         );
-        stop_openings(rt, alloc, &mut disk, &found, openings)?;
         crashes += 1;
     }
     Ok(crashes)
 }
 
-// The work makes 7 calls for its open, and for each of its 15 commits 3 and one for each of its 25 sectors: 77. A stop
-// leaves one disk, or two after a write of one sector, 4, 8 and 16 after two, three and four, and 7, 8 and 9 after
-// five, six and seven. An open of one of these disks makes 7 calls and one for each sector of the journal that is
-// used; two of its stops leave two disks each, but for the three disks where the record of the restart stands already.
-const WORK: Count = Count {
-    stops: 77,
-    crashes: 183,
-};
-
-const OPENINGS: Count = Count {
-    stops: 3355,
-    crashes: 3718,
-};
-
+// The work makes 7 calls for its open, and for each of its 11 commits 3 and one for each of its 16 sectors: 56 stops.
+// A stop leaves one device where all is synced, two where one sector is not, 4, 8 and 16 for two, three and four, and 7
+// for five: so 9 for the open, 6 for each of the nine commits of one sector, 10 for the one of two, and 41 for the one
+// of five.
 #[test]
 fn a_store_that_is_stopped_anywhere(rt: HostRuntime) -> Result<(), Fail> {
-    let mut work = Count {
-        stops: 0,
-        crashes: 0,
-    };
-    let mut openings = Count {
-        stops: 0,
-        crashes: 0,
-    };
+    let mut stops = 0;
+    let mut devices = 0;
     for calls in 0..200 {
-        let crashes = work_again(&rt, rt.alloc(), calls, &mut openings)?;
+        let crashes = work_again(&rt, rt.alloc(), calls)?;
         if crashes == 0 {
             break;
         }
-        work.stops += 1;
-        work.crashes += crashes;
+        stops += 1;
+        devices += crashes;
     }
-    println!(rt; "the work: {work:?}; its openings: {openings:?}")?;
-    assert_eq!(rt; (work, openings), (WORK, OPENINGS));
+    println!(rt; "{stops} stops left {devices} devices")?;
+    assert_eq!(rt; (stops, devices), (56, 114));
+    Ok(())
+}
+
+// Stops the opening of a device at each of its calls, and opens what a crash leaves. An open writes no second sector
+// before a sync, so to keep none and to keep all are all the choices. How many stops there were.
+fn stop_openings(rt: &impl Abort, alloc: Global, disk: &mut MemoryDisk) -> Result<u64, Fail> {
+    let wanted = probe_disk(rt, alloc, copied(alloc, disk, SMALL_DEVICE)?)?;
+    for calls in 0..100 {
+        for keep in [0, u64::MAX] {
+            let fuse = FuseDisk::new(copied(alloc, disk, SMALL_DEVICE)?, calls, keep);
+            let Err(unopened) = Store::open(alloc, fuse) else {
+                return Ok(calls);
+            };
+            assert_eq!(rt; unopened.error, OpenError::Device);
+            let found = probe_disk(rt, alloc, unopened.disk.crash())?;
+            assert!(rt;
+                found == wanted,
+                "an open with {calls} calls, choice {keep}"
+            );
+        }
+    }
+    panic!(rt; "no end of an opening");
+}
+
+// Of each fifth stop of the work the device on which all sectors were kept. An open makes 7 calls, and one for each
+// sector of the journal that is used: 0, 0, 2, 3, 4, 5, 10, 11, 13, 14, 15 and 17.
+#[test]
+fn an_opening_that_is_stopped_anywhere(rt: HostRuntime) -> Result<(), Fail> {
+    let mut stops = 0;
+    for calls in (0..56).step_by(5) {
+        let left = work(&rt, rt.alloc(), calls, u64::MAX)?;
+        assert!(rt; left.failed);
+        stops += stop_openings(&rt, rt.alloc(), &mut left.disk.crash())?;
+    }
+    println!(rt; "{stops} stops")?;
+    assert_eq!(rt; stops, 178);
     Ok(())
 }
 
@@ -483,7 +425,7 @@ fn probes_see_each_commit(rt: HostRuntime) -> Result<(), Fail> {
         assert!(rt; before != after, "line {number}");
         before = after;
     }
-    assert_eq!(rt; count, 52);
+    assert_eq!(rt; count, 50);
     Ok(())
 }
 
@@ -512,7 +454,7 @@ const FORMATS: [(u64, u64, Left); 11] = [
 
 #[test]
 fn a_format_that_is_stopped(rt: HostRuntime) -> Result<(), Fail> {
-    let old = probe_after(&rt, rt.alloc(), 52)?;
+    let old = probe_after(&rt, rt.alloc(), 50)?;
     let new = probe_after(&rt, rt.alloc(), 0)?;
     for (calls, keep, wanted) in FORMATS {
         let done = work(&rt, rt.alloc(), 200, 0)?;
