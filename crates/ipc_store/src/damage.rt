@@ -14,7 +14,7 @@ const GOODBYE: Event<'static> = Event::Exit {
     moment: Moment(0),
 };
 
-// A device with four batches behind each other: the restart of an open, a HELLO with a msgget, a send that is
+// A device with four batches one after another: the restart of an open, a HELLO with a msgget, a send that is
 // refused with a tick, which take two sectors, and a tick with an exit.
 fn good_device(rt: &impl Abort, alloc: Global) -> Result<MemoryDisk, Fail> {
     let mut store = opened(alloc, small_device(alloc)?)?;
@@ -79,7 +79,7 @@ fn a_journal_to_the_byte(rt: HostRuntime) -> Result<(), Fail> {
         let zeros = sector.iter().skip(bytes.len()).all(|byte| *byte == 0);
         assert!(rt; zeros || at == 6, "sector {at}");
     }
-    // The tick behind the text of 500 bytes.
+    // The tick after the text of 500 bytes.
     let sector = sector_of(&mut disk, 7)?;
     assert_eq!(rt;
         sector.get(30..44),
@@ -128,77 +128,66 @@ fn is_refused(
     Ok(())
 }
 
-const fn damaged(sector: u32) -> OpenError {
+fn damaged(sector: u32) -> OpenError {
     OpenError::Damaged { sector }
 }
 
-// A sector, a place in it, other bytes there, and what an open answers.
-const FAULTS: [(u32, usize, &[u8], OpenError); 41] = [
-    // The superblock: how it begins, and its version.
+// A sector, a place in it, other bytes there, and what an open answers: another beginning, other versions, and a header
+// that counts as many sectors as there are.
+const FAULTS: [(u32, usize, &[u8], OpenError); 5] = [
     (0, 0, &[0x69], OpenError::NotFormatted),
     (0, 7, &[0], OpenError::NotFormatted),
     (0, 11, &[1], OpenError::Version { found: 1 }),
     (0, 8, &[1], OpenError::Version { found: 16777216 }),
-    // One sector more or fewer, a message longer than a queue, one process more than there is room for.
-    (0, 15, &[0xc1], OpenError::Damaged { sector: 0 }),
-    (0, 15, &[0xbf], OpenError::Damaged { sector: 0 }),
-    (0, 47, &[129], OpenError::Damaged { sector: 0 }),
-    (0, 39, &[5], OpenError::Damaged { sector: 0 }),
-    // The header: a later epoch, more sectors than there are, as many as there are.
-    (3, 7, &[2], OpenError::Damaged { sector: 3 }),
-    (3, 0, &[0x80], OpenError::Damaged { sector: 3 }),
-    (3, 8, &[0, 0, 1, 1], OpenError::Damaged { sector: 3 }),
-    (
-        3,
-        8,
-        &[0xff, 0xff, 0xff, 0xff],
-        OpenError::Damaged { sector: 3 },
-    ),
     (3, 8, &[0, 0, 1, 0], OpenError::JournalFull),
+];
+
+// A sector, a place in it, other bytes there, and the sector that an open names as damaged.
+const DAMAGES: [(u32, usize, &[u8], u32); 36] = [
+    // The superblock: one sector more or fewer, a message longer than a queue, one process more than there is room for.
+    (0, 15, &[0xc1], 0),
+    (0, 15, &[0xbf], 0),
+    (0, 47, &[129], 0),
+    (0, 39, &[5], 0),
+    // The header: a later epoch, and more sectors than there are.
+    (3, 7, &[2], 3),
+    (3, 0, &[0x80], 3),
+    (3, 8, &[0, 0, 1, 1], 3),
+    (3, 8, &[0xff, 0xff, 0xff, 0xff], 3),
     // It counts one sector of the two of a batch.
-    (3, 11, &[3], OpenError::Damaged { sector: 6 }),
+    (3, 11, &[3], 6),
     // The lengths of the batches: past what is used, into the zeros, and one byte too few or too many.
-    (
-        4,
-        0,
-        &[0xff, 0xff, 0xff, 0xff],
-        OpenError::Damaged { sector: 4 },
-    ),
-    (6, 0, &[0, 0, 0x05, 0xfd], OpenError::Damaged { sector: 6 }),
-    (8, 0, &[0, 0, 1, 0xfd], OpenError::Damaged { sector: 8 }),
-    (8, 0, &[0, 0, 1, 0xfc], OpenError::Damaged { sector: 8 }),
-    (4, 3, &[12], OpenError::Damaged { sector: 4 }),
-    (4, 3, &[14], OpenError::Damaged { sector: 4 }),
-    (5, 3, &[54], OpenError::Damaged { sector: 5 }),
-    (6, 3, &[0x26], OpenError::Damaged { sector: 6 }),
-    (8, 3, &[31], OpenError::Damaged { sector: 8 }),
+    (4, 0, &[0xff, 0xff, 0xff, 0xff], 4),
+    (6, 0, &[0, 0, 0x05, 0xfd], 6),
+    (8, 0, &[0, 0, 1, 0xfd], 8),
+    (8, 0, &[0, 0, 1, 0xfc], 8),
+    (4, 3, &[12], 4),
+    (4, 3, &[14], 4),
+    (5, 3, &[54], 5),
+    (6, 3, &[0x26], 6),
+    (8, 3, &[31], 8),
     // The kinds and lengths of records.
-    (5, 8, &[0], OpenError::Damaged { sector: 5 }),
-    (5, 8, &[3], OpenError::Damaged { sector: 5 }),
-    (5, 8, &[4], OpenError::Damaged { sector: 5 }),
-    (7, 34, &[7], OpenError::Damaged { sector: 6 }),
-    (5, 7, &[20], OpenError::Damaged { sector: 5 }),
-    (5, 7, &[22], OpenError::Damaged { sector: 5 }),
-    (7, 33, &[10], OpenError::Damaged { sector: 6 }),
-    (8, 20, &[12], OpenError::Damaged { sector: 8 }),
-    (
-        8,
-        17,
-        &[0xff, 0xff, 0xff, 0xff],
-        OpenError::Damaged { sector: 8 },
-    ),
+    (5, 8, &[0], 5),
+    (5, 8, &[3], 5),
+    (5, 8, &[4], 5),
+    (7, 34, &[7], 6),
+    (5, 7, &[20], 5),
+    (5, 7, &[22], 5),
+    (7, 33, &[10], 6),
+    (8, 20, &[12], 8),
+    (8, 17, &[0xff, 0xff, 0xff, 0xff], 8),
     // A restart that has a moment.
-    (4, 16, &[1], OpenError::Damaged { sector: 4 }),
+    (4, 16, &[1], 4),
     // A request without a serial, with an opcode that none has, and with another size than msgget has.
-    (5, 49, &[0], OpenError::Damaged { sector: 5 }),
-    (5, 50, &[0xff], OpenError::Damaged { sector: 5 }),
-    (5, 50, &[0x0c], OpenError::Damaged { sector: 5 }),
+    (5, 49, &[0], 5),
+    (5, 50, &[0xff], 5),
+    (5, 50, &[0x0c], 5),
     // Processes that are not connected: in a request, in an exit, and after a restart in place of the tick.
-    (5, 45, &[2], OpenError::Damaged { sector: 5 }),
-    (5, 45, &[0], OpenError::Damaged { sector: 5 }),
-    (6, 20, &[2], OpenError::Damaged { sector: 6 }),
-    (8, 33, &[2], OpenError::Damaged { sector: 8 }),
-    (8, 8, &[6], OpenError::Damaged { sector: 8 }),
+    (5, 45, &[2], 5),
+    (5, 45, &[0], 5),
+    (6, 20, &[2], 6),
+    (8, 33, &[2], 8),
+    (8, 8, &[6], 8),
 ];
 
 #[test]
@@ -206,10 +195,13 @@ fn each_damage_has_its_fault(rt: HostRuntime) -> Result<(), Fail> {
     for (at, offset, bytes, fault) in FAULTS {
         is_refused(&rt, rt.alloc(), (at, offset, bytes), fault)?;
     }
+    for (at, offset, bytes, sector) in DAMAGES {
+        is_refused(&rt, rt.alloc(), (at, offset, bytes), damaged(sector))?;
+    }
     Ok(())
 }
 
-// The numbers of the superblock behind its version: six of the places, and sixteen limits.
+// The numbers of the superblock after its version: six of the places, and sixteen limits.
 #[test]
 fn each_number_of_the_superblock_is_tested(rt: HostRuntime) -> Result<(), Fail> {
     for offset in (12..100).step_by(4) {

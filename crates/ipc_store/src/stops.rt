@@ -236,14 +236,14 @@ fn probe<M: Probed>(rt: &impl Abort, alloc: Global, machine: &mut M) -> Result<V
 // What the probes find of a machine after the first `count` events of the script and a restart.
 fn probe_after(rt: &impl Abort, alloc: Global, count: u64) -> Result<Vec<u8>, Fail> {
     let mut engine = Engine::new(alloc, Limits::small())?;
-    let mut done = 0;
+    let mut left = count;
     for (number, line) in (1..).zip(SCRIPT) {
-        if done == count {
+        if left == 0 {
             break;
         }
         if let Some(event) = event_of(number, line) {
             engine.go(rt, event)?;
-            done += 1;
+            left -= 1;
         }
     }
     engine.go(rt, Event::Restart)?;
@@ -276,13 +276,13 @@ fn work(rt: &impl Abort, alloc: Global, calls: u64, keep: u64) -> Result<Stopped
             });
         }
     };
-    let mut accepted = 0;
+    let mut accepted: u64 = 0;
     let mut failed = false;
     for (number, line) in (1..).zip(SCRIPT) {
         match event_of(number, line) {
             Some(event) => {
                 take(rt, &mut store, event)?;
-                accepted += 1;
+                accepted = accepted.saturating_add(1);
             }
             None => failed = store.commit().is_err(),
         }
@@ -303,11 +303,7 @@ fn work(rt: &impl Abort, alloc: Global, calls: u64, keep: u64) -> Result<Stopped
 // all and each alone.
 fn choice(before: u32, unsynced: u32) -> Option<u64> {
     if unsynced <= 4 {
-        return if before < 1 << unsynced {
-            Some(before as u64)
-        } else {
-            None
-        };
+        return (before < 1 << unsynced).then_some(before as u64);
     }
     match before {
         0 => Some(0),
@@ -328,16 +324,15 @@ fn probe_disk(rt: &impl Abort, alloc: Global, disk: MemoryDisk) -> Result<Vec<u8
 
 // Stops the work after so many calls, with each choice of a crash. Each device that is left opens to the events that
 // were confirmed, or to all that were accepted. How many devices that were, or 0 if the calls were enough.
-fn work_again(rt: &impl Abort, alloc: Global, calls: u64) -> Result<u64, Fail> {
-    let mut crashes = 0;
+fn work_again(rt: &impl Abort, alloc: Global, calls: u64) -> Result<u32, Fail> {
     let mut unsynced = 0;
     for before in 0..70 {
         let Some(keep) = choice(before, unsynced) else {
-            break;
+            return Ok(before);
         };
         let left = work(rt, alloc, calls, keep)?;
         if !left.failed {
-            break;
+            return Ok(before);
         }
         if before == 0 {
             unsynced = left.disk.unsynced();
@@ -349,26 +344,25 @@ fn work_again(rt: &impl Abort, alloc: Global, calls: u64) -> Result<u64, Fail> {
             found == confirmed || found == accepted,
             "{calls} calls, choice {keep}"
         );
-        crashes += 1;
     }
-    Ok(crashes)
+    panic!(rt; "no end of the choices");
 }
 
 // The work makes 7 calls for its open, and for each of its 11 commits 3 and one for each of its 16 sectors: 56 stops.
-// A stop leaves one device where all is synced, two where one sector is not, 4, 8 and 16 for two, three and four, and 7
+// A stop leaves one device if all is synced, two if one sector is not, 4, 8 and 16 for two, three and four, and 7
 // for five: so 9 for the open, 6 for each of the nine commits of one sector, 10 for the one of two, and 41 for the one
 // of five.
 #[test]
 fn a_store_that_is_stopped_anywhere(rt: HostRuntime) -> Result<(), Fail> {
     let mut stops = 0;
-    let mut devices = 0;
+    let mut devices: u32 = 0;
     for calls in 0..200 {
-        let crashes = work_again(&rt, rt.alloc(), calls)?;
-        if crashes == 0 {
+        let left = work_again(&rt, rt.alloc(), calls)?;
+        if left == 0 {
             break;
         }
-        stops += 1;
-        devices += crashes;
+        stops = calls + 1;
+        devices = devices.saturating_add(left);
     }
     println!(rt; "{stops} stops left {devices} devices")?;
     assert_eq!(rt; (stops, devices), (56, 114));
@@ -400,11 +394,12 @@ fn stop_openings(rt: &impl Abort, alloc: Global, disk: &mut MemoryDisk) -> Resul
 // sector of the journal that is used: 0, 0, 2, 3, 4, 5, 10, 11, 13, 14, 15 and 17.
 #[test]
 fn an_opening_that_is_stopped_anywhere(rt: HostRuntime) -> Result<(), Fail> {
-    let mut stops = 0;
+    let mut stops: u64 = 0;
     for calls in (0..56).step_by(5) {
         let left = work(&rt, rt.alloc(), calls, u64::MAX)?;
         assert!(rt; left.failed);
-        stops += stop_openings(&rt, rt.alloc(), &mut left.disk.crash())?;
+        let more = stop_openings(&rt, rt.alloc(), &mut left.disk.crash())?;
+        stops = stops.saturating_add(more);
     }
     println!(rt; "{stops} stops")?;
     assert_eq!(rt; stops, 178);
@@ -415,10 +410,10 @@ fn an_opening_that_is_stopped_anywhere(rt: HostRuntime) -> Result<(), Fail> {
 #[test]
 fn probes_see_each_commit(rt: HostRuntime) -> Result<(), Fail> {
     let mut before = probe_after(&rt, rt.alloc(), 0)?;
-    let mut count = 0;
+    let mut count: u64 = 0;
     for (number, line) in (1..).zip(SCRIPT) {
         if event_of(number, line).is_some() {
-            count += 1;
+            count = count.saturating_add(1);
             continue;
         }
         let after = probe_after(&rt, rt.alloc(), count)?;

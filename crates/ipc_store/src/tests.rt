@@ -244,7 +244,7 @@ fn about_to_send<D: SectorDisk + Drop>(
 
 // Calls of the commit that pass, the choice of a crash, whether the commit is acknowledged, and whether the message
 // is there.
-const CRASHES: [(u64, u64, bool, bool); 10] = [
+const CRASHES: [(u8, u64, bool, bool); 10] = [
     (0, 0, false, false),
     (0, 1, false, false),
     (1, 0, false, false), // the batch is written, and it is lost
@@ -260,8 +260,8 @@ const CRASHES: [(u64, u64, bool, bool); 10] = [
 #[test]
 fn a_crash_leaves_the_message_or_not(rt: HostRuntime) -> Result<(), Fail> {
     for (calls, keep, acknowledged, there) in CRASHES {
-        let before = OPEN_CALLS + COMMIT_CALLS;
-        let fuse = FuseDisk::new(small_device(rt.alloc())?, before + calls, keep);
+        let passed = OPEN_CALLS + COMMIT_CALLS + calls as u64;
+        let fuse = FuseDisk::new(small_device(rt.alloc())?, passed, keep);
         let mut store = about_to_send(&rt, rt.alloc(), fuse)?;
         assert_eq!(rt; store.commit().is_ok(), acknowledged);
         let mut store = opened(rt.alloc(), store.close().crash())?;
@@ -317,6 +317,23 @@ fn a_failure_at_an_open_hands_the_disk_back(rt: HostRuntime) -> Result<(), Fail>
         assert_eq!(rt; unopened.error, OpenError::Device);
         assert_eq!(rt; unopened.disk.failures(), 1);
         opened(rt.alloc(), unopened.disk.crash())?;
+    }
+    Ok(())
+}
+
+// A sector that is not synced: the first call of an open makes it last.
+#[test]
+fn an_open_syncs_before_it_reads(rt: HostRuntime) -> Result<(), Fail> {
+    for (calls, unsynced) in [(0, 1), (1, 0), (3, 0)] {
+        let mut disk = small_device(rt.alloc())?;
+        if disk.sectors() == SMALL_DEVICE {
+            disk.write(2, &[1; 512])?;
+        }
+        let Err(unopened) = Store::open(rt.alloc(), FuseDisk::new(disk, calls, 0)) else {
+            panic!(rt; "opened with {calls} calls");
+        };
+        assert_eq!(rt; unopened.error, OpenError::Device);
+        assert_eq!(rt; unopened.disk.unsynced(), unsynced, "{calls} calls");
     }
     Ok(())
 }
@@ -409,18 +426,27 @@ const BATCHES: [(&[usize], usize, (u64, u64)); 7] = [
     (&[8427, 8427, 7331, 8427], 32768, (65, 2)),
 ];
 
+// Sends texts of these lengths; how many bytes their batch has.
+fn send_texts<D: SectorDisk>(
+    rt: &impl Abort,
+    store: &mut Store<D>,
+    lens: &[usize],
+) -> Result<usize, StepError> {
+    let mut bytes: usize = 4;
+    for len in lens {
+        take(rt, store, call(1, send(1, text(*len))))?;
+        bytes = bytes.saturating_add(38).saturating_add(*len);
+    }
+    Ok(bytes)
+}
+
 #[test]
 fn a_commit_is_two_syncs(rt: HostRuntime) -> Result<(), Fail> {
     for (lens, bytes, (writes, syncs)) in BATCHES {
         let mut store = opened(rt.alloc(), small_device(rt.alloc())?)?;
         take(&rt, &mut store, hello(1000))?;
         store.commit()?;
-        let mut sum: usize = 4;
-        for len in lens.iter() {
-            take(&rt, &mut store, call(1, send(1, text(*len))))?;
-            sum = sum.saturating_add(38).saturating_add(*len);
-        }
-        assert_eq!(rt; sum, bytes);
+        assert_eq!(rt; send_texts(&rt, &mut store, lens)?, bytes);
         store.commit()?;
         let disk = store.close();
         // The format made 4 writes and 3 syncs, the open 2 and 3, and the HELLO 2 and 2.
@@ -430,16 +456,14 @@ fn a_commit_is_two_syncs(rt: HostRuntime) -> Result<(), Fail> {
     Ok(())
 }
 
-// A record of 8465 bytes has room behind 24303 bytes with the length, and not behind 24304.
+// A record of 8465 bytes has room after 24303 bytes with the length, and not after 24304.
 #[test]
 fn room_for_the_longest_record(rt: HostRuntime) -> Result<(), Fail> {
     for (last, room) in [(7331, true), (7332, false), (8427, false)] {
         let mut store = opened(rt.alloc(), small_device(rt.alloc())?)?;
         take(&rt, &mut store, hello(1000))?;
         store.commit()?;
-        for len in [8427, 8427, last] {
-            take(&rt, &mut store, call(1, send(1, text(len))))?;
-        }
+        send_texts(&rt, &mut store, &[8427, 8427, last])?;
         assert_eq!(rt; store.has_room(), room, "{last}");
         store.commit()?;
         assert!(rt; store.has_room());
