@@ -19,3 +19,10 @@ pub use laws::{
 };
 pub use opening::Unopened;
 pub use store::Store;
+
+#[cfg(test)]
+mod damage;
+#[cfg(test)]
+mod stops;
+#[cfg(test)]
+mod tests;

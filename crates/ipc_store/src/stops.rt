@@ -1,0 +1,475 @@
+//! A store that is stopped at each device call, at its work and at its opening: what opens then stands for the events
+//! that were confirmed, or for these and the ones of the commit that was stopped.
+
+use crate::damage::copied;
+use crate::tests::{
+    SMALL_DEVICE, add_replies, call, get, hello, is_for_process, opened, receive, small_device,
+    take, text,
+};
+use crate::{OpenError, Store};
+use ipc_base::{Cred, GetFlags, Id, Limits, Moment, MsgFlags, Pid};
+use ipc_disk::{FuseDisk, MemoryDisk, SectorDisk};
+use ipc_engine::{Engine, Event};
+use ipc_wire::{Call, Request, RequestKind};
+use std::alloc::Global;
+use std::process::Abort;
+use std::test::Fail;
+
+// A line of the script.
+#[derive(Clone, Copy)]
+enum Line {
+    // A HELLO of a user.
+    Hello(u32),
+    // A msgget of a process: key and flags.
+    Get(u32, i32, u32),
+    // A msgsnd with IPC_NOWAIT: queue, type and text.
+    Send(u32, u32, i64, &'static [u8]),
+    // A msgsnd of a text of so many bytes, which is too long.
+    Refused(u32, usize),
+    // A msgrcv with IPC_NOWAIT: queue, size and type.
+    Receive(u32, u32, u32, i64),
+    Tick,
+    Exit(u32),
+    Commit,
+}
+
+use Line::{Commit, Exit, Get, Hello, Receive, Refused, Send, Tick};
+
+// Each commit brings something that the probes see.
+const SCRIPT: [Line; 61] = [
+    Hello(1000),
+    Get(1, 7, 0x380),
+    Commit, // 59 bytes, one sector
+    Hello(1001),
+    Tick,
+    Get(2, 7, 0),
+    Get(2, 8, 0),
+    Hello(1002),
+    Get(3, 0, 0x380),
+    Send(3, 2, 1, b"first"),
+    Commit,
+    Send(1, 1, 5, b"five"),
+    Send(2, 1, 3, b"three"),
+    Send(3, 1, 9, b"nine"),
+    Tick,
+    Commit,
+    Receive(2, 1, 64, -3),
+    Receive(2, 1, 64, 4),
+    Send(2, 1, 7, b""),
+    Commit,
+    Refused(1, 2100),
+    Send(1, 1, 4, b"after"),
+    Commit, // 2185 bytes, five sectors
+    Exit(3),
+    Tick,
+    Hello(1000),
+    Get(4, 7, 0x780),
+    Get(4, 8, 0x380),
+    Receive(4, 1, 2, 0),
+    Receive(4, 1, 64, 0),
+    Commit,
+    Send(4, 2, 2, b"second"),
+    Refused(4, 700),
+    Send(1, 2, 2, b"second again"),
+    Commit, // 836 bytes, two sectors
+    Send(1, 2, 0, b"no type"),
+    Send(1, 3, 1, b"no queue"),
+    Receive(1, 2, 64, 2),
+    Tick,
+    Send(1, 1, 6, b"last"),
+    Exit(1),
+    Commit,
+    Hello(1001),
+    Hello(1002),
+    Hello(1002),
+    Exit(5),
+    Commit,
+    Send(
+        6,
+        1,
+        1,
+        b"half of a queue: a message of sixty-four bytes, and not one more",
+    ),
+    Send(
+        6,
+        2,
+        1,
+        b"half of a queue: a message of sixty-four bytes, and not one more",
+    ),
+    Send(
+        6,
+        1,
+        1,
+        b"half of a queue: a message of sixty-four bytes, and not one more",
+    ),
+    Send(6, 2, 1, b"one more"),
+    Commit,
+    Receive(6, 1, 64, 0),
+    Receive(4, 1, 64, 0),
+    Receive(2, 2, 64, 0),
+    Exit(2),
+    Exit(4),
+    Exit(6),
+    Hello(1000),
+    Tick,
+    Commit,
+];
+
+// A request of a process, with the number of its line as its serial and moment.
+fn asked(number: u32, pid: u32, call: Call<'static>) -> Event<'static> {
+    Event::Call {
+        pid: Pid(pid),
+        request: Request {
+            serial: number,
+            kind: RequestKind::Call(call),
+        },
+        moment: Moment(number as u64),
+    }
+}
+
+fn sent(id: u32, mtype: i64, text: &'static [u8]) -> Call<'static> {
+    Call::Msgsnd {
+        id: Id(id),
+        flags: MsgFlags(0x800),
+        mtype,
+        text,
+    }
+}
+
+// The event of a line with a number; none for a commit.
+fn event_of(number: u32, line: Line) -> Option<Event<'static>> {
+    let moment = Moment(number as u64);
+    let event = match line {
+        Hello(uid) => Event::Connect {
+            cred: Cred { uid, gid: 100 },
+            serial: number,
+            moment,
+        },
+        Get(pid, key, flags) => {
+            let flags = GetFlags(flags);
+            asked(number, pid, Call::Msgget { key, flags })
+        }
+        Send(pid, id, mtype, bytes) => asked(number, pid, sent(id, mtype, bytes)),
+        Refused(pid, len) => asked(number, pid, sent(1, 1, text(len))),
+        Receive(pid, id, size, mtype) => {
+            let flags = MsgFlags(0x800);
+            asked(
+                number,
+                pid,
+                Call::Msgrcv {
+                    id: Id(id),
+                    flags,
+                    size,
+                    mtype,
+                },
+            )
+        }
+        Tick => Event::Tick { moment },
+        Exit(pid) => Event::Exit {
+            pid: Pid(pid),
+            moment,
+        },
+        Commit => return None,
+    };
+    Some(event)
+}
+
+// What is probed: a machine alone, or that of a store.
+trait Probed {
+    fn go(&mut self, rt: &impl Abort, event: Event<'_>) -> Result<(), Fail>;
+
+    fn machine(&self) -> &Engine;
+}
+
+impl Probed for Engine {
+    fn go(&mut self, rt: &impl Abort, event: Event<'_>) -> Result<(), Fail> {
+        assert!(rt; is_for_process(self, &event));
+        self.step(event)?;
+        Ok(())
+    }
+
+    fn machine(&self) -> &Engine {
+        self
+    }
+}
+
+impl<D: SectorDisk> Probed for Store<D> {
+    fn go(&mut self, rt: &impl Abort, event: Event<'_>) -> Result<(), Fail> {
+        take(rt, self, event)?;
+        Ok(())
+    }
+
+    fn machine(&self) -> &Engine {
+        self.engine()
+    }
+}
+
+// The replies to a HELLO, to msgget of the keys and of a new queue, and to msgrcv until the queues are empty: they
+// tell the next numbers, the queues, and the messages in order.
+fn probe<M: Probed>(rt: &impl Abort, alloc: Global, machine: &mut M) -> Result<Vec<u8>, Fail> {
+    let mut replies = Vec::new(alloc);
+    machine.go(rt, hello(1000))?;
+    add_replies(rt, &mut replies, machine.machine())?;
+    let Some(welcome) = machine.machine().outcomes().first() else {
+        panic!(rt; "no reply to a HELLO");
+    };
+    let pid = welcome.pid.0;
+    let flags = GetFlags(0);
+    let finds = [
+        Call::Msgget { key: 7, flags },
+        Call::Msgget { key: 8, flags },
+        get(0),
+    ];
+    for find in finds {
+        machine.go(rt, call(pid, find))?;
+        add_replies(rt, &mut replies, machine.machine())?;
+    }
+    for _ in 0..8 {
+        for id in 1..3 {
+            machine.go(rt, call(pid, receive(id)))?;
+            add_replies(rt, &mut replies, machine.machine())?;
+        }
+    }
+    Ok(replies)
+}
+
+// What the probes find of a machine after the first `count` events of the script and a restart.
+fn probe_after(rt: &impl Abort, alloc: Global, count: u64) -> Result<Vec<u8>, Fail> {
+    let mut engine = Engine::new(alloc, Limits::small())?;
+    let mut left = count;
+    for (number, line) in (1..).zip(SCRIPT) {
+        if left == 0 {
+            break;
+        }
+        if let Some(event) = event_of(number, line) {
+            engine.go(rt, event)?;
+            left -= 1;
+        }
+    }
+    engine.go(rt, Event::Restart)?;
+    probe(rt, alloc, &mut engine)
+}
+
+// A store that worked on the script until its disk failed: the disk, how many events it had confirmed, how many it
+// had accepted, and whether the disk failed.
+#[derive(Drop)]
+struct Stopped {
+    disk: FuseDisk,
+    confirmed: u64,
+    accepted: u64,
+    failed: bool,
+}
+
+// Works on the script on a new device that passes so many calls.
+fn work(rt: &impl Abort, alloc: Global, calls: u64, keep: u64) -> Result<Stopped, Fail> {
+    let fuse = FuseDisk::new(small_device(alloc)?, calls, keep);
+    let mut store = match Store::open(alloc, fuse) {
+        Ok(store) => store,
+        Err(unopened) => {
+            assert_eq!(rt; unopened.error, OpenError::Device);
+            let disk = unopened.disk;
+            return Ok(Stopped {
+                disk,
+                confirmed: 0,
+                accepted: 0,
+                failed: true,
+            });
+        }
+    };
+    let mut accepted: u64 = 0;
+    let mut failed = false;
+    for (number, line) in (1..).zip(SCRIPT) {
+        match event_of(number, line) {
+            Some(event) => {
+                take(rt, &mut store, event)?;
+                accepted = accepted.saturating_add(1);
+            }
+            None => failed = store.commit().is_err(),
+        }
+        if failed {
+            break;
+        }
+    }
+    let confirmed = store.confirmed().saturating_sub(1);
+    Ok(Stopped {
+        disk: store.close(),
+        confirmed,
+        accepted,
+        failed,
+    })
+}
+
+// The choice of a crash after `before` other ones: each combination of up to four unsynced sectors, and of more none,
+// all and each alone.
+fn choice(before: u32, unsynced: u32) -> Option<u64> {
+    if unsynced <= 4 {
+        return (before < 1 << unsynced).then_some(before as u64);
+    }
+    match before {
+        0 => Some(0),
+        1 => Some(u64::MAX),
+        _ if before - 2 < unsynced && before < 66 => Some(1 << (before - 2)),
+        _ => None,
+    }
+}
+
+// What the probes find on a device that opens.
+fn probe_disk(rt: &impl Abort, alloc: Global, disk: MemoryDisk) -> Result<Vec<u8>, Fail> {
+    let mut store = opened(alloc, disk)?;
+    let found = probe(rt, alloc, &mut store)?;
+    store.commit()?;
+    assert_eq!(rt; store.confirmed(), 21);
+    Ok(found)
+}
+
+// Stops the work after so many calls, with each choice of a crash. Each device that is left opens to the events that
+// were confirmed, or to all that were accepted. How many devices that were, or 0 if the calls were enough.
+fn work_again(rt: &impl Abort, alloc: Global, calls: u64) -> Result<u32, Fail> {
+    let mut unsynced = 0;
+    for before in 0..70 {
+        let Some(keep) = choice(before, unsynced) else {
+            return Ok(before);
+        };
+        let left = work(rt, alloc, calls, keep)?;
+        if !left.failed {
+            return Ok(before);
+        }
+        if before == 0 {
+            unsynced = left.disk.unsynced();
+        }
+        let confirmed = probe_after(rt, alloc, left.confirmed)?;
+        let accepted = probe_after(rt, alloc, left.accepted)?;
+        let found = probe_disk(rt, alloc, left.disk.crash())?;
+        assert!(rt;
+            found == confirmed || found == accepted,
+            "{calls} calls, choice {keep}"
+        );
+    }
+    panic!(rt; "no end of the choices");
+}
+
+// The work makes 7 calls for its open, and for each of its 11 commits 3 and one for each of its 16 sectors: 56 stops.
+// A stop leaves one device if all is synced, two if one sector is not, 4, 8 and 16 for two, three and four, and 7
+// for five: so 9 for the open, 6 for each of the nine commits of one sector, 10 for the one of two, and 41 for the one
+// of five.
+#[test]
+fn a_store_that_is_stopped_anywhere(rt: HostRuntime) -> Result<(), Fail> {
+    let mut stops = 0;
+    let mut devices: u32 = 0;
+    for calls in 0..200 {
+        let left = work_again(&rt, rt.alloc(), calls)?;
+        if left == 0 {
+            break;
+        }
+        stops = calls + 1;
+        devices = devices.saturating_add(left);
+    }
+    println!(rt; "{stops} stops left {devices} devices")?;
+    assert_eq!(rt; (stops, devices), (56, 114));
+    Ok(())
+}
+
+// Stops the opening of a device at each of its calls, and opens what a crash leaves. An open writes no second sector
+// before a sync, so to keep none and to keep all are all the choices. How many stops there were.
+fn stop_openings(rt: &impl Abort, alloc: Global, disk: &mut MemoryDisk) -> Result<u64, Fail> {
+    let wanted = probe_disk(rt, alloc, copied(alloc, disk, SMALL_DEVICE)?)?;
+    for calls in 0..100 {
+        for keep in [0, u64::MAX] {
+            let fuse = FuseDisk::new(copied(alloc, disk, SMALL_DEVICE)?, calls, keep);
+            let Err(unopened) = Store::open(alloc, fuse) else {
+                return Ok(calls);
+            };
+            assert_eq!(rt; unopened.error, OpenError::Device);
+            let found = probe_disk(rt, alloc, unopened.disk.crash())?;
+            assert!(rt;
+                found == wanted,
+                "an open with {calls} calls, choice {keep}"
+            );
+        }
+    }
+    panic!(rt; "no end of an opening");
+}
+
+// Of each fifth stop of the work the device on which all sectors were kept. An open makes 7 calls, and one for each
+// sector of the journal that is used: 0, 0, 2, 3, 4, 5, 10, 11, 13, 14, 15 and 17.
+#[test]
+fn an_opening_that_is_stopped_anywhere(rt: HostRuntime) -> Result<(), Fail> {
+    let mut stops: u64 = 0;
+    for calls in (0..56).step_by(5) {
+        let left = work(&rt, rt.alloc(), calls, u64::MAX)?;
+        assert!(rt; left.failed);
+        let more = stop_openings(&rt, rt.alloc(), &mut left.disk.crash())?;
+        stops = stops.saturating_add(more);
+    }
+    println!(rt; "{stops} stops")?;
+    assert_eq!(rt; stops, 178);
+    Ok(())
+}
+
+// The probes tell the events before each commit of the script from those after it.
+#[test]
+fn probes_see_each_commit(rt: HostRuntime) -> Result<(), Fail> {
+    let mut before = probe_after(&rt, rt.alloc(), 0)?;
+    let mut count: u64 = 0;
+    for (number, line) in (1..).zip(SCRIPT) {
+        if event_of(number, line).is_some() {
+            count = count.saturating_add(1);
+            continue;
+        }
+        let after = probe_after(&rt, rt.alloc(), count)?;
+        assert!(rt; before != after, "line {number}");
+        before = after;
+    }
+    assert_eq!(rt; count, 50);
+    Ok(())
+}
+
+// What a format that is stopped leaves: the device of before, none, or the new one.
+#[derive(Clone, Copy, Debug, PartialEq, Eq)]
+enum Left {
+    Old,
+    Nothing,
+    New,
+}
+
+// Calls of the format that pass, the choice of a crash, and what is left.
+const FORMATS: [(u64, u64, Left); 11] = [
+    (0, 1, Left::Old),
+    (1, 0, Left::Old), // the superblock is overwritten with zeros, and that is lost
+    (1, 1, Left::Nothing), // or kept
+    (2, 1, Left::Nothing), // they last
+    (3, 1, Left::Nothing), // the root is overwritten with zeros
+    (4, 0, Left::Nothing), // the header is written
+    (4, 3, Left::Nothing),
+    (5, 3, Left::Nothing), // they last
+    (6, 0, Left::Nothing), // the superblock is written, and it is lost
+    (6, 1, Left::New), // or kept
+    (7, 0, Left::New), // it lasts
+];
+
+#[test]
+fn a_format_that_is_stopped(rt: HostRuntime) -> Result<(), Fail> {
+    let old = probe_after(&rt, rt.alloc(), 50)?;
+    let new = probe_after(&rt, rt.alloc(), 0)?;
+    for (calls, keep, wanted) in FORMATS {
+        let done = work(&rt, rt.alloc(), 200, 0)?;
+        let mut fuse = FuseDisk::new(done.disk.crash(), calls, keep);
+        assert_eq!(rt;
+            Store::format(&mut fuse, &Limits::small()).is_ok(),
+            calls == 7
+        );
+        let left = match Store::open(rt.alloc(), fuse.crash()) {
+            Err(unopened) => {
+                assert_eq!(rt; unopened.error, OpenError::NotFormatted);
+                Left::Nothing
+            }
+            Ok(mut store) => {
+                let found = probe(&rt, rt.alloc(), &mut store)?;
+                assert!(rt; found == old || found == new);
+                if found == old { Left::Old } else { Left::New }
+            }
+        };
+        assert_eq!(rt; left, wanted, "{calls} calls, choice {keep}");
+    }
+    Ok(())
+}
