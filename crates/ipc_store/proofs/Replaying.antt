@@ -340,11 +340,9 @@ module _ (limits : Limits) (journal : Journal) (image : Image) (place : ℕ) (s 
         → (rest : List (List PlainEvent)) × GoOn limits journal image (place + sectors_for (length batch)) t rest to
     ahead_next [] to left = absurd (something to left)
     ahead_next (m ∷ ms) to left =
-        let same : t ≡ (run limits s m).state = only m (run limits s m).state (first_records limits journal image place s batch found m ms to left) in (
-          ms,
-          subst (λ (u : State). GoOn limits journal image (place + sectors_for (length batch)) u ms to) (sym same)
-              (after_first limits journal image place s batch found m ms to left),
-        )
+        let same : t ≡ (run limits s m).state = only m (run limits s m).state (first_records limits journal image place s batch found m ms to left) in
+        (ms, subst (λ (u : State). GoOn limits journal image (place + sectors_for (length batch)) u ms to) (sym same)
+        (after_first limits journal image place s batch found m ms to left))
 
     -- one batch more
     pub replayed_more : Replayed limits journal image (place + sectors_for (length batch)) t
@@ -357,13 +355,11 @@ module _ (limits : Limits) (journal : Journal) (image : Image) (place : ℕ) (s 
   -- where no more is used, the journal is gone through
   pub replayed_all : place ≡ used_of journal → (batches : List (List PlainEvent)) × Replays limits journal image batches s
   replayed_all end =
-      let batches = replayed.so_far.0 in (
-        batches,
-        record {
-          filled = subst (λ (n : ℕ). Fill (range_of journal) 0 n (map batch_bytes batches) image) end replayed.so_far.2;
-          leads = replayed.so_far.1;
-        },
-      )
+      let batches = replayed.so_far.0 in
+      (batches, record {
+        filled = subst (λ (n : ℕ). Fill (range_of journal) 0 n (map batch_bytes batches) image) end replayed.so_far.2;
+        leads = replayed.so_far.1;
+      })
 
   pub replayed_only : place ≡ used_of journal → (batches : List (List PlainEvent)) (to : State) → Replays limits journal image batches to → s ≡ to
   replayed_only end batches to good = let rest = replayed.ahead batches to good in last rest.0 rest.1
@@ -396,9 +392,7 @@ module _ (limits : Limits) (journal : Journal) (image : Image) (place : ℕ) (s 
       omega (arith, Fill-end (range_of journal) 0 place (map batch_bytes batches) image replayed.so_far.2) in
       record {
         good = (
-          batches,
-          s,
-          replayed.so_far.1,
+          batches, s, replayed.so_far.1,
           subst (λ (n : ℕ). Fill (range_of journal) 0 n (map batch_bytes batches) image) end replayed.so_far.2,
           is ∙ ap (λ (n : ℕ). (range_of journal).first + 1 + n) end,
         );
