@@ -43,10 +43,13 @@ module _ {D : Type 0} (medium : Medium) (store : StoreView D) (base : State) (pe
         range = at.range;
         epoch = at.epoch;
         device = λ image now. subst (λ (l : Limits). IsDevice l image) (sym limits) (at.device image now);
-        history = (at.history.0, record {
-          journal = history.journal;
-          leads = subst (λ (l : Limits). LeadTo l at.history.0 base) (sym limits) history.leads;
-        });
+        history = (
+          at.history.0,
+          record {
+            journal = history.journal;
+            leads = subst (λ (l : Limits). LeadTo l at.history.0 base) (sym limits) history.leads;
+          },
+        );
         waits = record {
           records = records-are ∙ ap (λ (x : List ℕ). x ++ record_bytes e) waits.records ∙ sym (records-more pending e);
           count = omega (arith, waiting-is, waits.count, length-append pending (e ∷ []));

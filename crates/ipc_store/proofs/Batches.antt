@@ -43,8 +43,16 @@ pub records_behind : (old front new rec rest : List ℕ) (len : ℕ) → 4 ≤ l
 records_behind old front new rec rest len least within four is =
     let all : List ℕ = front ++ (drop 4 (take len old) ++ rec) in
     let size : length all ≡ len + length rec =
-    omega (arith, four, length-append front (drop 4 (take len old) ++ rec), length-append (drop 4 (take len old)) rec,
-    length-drop 4 (take len old), length-take len old, least, within) in
+    omega (
+      arith,
+      four,
+      length-append front (drop 4 (take len old) ++ rec),
+      length-append (drop 4 (take len old)) rec,
+      length-drop 4 (take len old),
+      length-take len old,
+      least,
+      within,
+    ) in
     ap (λ (x : List ℕ). drop 4 (take (len + length rec) x)) (put_behind old front new rec rest len least within four is)
     ∙ ap (drop 4) (take_at all rest (len + length rec) size) ∙ drop_at front (drop 4 (take len old) ++ rec) 4 four
 

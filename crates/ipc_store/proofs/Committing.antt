@@ -83,7 +83,7 @@ module _ {D : Type 0} (medium : Medium) (store : StoreView D) (base : State) (pe
         history = (
           batches ++ pending ∷ [],
           has_batches at (batches ++ pending ∷ []) image
-          (subst (λ (bs : List (List ℕ)). Holds (range_of store.journal) (epoch_of store.journal) bs image) more holds),
+              (subst (λ (bs : List (List ℕ)). Holds (range_of store.journal) (epoch_of store.journal) bs image) more holds),
           LeadTo-more store.machine.limits batches pending base history.leads (waits-batch at size) at.waits.named,
         );
       })
@@ -142,9 +142,12 @@ module _ {D : Type 0} (old new : Medium) (store : StoreView D) (base : State) (p
         range = range ∙ at.range;
         epoch = epoch ∙ at.epoch;
         device = EachImageSince-now old new (IsDevice store.machine.limits) (device_since at alone) alone.honest;
-        history = (all, record {
-          journal = subst (λ (bs : List (List ℕ)). JournalMatches journal bs new) more (acknowledged (map batch_bytes batches) history.journal);
-          leads = LeadTo-more store.machine.limits batches pending base history.leads (waits-batch old store base pending at size) at.waits.named;
-        });
+        history = (
+          all,
+          record {
+            journal = subst (λ (bs : List (List ℕ)). JournalMatches journal bs new) more (acknowledged (map batch_bytes batches) history.journal);
+            leads = LeadTo-more store.machine.limits batches pending base history.leads (waits-batch old store base pending at size) at.waits.named;
+          },
+        );
         waits = record { records = refl; count = refl; each = All-nil HasRecord; named = tt; state = at.waits.state };
       }

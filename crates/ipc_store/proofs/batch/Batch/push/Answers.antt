@@ -14,7 +14,12 @@ invariant_of-self c =
     rw back (record {
       size = p.size;
       least = omega (arith, p.least, c.self.invariant.least);
-      within = omega (arith, p.most, c.requires.room, filled-length c.self.inside.bytes.items c.self.inside.len c.self.inside.count c.self.invariant,
-          ap (λ v. length v.records) c.self.view_is);
+      within = omega (
+        arith,
+        p.most,
+        c.requires.room,
+        filled-length c.self.inside.bytes.items c.self.inside.len c.self.inside.count c.self.invariant,
+        ap (λ v. length v.records) c.self.view_is,
+      );
       field = p.field;
     })
