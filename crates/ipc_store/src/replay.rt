@@ -98,7 +98,7 @@ fn go_through(engine: &mut Engine, records: &[u8]) -> Result<bool, AllocError>
 }
 
 /// Whether the process that an event names is connected.
-fn is_for_process(engine: &Engine, event: &Event<'_>) -> bool
+pub(crate) fn is_for_process(engine: &Engine, event: &Event<'_>) -> bool
     ensures { IsTrue result ↔ IsForProcess engine.now.state (plain_event event.now) }
 {
     match event {

@@ -2,9 +2,9 @@
 //! that were confirmed, or for these and the ones of the commit that was stopped.
 
 use crate::damage::copied;
+use crate::replay::is_for_process;
 use crate::tests::{
-    SMALL_DEVICE, add_replies, call, get, hello, is_for_process, opened, receive, small_device,
-    take, text,
+    SMALL_DEVICE, add_replies, call, get, hello, opened, receive, small_device, take, text,
 };
 use crate::{OpenError, Store};
 use ipc_base::{Cred, GetFlags, Id, Limits, Moment, MsgFlags, Pid};

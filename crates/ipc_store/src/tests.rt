@@ -1,9 +1,6 @@
 //! The numbers of a device, a commit that is stopped, where a store stops, and what a restart leaves.
 
-ghost use Rattle.std.specs.Prelude.{◌↔◌, IsTrue};
-ghost use Rattle.ipc_engine.specs.Engine.{IsForProcess};
-ghost use Rattle.ipc_engine.specs.View.{plain_event};
-
+use crate::replay::is_for_process;
 use crate::{CommitError, FormatError, OpenError, StepError, Store};
 use ipc_base::{BadLimits, Cred, GetFlags, Id, Limits, Moment, MsgFlags, Pid};
 use ipc_disk::{FuseDisk, MemoryDisk, SectorDisk};
@@ -29,16 +26,6 @@ pub(crate) fn opened<D: SectorDisk + Drop>(alloc: Global, disk: D) -> Result<Sto
     match Store::open(alloc, disk) {
         Ok(store) => Ok(store),
         Err(unopened) => Err(Fail::new(unopened.error)),
-    }
-}
-
-/// Whether the process that an event names is connected.
-pub(crate) fn is_for_process(engine: &Engine, event: &Event<'_>) -> bool
-    ensures { IsTrue result ↔ IsForProcess engine.now.state (plain_event event.now) }
-{
-    match event {
-        Event::Call { pid, .. } | Event::Exit { pid, .. } => engine.connected(*pid),
-        Event::Connect { .. } | Event::Tick { .. } | Event::Restart => true,
     }
 }
 
