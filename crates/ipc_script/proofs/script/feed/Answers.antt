@@ -25,14 +25,14 @@ returns-then-is_empty g c = λ limits r b.
     grind (arith, nat_tests, c.if-is_empty.ensures) in
     let all = fed_all limits r c.args.sender.moment.0 c.args.sender.conn c.args.bytes.now c.pieces.hub c.pieces.opened c.pieces.rest.now _ _ p.2
     c.in_ok-taken.taken c.feed_some.new.hub c.feed_some.new.opened _ s (all_taken c.pieces.rest.now c.in_ok-taken.taken none) in
-    let was : is_open r c.args.sender.conn ≡ true = sym p.2.there ∙ s.was in
-    (all.0, all.1, rw was (ap (λ (q : Progress). Ok q) all.2), all.3, all.4)
+    let was : is_open r c.args.sender.conn ≡ true = sym p.2.there ∙ s.open_before in
+    (all.0, all.1, rw was (ap (λ (q : Progress). Ok q) all.2), all.3)
 
 pub pieces-preserved : goal.pieces-preserved
 pieces-preserved g c = λ limits r b.
     let p = c.pieces.invariant limits r b in
     let s = c.in_ok-taken.ensures.ok limits p.2.now p.2.at in
-    let some = s.some p.1 in
+    let some = s.takes_some p.1 in
     let left = rest_length c.pieces.rest.now c.in_ok-taken.taken in
     let more : 0 < length (take (length c.pieces.rest.now - c.in_ok-taken.taken) (drop c.in_ok-taken.taken c.pieces.rest.now)) =
     grind (arith, nat_tests, c.if-is_empty.ensures) in (

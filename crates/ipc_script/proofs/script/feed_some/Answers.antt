@@ -23,4 +23,4 @@ returns-clause-ok g c = λ limits r b.
 pub returns-in_default-clause-unknown : goal.returns-in_default-clause-unknown
 returns-in_default-clause-unknown g c limits r b =
     let gone : is_connected c.args.hub.now c.args.sender.conn ≡ false = search rules in
-    sym (connected limits b.line.confirmed c.args.hub.now r.hub c.args.sender.conn b.line.stands) ∙ gone
+    sym (connected limits b.run.confirmed c.args.hub.now r.hub c.args.sender.conn b.run.matches) ∙ gone
