@@ -208,12 +208,12 @@ fn feed_some<W: Write>(
 ) -> Result<usize, ScriptFault>
     ensures ok { IfOk result (λ taken. (limits : Limits) (r : Run) →
         RunMatchesBetween limits hub.old opened.old r →
-        SimulatesPiece limits r sender.moment.0 sender.conn bytes.now taken
+        SimulatesPiece limits r sender bytes.now taken
         hub.new opened.new (W.contents writer.old) (W.contents writer.new)) }
     ensures within { IfOk result (λ taken. taken ≤ length bytes.now) }
     ensures err { IfErr result (λ e. ByFault e
         ((limits : Limits) (r : Run) → RunMatchesBetween limits hub.old opened.old r →
-        PieceBreaksOff limits r sender.moment.0 sender.conn bytes.now
+        PieceBreaksOff limits r sender bytes.now
         (W.contents writer.old) (W.contents writer.new))
         ((e ≡ ScriptFault.Unknown sender.number)
         × Appends (W.contents writer.old) (W.contents writer.new) [])) }

@@ -10,4 +10,4 @@ abbrev pub invariant-pieces : goal.invariant-pieces
 invariant-pieces g l =
     (limits : Limits) (r : Run) → RunMatchesBetween limits l.fn.hub l.fn.opened r
     → (length l.rest + l.counter ≤ length l.bytes) × (0 < length l.rest)
-    × PartlyFed limits r l.sender.moment.0 l.sender.conn l.bytes l.hub l.opened l.rest (g.W.Write.contents l.fn.writer) (g.W.Write.contents l.writer)
+    × PartlyFed limits r l.sender l.bytes l.hub l.opened l.rest (g.W.Write.contents l.fn.writer) (g.W.Write.contents l.writer)
