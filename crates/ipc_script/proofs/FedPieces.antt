@@ -20,7 +20,7 @@ use Rattle.ipc_script.specs.Script.{Run, Progress, Piece, Cut, followed, is_open
 use Rattle.ipc_script.specs.Relations.Faults.{ByFault, IfRefused}
 use Rattle.ipc_script.specs.Relations.Matches.{RunMatches, RunMatchesBetween, ProgressMatches}
 use Rattle.ipc_script.specs.Relations.Pieces.{SimulatesPiece, PieceBreaksOff}
-use Rattle.ipc_script.specs.Relations.Simulation.{text_of}
+use Rattle.ipc_script.specs.Relations.Simulation.{LineStops, text_of}
 use Rattle.ipc_base.proofs.CallerLemmas.{test_cases as test, at-map as value_mapped}
 use Rattle.ipc_script.proofs.FaultCases.{by_fault_both}
 use Rattle.ipc_script.proofs.WrittenText.{part_after, part_more}
@@ -231,8 +231,7 @@ module _ (limits : Limits) (r : Run) (sender : Sender) (bytes : List ℕ) (hub :
       → ByFault e ((limits : Limits) (r : Run) → RunMatchesBetween limits hub opened r → PieceBreaksOff limits r sender rest w1 w2)
       ((e ≡ Unknown sender.number) × Appends w1 w2 [])
       → IfRefused e ((limits : Limits) (r : Run) → RunMatchesBetween limits hub opened r → is_open r sender.conn ≡ false)
-      → ByFault e ((cut : Cut) × WritesPart w0 w2 (text_of (line_done limits sender.number r (Data sender.moment.0 sender.conn bytes) cut)))
-      (((cut : Cut) → line_done limits sender.number r (Data sender.moment.0 sender.conn bytes) cut ≡ Err e) × Appends w0 w2 [])
+      → LineStops (line_done limits sender.number r (Data sender.moment.0 sender.conn bytes)) w0 w2 e
   fed_refused e err unknown =
       by_fault_both ((limits : Limits) (r : Run) → RunMatchesBetween limits hub opened r → PieceBreaksOff limits r sender rest w1 w2)
       ((cut : Cut) × WritesPart w0 w2 (text_of (line_done limits sender.number r (Data sender.moment.0 sender.conn bytes) cut)))

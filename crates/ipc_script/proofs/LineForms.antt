@@ -12,9 +12,9 @@ use Rattle.ipc_script.specs.declared.fault.ScriptFault.TheVariants.{InUse, Unkno
 use Rattle.ipc_script.specs.declared.report.Opened.{Opened}
 use Rattle.ipc_script.specs.Line.{PlainLine, Open, End}
 use Rattle.ipc_script.specs.Script.{Run, Progress, Cut, is_open, opened, report, line_done, first_cut, WritesPart}
-use Rattle.ipc_script.specs.Relations.Faults.{ByFault, IfRefused, WorldFailed}
+use Rattle.ipc_script.specs.Relations.Faults.{IfRefused, WorldFailed}
 use Rattle.ipc_script.specs.Relations.Matches.{RunMatches, ProgressMatches}
-use Rattle.ipc_script.specs.Relations.Simulation.{SimulatesLine, text_of}
+use Rattle.ipc_script.specs.Relations.Simulation.{LineStops, SimulatesLine, text_of}
 use Rattle.ipc_script.proofs.FaultCases.{by_fault_both, world_failed}
 use Rattle.ipc_script.proofs.WrittenText.{part_none}
 
@@ -47,8 +47,7 @@ module _ (limits : Limits) (number : ℕ) (r : Run) (hub mid next : Hub) (w0 w1 
   -- a line that is refused
   pub line_refused : (line : PlainLine) (e fault : ScriptFault) (U : Type 0) → IfRefused e (e ≡ fault) → IfRefused e U
       → (U → (cut : Cut) → line_done limits number r line cut ≡ Err fault)
-      → ByFault e ((cut : Cut) × WritesPart w0 w0 (text_of (line_done limits number r line cut)))
-      (((cut : Cut) → line_done limits number r line cut ≡ Err e) × Appends w0 w0 [])
+      → LineStops (line_done limits number r line) w0 w0 e
   line_refused line e fault U a u refused =
       by_fault_both ⊤ ((cut : Cut) × WritesPart w0 w0 (text_of (line_done limits number r line cut)))
       (e ≡ fault) U (((cut : Cut) → line_done limits number r line cut ≡ Err e) × Appends w0 w0 []) e

@@ -7,7 +7,7 @@ use Rattle.ipc_script.specs.declared.script.Sender.{Sender}
 use Rattle.ipc_script.specs.Script.{Run, is_open, fed, WritesPart}
 use Rattle.ipc_script.specs.Relations.Matches.{ProgressMatches}
 
--- some of these bytes are fed, at least one, and what they let out is written
+-- some of these bytes are fed, and what they let out is written
 pub record SimulatesPiece (limits : Limits) (r : Run) (sender : Sender) (bytes : List ℕ) (taken : ℕ)
     (hub : Hub) (opened : List Opened) (before after : Option (List ℕ)) : Type 0 where
   pub refused : List Bool
@@ -19,7 +19,7 @@ pub record SimulatesPiece (limits : Limits) (r : Run) (sender : Sender) (bytes :
   pub open_after : is_open (fed limits r sender.moment.0 sender.conn (take taken bytes) refused).run
       sender.conn ≡ true
 
--- some of these bytes are fed, at least one, and a beginning of what they let out is written
+-- some of these bytes are fed, and a beginning of what they let out is written
 pub record PieceBreaksOff (limits : Limits) (r : Run) (sender : Sender) (bytes : List ℕ)
     (before after : Option (List ℕ)) : Type 0 where
   pub taken : ℕ

@@ -15,16 +15,21 @@ abbrev pub text_of : Result Progress ScriptFault → List ℕ
 text_of (Ok p) = p.text
 text_of (Err e) = []
 
--- What a line comes to by how it is cut: it was run for some cut, or is refused for each; or the
--- world failed, and a beginning of what it writes for some cut is written.
+-- A line is not run: it is refused however it is cut; or the world failed, and a beginning of what
+-- it writes for some cut is written.
+abbrev pub LineStops : (Cut → Result Progress ScriptFault) → Option (List ℕ) → Option (List ℕ)
+    → ScriptFault → Type 0
+LineStops done before after e =
+    ByFault e ((cut : Cut) × WritesPart before after (text_of (done cut)))
+    (((cut : Cut) → done cut ≡ Err e) × Appends before after [])
+
+-- What a line comes to by how it is cut: it is run for some cut, or is not run.
 abbrev pub SimulatesLine : Limits → (Cut → Result Progress ScriptFault) → Hub → List Opened
     → Option (List ℕ) → Option (List ℕ) → Result ⊤ ScriptFault → Type 0
 SimulatesLine limits done hub opened before after (Ok _) =
     (cut : Cut) × (p : Progress) × (done cut ≡ Ok p)
     × ProgressMatches limits hub opened before after p
-SimulatesLine limits done hub opened before after (Err e) =
-    ByFault e ((cut : Cut) × WritesPart before after (text_of (done cut)))
-    (((cut : Cut) → done cut ≡ Err e) × Appends before after [])
+SimulatesLine limits done hub opened before after (Err e) = LineStops done before after e
 
 -- the same of all lines of a script
 abbrev pub SimulatesScript : Limits → State → List ℕ → Option (List ℕ) → Option (List ℕ)
