@@ -9,15 +9,15 @@ use Rattle.ipc_hub.specs.Clients.{Client, Clients, client_at, ended_at}
 use Rattle.ipc_hub.specs.Relations.Matches.{HubMatches}
 use Rattle.ipc_script.specs.declared.report.Opened.{Opened}
 use Rattle.ipc_script.specs.Script.{Run, emptied, end_line, conn_text, WritesPart}
-use Rattle.ipc_script.specs.Runs.{taken_from, frames_text, ReportsConnection}
+use Rattle.ipc_script.specs.Relations.Report.{without_frames, frames_text, SimulatesReportAt}
 use Rattle.ipc_base.proofs.CallerLemmas.{at-with as value_here}
 use Rattle.ipc_script.proofs.WrittenText.{part_after, part_more}
 
 -- the server's ends stay
-ended_taken : (h : Clients) (conn : ℕ) → ended_at (taken_from h conn) conn ≡ ended_at h conn
+ended_taken : (h : Clients) (conn : ℕ) → ended_at (without_frames h conn) conn ≡ ended_at h conn
 ended_taken h conn = at (client_at h conn) refl
   where
-    at : (o : Option Client) → client_at h conn ≡ o → ended_at (taken_from h conn) conn ≡ ended_at h conn
+    at : (o : Option Client) → client_at h conn ≡ o → ended_at (without_frames h conn) conn ≡ ended_at h conn
     at None e = rw e (rw e refl)
     at (Some c) e = let there = value_here h.clients conn (emptied c) c e in rw e (rw there refl)
 
@@ -35,8 +35,8 @@ pub frames_part : (r : Run) (conn : ℕ) (w0 w1 : Option (List ℕ)) → WritesP
 frames_part r conn w0 w1 part = subst (WritesPart w0 w1) (sym (said r conn)) (part_more w0 w1 (frames_text r.hub conn) _ part)
 
 module _ (limits : Limits) (r : Run) (conn : ℕ) (hub : Hub) (w0 w1 w2 : Option (List ℕ)) (told ended : Bool)
-    (stands : HubMatches limits r.hub.accepted hub (taken_from r.hub conn)) (frames : Appends w0 w1 (frames_text r.hub conn))
-    (was : told ≡ r.told conn) (is : ended ≡ ended_at (taken_from r.hub conn) conn) where
+    (matches : HubMatches limits r.hub.accepted hub (without_frames r.hub conn)) (frames : Appends w0 w1 (frames_text r.hub conn))
+    (was : told ≡ r.told conn) (is : ended ≡ ended_at (without_frames r.hub conn) conn) where
   server : ended ≡ ended_at r.hub conn
   server = is ∙ ended_taken r.hub conn
 
@@ -51,17 +51,17 @@ module _ (limits : Limits) (r : Run) (conn : ℕ) (hub : Hub) (w0 w1 w2 : Option
   reports_part end = subst (WritesPart w0 w2) whole (part_after w0 w1 w2 (frames_text r.hub conn) _ frames end)
 
   pub reports : (opened : Opened) → opened ≡ record { conn = conn; told = told || ended } → Appends w1 w2 (cond (ended && not told) (end_line conn) [])
-      → ReportsConnection limits r hub conn opened w0 w2
+      → SimulatesReportAt limits r hub conn opened w0 w2
   reports opened kept end =
       let flag : (told || ended) ≡ (r.told conn || ended_at r.hub conn) = ap (λ (b : Bool). b || ended) was ∙ ap (λ (b : Bool). r.told conn || b) server in
       record {
-        stands = stands;
+        matches = matches;
         kept = kept ∙ ap (λ (b : Bool). record { conn = conn; told = b }) flag;
         text = subst (Appends w0 w2) whole (Appends-trans w0 w1 w2 _ _ frames end);
       }
 
   -- the end was told, and its client was told nothing more
-  pub reports_told : (opened : Opened) → opened ≡ record { conn = conn; told = told } → told ≡ true → w2 ≡ w1 → ReportsConnection limits r hub conn opened w0 w2
+  pub reports_told : (opened : Opened) → opened ≡ record { conn = conn; told = told } → told ≡ true → w2 ≡ w1 → SimulatesReportAt limits r hub conn opened w0 w2
   reports_told opened kept true_told same =
       reports opened (kept ∙ ap (λ (b : Bool). record { conn = conn; told = b }) (true_told ∙ sym (ap (λ (b : Bool). b || ended) true_told)))
       (nothing ended told true_told)

@@ -2,10 +2,10 @@
 use Rattle.std.proofs.Common.{◌≡◌, ℕ, sym, subst}
 use Rattle.ipc_script.specs.declared.fault.ScriptFault.{ScriptFault}
 use Rattle.ipc_script.specs.declared.fault.ScriptFault.TheVariants.{NoMemory, Input, Output, TooLong, BadLine, InUse, Unknown}
-use Rattle.ipc_script.specs.Runs.{ByFault, Refused, WorldFailed}
+use Rattle.ipc_script.specs.Relations.Faults.{ByFault, IfRefused, WorldFailed}
 
 -- two facts of a fault make a third
-pub by_fault_both : (W V P Q R : Type 0) (e : ScriptFault) → (W → V) → (P → Q → R) → ByFault e W P → Refused e Q → ByFault e V R
+pub by_fault_both : (W V P Q R : Type 0) (e : ScriptFault) → (W → V) → (P → Q → R) → ByFault e W P → IfRefused e Q → ByFault e V R
 by_fault_both W V P Q R NoMemory f g x q = f x
 by_fault_both W V P Q R Input f g x q = x
 by_fault_both W V P Q R Output f g x q = f x
@@ -18,7 +18,7 @@ by_fault_both W V P Q R (Unknown number) f g x q = g x q
 pub by_fault : (W V P Q : Type 0) (e : ScriptFault) → (W → V) → (P → Q) → ByFault e W P → ByFault e V Q
 by_fault W V P Q e f g x = by_fault_both W V P P Q e f (λ p _. g p) x (wrong_script W P e x)
   where
-    wrong_script : (W P : Type 0) (e : ScriptFault) → ByFault e W P → Refused e P
+    wrong_script : (W P : Type 0) (e : ScriptFault) → ByFault e W P → IfRefused e P
     wrong_script W P NoMemory x = tt
     wrong_script W P Input x = x
     wrong_script W P Output x = tt
@@ -28,8 +28,8 @@ by_fault W V P Q e f g x = by_fault_both W V P P Q e f (λ p _. g p) x (wrong_sc
     wrong_script W P (Unknown number) x = x
 
 -- what holds of a connection that is not open
-pub refused_unknown : (P : Type 0) (e : ScriptFault) (number : ℕ) → e ≡ Unknown number → P → Refused e P
-refused_unknown P e number is p = subst (λ (f : ScriptFault). Refused f P) (sym is) p
+pub refused_unknown : (P : Type 0) (e : ScriptFault) (number : ℕ) → e ≡ Unknown number → P → IfRefused e P
+refused_unknown P e number is p = subst (λ (f : ScriptFault). IfRefused f P) (sym is) p
 
 -- if the world failed, anything holds of a wrong script
 pub world_failed : (W V P : Type 0) (e : ScriptFault) → (W → V) → WorldFailed e W → ByFault e V P

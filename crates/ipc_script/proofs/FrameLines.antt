@@ -16,7 +16,8 @@ use Rattle.ipc_hub.specs.Clients.{Frame, Client, Clients, client_at, with_client
 use Rattle.ipc_hub.specs.Relations.Matches.{IsFrame, AreFrames, ClientMatches}
 use Rattle.ipc_hub.specs.Relations.Matches.{HubMatches, Simulates}
 use Rattle.ipc_script.specs.Script.{emptied, frame_line, WritesPart}
-use Rattle.ipc_script.specs.Runs.{IsUntouched, taken_from, frames_text}
+use Rattle.ipc_script.specs.Relations.Matches.{HasWholeFrames}
+use Rattle.ipc_script.specs.Relations.Report.{without_frames, frames_text}
 use Rattle.ipc_script.proofs.FirstFrame.{frame_length}
 use Rattle.ipc_base.proofs.CallerLemmas.{at-with as value_here, own as put_same, twice as put_twice}
 use Rattle.ipc_script.proofs.HubAndClients.{partner-at}
@@ -26,17 +27,17 @@ use Rattle.ipc_script.proofs.WrittenText.{part_after, part_more}
 pub record Partly (limits : Limits) (h : Clients) (conn : ℕ) (hub : Hub) (before after : Option (List ℕ)) : Type 0 where
   pub now : Clients
   pub text : List ℕ
-  pub stands : HubMatches limits h.accepted hub now
+  pub matches : HubMatches limits h.accepted hub now
   pub accepted : now.accepted ≡ h.accepted
-  pub untouched : IfSome (client_at now conn) IsUntouched
-  pub left : taken_from now conn ≡ taken_from h conn
+  pub untouched : IfSome (client_at now conn) HasWholeFrames
+  pub left : without_frames now conn ≡ without_frames h conn
   pub said : text ++ frames_text now conn ≡ frames_text h conn
   pub written : Appends before after text
 
 pub partly_begun : (limits : Limits) (h : Clients) (conn : ℕ) (hub : Hub) (w : Option (List ℕ)) → HubMatches limits h.accepted hub h
-    → IfSome (client_at h conn) IsUntouched → Partly limits h conn hub w w
+    → IfSome (client_at h conn) HasWholeFrames → Partly limits h conn hub w w
 partly_begun limits h conn hub w s u =
-    record { now = h; text = []; stands = s; accepted = refl; untouched = u; left = refl; said = refl; written = Appends-nil w }
+    record { now = h; text = []; matches = s; accepted = refl; untouched = u; left = refl; said = refl; written = Appends-nil w }
 
 -- ---- what a client sees
 
@@ -86,14 +87,14 @@ same_emptied c e none =
 module _ (limits : Limits) (h : Clients) (conn : ℕ) (hub : Hub) (w0 w1 : Option (List ℕ)) (out : List ℕ) (p : Partly limits h conn hub w0 w1)
     (see : (limits : Limits) (confirmed : ℕ) (h : Clients) → HubMatches limits confirmed hub h → out ≡ shown_at confirmed h conn) where
   shows : (c : Client) → client_at p.now conn ≡ Some c → out ≡ shown h.accepted c
-  shows c e = let s = see limits h.accepted p.now p.stands in rw e at s
+  shows c e = let s = see limits h.accepted p.now p.matches in rw e at s
 
   whole : (c : Client) → client_at p.now conn ≡ Some c → c.consumed ≡ 0
-  whole c e = subst (λ (o : Option Client). IfSome o IsUntouched) e p.untouched
+  whole c e = subst (λ (o : Option Client). IfSome o HasWholeFrames) e p.untouched
 
   are_frames : (c : Client) → client_at p.now conn ≡ Some c → AreFrames h.accepted c.frames
   are_frames c e = subst (λ (n : ℕ). AreFrames n c.frames) p.accepted
-      (partner-at (ClientMatches h.accepted p.now.accepted) hub.connections p.now.clients conn c p.stands.clients e).1.frames
+      (partner-at (ClientMatches h.accepted p.now.accepted) hub.connections p.now.clients conn c p.matches.clients e).1.frames
 
   frames_of : (c : Client) → client_at p.now conn ≡ Some c → (f : Frame) (fs : List Frame) → c.frames ≡ f ∷ fs → All (λ f. IsFrame f.bytes) (f ∷ fs)
   frames_of c e f fs is = subst (All (λ (f : Frame). IsFrame f.bytes)) is
@@ -130,7 +131,7 @@ module _ (limits : Limits) (h : Clients) (conn : ℕ) (hub : Hub) (w0 w1 : Optio
         ∙ ap (λ (l : List ℕ). l ++ flat_map (λ (f : Frame). frame_line conn f.bytes) fs) (sym (is_line c e f fs is)))
 
     no_client : client_at p.now conn ≡ None → ⊥
-    no_client e = let s = see limits h.accepted p.now p.stands in let nothing : out ≡ [] = rw e at s in absurd (omega (arith, ap length nothing))
+    no_client e = let s = see limits h.accepted p.now p.matches in let nothing : out ≡ [] = rw e at s in absurd (omega (arith, ap length nothing))
 
     no_first : (c : Client) → client_at p.now conn ≡ Some c → c.frames ≡ [] → ⊥
     no_first c e is = let nothing : out ≡ [] = shows c e ∙ unseen h.accepted c is (whole c e) in absurd (omega (arith, ap length nothing))
@@ -160,15 +161,15 @@ module _ (limits : Limits) (h : Clients) (conn : ℕ) (hub : Hub) (w0 w1 : Optio
           let taken : consume p.now conn count ≡ now =
           consume_frame p.now conn count c f fs e is (whole c e) (All-tail (λ (f : Frame). IsFrame f.bytes) f fs frames) (first_length c e f fs is) in
           let there : client_at now conn ≡ Some rest = value_here p.now.clients conn rest c e in
-          let left : taken_from now conn ≡ taken_from p.now conn =
+          let left : without_frames now conn ≡ without_frames p.now conn =
           rw there (rw e (ap (λ (t : List (ℕ × Client)). record p.now { clients = t }) (put_twice p.now.clients conn rest (emptied c)))) in
           let before : frames_text p.now conn ≡ line ++ frames_text now conn = line_first c e f fs is ∙ rw there refl in
           record {
             now = now;
             text = p.text ++ line;
-            stands = subst (HubMatches limits h.accepted next) taken (takes limits h.accepted p.now p.stands);
+            matches = subst (HubMatches limits h.accepted next) taken (takes limits h.accepted p.now p.matches);
             accepted = p.accepted;
-            untouched = subst (λ (o : Option Client). IfSome o IsUntouched) (sym there) refl;
+            untouched = subst (λ (o : Option Client). IfSome o HasWholeFrames) (sym there) refl;
             left = left ∙ p.left;
             said = append_assoc p.text line (frames_text now conn) ∙ (ap (λ (l : List ℕ). p.text ++ l) (sym before) ∙ p.said);
             written = Appends-trans w0 w1 w2 p.text line p.written wrote;
@@ -183,11 +184,11 @@ module _ (limits : Limits) (h : Clients) (conn : ℕ) (hub : Hub) (w0 w1 : Optio
       partly_more = more_at (client_at p.now conn) refl
 
   abbrev Done : Type 0
-  Done = HubMatches limits h.accepted hub (taken_from h conn) × Appends w0 w1 (frames_text h conn)
+  Done = HubMatches limits h.accepted hub (without_frames h conn) × Appends w0 w1 (frames_text h conn)
 
-  done_at : taken_from p.now conn ≡ p.now → frames_text p.now conn ≡ [] → Done
+  done_at : without_frames p.now conn ≡ p.now → frames_text p.now conn ≡ [] → Done
   done_at same nothing = (
-    subst (HubMatches limits h.accepted hub) (sym same ∙ p.left) p.stands,
+    subst (HubMatches limits h.accepted hub) (sym same ∙ p.left) p.matches,
     subst (Appends w0 w1) (sym (append-nil p.text) ∙ (ap (λ (l : List ℕ). p.text ++ l) (sym nothing) ∙ p.said)) p.written,
   )
 

@@ -12,7 +12,9 @@ use Rattle.ipc_script.specs.declared.fault.ScriptFault.TheVariants.{InUse, Unkno
 use Rattle.ipc_script.specs.declared.report.Opened.{Opened}
 use Rattle.ipc_script.specs.Line.{PlainLine, Open, End}
 use Rattle.ipc_script.specs.Script.{Run, Progress, Cut, is_open, opened, report, line_done, first_cut, WritesPart}
-use Rattle.ipc_script.specs.Runs.{IsIn, IsBehind, ByFault, Refused, WorldFailed, LineRuns, text_of}
+use Rattle.ipc_script.specs.Relations.Faults.{IfRefused, WorldFailed}
+use Rattle.ipc_script.specs.Relations.Matches.{RunMatches, ProgressMatches}
+use Rattle.ipc_script.specs.Relations.Simulation.{LineStops, SimulatesLine, text_of}
 use Rattle.ipc_script.proofs.FaultCases.{by_fault_both, world_failed}
 use Rattle.ipc_script.proofs.WrittenText.{part_none}
 
@@ -29,24 +31,23 @@ line_unwritten limits number r line w = ([], part_none w (text_of (line_done lim
 module _ (limits : Limits) (number : ℕ) (r : Run) (hub mid next : Hub) (w0 w1 : Option (List ℕ)) where
   -- what is done is reported
   pub line_reported : (line : PlainLine) (between changed final : List Opened) (result : Result ⊤ ScriptFault)
-      → OnOk result ((limits : Limits) (r : Run) → IsIn limits mid between r → IsBehind limits next changed (report r).run × Appends w0 w1 (report r).text)
-      → IfErr result (λ e. WorldFailed e ((limits : Limits) (r : Run) → IsIn limits mid between r → WritesPart w0 w1 (report r).text))
-      → final ≡ changed → (now : Run) → IsIn limits mid between now → ((cut : Cut) → line_done limits number r line cut ≡ Ok (report now))
-      → LineRuns limits number r line next final w0 w1 result
+      → OnOk result ((limits : Limits) (r : Run) → RunMatches limits mid between r → ProgressMatches limits next changed w0 w1 (report r))
+      → IfErr result (λ e. WorldFailed e ((limits : Limits) (r : Run) → RunMatches limits mid between r → WritesPart w0 w1 (report r).text))
+      → final ≡ changed → (now : Run) → RunMatches limits mid between now → ((cut : Cut) → line_done limits number r line cut ≡ Ok (report now))
+      → SimulatesLine limits (line_done limits number r line) next final w0 w1 result
   line_reported line between changed final (Ok u) ok err same now i done =
-      let e = ok limits now i in
-      (first_cut [], report now, done (first_cut []), subst (λ (os : List Opened). IsBehind limits next os (report now).run) (sym same) e.0, e.1)
+      let matches = subst (λ (os : List Opened). ProgressMatches limits next os w0 w1 (report now)) (sym same) (ok limits now i) in
+      (first_cut [], report now, done (first_cut []), matches)
   line_reported line between changed final (Err e) ok err same now i done =
-      world_failed ((limits : Limits) (r : Run) → IsIn limits mid between r → WritesPart w0 w1 (report r).text)
+      world_failed ((limits : Limits) (r : Run) → RunMatches limits mid between r → WritesPart w0 w1 (report r).text)
       ((cut : Cut) × WritesPart w0 w1 (text_of (line_done limits number r line cut))) (((cut : Cut) → line_done limits number r line cut ≡ Err e)
       × Appends w0 w1 []) e
       (λ part. ([], subst (λ (p : Result Progress ScriptFault). WritesPart w0 w1 (text_of p)) (sym (done [])) (part limits now i))) err
 
   -- a line that is refused
-  pub line_refused : (line : PlainLine) (e fault : ScriptFault) (U : Type 0) → Refused e (e ≡ fault) → Refused e U
+  pub line_refused : (line : PlainLine) (e fault : ScriptFault) (U : Type 0) → IfRefused e (e ≡ fault) → IfRefused e U
       → (U → (cut : Cut) → line_done limits number r line cut ≡ Err fault)
-      → ByFault e ((cut : Cut) × WritesPart w0 w0 (text_of (line_done limits number r line cut)))
-      (((cut : Cut) → line_done limits number r line cut ≡ Err e) × Appends w0 w0 [])
+      → LineStops (line_done limits number r line) w0 w0 e
   line_refused line e fault U a u refused =
       by_fault_both ⊤ ((cut : Cut) × WritesPart w0 w0 (text_of (line_done limits number r line cut)))
       (e ≡ fault) U (((cut : Cut) → line_done limits number r line cut ≡ Err e) × Appends w0 w0 []) e

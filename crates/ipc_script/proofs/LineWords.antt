@@ -3,16 +3,16 @@ use Rattle.std.proofs.Common.{◌≡◌, ℕ, List, [], ◌∷◌, Bool, true, f
 use Rattle.std.specs.Borrow.{Bor}
 use Rattle.std.specs.List.{slice_split, onto_first}
 use Rattle.ipc_script.specs.Line.{line_of, line_of_words, words_of}
-use Rattle.ipc_script.specs.LineView.{words_behind}
+use Rattle.ipc_script.specs.Relations.Lines.{words_after}
 
 -- a word and no more
-pub last_word : (text first : List ℕ) (rest : Option (Bor (List ℕ))) → words_of text ≡ first ∷ words_behind rest → rest ≡ None → words_of text ≡ first ∷ []
-last_word text first rest h e = h ∙ ap (λ o. first ∷ words_behind o) e
+pub last_word : (text first : List ℕ) (rest : Option (Bor (List ℕ))) → words_of text ≡ first ∷ words_after rest → rest ≡ None → words_of text ≡ first ∷ []
+last_word text first rest h e = h ∙ ap (λ o. first ∷ words_after o) e
 
 -- a word, and what the rest has
 pub next_word : (text first : List ℕ) (rest : Option (Bor (List ℕ))) (behind : Bor (List ℕ)) (words : List (List ℕ))
-    → words_of text ≡ first ∷ words_behind rest → rest ≡ Some behind → words_of behind.now ≡ words → words_of text ≡ first ∷ words
-next_word text first rest behind words h e f = h ∙ ap (λ o. first ∷ words_behind o) e ∙ ap (λ ws. first ∷ ws) f
+    → words_of text ≡ first ∷ words_after rest → rest ≡ Some behind → words_of behind.now ≡ words → words_of text ≡ first ∷ words
+next_word text first rest behind words h e f = h ∙ ap (λ o. first ∷ words_after o) e ∙ ap (λ ws. first ∷ ws) f
 
 pub from_words : (text : List ℕ) (words : List (List ℕ)) → words_of text ≡ words → line_of text ≡ line_of_words words
 unfolding line_of

@@ -17,7 +17,7 @@ use Rattle.ipc_hub.specs.Clients.{Client, Clients, client_at, start_client, conn
 use Rattle.ipc_hub.specs.Relations.Matches.{Simulates}
 use Rattle.ipc_script.specs.declared.report.Opened.{Opened}
 use Rattle.ipc_script.specs.Script.{Run, is_open, opened}
-use Rattle.ipc_script.specs.Runs.{IsIn, IsBehind, opened_of}
+use Rattle.ipc_script.specs.Relations.Matches.{RunMatches, RunMatchesBetween, opened_of}
 use Rattle.ipc_base.proofs.CallerLemmas.{test_cases as test, flipped, same_key as same_number}
 use Rattle.ipc_script.proofs.RisingNumbers.{gone}
 use Rattle.ipc_script.proofs.HubAndClients.{connected}
@@ -86,12 +86,13 @@ keys_entry (e ∷ es) n x apart =
 
 -- a connection was opened
 pub open_in : (limits : Limits) (hub next : Hub) (os : List Opened) (r : Run) (conn : ℕ) → conn < 2 ^ 32
-    → IsBehind limits hub os r → is_connected hub conn ≡ false
+    → RunMatchesBetween limits hub os r → is_connected hub conn ≡ false
     → Simulates hub next (λ _ h. connect h conn)
-    → (is_open r conn ≡ false) × IsIn limits next (insert os (prefix_len (λ o. nat_lt o.conn conn) os) (record { conn = conn; told = false })) (opened r conn)
+    → (is_open r conn ≡ false)
+    × RunMatches limits next (insert os (prefix_len (λ o. nat_lt o.conn conn) os) (record { conn = conn; told = false })) (opened r conn)
 open_in limits hub next os r conn small b new takes =
-    let i : IsIn limits hub os r = b.line in
-    let closed : is_open r conn ≡ false = sym (connected limits i.confirmed hub r.hub conn i.stands) ∙ new in
+    let i : RunMatches limits hub os r = b.run in
+    let closed : is_open r conn ≡ false = sym (connected limits i.confirmed hub r.hub conn i.matches) ∙ new in
     let none : client_at r.hub conn ≡ None = nobody (client_at r.hub conn) closed in
     let numbers : List ℕ = keys_of r.hub.clients in
     let later : ℕ → Bool = λ other. not (nat_eq other conn) && r.told other in
@@ -99,12 +100,12 @@ open_in limits hub next os r conn small b new takes =
       closed,
       record {
         confirmed = i.confirmed;
-        stands = takes limits i.confirmed r.hub i.stands;
+        matches = takes limits i.confirmed r.hub i.matches;
         kept = ap (λ (xs : List Opened). insert xs (prefix_len (λ o. nat_lt o.conn conn) xs) (record { conn = conn; told = false })) i.kept ∙ placed
             ∙ ap (λ (ns : List ℕ). map (opened_of later) ns) (sym (keys_entry r.hub.clients conn start_client (no_key r.hub.clients conn closed)));
-        untouched = λ n. elim (cases_eq n conn) [
+        whole = λ n. elim (cases_eq n conn) [
           | inl same ↦ rw same (rw (entry-at r.hub.clients conn start_client none) refl)
-          | inr apart ↦ rw (entry-other r.hub.clients conn n start_client apart) (i.untouched n)
+          | inr apart ↦ rw (entry-other r.hub.clients conn n start_client apart) (i.whole n)
         ];
         rising = rising-entry 0 r.hub.clients (2 ^ 32) conn start_client i.rising (omega arith) small none;
       },
@@ -142,12 +143,12 @@ left_clients limits now None moment = refl
 left_clients limits now (Some pid) moment = refl
 
 -- a connection was closed, and taken out of those that are open
-pub close_in : (limits : Limits) (hub next : Hub) (os items : List Opened) (r : Run) (conn moment : ℕ) → IsBehind limits hub os r
+pub close_in : (limits : Limits) (hub next : Hub) (os items : List Opened) (r : Run) (conn moment : ℕ) → RunMatchesBetween limits hub os r
     → (is_connected hub conn ≡ false → ⊥)
     → Simulates hub next (λ limits h. hangup limits h conn moment) → map by_number items ≡ without nat_eq (map by_number os) conn
-    → (is_open r conn ≡ true) × IsIn limits next items (record r { hub = hangup limits r.hub conn moment })
+    → (is_open r conn ≡ true) × RunMatches limits next items (record r { hub = hangup limits r.hub conn moment })
 close_in limits hub next os items r conn moment b known takes left =
-    let i : IsIn limits hub os r = b.line in
+    let i : RunMatches limits hub os r = b.run in
     let t : List (ℕ × Client) = r.hub.clients in
     let now : Clients = hangup limits r.hub conn moment in
     let clients : now.clients ≡ without nat_eq t conn =
@@ -155,13 +156,13 @@ close_in limits hub next os items r conn moment b known takes left =
       open_here limits hub os r conn i known,
       record {
         confirmed = i.confirmed;
-        stands = takes limits i.confirmed r.hub i.stands;
+        matches = takes limits i.confirmed r.hub i.matches;
         kept = sym (back items) ∙ ap (map (λ (e : ℕ × Opened). e.1)) (left ∙ ap (λ (xs : List Opened). without nat_eq (map by_number xs) conn) i.kept
             ∙ left_over r.told conn (keys_of t)) ∙ back _
             ∙ ap (map (opened_of r.told)) (sym (ap keys_of clients ∙ keys_left t conn));
-        untouched = λ n. rw clients (elim (cases_eq n conn) [
+        whole = λ n. rw clients (elim (cases_eq n conn) [
           | inl same ↦ rw same (rw (nobody (value_at nat_eq (without nat_eq t conn) conn) (rising-gone 0 t (2 ^ 32) conn i.rising)) tt)
-          | inr apart ↦ rw (value_at-without t conn n apart) (i.untouched n)
+          | inr apart ↦ rw (value_at-without t conn n apart) (i.whole n)
         ]);
         rising = rw clients (rising-without 0 t (2 ^ 32) conn i.rising);
       },

@@ -17,7 +17,8 @@ use Rattle.ipc_hub.specs.Clients.{Client, Clients, client_at, ended_at}
 use Rattle.ipc_hub.specs.Relations.Matches.{HubMatches}
 use Rattle.ipc_script.specs.declared.report.Opened.{Opened}
 use Rattle.ipc_script.specs.Script.{Run, emptied, conn_text, reported, report, WritesPart}
-use Rattle.ipc_script.specs.Runs.{IsBehind, IsUntouched, taken_from, opened_of, ReportsConnection}
+use Rattle.ipc_script.specs.Relations.Matches.{RunMatchesBetween, HasWholeFrames, opened_of}
+use Rattle.ipc_script.specs.Relations.Report.{without_frames, SimulatesReportAt}
 use Rattle.ipc_base.proofs.CallerLemmas.{test_cases as test, flipped, same_key as same_number, distinct_tail}
 use Rattle.ipc_base.proofs.CallerLemmas.{at-with as value_here, value_elsewhere, keys_of-with_value}
 use Rattle.ipc_base.proofs.CallerLemmas.{same_table, at-map as value_mapped}
@@ -27,17 +28,17 @@ use Rattle.ipc_script.proofs.WrittenText.{part_after, part_more}
 
 -- ---- the hub of which one connection's frames are taken
 
-taken_here : (h : Clients) (n : ℕ) → client_at (taken_from h n) n ≡ option_map emptied (client_at h n)
+taken_here : (h : Clients) (n : ℕ) → client_at (without_frames h n) n ≡ option_map emptied (client_at h n)
 taken_here h n = at (client_at h n) refl
   where
-    at : (o : Option Client) → client_at h n ≡ o → client_at (taken_from h n) n ≡ option_map emptied (client_at h n)
+    at : (o : Option Client) → client_at h n ≡ o → client_at (without_frames h n) n ≡ option_map emptied (client_at h n)
     at None e = rw e (rw e refl)
     at (Some c) e = rw e (value_here h.clients n (emptied c) c e)
 
-taken_elsewhere : (h : Clients) (n m : ℕ) → nat_eq n m ≡ false → client_at (taken_from h n) m ≡ client_at h m
+taken_elsewhere : (h : Clients) (n m : ℕ) → nat_eq n m ≡ false → client_at (without_frames h n) m ≡ client_at h m
 taken_elsewhere h n m other = at (client_at h n) refl
   where
-    at : (o : Option Client) → client_at h n ≡ o → client_at (taken_from h n) m ≡ client_at h m
+    at : (o : Option Client) → client_at h n ≡ o → client_at (without_frames h n) m ≡ client_at h m
     at None e = rw e refl
     at (Some c) e = rw e (value_elsewhere h.clients n m (emptied c) other)
 
@@ -47,10 +48,10 @@ pub record IsLike (h now : Clients) : Type 0 where
   pub accepted : now.accepted ≡ h.accepted
   pub keys : keys_of now.clients ≡ keys_of h.clients
 
-taken_like : (h : Clients) (n : ℕ) → IsLike h (taken_from h n)
+taken_like : (h : Clients) (n : ℕ) → IsLike h (without_frames h n)
 taken_like h n = at (client_at h n) refl
   where
-    at : (o : Option Client) → client_at h n ≡ o → IsLike h (taken_from h n)
+    at : (o : Option Client) → client_at h n ≡ o → IsLike h (without_frames h n)
     at None e = rw e (record { state = refl; accepted = refl; keys = refl })
     at (Some c) e = rw e (record { state = refl; accepted = refl; keys = keys_of-with_value nat_eq h.clients n (emptied c) })
 
@@ -70,7 +71,7 @@ pub record PartlyReported (limits : Limits) (r : Run) (hub : Hub) (opened : List
   pub place : length done ≡ index
   pub apart : IsDistinct nat_eq left
   pub rising : IsRising 0 (keys_of r.hub.clients) (2 ^ 32)
-  pub stands : HubMatches limits r.hub.accepted hub now
+  pub matches : HubMatches limits r.hub.accepted hub now
   pub like : IsLike r.hub now
   pub clients : (n : ℕ) → client_at now n ≡ left_of r.hub left n
   pub kept : opened ≡ map (opened_of (reported r).told) done ++ map (opened_of r.told) left
@@ -90,7 +91,7 @@ reported_begun limits r hub opened w s up kept =
       place = refl;
       apart = rising-distinct 0 ks (2 ^ 32) up;
       rising = up;
-      stands = s;
+      matches = s;
       like = record { state = refl; accepted = refl; keys = refl };
       clients = λ n. (elim (test (list_any (nat_eq n) ks)) [
         | inl t ↦ rw t refl
@@ -108,8 +109,8 @@ same_text r now n e = rw e refl
 same_end : (h now : Clients) (n : ℕ) → client_at now n ≡ client_at h n → ended_at now n ≡ ended_at h n
 same_end h now n e = rw e refl
 
-same_untouched : (h now : Clients) (n : ℕ) → client_at now n ≡ client_at h n → IfSome (client_at h n) IsUntouched → IfSome (client_at now n) IsUntouched
-same_untouched h now n e u = subst (λ (o : Option Client). IfSome o IsUntouched) (sym e) u
+same_untouched : (h now : Clients) (n : ℕ) → client_at now n ≡ client_at h n → IfSome (client_at h n) HasWholeFrames → IfSome (client_at now n) HasWholeFrames
+same_untouched h now n e u = subst (λ (o : Option Client). IfSome o HasWholeFrames) (sym e) u
 
 module _ (limits : Limits) (r : Run) (hub : Hub) (opened : List Opened) (index : ℕ) (w0 w1 : Option (List ℕ))
     (p : PartlyReported limits r hub opened index w0 w1) where
@@ -124,7 +125,7 @@ module _ (limits : Limits) (r : Run) (hub : Hub) (opened : List Opened) (index :
   abbrev now_run : Run
   now_run = record { hub = p.now; told = r.told }
 
-  module _ (untouched : (conn : ℕ) → IfSome (client_at r.hub conn) IsUntouched) (item d : Opened) (inside : index < length opened)
+  module _ (untouched : (conn : ℕ) → IfSome (client_at r.hub conn) HasWholeFrames) (item d : Opened) (inside : index < length opened)
       (is_item : item ≡ get_or opened index d) where
     -- there is one that is left
     no_rest : p.left ≡ [] → ⊥
@@ -155,16 +156,16 @@ module _ (limits : Limits) (r : Run) (hub : Hub) (opened : List Opened) (index :
 
       -- what is done with the item is done with its connection
       done_here : (C : Run → ℕ → Type 0)
-          → ((s : Run) → HubMatches limits s.hub.accepted hub s.hub → IfSome (client_at s.hub item.conn) IsUntouched → item ≡ opened_of s.told item.conn
+          → ((s : Run) → HubMatches limits s.hub.accepted hub s.hub → IfSome (client_at s.hub item.conn) HasWholeFrames → item ≡ opened_of s.told item.conn
           → C s item.conn) → C now_run n
       done_here C call =
           let conn_is : item.conn ≡ n = ap (λ (o : Opened). o.conn) item_is in
-          let stands : HubMatches limits p.now.accepted hub p.now = subst (λ (k : ℕ). HubMatches limits k hub p.now) (sym p.like.accepted) p.stands in
-          let whole : IfSome (client_at p.now item.conn) IsUntouched =
-          subst (λ (k : ℕ). IfSome (client_at p.now k) IsUntouched) (sym conn_is) (same_untouched r.hub p.now n here (untouched n)) in
-          subst (C now_run) conn_is (call now_run stands whole (item_is ∙ ap (opened_of r.told) (sym conn_is)))
+          let matches : HubMatches limits p.now.accepted hub p.now = subst (λ (k : ℕ). HubMatches limits k hub p.now) (sym p.like.accepted) p.matches in
+          let whole : IfSome (client_at p.now item.conn) HasWholeFrames =
+          subst (λ (k : ℕ). IfSome (client_at p.now k) HasWholeFrames) (sym conn_is) (same_untouched r.hub p.now n here (untouched n)) in
+          subst (C now_run) conn_is (call now_run matches whole (item_is ∙ ap (opened_of r.told) (sym conn_is)))
 
-    module _ (w2 : Option (List ℕ)) (call : (s : Run) → HubMatches limits s.hub.accepted hub s.hub → IfSome (client_at s.hub item.conn) IsUntouched
+    module _ (w2 : Option (List ℕ)) (call : (s : Run) → HubMatches limits s.hub.accepted hub s.hub → IfSome (client_at s.hub item.conn) HasWholeFrames
         → item ≡ opened_of s.told item.conn
         → WritesPart w1 w2 (conn_text s item.conn)) where
       part_left : (left : List ℕ) → p.left ≡ left → WritesPart w0 w2 (report r).text
@@ -181,8 +182,8 @@ module _ (limits : Limits) (r : Run) (hub : Hub) (opened : List Opened) (index :
       reported_part = part_left p.left refl
 
     module _ (next : Hub) (w2 : Option (List ℕ)) (item' : Opened)
-        (call : (s : Run) → HubMatches limits s.hub.accepted hub s.hub → IfSome (client_at s.hub item.conn) IsUntouched → item ≡ opened_of s.told item.conn
-        → ReportsConnection limits s next item.conn item' w1 w2) where
+        (call : (s : Run) → HubMatches limits s.hub.accepted hub s.hub → IfSome (client_at s.hub item.conn) HasWholeFrames → item ≡ opened_of s.told item.conn
+        → SimulatesReportAt limits s next item.conn item' w1 w2) where
       one_reported : (left : List ℕ) → p.left ≡ left → PartlyReported limits r next (set opened index item') (index + 1) w0 w2
       one_reported [] e = absurd (no_rest e)
       one_reported (n ∷ rest) e =
@@ -193,12 +194,12 @@ module _ (limits : Limits) (r : Run) (hub : Hub) (opened : List Opened) (index :
           let self : nat_eq n n ≡ true = same_number n in
           let at : client_at p.now n ≡ client_at r.hub n = here n rest e in
           let now : Run = now_run in
-          let one : ReportsConnection limits now next n item' w1 w2 = done_here n rest e (λ s k. ReportsConnection limits s next k item' w1 w2) call in
+          let one : SimulatesReportAt limits now next n item' w1 w2 = done_here n rest e (λ s k. SimulatesReportAt limits s next k item' w1 w2) call in
           let item_now : item' ≡ told n = one.kept ∙ ap (λ (b : Bool). record { conn = n; told = r.told n || b }) (same_end r.hub p.now n at) in
           let text : conn_text now n ≡ conn_text r n = same_text r p.now n at in
           let more = taken_like p.now n in
           record {
-            now = taken_from p.now n;
+            now = without_frames p.now n;
             text = p.text ++ conn_text now n;
             done = p.done ++ n ∷ [];
             left = rest;
@@ -206,14 +207,14 @@ module _ (limits : Limits) (r : Run) (hub : Hub) (opened : List Opened) (index :
             place = length-append p.done (n ∷ []) ∙ ap (λ (k : ℕ). k + 1) p.place;
             apart = IsDistinct-tail nat_eq n rest apart;
             rising = p.rising;
-            stands = subst (λ (k : ℕ). HubMatches limits k next (taken_from p.now n)) p.like.accepted one.stands;
+            matches = subst (λ (k : ℕ). HubMatches limits k next (without_frames p.now n)) p.like.accepted one.matches;
             like = record { state = more.state ∙ p.like.state; accepted = more.accepted ∙ p.like.accepted; keys = more.keys ∙ p.like.keys };
             clients = λ m. (elim (test (nat_eq m n)) [
               | inl t ↦
                   let same : m ≡ n = eqb-true m n t in
                   let gone : list_any (nat_eq n) rest ≡ false = distinct_tail n rest (IsDistinct-head nat_eq n rest apart) n self in
-                  let taken : client_at (taken_from p.now n) n ≡ left_of r.hub rest n = taken_here p.now n ∙ (ap (option_map emptied) at ∙ rw gone refl) in
-                  subst (λ (k : ℕ). client_at (taken_from p.now n) k ≡ left_of r.hub rest k) (sym same) taken
+                  let taken : client_at (without_frames p.now n) n ≡ left_of r.hub rest n = taken_here p.now n ∙ (ap (option_map emptied) at ∙ rw gone refl) in
+                  subst (λ (k : ℕ). client_at (without_frames p.now n) k ≡ left_of r.hub rest k) (sym same) taken
               | inr f ↦
                   let was : client_at p.now m ≡ left_of r.hub rest m = values n rest e m ∙ rw f refl in
                   taken_elsewhere p.now n m (flipped n m ∙ f) ∙ was
@@ -240,7 +241,7 @@ module _ (limits : Limits) (r : Run) (hub : Hub) (opened : List Opened) (index :
   nothing_left [] e most = refl
   nothing_left (n ∷ rest) e most = absurd (omega (arith, count, ap length e))
 
-  mapped_untouched : (o : Option Client) → IfSome (option_map emptied o) IsUntouched
+  mapped_untouched : (o : Option Client) → IfSome (option_map emptied o) HasWholeFrames
   mapped_untouched None = tt
   mapped_untouched (Some c) = refl
 
@@ -249,7 +250,7 @@ module _ (limits : Limits) (r : Run) (hub : Hub) (opened : List Opened) (index :
   mapped_quiet (Some c) = refl
 
   -- all connections are reported
-  pub reported_all : length opened ≤ index → IsBehind limits hub opened (reported r) × Appends w0 w1 (report r).text
+  pub reported_all : length opened ≤ index → RunMatchesBetween limits hub opened (reported r) × Appends w0 w1 (report r).text
   reported_all most =
       let none : p.left ≡ [] = nothing_left p.left refl most in
       let after = reported r in
@@ -270,12 +271,12 @@ module _ (limits : Limits) (r : Run) (hub : Hub) (opened : List Opened) (index :
       let text : p.text ≡ (report r).text =
       sym (append-nil p.text) ∙ (ap (λ (l : List ℕ). p.text ++ flat_map (conn_text r) l) (sym none) ∙ p.said) in (
         record {
-          line = record {
+          run = record {
             confirmed = r.hub.accepted;
-            stands = subst (HubMatches limits r.hub.accepted hub) same p.stands;
+            matches = subst (HubMatches limits r.hub.accepted hub) same p.matches;
             kept = kept;
-            untouched =
-                λ n. subst (λ (o : Option Client). IfSome o IsUntouched) (sym (value_mapped emptied r.hub.clients n)) (mapped_untouched (client_at r.hub n));
+            whole =
+                λ n. subst (λ (o : Option Client). IfSome o HasWholeFrames) (sym (value_mapped emptied r.hub.clients n)) (mapped_untouched (client_at r.hub n));
             rising = rw keys p.rising;
           };
           quiet = λ n. subst (λ (o : Option Client). IfSome o (λ c. c.frames ≡ [])) (sym (value_mapped emptied r.hub.clients n))

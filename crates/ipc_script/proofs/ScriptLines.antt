@@ -16,8 +16,9 @@ use Rattle.ipc_script.specs.declared.fault.ScriptFault.TheVariants.{NoMemory, In
 use Rattle.ipc_script.specs.Line.{longest_script, PlainLine, Open, Data, End, Tick, line_of, lines_of}
 use Rattle.ipc_script.specs.Script.{Run, Cut, Progress, Outcome, start_run, text_done, first_cut, goes_on, run_lines, is_open, opened, report}
 use Rattle.ipc_script.specs.Script.{fed_in_pieces, script_run, WritesPart, EndsAs, BreaksOff, Runs}
-use Rattle.ipc_script.specs.Input.{IsReadFault, ReadsTooMuch}
-use Rattle.ipc_script.specs.Runs.{IsBehind, LinesRun, text_of}
+use Rattle.ipc_script.specs.Relations.Input.{IsReadFault, ReadsTooMuch}
+use Rattle.ipc_script.specs.Relations.Matches.{RunMatchesBetween}
+use Rattle.ipc_script.specs.Relations.Simulation.{SimulatesScript, text_of}
 use Rattle.ipc_script.proofs.WrittenText.{part_none, part_after, part_more}
 
 -- after a text, what comes
@@ -30,7 +31,7 @@ pub record PartlyRun (limits : Limits) (s : State) (script : List ℕ) (number :
   pub now : Run
   pub done : List Cut
   pub text : List ℕ
-  pub at : IsBehind limits hub opened now
+  pub at : RunMatchesBetween limits hub opened now
   pub written : Appends before after text
   pub runs : (more : List Cut)
       → run_lines limits 1 (start_run s) (lines_of script) (done ++ more) ≡ later text (run_lines limits number now (lines_of rest) more)
@@ -43,12 +44,12 @@ goes_part a b (Ok p) next part = part_more a b p.text (next p.run).text part
 
 module _ (limits : Limits) (s : State) (script : List ℕ) where
   pub run_begun : (hub : Hub) (w : Option (List ℕ)) → HubMatches limits 0 hub (no_clients s) → PartlyRun limits s script 1 hub [] script w w
-  run_begun hub w stands =
+  run_begun hub w matches =
       record {
         now = start_run s;
         done = [];
         text = [];
-        at = record { line = record { confirmed = 0; stands = stands; kept = refl; untouched = λ n. tt; rising = omega arith }; quiet = λ n. tt };
+        at = record { run = record { confirmed = 0; matches = matches; kept = refl; whole = λ n. tt; rising = omega arith }; quiet = λ n. tt };
         written = Appends-nil w;
         runs = λ more. refl;
       }
@@ -58,7 +59,7 @@ module _ (limits : Limits) (s : State) (script : List ℕ) where
     -- one line more
     pub run_more : (line behind : List ℕ) → lines_of rest ≡ line ∷ lines_of behind → (cut : Cut) (q : Progress)
         → text_done limits number p.now (line_of line) cut ≡ Ok q
-        → (next : Hub) (changed : List Opened) (w2 : Option (List ℕ)) → IsBehind limits next changed q.run → Appends w1 w2 q.text
+        → (next : Hub) (changed : List Opened) (w2 : Option (List ℕ)) → RunMatchesBetween limits next changed q.run → Appends w1 w2 q.text
         → PartlyRun limits s script (number + 1) next changed behind w0 w2
     run_more line behind lines cut q is next changed w2 at wrote =
         record {
@@ -151,7 +152,7 @@ never_long limits number r (line ∷ lines) cuts is =
 -- all lines of a script that is not too long are the script's run
 pub all_lines : (limits : Limits) (s : State) (script : List ℕ) (before after : Option (List ℕ)) (result : Result ⊤ ScriptFault)
     → length script ≤ longest_script
-    → LinesRun limits s script before after result → Runs limits s script before after result
+    → SimulatesScript limits s script before after result → Runs limits s script before after result
 all_lines limits s script before after (Ok u) short ran = (short, ran)
 all_lines limits s script before after (Err NoMemory) short ran = ran
 all_lines limits s script before after (Err Input) short ran = absurd ran
@@ -163,7 +164,7 @@ all_lines limits s script before after (Err (Unknown number)) short ran = (short
 
 -- a script that was read whole is run
 pub script_ends : (limits : Limits) (s : State) (seen items : List ℕ) (remaining before after : Option (List ℕ)) (result : Result ⊤ ScriptFault) → seen ≡ items
-    → length items ≤ longest_script → IfSome remaining (λ input. items ≡ input) → LinesRun limits s seen before after result
+    → length items ≤ longest_script → IfSome remaining (λ input. items ≡ input) → SimulatesScript limits s seen before after result
     → (script : List ℕ) × IfSome remaining (λ input. script ≡ input) × Runs limits s script before after result
 script_ends limits s seen items remaining before after result same short whole ran = (
   items,

@@ -16,7 +16,7 @@ use Rattle.ipc_hub.specs.declared.hub.Hub.{Hub}
 use Rattle.ipc_hub.specs.Relations.Matches.{HubMatches}
 use Rattle.ipc_script.specs.declared.report.Opened.{Opened}
 use Rattle.ipc_script.specs.Script.{Run}
-use Rattle.ipc_script.specs.Runs.{IsIn, IsUntouched, opened_of}
+use Rattle.ipc_script.specs.Relations.Matches.{RunMatches, HasWholeFrames, opened_of}
 use Rattle.ipc_base.proofs.CallerLemmas.{own as put_same, at-map as value_mapped, keys-map as keys_mapped, choice}
 
 -- the numbers, each with how much of the first frame is consumed
@@ -153,8 +153,8 @@ some_head None (Some d) e = cc
 some_head (Some c) None e = cc
 some_head (Some c) (Some d) e = refl
 
-untouched_head : (a b : Option Client) → option_map (λ (c : Client). c.consumed) b ≡ option_map (λ (c : Client). c.consumed) a → IfSome a IsUntouched
-    → IfSome b IsUntouched
+untouched_head : (a b : Option Client) → option_map (λ (c : Client). c.consumed) b ≡ option_map (λ (c : Client). c.consumed) a → IfSome a HasWholeFrames
+    → IfSome b HasWholeFrames
 untouched_head a None e u = tt
 untouched_head None (Some d) e u = cc
 untouched_head (Some c) (Some d) e u = let same : d.consumed ≡ c.consumed = cc in same ∙ u
@@ -171,17 +171,17 @@ module _ (t u : List (ℕ × Client)) (like : heads u ≡ heads t) where
   pub same_open : (n : ℕ) → is_some (value_at nat_eq u n) ≡ is_some (value_at nat_eq t n)
   same_open n = some_head (value_at nat_eq u n) (value_at nat_eq t n) (same_heads n)
 
-  pub same_untouched : (n : ℕ) → IfSome (value_at nat_eq t n) IsUntouched → IfSome (value_at nat_eq u n) IsUntouched
+  pub same_untouched : (n : ℕ) → IfSome (value_at nat_eq t n) HasWholeFrames → IfSome (value_at nat_eq u n) HasWholeFrames
   same_untouched n = untouched_head (value_at nat_eq t n) (value_at nat_eq u n) (same_heads n)
 
 -- a call that changes no heads leaves the program somewhere in a line
-pub steady : (limits : Limits) (confirmed : ℕ) (hub next : Hub) (opened : List Opened) (r : Run) (now : Clients) → IsIn limits hub opened r
-    → heads now.clients ≡ heads r.hub.clients → HubMatches limits confirmed next now → IsIn limits next opened (record r { hub = now })
+pub steady : (limits : Limits) (confirmed : ℕ) (hub next : Hub) (opened : List Opened) (r : Run) (now : Clients) → RunMatches limits hub opened r
+    → heads now.clients ≡ heads r.hub.clients → HubMatches limits confirmed next now → RunMatches limits next opened (record r { hub = now })
 steady limits confirmed hub next opened r now i like s =
     record {
       confirmed = confirmed;
-      stands = s;
+      matches = s;
       kept = i.kept ∙ ap (map (opened_of r.told)) (sym (same_keys r.hub.clients now.clients like));
       rising = rw (same_keys r.hub.clients now.clients like) i.rising;
-      untouched = λ n. same_untouched r.hub.clients now.clients like n (i.untouched n);
+      whole = λ n. same_untouched r.hub.clients now.clients like n (i.whole n);
     }

@@ -1,6 +1,4 @@
 pub mod Fault
-pub mod Input
 pub mod Line
-pub mod LineView
 pub mod Script
-pub mod Runs
+pub mod Relations

@@ -1,7 +1,8 @@
--- The lines of a script. They are parted by newlines, and the words of a line by one space each: `M open C`,
--- `M data C HEX`, `M end C` and `M tick` are the forms. M and C are digits alone, below 2^64 and 2^32.
-use Rattle.std.specs.Prelude.{ℕ, ◌+◌, ◌-◌, ◌*◌, ◌^◌, ◌==◌, ◌&&◌, nat_lt, if◌then◌else◌, List, [], ◌∷◌, length}
-use Rattle.std.specs.Prelude.{codes, Option, Some, None}
+-- The lines of a script. They are parted by newlines, and the words of a line by one space each:
+-- `M open C`, `M data C HEX`, `M end C` and `M tick` are the forms. M and C are digits alone, below
+-- 2^64 and 2^32.
+use Rattle.std.specs.Prelude.{ℕ, ◌+◌, ◌-◌, ◌*◌, ◌^◌, ◌==◌, ◌&&◌, nat_lt, if◌then◌else◌}
+use Rattle.std.specs.Prelude.{List, [], ◌∷◌, length, codes, Option, Some, None}
 use Rattle.std.specs.List.{slice_split, onto_first}
 use Rattle.std.specs.Result.{result_ok}
 use Rattle.std.specs.Str.{all_ascii_digits, bytes_eq}
@@ -27,7 +28,7 @@ lines_of (b ∷ bs) = if b == 10 then [] ∷ lines_of bs else onto_first b (line
 
 -- ---- words
 
--- the words of a line: what stands before, between and behind its spaces
+-- the words of a line: what stands before, between and after its spaces
 unfoldable pub words_of : List ℕ → List (List ℕ)
 words_of text = slice_split (λ b. b == 32) text
 
@@ -38,9 +39,10 @@ decimal_value (d ∷ ds) = (d - 48) * 10 ^ length ds + decimal_value ds
 
 -- the number that a word spells: digits 0 to 9 alone, at least one
 abbrev pub number_of : List ℕ → Option ℕ
-number_of word = if nat_lt 0 (length word) && all_ascii_digits word then Some (decimal_value word) else None
+number_of word =
+    if nat_lt 0 (length word) && all_ascii_digits word then Some (decimal_value word) else None
 
--- the number, where it is below a limit
+-- the number, if it is below a limit
 abbrev pub limited : ℕ → Option ℕ → Option ℕ
 limited limit None = None
 limited limit (Some n) = if nat_lt n limit then Some n else None
@@ -53,7 +55,8 @@ moment_of word = limited (2 ^ 64) (number_of word)
 unfoldable pub conn_of : List ℕ → Option ℕ
 conn_of word = limited (2 ^ 32) (number_of word)
 
--- the bytes of hexadecimal digits: at least one byte, each of two digits of either case, the high one first
+-- the bytes of hexadecimal digits: at least one byte, each of two digits of either case, the high
+-- one first
 unfoldable pub bytes_of_hex : List ℕ → Option (List ℕ)
 bytes_of_hex word = if length word == 0 then None else result_ok (decode_of word)
 
@@ -71,7 +74,7 @@ tick_of m = do
   moment ← moment_of m
   Some (Tick moment)
 
--- M open C, where the moment has to be one and means nothing
+-- M open C: the moment has to be one, and means nothing
 abbrev pub open_of : List ℕ → List ℕ → Option PlainLine
 open_of m c = do
   moment ← moment_of m
@@ -100,9 +103,10 @@ line_of_words (m ∷ verb ∷ c ∷ []) =
     if bytes_eq verb (codes "open") then open_of m c
     else if bytes_eq verb (codes "end") then end_of m c
     else None
-line_of_words (m ∷ verb ∷ c ∷ hex ∷ []) = if bytes_eq verb (codes "data") then data_of m c hex else None
+line_of_words (m ∷ verb ∷ c ∷ hex ∷ []) =
+    if bytes_eq verb (codes "data") then data_of m c hex else None
 line_of_words _ = None
 
--- the line that a text spells, its newline left out; None where it has none of the forms
+-- the line that a text spells, its newline left out; None if it has none of the forms
 unfoldable pub line_of : List ℕ → Option PlainLine
 line_of text = line_of_words (words_of text)

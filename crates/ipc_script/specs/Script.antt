@@ -1,8 +1,9 @@
--- The run of a script: what its lines do to the server and its clients, and what is written. After each line all
--- that was accepted is confirmed, so that each frame that waits is written and taken.
-use Rattle.std.specs.Prelude.{◌≡◌, ◌<◌, ◌≤◌, ⊤, length, ℕ, ◌+◌, Bool, false, ◌&&◌, ◌||◌, not, nat_eq, nat_lt}
-use Rattle.std.specs.Prelude.{if◌then◌else◌, List, [], ◌∷◌, ◌++◌, map, take, drop, codes, Option, Some, None}
-use Rattle.std.specs.Prelude.{is_some, Result, Ok, Err}
+-- The run of a script: what its lines do to the server and its clients, and what is written. After
+-- each line all that was accepted is confirmed, so that each frame that waits is written and taken.
+-- What is promised of a run stands last.
+use Rattle.std.specs.Prelude.{◌≡◌, ◌<◌, ◌≤◌, ⊤, ℕ, ◌+◌, Bool, false, ◌&&◌, ◌||◌, not}
+use Rattle.std.specs.Prelude.{nat_eq, nat_lt, if◌then◌else◌, List, [], ◌∷◌, ◌++◌, length}
+use Rattle.std.specs.Prelude.{map, take, drop, codes, Option, Some, None, is_some, Result, Ok, Err}
 use Rattle.std.specs.List.{flat_map}
 use Rattle.std.specs.Fmt.{decimal}
 use Rattle.std.specs.Io.KnownBytes.{Appends}
@@ -10,11 +11,13 @@ use Rattle.hex.specs.Hex.{encode_lower}
 use Rattle.ipc_base.specs.declared.limits.Limits.{Limits}
 use Rattle.ipc_state.specs.State.{State}
 use Rattle.ipc_base.specs.Table.{keys_of}
-use Rattle.ipc_hub.specs.Clients.{Client, Clients, no_clients, client_at, ended_at, connect, feed, hangup, tick}
+use Rattle.ipc_hub.specs.Clients.{Client, Clients, no_clients, client_at, ended_at}
+use Rattle.ipc_hub.specs.Clients.{connect, feed, hangup, tick}
 use Rattle.ipc_script.specs.declared.fault.ScriptFault.{ScriptFault}
-use Rattle.ipc_script.specs.declared.fault.ScriptFault.TheVariants.{NoMemory, Input, Output, TooLong, BadLine}
-use Rattle.ipc_script.specs.declared.fault.ScriptFault.TheVariants.{InUse, Unknown}
-use Rattle.ipc_script.specs.Line.{PlainLine, Open, Data, End, Tick, line_of, lines_of, longest_script}
+use Rattle.ipc_script.specs.declared.fault.ScriptFault.TheVariants.{NoMemory, Input, Output}
+use Rattle.ipc_script.specs.declared.fault.ScriptFault.TheVariants.{TooLong, BadLine, InUse, Unknown}
+use Rattle.ipc_script.specs.Line.{PlainLine, Open, Data, End, Tick}
+use Rattle.ipc_script.specs.Line.{line_of, lines_of, longest_script}
 
 -- what a run has: the clients, and of which connections the end was told
 pub record Run : Type 0 where
@@ -26,7 +29,7 @@ pub record Progress : Type 0 where
   pub text : List ℕ
   pub run : Run
 
--- what is written from there on stands behind it
+-- what is written from there on stands after it
 abbrev pub followed : Progress → (Run → Progress) → Progress
 followed p next = let more = next p.run in record { text = p.text ++ more.text; run = more.run }
 
@@ -42,7 +45,8 @@ end_line conn = decimal conn ++ codes " end\n"
 -- of a client: its frames, and then, once, that the server has ended it
 abbrev pub client_text : ℕ → Bool → Client → List ℕ
 client_text conn told c =
-    flat_map (λ f. frame_line conn f.bytes) c.frames ++ (if c.ended && not told then end_line conn else [])
+    flat_map (λ f. frame_line conn f.bytes) c.frames
+    ++ (if c.ended && not told then end_line conn else [])
 
 abbrev pub conn_text : Run → ℕ → List ℕ
 conn_text r conn = of_client (client_at r.hub conn)
@@ -73,7 +77,8 @@ is_open r conn = is_some (client_at r.hub conn)
 
 -- a new connection: nothing was told of it
 abbrev pub opened : Run → ℕ → Run
-opened r conn = record { hub = connect r.hub conn; told = λ other. not (nat_eq other conn) && r.told other }
+opened r conn =
+    record { hub = connect r.hub conn; told = λ other. not (nat_eq other conn) && r.told other }
 
 -- some bytes, at least one, and of which of the requests in them memory was refused
 pub record Piece : Type 0 where
@@ -87,7 +92,8 @@ Cut = List Piece
 
 -- bytes are fed, and what they let out is written
 abbrev pub fed : Limits → Run → ℕ → ℕ → List ℕ → List Bool → Progress
-fed limits r moment conn bytes refused = report (record r { hub = feed limits r.hub conn bytes moment refused })
+fed limits r moment conn bytes refused =
+    report (record r { hub = feed limits r.hub conn bytes moment refused })
 
 -- Bytes are fed in pieces. A piece that reaches their end is the last.
 abbrev pub fed_in_pieces : Limits → Run → ℕ → ℕ → List ℕ → Cut → Progress
@@ -98,14 +104,21 @@ fed_in_pieces limits r moment conn bytes (p ∷ ps) =
     (λ now. fed_in_pieces limits now moment conn (drop (p.more + 1) bytes) ps)
     else fed limits r moment conn bytes p.refused
 
--- The line of this number: `open` of a connection that is open is refused, and so is another line for one that is not.
+-- The line of this number: `open` of a connection that is open is refused, and so is another line
+-- for one that is not.
 abbrev pub line_done : Limits → ℕ → Run → PlainLine → Cut → Result Progress ScriptFault
-line_done limits number r (Open conn) cut = if is_open r conn then Err (InUse number) else Ok (report (opened r conn))
+line_done limits number r (Open conn) cut =
+    if is_open r conn then Err (InUse number) else Ok (report (opened r conn))
 line_done limits number r (Data moment conn bytes) cut =
-    if is_open r conn then Ok (fed_in_pieces limits r moment conn bytes cut) else Err (Unknown number)
+    if is_open r conn
+    then Ok (fed_in_pieces limits r moment conn bytes cut)
+    else Err (Unknown number)
 line_done limits number r (End moment conn) cut =
-    if is_open r conn then Ok (report (record r { hub = hangup limits r.hub conn moment })) else Err (Unknown number)
-line_done limits number r (Tick moment) cut = Ok (report (record r { hub = tick limits r.hub moment }))
+    if is_open r conn
+    then Ok (report (record r { hub = hangup limits r.hub conn moment }))
+    else Err (Unknown number)
+line_done limits number r (Tick moment) cut =
+    Ok (report (record r { hub = tick limits r.hub moment }))
 
 -- a text that may be a line
 abbrev pub text_done : Limits → ℕ → Run → Option PlainLine → Cut → Result Progress ScriptFault
@@ -122,7 +135,8 @@ pub record Outcome : Type 0 where
 -- the next lines are run unless this one is refused
 abbrev pub goes_on : Result Progress ScriptFault → (Run → Outcome) → Outcome
 goes_on (Err e) next = record { text = []; fault = Some e }
-goes_on (Ok p) next = let more = next p.run in record { text = p.text ++ more.text; fault = more.fault }
+goes_on (Ok p) next =
+    let more = next p.run in record { text = p.text ++ more.text; fault = more.fault }
 
 -- the first of the cuts; if there is none, all in one piece and nothing refused
 abbrev pub first_cut : List Cut → Cut
@@ -148,13 +162,16 @@ script_run limits s script cuts = run_lines limits 1 (start_run s) (lines_of scr
 
 -- a beginning of a text is written
 abbrev pub WritesPart : Option (List ℕ) → Option (List ℕ) → List ℕ → Type 0
-WritesPart before after text = (part : List ℕ) × (rest : List ℕ) × (text ≡ part ++ rest) × Appends before after part
+WritesPart before after text =
+    (part : List ℕ) × (rest : List ℕ) × (text ≡ part ++ rest) × Appends before after part
 
 -- for some cut of each line what is written is the run's text, and the fault is the run's
-abbrev pub EndsAs : Limits → State → List ℕ → Option (List ℕ) → Option (List ℕ) → Option ScriptFault → Type 0
+abbrev pub EndsAs : Limits → State → List ℕ → Option (List ℕ) → Option (List ℕ)
+    → Option ScriptFault → Type 0
 EndsAs limits s script before after fault =
     (cuts : List Cut)
-    × (let outcome = script_run limits s script cuts in Appends before after outcome.text × (outcome.fault ≡ fault))
+    × (let outcome = script_run limits s script cuts in
+    Appends before after outcome.text × (outcome.fault ≡ fault))
 
 -- for some cut of each line what is written is a beginning of the run's text
 abbrev pub BreaksOff : Limits → State → List ℕ → Option (List ℕ) → Option (List ℕ) → Type 0
@@ -162,17 +179,24 @@ BreaksOff limits s script before after =
     (cuts : List Cut) × WritesPart before after (script_run limits s script cuts).text
 
 -- a script that is not too long has run
-abbrev pub HasRun : Limits → State → List ℕ → Option (List ℕ) → Option (List ℕ) → Option ScriptFault → Type 0
-HasRun limits s script before after fault = (length script ≤ longest_script) × EndsAs limits s script before after fault
+abbrev pub HasRun : Limits → State → List ℕ → Option (List ℕ) → Option (List ℕ)
+    → Option ScriptFault → Type 0
+HasRun limits s script before after fault =
+    (length script ≤ longest_script) × EndsAs limits s script before after fault
 
--- What holds of a script when its run has ended. If memory or a write failed, the run broke off. A script that is not
--- read to its end, or is too long, is not begun.
-abbrev pub Runs : Limits → State → List ℕ → Option (List ℕ) → Option (List ℕ) → Result ⊤ ScriptFault → Type 0
+-- What holds of a script when its run has ended. If memory or a write failed, the run broke off. A
+-- script that is not read to its end, or is too long, is not begun.
+abbrev pub Runs : Limits → State → List ℕ → Option (List ℕ) → Option (List ℕ)
+    → Result ⊤ ScriptFault → Type 0
 Runs limits s script before after (Ok _) = HasRun limits s script before after None
 Runs limits s script before after (Err NoMemory) = BreaksOff limits s script before after
 Runs limits s script before after (Err Input) = Appends before after []
 Runs limits s script before after (Err Output) = BreaksOff limits s script before after
-Runs limits s script before after (Err TooLong) = (longest_script < length script) × Appends before after []
-Runs limits s script before after (Err (BadLine number)) = HasRun limits s script before after (Some (BadLine number))
-Runs limits s script before after (Err (InUse number)) = HasRun limits s script before after (Some (InUse number))
-Runs limits s script before after (Err (Unknown number)) = HasRun limits s script before after (Some (Unknown number))
+Runs limits s script before after (Err TooLong) =
+    (longest_script < length script) × Appends before after []
+Runs limits s script before after (Err (BadLine number)) =
+    HasRun limits s script before after (Some (BadLine number))
+Runs limits s script before after (Err (InUse number)) =
+    HasRun limits s script before after (Some (InUse number))
+Runs limits s script before after (Err (Unknown number)) =
+    HasRun limits s script before after (Some (Unknown number))

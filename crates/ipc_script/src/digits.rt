@@ -16,9 +16,9 @@ pub struct Hex<'a> {
 }
 
 impl<'a> Hex<'a> {
-    ghost use Rattle.ipc_script.specs.LineView.{hex_bytes};
+    ghost use Rattle.ipc_script.specs.Relations.Lines.{hex_bytes};
 
-    /// The digits, where they spell at least one byte.
+    /// The digits, if they spell at least one byte.
     pub fn new(digits: &'a [u8]) -> Option<Self>
         ensures { option_map hex_bytes result ≡ bytes_of_hex digits.now }
     {

@@ -4,7 +4,8 @@ use std::alloc::{AllocError, AllocFailed};
 use std::error::Error;
 use std::fmt;
 
-/// Why a script stopped. What the lines before it did stands. Its `Display` is the text for the user.
+/// Why a script stopped. What the lines before it did stands. Its `Display` is the text for the
+/// user.
 #[derive(Clone, Copy, Debug, PartialEq, Eq)]
 pub enum ScriptFault {
     /// Memory was refused.

@@ -1,12 +1,13 @@
 //! The lines of a script.
 
 ghost use Rattle.std.specs.Prelude.{◌≡◌, ◌<◌, ◌==◌, [], ◌∷◌, length, position, option_map};
-ghost use Rattle.ipc_script.specs.Line.{line_of, lines_of, words_of, line_of_words, moment_of, conn_of};
-ghost use Rattle.ipc_script.specs.LineView.{plain_line, words_behind};
+ghost use Rattle.ipc_script.specs.Line.{line_of, lines_of, words_of, line_of_words};
+ghost use Rattle.ipc_script.specs.Line.{moment_of, conn_of};
+ghost use Rattle.ipc_script.specs.Relations.Lines.{plain_line, words_after};
 
 use crate::digits::Hex;
 
-/// A line, with its connection and its moment; `open` has a moment only for the form's sake.
+/// A line, with its connection and its moment. The moment of `open` means nothing, and is not kept.
 #[derive(Clone, Copy, Debug)]
 pub enum Line<'a> {
     Open {
@@ -26,8 +27,8 @@ pub enum Line<'a> {
     },
 }
 
-/// The line that a text is: `M open C`, `M data C HEX`, `M end C` or `M tick`, its words parted by one
-/// space; M and C are digits alone, within their types.
+/// The line that a text is: `M open C`, `M data C HEX`, `M end C` or `M tick`, its words parted by
+/// one space each; M and C are digits alone, within their types.
 pub fn line_of(text: &[u8]) -> Option<Line<'_>>
     ensures { option_map plain_line result ≡ line_of text.now }
 {
@@ -75,7 +76,8 @@ fn three_words<'a>(moment: &[u8], verb: &[u8], conn: &[u8]) -> Option<Line<'a>>
 
 /// `M data C HEX`.
 fn four_words<'a>(moment: &[u8], verb: &[u8], conn: &[u8], hex: &'a [u8]) -> Option<Line<'a>>
-    ensures { option_map plain_line result ≡ line_of_words (moment.now ∷ verb.now ∷ conn.now ∷ hex.now ∷ []) }
+    ensures { option_map plain_line result
+        ≡ line_of_words (moment.now ∷ verb.now ∷ conn.now ∷ hex.now ∷ []) }
 {
     if verb != b"data".as_slice() {
         return None;
@@ -86,9 +88,9 @@ fn four_words<'a>(moment: &[u8], verb: &[u8], conn: &[u8], hex: &'a [u8]) -> Opt
     Some(Line::Data { moment, conn, hex })
 }
 
-/// The bytes up to the first space, and those behind it where there is one.
+/// The bytes up to the first space, and those after it if there is one.
 fn word(text: &[u8]) -> (&[u8], Option<&[u8]>)
-    ensures { words_of text.now ≡ result.0.now ∷ words_behind result.1 }
+    ensures { words_of text.now ≡ result.0.now ∷ words_after result.1 }
 {
     match place_of(b' ', text) {
         Some(space) => (&text[..space], Some(&text[space + 1..])),
@@ -96,7 +98,7 @@ fn word(text: &[u8]) -> (&[u8], Option<&[u8]>)
     }
 }
 
-/// The number that the bytes spell, where they are digits alone and it is below 2^64.
+/// The number that the bytes spell, if they are digits alone and it is below 2^64.
 fn number(digits: &[u8]) -> Option<u64>
     ensures { result ≡ moment_of digits.now }
 {
@@ -122,7 +124,7 @@ fn conn_number(digits: &[u8]) -> Option<u32>
     u32::try_from(number(digits)?).ok()
 }
 
-/// The first line, and what stands behind its newline.
+/// The first line, and what stands after its newline.
 pub fn first_line(text: &[u8]) -> (&[u8], &[u8])
     requires { 0 < length text.now }
     ensures lines { lines_of text.now ≡ result.0.now ∷ lines_of result.1.now }

@@ -1,15 +1,18 @@
-//! What a script's run writes: a line for each frame, and one where the server has ended a connection.
+//! What a script's run writes: a line for each frame, and one for a connection that the server has
+//! ended.
 
-ghost use Rattle.std.specs.Prelude.{◌≡◌, ⊤, ◌<◌, ◌≤◌, ℕ, List, ◌++◌, length, IfOk, IfErr, IfSome, OnOk, string_bytes};
+ghost use Rattle.std.specs.Prelude.{◌≡◌, ⊤, ◌<◌, ◌≤◌, ℕ, List, ◌++◌, length, string_bytes};
+ghost use Rattle.std.specs.Prelude.{IfOk, IfErr, IfSome, OnOk};
 ghost use Rattle.std.specs.Io.KnownBytes.{Appends};
 ghost use Rattle.ipc_base.specs.declared.limits.Limits.{Limits};
 ghost use Rattle.ipc_hub.specs.Clients.{Clients, client_at};
-ghost use Rattle.ipc_hub.specs.Relations.Matches.{IsFrame};
-ghost use Rattle.ipc_hub.specs.Relations.Matches.{HubMatches};
+ghost use Rattle.ipc_hub.specs.Relations.Matches.{IsFrame, HubMatches};
 ghost use Rattle.ipc_script.specs.Script.{Run, WritesPart, conn_text, report as report_of};
 ghost use Rattle.ipc_script.specs.Script.{frame_line as frame_text, end_line as end_text};
-ghost use Rattle.ipc_script.specs.Runs.{IsIn, IsBehind, IsUntouched, WorldFailed, opened_of, taken_from};
-ghost use Rattle.ipc_script.specs.Runs.{frames_text, ReportsConnection};
+ghost use Rattle.ipc_script.specs.Relations.Faults.{WorldFailed};
+ghost use Rattle.ipc_script.specs.Relations.Matches.{RunMatches, ProgressMatches, HasWholeFrames};
+ghost use Rattle.ipc_script.specs.Relations.Matches.{opened_of};
+ghost use Rattle.ipc_script.specs.Relations.Report.{without_frames, frames_text, SimulatesReportAt};
 
 use crate::fault::ScriptFault;
 use ipc_hub::Hub;
@@ -24,18 +27,19 @@ pub struct Opened {
     pub told: bool,
 }
 
-/// Lets the frames that wait be seen. Writes those of each connection, a line each, and takes them; then,
-/// once, that the server has ended it.
+/// Lets the frames that wait be seen. Writes those of each connection, a line each, and takes them;
+/// then, once, that the server has ended it.
 pub fn report<W: Write>(
     alloc: Global,
     hub: &mut Hub,
     opened: &mut [Opened],
     writer: &mut W,
 ) -> Result<(), ScriptFault>
-    ensures ok { OnOk result ((limits : Limits) (r : Run) → IsIn limits hub.old opened.old r →
-        IsBehind limits hub.new opened.new (report_of r).run
-        × Appends (W.contents writer.old) (W.contents writer.new) (report_of r).text) }
-    ensures err { IfErr result (λ e. WorldFailed e ((limits : Limits) (r : Run) → IsIn limits hub.old opened.old r →
+    ensures ok { OnOk result ((limits : Limits) (r : Run) → RunMatches limits hub.old opened.old r →
+        ProgressMatches limits hub.new opened.new
+        (W.contents writer.old) (W.contents writer.new) (report_of r)) }
+    ensures err { IfErr result (λ e. WorldFailed e
+        ((limits : Limits) (r : Run) → RunMatches limits hub.old opened.old r →
         WritesPart (W.contents writer.old) (W.contents writer.new) (report_of r).text)) }
 {
     hub.release();
@@ -45,7 +49,8 @@ pub fn report<W: Write>(
     Ok(())
 }
 
-/// Writes what there is to say of a connection, which stands at this place among those that are open.
+/// Writes what there is to say of a connection, which stands at this place among those that are
+/// open.
 fn report_connection<W: Write>(
     alloc: Global,
     hub: &mut Hub,
@@ -53,16 +58,18 @@ fn report_connection<W: Write>(
     connection: &mut Opened,
     writer: &mut W,
 ) -> Result<(), ScriptFault>
-    ensures ok { OnOk result ((limits : Limits) (r : Run) → HubMatches limits r.hub.accepted hub.old r.hub →
-        IfSome (client_at r.hub connection.old.conn) IsUntouched →
+    ensures ok { OnOk result ((limits : Limits) (r : Run) →
+        HubMatches limits r.hub.accepted hub.old r.hub →
+        IfSome (client_at r.hub connection.old.conn) HasWholeFrames →
         connection.old ≡ opened_of r.told connection.old.conn →
-        ReportsConnection limits r hub.new connection.old.conn connection.new
+        SimulatesReportAt limits r hub.new connection.old.conn connection.new
         (W.contents writer.old) (W.contents writer.new)) }
     ensures err { IfErr result (λ e. WorldFailed e ((limits : Limits) (r : Run) →
         HubMatches limits r.hub.accepted hub.old r.hub →
-        IfSome (client_at r.hub connection.old.conn) IsUntouched →
+        IfSome (client_at r.hub connection.old.conn) HasWholeFrames →
         connection.old ≡ opened_of r.told connection.old.conn →
-        WritesPart (W.contents writer.old) (W.contents writer.new) (conn_text r connection.old.conn))) }
+        WritesPart (W.contents writer.old) (W.contents writer.new)
+        (conn_text r connection.old.conn))) }
 {
     if hub.is_silent(place, connection.conn) {
         return Ok(());
@@ -83,11 +90,12 @@ fn report_frames<W: Write>(
     conn: u32,
     writer: &mut W,
 ) -> Result<(), ScriptFault>
-    ensures ok { OnOk result ((limits : Limits) (h : Clients) → HubMatches limits h.accepted hub.old h →
-        IfSome (client_at h conn) IsUntouched → HubMatches limits h.accepted hub.new (taken_from h conn)
+    ensures ok { OnOk result ((limits : Limits) (h : Clients) →
+        HubMatches limits h.accepted hub.old h → IfSome (client_at h conn) HasWholeFrames →
+        HubMatches limits h.accepted hub.new (without_frames h conn)
         × Appends (W.contents writer.old) (W.contents writer.new) (frames_text h conn)) }
     ensures err { IfErr result (λ e. WorldFailed e ((limits : Limits) (h : Clients) →
-        HubMatches limits h.accepted hub.old h → IfSome (client_at h conn) IsUntouched →
+        HubMatches limits h.accepted hub.old h → IfSome (client_at h conn) HasWholeFrames →
         WritesPart (W.contents writer.old) (W.contents writer.new) (frames_text h conn))) }
 {
     'frames: while !hub.output(conn).is_empty() {
@@ -105,7 +113,8 @@ fn first_frame(output: &[u8]) -> usize
     requires { 0 < length output.now }
     ensures some { 0 < result }
     ensures within { result ≤ length output.now }
-    ensures frame { (frame rest : List ℕ) → IsFrame frame → output.now ≡ frame ++ rest → result ≡ length frame }
+    ensures frame { (frame rest : List ℕ) → IsFrame frame → output.now ≡ frame ++ rest →
+        result ≡ length frame }
 {
     match output.split_first_chunk::<4>() {
         Some((length, rest)) => 4 + rest.len().min(u32::from_be_bytes(*length) as usize),

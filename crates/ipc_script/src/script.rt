@@ -1,16 +1,19 @@
 //! A script: lines of what connections do and when, run on a hub.
 
-ghost use Rattle.std.specs.Prelude.{◌≡◌, [], ◌<◌, ◌≤◌, ◌||◌, ℕ, Bool, true, false, List, length, map, nat_eq};
-ghost use Rattle.std.specs.Prelude.{nat_lt, position, IfOk, IfErr, IfSome, OnOk, MatchResult, Err};
+ghost use Rattle.std.specs.Prelude.{◌≡◌, ◌<◌, ◌≤◌, ℕ, true, false, List, [], length, position};
+ghost use Rattle.std.specs.Prelude.{nat_eq, nat_lt, IfOk, IfErr, IfSome, OnOk};
 ghost use Rattle.std.specs.List.{prefix_len};
 ghost use Rattle.std.specs.Io.KnownBytes.{Appends};
 ghost use Rattle.ipc_base.specs.declared.limits.Limits.{Limits};
 ghost use Rattle.ipc_hub.specs.Clients.{hangup};
 ghost use Rattle.ipc_script.specs.Line.{longest_script};
 ghost use Rattle.ipc_script.specs.Line.PlainLine.{Data};
-ghost use Rattle.ipc_script.specs.LineView.{plain_line};
-ghost use Rattle.ipc_script.specs.Script.{Run, Runs, is_open, opened as opened_run};
-ghost use Rattle.ipc_script.specs.Runs.{IsIn, IsBehind, FeedsSome, FeedsPart, ByFault, Refused, LineRuns, LinesRun};
+ghost use Rattle.ipc_script.specs.Script.{Run, Runs, is_open, line_done, opened as opened_run};
+ghost use Rattle.ipc_script.specs.Relations.Lines.{plain_line};
+ghost use Rattle.ipc_script.specs.Relations.Faults.{ByFault, IfRefused};
+ghost use Rattle.ipc_script.specs.Relations.Matches.{RunMatches, RunMatchesBetween};
+ghost use Rattle.ipc_script.specs.Relations.Pieces.{SimulatesPiece, PieceBreaksOff};
+ghost use Rattle.ipc_script.specs.Relations.Simulation.{SimulatesLine, SimulatesScript};
 
 use crate::fault::ScriptFault;
 use crate::input::read_script;
@@ -22,10 +25,11 @@ use ipc_hub::{ConnectError, Hub};
 use std::alloc::Global;
 use std::io::{Read, Write};
 
-/// Reads a script to its end, and runs it line by line. After each line the frames that it let out are
-/// written. The run stops at the first line that is refused; what the lines before it did stands. If memory or a
-/// write failed, what was written is a beginning of the run's text; after a read that failed nothing was. The
-/// script is all that the reader gives; of a reader that does not tell its bytes the clause says that there is one.
+/// Reads a script to its end, and runs it line by line. After each line the frames that it let out
+/// are written. The run stops at the first line that is refused; what the lines before it did
+/// stands. If memory or a write failed, what was written is a beginning of the run's text; after a
+/// read that failed nothing was. The script is all that the reader gives; of a reader that does not
+/// tell its bytes the clause says that there is one.
 pub fn run_script<R: Read, W: Write>(
     alloc: Global,
     engine: Engine,
@@ -48,7 +52,7 @@ fn run_lines<W: Write>(
     writer: &mut W,
 ) -> Result<(), ScriptFault>
     requires { length script.now ≤ longest_script }
-    ensures { LinesRun engine.limits engine.state script.now
+    ensures { SimulatesScript engine.limits engine.state script.now
         (W.contents writer.old) (W.contents writer.new) result }
 {
     let mut hub = Hub::new(alloc, engine);
@@ -76,9 +80,9 @@ fn run_line<W: Write>(
     number: u64,
     writer: &mut W,
 ) -> Result<(), ScriptFault>
-    ensures { (limits : Limits) (r : Run) → IsBehind limits hub.old opened.old.items r →
-        LineRuns limits number r (plain_line line.entry) hub.new opened.new.items
-        (W.contents writer.old) (W.contents writer.new) result }
+    ensures { (limits : Limits) (r : Run) → RunMatchesBetween limits hub.old opened.old.items r →
+        SimulatesLine limits (line_done limits number r (plain_line line.entry))
+        hub.new opened.new.items (W.contents writer.old) (W.contents writer.new) result }
 {
     match line {
         Line::Open { conn } => open(hub, opened, conn, number)?,
@@ -99,11 +103,12 @@ fn run_line<W: Write>(
 
 /// Opens a connection, and keeps those that are open in rising order.
 fn open(hub: &mut Hub, opened: &mut Vec<Opened>, conn: u32, number: u64) -> Result<(), ScriptFault>
-    ensures ok { OnOk result ((limits : Limits) (r : Run) → IsBehind limits hub.old opened.old.items r →
-        (is_open r conn ≡ false) × IsIn limits hub.new opened.new.items (opened_run r conn)) }
-    ensures err { IfErr result (λ e. Refused e (e ≡ ScriptFault.InUse number)) }
-    ensures in_use { IfErr result (λ e. Refused e ((limits : Limits) (r : Run) →
-        IsBehind limits hub.old opened.old.items r → is_open r conn ≡ true)) }
+    ensures ok { OnOk result ((limits : Limits) (r : Run) →
+        RunMatchesBetween limits hub.old opened.old.items r → (is_open r conn ≡ false)
+        × RunMatches limits hub.new opened.new.items (opened_run r conn)) }
+    ensures err { IfErr result (λ e. IfRefused e (e ≡ ScriptFault.InUse number)) }
+    ensures in_use { IfErr result (λ e. IfRefused e ((limits : Limits) (r : Run) →
+        RunMatchesBetween limits hub.old opened.old.items r → is_open r conn ≡ true)) }
 {
     opened.reserve(1)?;
     match hub.connect(conn) {
@@ -132,12 +137,13 @@ fn close(
     moment: Moment,
     number: u64,
 ) -> Result<(), ScriptFault>
-    ensures ok { OnOk result ((limits : Limits) (r : Run) → IsBehind limits hub.old opened.old.items r →
-        (is_open r conn ≡ true)
-        × IsIn limits hub.new opened.new.items (record r { hub = hangup limits r.hub conn moment.0 })) }
+    ensures ok { OnOk result ((limits : Limits) (r : Run) →
+        RunMatchesBetween limits hub.old opened.old.items r → (is_open r conn ≡ true)
+        × RunMatches limits hub.new opened.new.items
+        (record r { hub = hangup limits r.hub conn moment.0 })) }
     ensures err { IfErr result (λ e. e ≡ ScriptFault.Unknown number) }
     ensures unknown { IfErr result (λ e. (limits : Limits) (r : Run) →
-        IsBehind limits hub.old opened.old.items r → is_open r conn ≡ false) }
+        RunMatchesBetween limits hub.old opened.old.items r → is_open r conn ≡ false) }
 {
     let Ok(()) = hub.hangup(conn, moment) else {
         return Err(ScriptFault::Unknown(number));
@@ -174,9 +180,10 @@ fn feed<W: Write>(
     writer: &mut W,
 ) -> Result<(), ScriptFault>
     requires { 0 < length bytes.now }
-    ensures { (limits : Limits) (r : Run) → IsBehind limits hub.old opened.old r →
-        LineRuns limits sender.number r (Data sender.moment.0 sender.conn bytes.now) hub.new opened.new
-        (W.contents writer.old) (W.contents writer.new) result }
+    ensures { (limits : Limits) (r : Run) → RunMatchesBetween limits hub.old opened.old r →
+        SimulatesLine limits
+        (line_done limits sender.number r (Data sender.moment.0 sender.conn bytes.now))
+        hub.new opened.new (W.contents writer.old) (W.contents writer.new) result }
 {
     let mut rest = bytes;
     // A round takes at least one byte, since no frame waits as it begins.
@@ -199,15 +206,19 @@ fn feed_some<W: Write>(
     bytes: &[u8],
     writer: &mut W,
 ) -> Result<usize, ScriptFault>
-    ensures ok { IfOk result (λ taken. (limits : Limits) (r : Run) → IsBehind limits hub.old opened.old r →
-        FeedsSome limits r sender.moment.0 sender.conn bytes.now taken hub.new opened.new
-        (W.contents writer.old) (W.contents writer.new)) }
+    ensures ok { IfOk result (λ taken. (limits : Limits) (r : Run) →
+        RunMatchesBetween limits hub.old opened.old r →
+        SimulatesPiece limits r sender bytes.now taken
+        hub.new opened.new (W.contents writer.old) (W.contents writer.new)) }
     ensures within { IfOk result (λ taken. taken ≤ length bytes.now) }
-    ensures err { IfErr result (λ e. ByFault e ((limits : Limits) (r : Run) → IsBehind limits hub.old opened.old r →
-        FeedsPart limits r sender.moment.0 sender.conn bytes.now (W.contents writer.old) (W.contents writer.new))
-        ((e ≡ ScriptFault.Unknown sender.number) × Appends (W.contents writer.old) (W.contents writer.new) [])) }
-    ensures unknown { IfErr result (λ e. Refused e ((limits : Limits) (r : Run) →
-        IsBehind limits hub.old opened.old r → is_open r sender.conn ≡ false)) }
+    ensures err { IfErr result (λ e. ByFault e
+        ((limits : Limits) (r : Run) → RunMatchesBetween limits hub.old opened.old r →
+        PieceBreaksOff limits r sender bytes.now
+        (W.contents writer.old) (W.contents writer.new))
+        ((e ≡ ScriptFault.Unknown sender.number)
+        × Appends (W.contents writer.old) (W.contents writer.new) [])) }
+    ensures unknown { IfErr result (λ e. IfRefused e ((limits : Limits) (r : Run) →
+        RunMatchesBetween limits hub.old opened.old r → is_open r sender.conn ≡ false)) }
 {
     let Ok(taken) = hub.feed(sender.conn, bytes, sender.moment) else {
         return Err(ScriptFault::Unknown(sender.number));

@@ -1,5 +1,5 @@
-//! A server with standard limits: long texts, many processes, long scripts. The frames of each test are made
-//! from their fields, those that are wanted as those that are sent.
+//! A server with standard limits: long texts, many processes, long scripts. The frames of each test
+//! are made from their fields, those that are wanted as those that are sent.
 
 use crate::fault::ScriptFault;
 use crate::script::run_script;

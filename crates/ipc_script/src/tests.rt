@@ -1,4 +1,5 @@
-//! What no clause says: whole scripts with their texts, the text of each fault, and streams that fail.
+//! What no clause says: whole scripts with their texts, the text of each fault, and streams that
+//! fail.
 
 use crate::fault::ScriptFault;
 use crate::rows::ROWS;

@@ -1,5 +1,5 @@
 use Rattle.std.proofs.Common.{option_map, ap, sym, ◌∙◌}
-use Rattle.ipc_script.specs.LineView.{plain_line}
+use Rattle.ipc_script.specs.Relations.Lines.{plain_line}
 use Rattle.ipc_script.proofs.LineWords.{last_word, next_word, from_words, some_word}
 use Rattle.ipc_script.proofs.line.line_of.Goals as goal
 

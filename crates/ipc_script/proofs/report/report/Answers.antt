@@ -6,13 +6,13 @@ use Rattle.ipc_script.proofs.report.report.Goals as goal
 
 pub loop-place-init : goal.loop-place-init
 loop-place-init g c =
-    λ limits r i. reported_begun limits r c.release.new.self c.args.opened.now _ (c.release.ensures limits i.confirmed r.hub i.stands) i.rising i.kept
+    λ limits r i. reported_begun limits r c.release.new.self c.args.opened.now _ (c.release.ensures limits i.confirmed r.hub i.matches) i.rising i.kept
 
 pub loop-place-preserved : goal.loop-place-preserved
 loop-place-preserved g c = λ limits r i.
     let inside : c.loop-place.place < length c.loop-place.opened = omega arith in
     reported_more limits r c.loop-place.hub c.loop-place.opened c.loop-place.place _ _ (c.loop-place.invariant limits r i)
-    i.untouched (get_or c.loop-place.opened c.loop-place.place _) _ inside refl
+    i.whole (get_or c.loop-place.opened c.loop-place.place _) _ inside refl
     c.report_connection.new.hub _ c.report_connection.new.connection (c.in_ok-report_connection.ensures.ok limits)
 
 pub returns-in_err-report_connection-clause-err : goal.returns-in_err-report_connection-clause-err
@@ -21,7 +21,7 @@ returns-in_err-report_connection-clause-err g c =
     let inside : c.loop-place.place < length c.loop-place.opened = omega arith in
     rw (q.1, q.2) (world_failed _ _ _ c.in_err-report_connection.field-0.0 (λ part limits r i.
     reported_part limits r c.loop-place.hub c.loop-place.opened c.loop-place.place _ _ (c.loop-place.invariant limits r i)
-    i.untouched (get_or c.loop-place.opened c.loop-place.place _) _ inside refl _ (part limits)) c.in_err-report_connection.ensures.err)
+    i.whole (get_or c.loop-place.opened c.loop-place.place _) _ inside refl _ (part limits)) c.in_err-report_connection.ensures.err)
 
 pub returns-clause-ok : goal.returns-clause-ok
 returns-clause-ok g c =

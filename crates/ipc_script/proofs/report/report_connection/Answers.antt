@@ -2,7 +2,7 @@ use Rattle.std.proofs.Common.{◌≡◌, ◌||◌, [], true, false, Bool, refl, 
 use Rattle.std.proofs.KnownBytes.{Appends-nil}
 use Rattle.std.proofs.lemmas.Result.{err_from_is_err_and}
 use Rattle.ipc_hub.specs.Clients.{ended_at}
-use Rattle.ipc_script.specs.Runs.{taken_from}
+use Rattle.ipc_script.specs.Relations.Report.{without_frames}
 use Rattle.ipc_script.specs.declared.report.Opened.{Opened}
 use Rattle.ipc_script.proofs.ConnectionText.{frames_part, reports_part, reports, reports_told}
 use Rattle.ipc_script.proofs.FrameLines.{partly_begun, partly_done}
@@ -25,7 +25,8 @@ returns-then-is_silent-clause-ok g c = λ limits r s u kept.
     let silent = rw c.if-is_silent.true at c.is_silent.ensures in
     let frames = partly_done limits r.hub conn hub w w [] (partly_begun limits r.hub conn hub w s u)
     (λ _ confirmed h m. sym silent.0 ∙ (shows _ confirmed hub h conn m).0) refl in
-    let ended : false ≡ ended_at (taken_from r.hub conn) conn = sym silent.1 ∙ (shows limits r.hub.accepted hub (taken_from r.hub conn) conn frames.0).1 in
+    let ended : false ≡ ended_at (without_frames r.hub conn) conn =
+    sym silent.1 ∙ (shows limits r.hub.accepted hub (without_frames r.hub conn) conn frames.0).1 in
     reports limits r conn hub w w w c.args.connection.now.told false frames.0 frames.1 (ap (λ (o : Opened). o.told) kept) ended _
     (ap (λ (b : Bool). record { conn = conn; told = b }) (or_false c.args.connection.now.told)) (Appends-nil w)
 
@@ -41,7 +42,7 @@ returns-in_err-line-clause-err g c =
     rw (q.1, q.2) (world_failed _ _ _ c.in_err-line.field-0.0 (λ _ limits r s u kept.
     let frames = c.in_ok-report_frames.ensures.ok limits r.hub s u in
     let told : false ≡ r.told c.args.connection.now.conn = sym c.if-not-connection.true ∙ ap (λ (o : Opened). o.told) kept in
-    let ended : true ≡ ended_at (taken_from r.hub c.args.connection.now.conn) c.args.connection.now.conn =
+    let ended : true ≡ ended_at (without_frames r.hub c.args.connection.now.conn) c.args.connection.now.conn =
     sym c.if-ended.true ∙ c.ended.ensures.server limits r.hub.accepted _ frames.0 in
     reports_part limits r c.args.connection.now.conn c.report_frames.new.hub _ _ _ false true frames.0 frames.1 told ended (part_none _ _))
     c.in_err-line.ensures.err)
@@ -52,7 +53,7 @@ returns-in_err-write_all-clause-err g c =
     rw (q.1, q.2) (world_failed _ _ _ c.in_err-write_all.field-0.0 (λ part limits r s u kept.
     let frames = c.in_ok-report_frames.ensures.ok limits r.hub s u in
     let told : false ≡ r.told c.args.connection.now.conn = sym c.if-not-connection.true ∙ ap (λ (o : Opened). o.told) kept in
-    let ended : true ≡ ended_at (taken_from r.hub c.args.connection.now.conn) c.args.connection.now.conn =
+    let ended : true ≡ ended_at (without_frames r.hub c.args.connection.now.conn) c.args.connection.now.conn =
     sym c.if-ended.true ∙ c.ended.ensures.server limits r.hub.accepted _ frames.0 in
     let line = c.as_bytes.ensures.value ∙ c.in_ok-line.ensures.ok in
     reports_part limits r c.args.connection.now.conn c.report_frames.new.hub _ _ _ false true frames.0 frames.1 told ended (rw line at part))
@@ -62,7 +63,7 @@ pub returns-in_ok-write_all-clause-ok : goal.returns-in_ok-write_all-clause-ok
 returns-in_ok-write_all-clause-ok g c = λ limits r s u kept.
     let frames = c.in_ok-report_frames.ensures.ok limits r.hub s u in
     let told : false ≡ r.told c.args.connection.now.conn = sym c.if-not-connection.true ∙ ap (λ (o : Opened). o.told) kept in
-    let ended : true ≡ ended_at (taken_from r.hub c.args.connection.now.conn) c.args.connection.now.conn =
+    let ended : true ≡ ended_at (without_frames r.hub c.args.connection.now.conn) c.args.connection.now.conn =
     sym c.if-ended.true ∙ c.ended.ensures.server limits r.hub.accepted _ frames.0 in
     let line = c.as_bytes.ensures.value ∙ c.in_ok-line.ensures.ok in
     reports limits r c.args.connection.now.conn c.report_frames.new.hub _ _ _ false true frames.0 frames.1 told ended _ refl
@@ -74,12 +75,12 @@ returns-else-not-connection-clause-ok g c = λ limits r s u kept.
     elim c.else-not-connection.branch [
       | else-not-connection-via-then-not-connection+else-ended w ↦
           let told : false ≡ r.told c.args.connection.now.conn = sym w.if-not-connection.true ∙ ap (λ (o : Opened). o.told) kept in
-          let ended : false ≡ ended_at (taken_from r.hub c.args.connection.now.conn) c.args.connection.now.conn =
+          let ended : false ≡ ended_at (without_frames r.hub c.args.connection.now.conn) c.args.connection.now.conn =
           sym w.if-ended.false ∙ w.ended.ensures.server limits r.hub.accepted _ frames.0 in
           reports limits r c.args.connection.now.conn c.report_frames.new.hub _ _ _ false false frames.0 frames.1 told ended _
           (ap (λ (b : Bool). record { conn = c.args.connection.now.conn; told = b }) w.if-not-connection.true) (Appends-nil _)
       | else-not-connection-via-else-not-connection w ↦
           reports_told limits r c.args.connection.now.conn c.report_frames.new.hub _ _ _ c.args.connection.now.told
-          (ended_at (taken_from r.hub c.args.connection.now.conn) c.args.connection.now.conn) frames.0 frames.1 (ap (λ (o : Opened). o.told) kept) refl _
+          (ended_at (without_frames r.hub c.args.connection.now.conn) c.args.connection.now.conn) frames.0 frames.1 (ap (λ (o : Opened). o.told) kept) refl _
           refl w.if-not-connection.false refl
     ]

@@ -6,8 +6,8 @@ use Rattle.ipc_script.proofs.FrameLines.{partly_begun, partly_none, partly_part,
 use Rattle.ipc_script.proofs.report.report_frames.Goals as goal
 
 pub frames-init : goal.frames-init
-frames-init g c limits h stands untouched =
-    partly_begun limits h c.args.conn c.args.hub.now (g.W.Write.contents c.args.writer.now) stands untouched
+frames-init g c limits h matches untouched =
+    partly_begun limits h c.args.conn c.args.hub.now (g.W.Write.contents c.args.writer.now) matches untouched
 
 pub returns-in_err-line-clause-err : goal.returns-in_err-line-clause-err
 returns-in_err-line-clause-err g c =

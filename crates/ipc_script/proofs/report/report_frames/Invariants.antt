@@ -3,13 +3,13 @@ use Rattle.ipc_base.specs.declared.limits.Limits.{Limits}
 use Rattle.ipc_hub.specs.Clients.{Clients, client_at}
 use Rattle.ipc_hub.specs.View.{output_of}
 use Rattle.ipc_hub.specs.Relations.Matches.{HubMatches}
-use Rattle.ipc_script.specs.Runs.{IsUntouched}
+use Rattle.ipc_script.specs.Relations.Matches.{HasWholeFrames}
 use Rattle.ipc_script.proofs.FrameLines.{Partly}
 use Rattle.ipc_script.proofs.report.report_frames.Given as goal
 
 abbrev pub invariant-frames : goal.invariant-frames
 invariant-frames g l =
-    (limits : Limits) (h : Clients) → HubMatches limits h.accepted l.fn.hub h → IfSome (client_at h l.conn) IsUntouched
+    (limits : Limits) (h : Clients) → HubMatches limits h.accepted l.fn.hub h → IfSome (client_at h l.conn) HasWholeFrames
     → Partly limits h l.conn l.hub (g.W.Write.contents l.fn.writer) (g.W.Write.contents l.writer)
 
 -- what the client has not taken

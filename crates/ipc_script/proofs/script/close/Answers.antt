@@ -27,4 +27,4 @@ returns-in_default-place_of-clause-ok c limits r b =
 pub returns-in_default-clause-unknown : goal.returns-in_default-clause-unknown
 returns-in_default-clause-unknown c limits r b =
     let gone : is_connected c.args.hub.now c.args.conn ≡ false = search rules in
-    sym (connected limits b.line.confirmed c.args.hub.now r.hub c.args.conn b.line.stands) ∙ gone
+    sym (connected limits b.run.confirmed c.args.hub.now r.hub c.args.conn b.run.matches) ∙ gone

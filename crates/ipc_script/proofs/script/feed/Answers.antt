@@ -8,13 +8,13 @@ use Rattle.ipc_script.proofs.script.feed.Goals as goal
 
 pub pieces-init : goal.pieces-init
 pieces-init g c = λ limits r b.
-    (omega arith, c.requires, fed_begun limits r c.args.sender.moment.0 c.args.sender.conn c.args.bytes.now c.args.hub.now c.args.opened.now _ b)
+    (omega arith, c.requires, fed_begun limits r c.args.sender c.args.bytes.now c.args.hub.now c.args.opened.now _ b)
 
 pub returns-in_err-taken : goal.returns-in_err-taken
 returns-in_err-taken g c = λ limits r b.
     let q = err_from_is_err_and c.from_residual.result c.from_residual.ensures.1 in
     let p = c.pieces.invariant limits r b in
-    rw (q.1, q.2) (fed_refused limits c.args.sender.number r c.args.sender.moment.0 c.args.sender.conn c.args.bytes.now
+    rw (q.1, q.2) (fed_refused limits r c.args.sender c.args.bytes.now
     c.pieces.hub c.pieces.opened c.pieces.rest.now _ _ _ p.2 p.1 c.in_err-taken.field-0.0 c.in_err-taken.ensures.err c.in_err-taken.ensures.unknown)
 
 pub returns-then-is_empty : goal.returns-then-is_empty
@@ -23,22 +23,22 @@ returns-then-is_empty g c = λ limits r b.
     let s = c.in_ok-taken.ensures.ok limits p.2.now p.2.at in
     let none : length (take (length c.pieces.rest.now - c.in_ok-taken.taken) (drop c.in_ok-taken.taken c.pieces.rest.now)) ≡ 0 =
     grind (arith, nat_tests, c.if-is_empty.ensures) in
-    let all = fed_all limits r c.args.sender.moment.0 c.args.sender.conn c.args.bytes.now c.pieces.hub c.pieces.opened c.pieces.rest.now _ _ p.2
+    let all = fed_all limits r c.args.sender c.args.bytes.now c.pieces.hub c.pieces.opened c.pieces.rest.now _ _ p.2
     c.in_ok-taken.taken c.feed_some.new.hub c.feed_some.new.opened _ s (all_taken c.pieces.rest.now c.in_ok-taken.taken none) in
-    let was : is_open r c.args.sender.conn ≡ true = sym p.2.there ∙ s.was in
-    (all.0, all.1, rw was (ap (λ (q : Progress). Ok q) all.2), all.3, all.4)
+    let was : is_open r c.args.sender.conn ≡ true = sym p.2.there ∙ s.open_before in
+    (all.0, all.1, rw was (ap (λ (q : Progress). Ok q) all.2), all.3)
 
 pub pieces-preserved : goal.pieces-preserved
 pieces-preserved g c = λ limits r b.
     let p = c.pieces.invariant limits r b in
     let s = c.in_ok-taken.ensures.ok limits p.2.now p.2.at in
-    let some = s.some p.1 in
+    let some = s.takes_some p.1 in
     let left = rest_length c.pieces.rest.now c.in_ok-taken.taken in
     let more : 0 < length (take (length c.pieces.rest.now - c.in_ok-taken.taken) (drop c.in_ok-taken.taken c.pieces.rest.now)) =
     grind (arith, nat_tests, c.if-is_empty.ensures) in (
       omega (arith, p.0, some, left, more),
       more,
-      fed_more limits r c.args.sender.moment.0 c.args.sender.conn c.args.bytes.now c.pieces.hub c.pieces.opened c.pieces.rest.now _ _ p.2 c.in_ok-taken.taken
+      fed_more limits r c.args.sender c.args.bytes.now c.pieces.hub c.pieces.opened c.pieces.rest.now _ _ p.2 c.in_ok-taken.taken
           c.feed_some.new.hub c.feed_some.new.opened _ s
           p.1 (omega (arith, left, more)),
     )

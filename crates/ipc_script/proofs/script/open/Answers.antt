@@ -4,7 +4,7 @@ use Rattle.std.specs.List.{insert, prefix_len}
 use Rattle.ipc_hub.specs.View.{is_connected}
 use Rattle.ipc_script.specs.declared.report.Opened.{Opened}
 use Rattle.ipc_script.specs.Script.{opened}
-use Rattle.ipc_script.specs.Runs.{IsIn}
+use Rattle.ipc_script.specs.Relations.Matches.{RunMatches}
 use Rattle.ipc_base.proofs.CallerLemmas.{test_cases as test}
 use Rattle.ipc_script.proofs.HubAndClients.{connected}
 use Rattle.ipc_script.proofs.OpenConnections.{open_in}
@@ -24,9 +24,9 @@ returns-clause-ok c limits r b =
     let items : c.insert.new.self.items ≡ insert os (prefix_len (λ o. nat_lt o.conn c.args.conn) os) one =
     put ∙ ap (λ (xs : List Opened). insert xs c.place_for-place.result one) kept ∙ ap (λ (k : ℕ). insert os k one) place in
     let done = open_in limits c.args.hub.now c.connect.new.self os r c.args.conn c.ranges.conn.fits b new c.in-Ok.ensures.ok in
-    (done.0, subst (λ (xs : List Opened). IsIn limits c.connect.new.self xs (opened r c.args.conn)) (sym items) done.1)
+    (done.0, subst (λ (xs : List Opened). RunMatches limits c.connect.new.self xs (opened r c.args.conn)) (sym items) done.1)
 
 pub returns-in-Err-InUse-clause-in_use : goal.returns-in-Err-InUse-clause-in_use
 returns-in-Err-InUse-clause-in_use c limits r b =
     let there : is_connected c.args.hub.now c.args.conn ≡ true = search rules in
-    sym (connected limits b.line.confirmed c.args.hub.now r.hub c.args.conn b.line.stands) ∙ there
+    sym (connected limits b.run.confirmed c.args.hub.now r.hub c.args.conn b.run.matches) ∙ there

@@ -2,12 +2,12 @@ use Rattle.std.proofs.Common.{◌≡◌, true, false, List, length, refl, ap, �
 use Rattle.std.proofs.lemmas.Result.{err_from_is_err_and}
 use Rattle.ipc_hub.specs.Clients.{tick}
 use Rattle.ipc_script.specs.declared.report.Opened.{Opened}
-use Rattle.ipc_script.specs.LineView.{hex_bytes, plain_line}
+use Rattle.ipc_script.specs.Relations.Lines.{hex_bytes, plain_line}
 use Rattle.ipc_script.specs.Line.{Open, End, Tick}
 use Rattle.ipc_base.specs.declared.limits.Limits.{Limits}
 use Rattle.ipc_script.specs.declared.fault.ScriptFault.TheVariants.{InUse, Unknown}
 use Rattle.ipc_script.specs.Script.{Run, is_open, opened}
-use Rattle.ipc_script.specs.Runs.{IsIn, IsBehind}
+use Rattle.ipc_script.specs.Relations.Matches.{RunMatches, RunMatchesBetween}
 use Rattle.ipc_script.proofs.UnchangedHeads.{heads_tick, steady}
 use Rattle.ipc_script.proofs.FaultCases.{refused_unknown}
 use Rattle.ipc_script.proofs.HexBytes.{hex_nonempty}
@@ -20,7 +20,7 @@ returns-in_err-open-in-Open g c = λ limits r b.
     let q = err_from_is_err_and c.from_residual.result c.from_residual.ensures.1 in
     rw (q.1, q.2, c.in-Open.is) (line_refused limits c.args.number r c.open.new.hub c.open.new.hub c.open.new.hub _ (g.W.Write.contents c.args.writer.now)
     (Open c.in-Open.conn) c.in_err-open-in-Open.field-0.0 (InUse c.args.number)
-    ((limits : Limits) (r : Run) → IsBehind limits c.args.hub.now c.args.opened.now.items r → is_open r c.in-Open.conn ≡ true)
+    ((limits : Limits) (r : Run) → RunMatchesBetween limits c.args.hub.now c.args.opened.now.items r → is_open r c.in-Open.conn ≡ true)
     c.in_err-open-in-Open.ensures.err c.in_err-open-in-Open.ensures.in_use (λ u. open_refused limits c.args.number r c.in-Open.conn (u limits r b)))
 
 pub returns-in_err-bytes-in-Data : goal.returns-in_err-bytes-in-Data
@@ -62,7 +62,8 @@ returns g c = λ limits r b.
     ∙ ap (λ (xs : List Opened). length xs) c.deref_mut-2.ensures.value) in
     let hub = c.match-line.hub in
     let items = c.match-line.opened.items in
-    let at : (now : Run) → IsIn limits hub items now → IsIn limits hub c.deref_mut-2.result.now now = λ now i. (rw (← c.deref_mut-2.ensures.value) at i) in
+    let at : (now : Run) → RunMatches limits hub items now → RunMatches limits hub c.deref_mut-2.result.now now =
+    λ now i. (rw (← c.deref_mut-2.ensures.value) at i) in
     rw back (elim c.match-line.branch [
       | in-Open+in_ok-open-in-Open w ↦
           let o = w.in_ok-open-in-Open.ensures.ok limits r b in
@@ -79,8 +80,8 @@ returns g c = λ limits r b.
           c.report.ensures.ok c.report.ensures.err refl _ (at _ (rw (← w.hub-is, ← w.opened-is) at o.1))
           (end_done limits c.args.number r w.in-End.moment w.in-End.conn o.0))
       | in-Tick w ↦
-          let i = steady limits b.line.confirmed c.args.hub.now w.tick.new.self c.args.opened.now.items r (tick limits r.hub w.in-Tick.moment) b.line
-          (heads_tick limits 0 w.in-Tick.moment r.hub) (w.tick.ensures limits b.line.confirmed r.hub b.line.stands) in
+          let i = steady limits b.run.confirmed c.args.hub.now w.tick.new.self c.args.opened.now.items r (tick limits r.hub w.in-Tick.moment) b.run
+          (heads_tick limits 0 w.in-Tick.moment r.hub) (w.tick.ensures limits b.run.confirmed r.hub b.run.matches) in
           rw w.in-Tick.is
           (line_reported limits c.args.number r hub hub c.report.new.hub _ _ (Tick w.in-Tick.moment) c.deref_mut-2.result.now c.report.new.opened
           c.report.new.opened c.report.result

@@ -7,9 +7,9 @@ use Rattle.std.proofs.lemmas.Result.{err_from_is_err_and}
 use Rattle.ipc_script.specs.declared.fault.ScriptFault.{ScriptFault}
 use Rattle.ipc_script.specs.declared.fault.ScriptFault.TheVariants.{BadLine}
 use Rattle.ipc_script.specs.Line.{PlainLine, line_of}
-use Rattle.ipc_script.specs.LineView.{plain_line}
+use Rattle.ipc_script.specs.Relations.Lines.{plain_line}
 use Rattle.ipc_script.specs.Script.{Cut, Progress, WritesPart, line_done, text_done, EndsAs, BreaksOff}
-use Rattle.ipc_script.specs.Runs.{text_of}
+use Rattle.ipc_script.specs.Relations.Simulation.{text_of}
 use Rattle.ipc_script.proofs.FaultCases.{by_fault}
 use Rattle.ipc_script.proofs.ScriptLines.{run_begun, run_more, run_refused, run_broken, run_ended, no_lines}
 use Rattle.ipc_script.proofs.script.run_lines.Goals as goal
@@ -64,7 +64,7 @@ lines-preserved g c = (
       run_more limits c.args.engine.state c.args.script.now n c.lines.hub c.lines.opened.items c.lines.rest.now _ _ p
       c.first_line.result.0.now c.first_line.result.1.now c.first_line.ensures.lines s.0 s.1
       (ap (λ (o : Option PlainLine). text_done limits n p.now o s.0) (sym c.line_of.ensures ∙ ap (option_map plain_line) c.in-Some.is) ∙ s.2)
-      c.run_line.new.hub c.run_line.new.opened.items _ s.3 s.4,
+      c.run_line.new.hub c.run_line.new.opened.items _ s.3.0 s.3.1,
 )
 
 pub returns : goal.returns

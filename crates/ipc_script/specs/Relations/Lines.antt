@@ -1,4 +1,4 @@
--- How the code's lines are seen as the definition's.
+-- The lines of the definitions, from those of the code.
 use Rattle.std.specs.Prelude.{ℕ, List, [], Option, Some, None, unwrap_or}
 use Rattle.std.specs.Borrow.{Bor}
 use Rattle.ipc_script.specs.declared.digits.Hex.{Hex}
@@ -10,14 +10,14 @@ use Rattle.ipc_script.specs.Line.{PlainLine, Open, Data, End, Tick, words_of, by
 abbrev pub hex_bytes : Hex → List ℕ
 hex_bytes hex = unwrap_or (bytes_of_hex hex.digits.now) []
 
--- a line as the definition has it: the bytes in place of their digits
+-- a line as the definitions have it: the bytes in place of their digits
 abbrev pub plain_line : Line → PlainLine
 plain_line (lines.Open conn) = Open conn
 plain_line (lines.Data moment conn hex) = Data moment conn (hex_bytes hex)
 plain_line (lines.End moment conn) = End moment conn
 plain_line (lines.Tick moment) = Tick moment
 
--- the words of what stands behind a space
-abbrev pub words_behind : Option (Bor (List ℕ)) → List (List ℕ)
-words_behind None = []
-words_behind (Some rest) = words_of rest.now
+-- the words of what stands after a space, if there is one
+abbrev pub words_after : Option (Bor (List ℕ)) → List (List ℕ)
+words_after None = []
+words_after (Some rest) = words_of rest.now

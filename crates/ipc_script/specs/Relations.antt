@@ -1,0 +1,8 @@
+-- What joins the code to the definitions. A reader of the definitions alone needs none of it.
+pub mod Lines
+pub mod Input
+pub mod Faults
+pub mod Matches
+pub mod Report
+pub mod Pieces
+pub mod Simulation
