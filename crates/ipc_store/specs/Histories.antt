@@ -78,7 +78,8 @@ pub record Moves {D : Type 0} (medium : D → Medium) (old new : StoreView D) (b
 
 -- A call did so, whatever the history before it was: what the clause of each call on a store says.
 abbrev pub Takes : {D : Type 0} → (D → Medium) → StoreView D → List PlainEvent → StoreView D → Type 0
-Takes medium old events new = (before : History) → Keeps (medium old.disk) old before → Moves medium old new before events
+Takes medium old events new =
+    (before : History) → Keeps (medium old.disk) old before → Moves medium old new before events
 
 -- a list of calls, one after another, and all the events that they accepted
 pub data Calls {D : Type 0} (medium : D → Medium) : StoreView D → List PlainEvent → StoreView D → Type 0 where
@@ -94,7 +95,8 @@ pub record OpensOn {D : Type 0} (image : Image) (medium : Medium) (store : Store
 
 -- What a crash left of these events is some of them, from the first on, and at least so many. The
 -- store that was opened on it has them as its history, and a restart.
-pub record Survives {D : Type 0} (medium : Medium) (store : StoreView D) (least : ℕ) (events : List PlainEvent) : Type 0 where
+pub record Survives {D : Type 0} (medium : Medium) (store : StoreView D) (least : ℕ)
+    (events : List PlainEvent) : Type 0 where
   pub kept : List PlainEvent
   pub lost : List PlainEvent
   pub prefix : kept ++ lost ≡ events

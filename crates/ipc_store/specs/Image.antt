@@ -5,7 +5,8 @@ use Rattle.std.specs.List.{flat_map}
 use Rattle.ipc_base.specs.declared.limits.Limits.{Limits}
 use Rattle.ipc_disk.specs.declared.range.Range.{Range}
 use Rattle.ipc_disk.specs.Medium.{Image}
-use Rattle.ipc_journal.specs.Journal.{sector_at, sectors_for, sectors_of, header_epoch, header_used, StandsAt, Fill, Holds}
+use Rattle.ipc_journal.specs.Journal.{sector_at, sectors_for, sectors_of}
+use Rattle.ipc_journal.specs.Journal.{header_epoch, header_used, StandsAt, Fill, Holds}
 use Rattle.ipc_state.specs.State.{State, start}
 use Rattle.ipc_engine.specs.Event.{PlainEvent}
 use Rattle.ipc_engine.specs.Engine.{IsForProcess}
@@ -82,5 +83,6 @@ pub data IsFirstFault (image : Image) : ℕ → Type 0 where
       → sectors_of (map batch_bytes batches) < header_used journal_range image
       → ((events : List PlainEvent) → AreBatch events → AreFor limits s events
       → StandsAt (4 + sectors_of (map batch_bytes batches)) (batch_bytes events) image
-      → header_used journal_range image < sectors_of (map batch_bytes batches) + sectors_for (length (batch_bytes events)))
+      → header_used journal_range image
+      < sectors_of (map batch_bytes batches) + sectors_for (length (batch_bytes events)))
       → IsFirstFault image (4 + sectors_of (map batch_bytes batches))
