@@ -12,7 +12,7 @@ help:
 	@echo "make imports  that no crate names what is another's own, nor one that carries requests a call"
 	@echo "make runs   the program on scripts and command lines: what it prints and says, and its exit status"
 	@echo "make memory the engine's tests and the program, with each allocation refused in turn"
-	@echo "make bench  lines per second and peak memory of long scripts, and processor time of several kinds of scripts"
+	@echo "make bench  processor time of runs, lines and ticks on both devices, peak memory, and what a commit writes"
 
 run: program
 	crates/ipcd/out/ipcd replay --small < examples/first_queue.script
@@ -61,6 +61,6 @@ test: imports
 	@$(RUNS)
 	@$(REFUSE_EACH)
 
-# Five runs of each script. It needs awk.
+# Twenty groups of runs of each script. It needs awk.
 bench: program
 	@sh bench/replay.sh crates/ipcd/out/ipcd

@@ -1,124 +1,61 @@
 #!/bin/sh
-# What scripts cost `replay`: lines per second and peak memory, for a script and for one twice as long; and processor
-# time, for long and empty texts, for lines of several requests, and for ticks with many connections.
+# What `replay` costs: a run without lines, a line and a request on the standard device and on the small one, and a tick
+# with many connections, in processor time; the peak memory; and what a commit writes.
 #
-#     sh bench/replay.sh PROGRAM [RUNS]
+#     sh bench/replay.sh PROGRAM [GROUPS]
 #
-# It prints two tables. Every run is compared with the output that the protocol asks for: bench/scripts.awk writes both.
-# It needs a POSIX shell and awk. The peak is GNU time's, or else what Linux says in /proc, or else not known. Processor
-# time is what the shell's `times` says of its children, mostly in hundredths of a second.
+# A journal has room for 255 commits, and each line but `open` makes one. So a script is short, and is run many times.
+# Runs of a script and of its first lines alone take turns, in so many groups, and a row tells the difference. On the
+# standard device a run's lines take a hundredth to a tenth of what it takes without them, so those rows are rough.
+# Every run is compared with the output that the protocol asks for: bench/scripts.awk writes both.
+#
+# It needs a POSIX shell and awk. The peak is what Linux says in /proc, or else not known. Processor time is what the
+# shell's `times` says of its children, mostly in hundredths of a second.
 
 set -eu
 # numbers with a point, whatever the locale
 LC_ALL=C
 export LC_ALL
 
-program=${1:?usage: sh bench/replay.sh PROGRAM [RUNS]}
-runs=${2:-5}
+program=${1:?usage: sh bench/replay.sh PROGRAM [GROUPS]}
+groups=${2:-20}
 folder=${TMPDIR:-/tmp}/ipcd-bench.$$
 scripts=$(dirname "$0")/scripts.awk
+
+# Runs in a group on each device: one without lines takes some 25 milliseconds on the standard device, and less than one
+# on the small one. Groups are small, so that both scripts meet the same load of the machine.
+many_standard=12
+many_small=150
 
 fail() {
 	echo "bench: $1" >&2
 	exit 1
 }
 
-# Writes a script of a kind, a count and a size, and the output that it is to have.
+# Writes a script, and the output that it is to have. The words after its name are variables of the generator.
 generate() {
-	awk -v kind="$1" -v count="$2" -v size="$3" -v script="$folder/script" -v wanted="$folder/wanted" -f "$scripts"
-	lines=$(lines_of "$folder/script")
-	replies=$(lines_of "$folder/wanted")
+	script=$folder/$1.script
+	wanted=$folder/$1.wanted
+	shift
+	for word in "$@"; do
+		set -- "$@" -v "$word"
+		shift
+	done
+	awk "$@" -v script="$script" -v wanted="$wanted" -f "$scripts"
 }
 
-lines_of() {
-	awk 'END { print NR }' "$1"
-}
-
-# Seconds since some moment: in billionths where `date` knows them, else in hundredths or whole ones.
-now() {
-	seconds=$(date +%s.%N)
-	case $seconds in
-	*[!0-9.]* | *. | .*)
-		if [ -r /proc/uptime ]; then
-			read -r seconds _ < /proc/uptime
-		else
-			seconds=$(date +%s)
-		fi
+# The device of the next runs: the program's flag, and how many runs are in a group.
+device() {
+	case $1 in
+	standard)
+		flag=
+		many=$many_standard
+		;;
+	small)
+		flag=--small
+		many=$many_small
 		;;
 	esac
-	echo "$seconds"
-}
-
-# Runs the script. The peak in kB goes into the file `peak`, which stays empty where it is not known.
-run() {
-	: > "$folder/peak"
-	if [ "$gnu_time" = yes ]; then
-		env time -f %M -o "$folder/peak" "$program" replay < "$folder/script" > "$folder/output"
-		return
-	fi
-	"$program" replay < "$folder/script" > "$folder/output" &
-	watch $! > "$folder/peak"
-	wait $!
-}
-
-# The peak of a process that runs, read until it has ended.
-watch() {
-	peak=
-	while high=$(awk '$1 == "VmHWM:" { print $2 }' "/proc/$1/status" 2> /dev/null) && [ -n "$high" ]; do
-		peak=$high
-		sleep 0.01 2> /dev/null || :
-	done
-	echo "$peak"
-}
-
-# Fails where a run did not print what it should.
-check() {
-	printed=$(lines_of "$folder/output")
-	[ "$printed" -eq "$replies" ] || fail "$printed lines printed, not $replies"
-	cmp -s "$folder/output" "$folder/wanted" || fail "the lines printed are not those that the script asks for"
-}
-
-# Lines per second, from the lines and two moments.
-rate() {
-	awk -v lines="$1" -v start="$2" -v end="$3" 'BEGIN {
-		taken = end - start
-		if (taken < 0.01) taken = 0.01
-		printf "%d\n", lines / taken
-	}'
-}
-
-# The k-th lowest line of a file of numbers.
-lowest() {
-	sort -n "$2" | awk -v k="$1" 'NR == k'
-}
-
-# A whole number with a comma before every three digits.
-grouped() {
-	echo "$1" | awk '{ while (match($0, /[0-9][0-9][0-9][0-9]($|,)/))
-		$0 = substr($0, 1, RSTART) "," substr($0, RSTART + 1); print }'
-}
-
-# Runs a script of so many sends and as many receives by sixteen connections in turn, and prints its row.
-measure() {
-	generate rounds "$1" 4
-	: > "$folder/rates"
-	: > "$folder/peaks"
-	number=0
-	while [ "$number" -lt "$runs" ]; do
-		number=$((number + 1))
-		start=$(now)
-		run || fail "the program ended with status $?"
-		end=$(now)
-		check
-		rate "$lines" "$start" "$end" >> "$folder/rates"
-		cat "$folder/peak" >> "$folder/peaks"
-	done
-	middle=$(((runs + 1) / 2))
-	peak=$(lowest "$middle" "$folder/peaks")
-	peak=${peak:+$(grouped "$peak") kB}
-	echo "| $(grouped "$lines") lines | $(grouped "$(lowest "$middle" "$folder/rates")")" \
-		"| $(grouped "$(lowest 1 "$folder/rates")") to $(grouped "$(lowest "$runs" "$folder/rates")")" \
-		"| ${peak:-not known} |"
 }
 
 # The processor time of the children, in microseconds, between two outputs of `times`.
@@ -132,76 +69,158 @@ spent() {
 		END { printf "%d\n", 1000000 * (total[ARGV[2]] - total[ARGV[1]]) }' "$1" "$2"
 }
 
-# Sets `taken` to the processor time of all runs of a script, in microseconds.
+# Runs the script of this name `many` times. Sets `taken` to the processor time of all, in microseconds. The outputs are
+# compared when the time is taken.
 process() {
-	generate "$1" "$2" "$3"
-	taken=0
+	times > "$folder/before"
 	number=0
-	while [ "$number" -lt "$runs" ]; do
+	while [ "$number" -lt "$many" ]; do
 		number=$((number + 1))
-		times > "$folder/before"
-		"$program" replay < "$folder/script" > "$folder/output" || fail "the program ended with status $?"
-		times > "$folder/after"
-		check
-		taken=$((taken + $(spent "$folder/before" "$folder/after")))
+		"$program" replay $flag < "$folder/$1.script" > "$folder/output.$number" ||
+			fail "the program ended with status $?"
 	done
+	times > "$folder/after"
+	while [ "$number" -gt 0 ]; do
+		cmp -s "$folder/output.$number" "$folder/$1.wanted" ||
+			fail "the lines printed are not those that the script asks for"
+		rm "$folder/output.$number"
+		number=$((number - 1))
+	done
+	taken=$(spent "$folder/before" "$folder/after")
 }
 
-# Prints the row of a time in microseconds, shared among so many in each run.
+# Adds a time in microseconds, shared among so many in each of the runs.
 share() {
-	awk -v taken="$1" -v many="$2" -v runs="$runs" -v what="$3" 'BEGIN {
-		each = taken / many / runs
-		printf each < 10 ? "| %s | %.2f |\n" : "| %s | %.0f |\n", what, each
-	}'
+	awk -v taken="$1" -v shares="$2" -v many="$many" 'BEGIN { print taken / shares / many }' >> "$folder/each"
 }
 
-# Sends and receives of texts of so many bytes.
-texts() {
-	process texts "$1" "$2"
-	share "$taken" "$lines" "a line, texts of $2 bytes, $(grouped "$1") sends and receives"
+# Prints a row: what, and of the numbers of all groups the middle half, its mean and its range; then one more column, if
+# there is one.
+print_row() {
+	sort -n "$folder/each" | awk -v what="$1" -v more="${2:+ $2 |}" '
+		function short(number) {
+			return sprintf(number < 10 ? "%.2f" : "%.0f", number)
+		}
+		{ each[NR] = $1 }
+		END {
+			first = int(NR / 4) + 1
+			last = NR + 1 - first
+			for (k = first; k <= last; k++)
+				sum += each[k]
+			print "| " what " | " short(sum / (last - first + 1)) " | " short(each[first]) " to " short(each[last]) " |" more
+		}'
 }
 
-# Sends and receives on one connection, so many requests in a line.
-pieces() {
-	process pieces "$1" "$2"
-	share "$taken" $((2 * $1)) "a request, $2 in a line, $(grouped "$1") sends and receives"
+# Prints the row of what the script `whole` has more than `first`, shared among so many.
+difference() {
+	: > "$folder/each"
+	group=0
+	while [ "$group" -lt "$groups" ]; do
+		group=$((group + 1))
+		process first
+		less=$taken
+		process whole
+		share $((taken - less)) "$2"
+	done
+	print_row "$1"
 }
 
-# Ticks with so many connections open, without what it takes to open them.
+# The peak in kB of a run that waits for its first line, and so has made its device; nothing where it is not known.
+peak() {
+	mkfifo "$folder/lines"
+	"$program" replay $flag < "$folder/lines" > "$folder/output" &
+	exec 3> "$folder/lines"
+	sleep 1
+	awk '$1 == "VmHWM:" { print $2 }' "/proc/$!/status" 2> /dev/null || :
+	exec 3>&-
+	wait $!
+	rm "$folder/lines"
+}
+
+# A run without lines on a device.
+nothing() {
+	device "$1"
+	: > "$folder/first.script"
+	: > "$folder/first.wanted"
+	: > "$folder/each"
+	group=0
+	while [ "$group" -lt "$groups" ]; do
+		group=$((group + 1))
+		process first
+		share "$taken" 1
+	done
+	kilobytes=$(peak)
+	print_row "$1" "${kilobytes:-not known}"
+}
+
+# Requests on a device: so many in a line, and so many lines. Prints the time of a line.
+lines() {
+	device "$1"
+	generate first kind=calls count=0 size="$2" together="$3"
+	generate whole kind=calls count=$(($3 * $4)) size="$2" together="$3"
+	difference "$1 | $2 | $3 | $4" "$4"
+}
+
+# Ticks on the small device with so many connections open, and so many runs in a group.
 ticks() {
-	process ticks 0 "$2"
-	opened=$taken
-	process ticks "$1" "$2"
-	share $((taken - opened)) "$1" "a tick, open connections $(grouped "$2"), $(grouped "$1") ticks"
+	device small
+	many=$2
+	generate first kind=ticks count=0 opened="$1"
+	generate whole kind=ticks count=250 opened="$1"
+	difference "$1" 250
+}
+
+# What the commit of a tick makes, and of so many sends and receives of texts of so many bytes. The length of the batch
+# takes 4 bytes, and their records the others. They fill sectors of 512 bytes, which are written once each, and so is
+# the header. There is a sync after the sectors, and one after the header.
+commit() {
+	awk -v what="$1" -v sends="$2" -v receives="$3" -v size="$4" 'BEGIN {
+		batch = 4 + 13 + sends * (38 + size) + receives * 42
+		sectors = int((batch + 511) / 512)
+		printf "| %s | %d | %d | 2 | %d |\n", what, batch, sectors + 1, 512 * (sectors + 1)
+	}'
 }
 
 [ -x "$program" ] || fail "there is no program $program"
 mkdir "$folder"
 trap 'rm -rf "$folder"' EXIT
 trap 'exit 1' INT TERM
-gnu_time=no
-if env time -f %M -o "$folder/peak" true 2> /dev/null; then
-	gnu_time=yes
-fi
 load="not known"
 if [ -r /proc/loadavg ]; then
 	read -r load _ < /proc/loadavg
 fi
-echo "Each script is run $runs times; the machine's load before them is $load."
+echo "Microseconds of processor time: of $groups groups of runs the middle half, its mean and its range. A group has" \
+	"$many_standard runs on the standard device, and mostly $many_small on the small one. The machine's load before" \
+	"them is $load."
 echo
-echo "| script, 16 connections | lines a second, median | least to most | peak memory |"
+echo "| a run without lines, on the device | microseconds | range | peak memory, kB |"
 echo "|---|---|---|---|"
-measure 50000
-measure 100000
+nothing standard
+nothing small
 echo
-echo "| what, and how many in a run | microseconds of processor time, mean |"
-echo "|---|---|"
-texts 50000 0
-texts 50000 4
-texts 1000 8192
-pieces 100000 1
-pieces 100000 16
-pieces 100000 100
-ticks 1000000 1
-ticks 1000000 64
-ticks 200000 1000
+echo "| a line that sends and receives, on the device | bytes of a text | requests in it | lines in a run" \
+	"| microseconds | range |"
+echo "|---|---|---|---|---|---|"
+lines standard 4 1 252
+lines small 4 1 252
+lines standard 4 10 252
+lines small 4 10 252
+lines small 4 100 28
+lines standard 8192 1 28
+echo
+echo "| a tick on the small device, open connections | microseconds | range |"
+echo "|---|---|---|"
+ticks 1 "$many_small"
+ticks 64 "$many_small"
+ticks 1000 25
+echo
+echo "What a commit makes follows from the bytes of its batch, as the contract of \`Store::commit\` says (\`counts\`)."
+echo
+echo "| the commit of | bytes of the batch | writes | syncs | bytes written |"
+echo "|---|---|---|---|---|"
+commit "a tick" 0 0 0
+commit "a line of a send, 4 bytes" 1 0 4
+commit "a line of a receive" 0 1 0
+commit "a line of 10 requests, 4 bytes" 5 5 4
+commit "a line of 100 requests, 4 bytes" 50 50 4
+commit "a line of a send, 8192 bytes" 1 0 8192

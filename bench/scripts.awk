@@ -1,11 +1,10 @@
 # Writes a script for `replay`, and the output that the protocol asks for.
 #
-#     awk -v kind=KIND -v count=N -v size=N -v script=FILE -v wanted=FILE -f bench/scripts.awk
+#     awk -v kind=KIND -v count=N .. -v script=FILE -v wanted=FILE -f bench/scripts.awk
 #
-# rounds  COUNT sends and as many receives by sixteen connections in turn, of texts of SIZE bytes
-# texts   COUNT sends and as many receives by one connection, of texts of SIZE bytes
-# pieces  COUNT sends and as many receives by one connection, SIZE requests in a line
-# ticks   COUNT ticks while SIZE connections are open; then the last one says HELLO
+# calls   COUNT requests by one connection, which has made a queue: sends and receives in turn, of texts of SIZE bytes,
+#         TOGETHER of them in a line
+# ticks   COUNT ticks while OPENED connections are open; then the last of these says HELLO
 #
 # A row of the table is a call: its opcode, its fields and what its reply brings. A field is its size in bytes, or
 # `text` for the rest of the frame.
@@ -68,21 +67,20 @@ function text_of(bytes, number) {
 	return bytes < 4 ? substr(filler, 1, 2 * bytes) : spelled(4, number) substr(filler, 1, 2 * bytes - 8)
 }
 
-# One connection sends and receives each text; so many requests in a line.
-function alternate(bytes, together,    number, piece, held) {
+# Connection 1 sends and receives each text.
+function alternate(    number, piece, held, text) {
 	piece = ""
 	held = 0
-	for (number = 1; number <= 2 * count; number++) {
-		message = int((number + 1) / 2)
-		text = text_of(bytes, message)
+	for (number = 1; number <= count; number++) {
+		text = text_of(size, int((number + 1) / 2))
 		if (number % 2 == 1) {
 			piece = piece request(number, "msgsnd", "1 0 7", text)
 			reply(1, number, "msgsnd")
 		} else {
-			piece = piece request(number, "msgrcv", "1 0 " bytes " 7")
+			piece = piece request(number, "msgrcv", "1 0 " size " 7")
 			reply(1, number, "msgrcv", "7", text)
 		}
-		if (++held == together || number == 2 * count) {
+		if (++held == together || number == count) {
 			data(1, piece)
 			piece = ""
 			held = 0
@@ -100,32 +98,16 @@ BEGIN {
 	printf "" > script
 	printf "" > wanted
 
-	if (kind == "rounds") {
-		for (conn = 1; conn <= 16; conn++)
-			enter(conn)
-		for (round = 1; round <= count / 16; round++) {
-			for (conn = 1; conn <= 16; conn++) {
-				data(conn, request(round, "msgsnd", "1 0 " 1 + conn, text_of(size, 16 * round + conn)))
-				reply(conn, round, "msgsnd")
-			}
-			for (conn = 1; conn <= 16; conn++) {
-				data(conn, request(round, "msgrcv", "1 0 " size " " 1 + conn))
-				reply(conn, round, "msgrcv", 1 + conn, text_of(size, 16 * round + conn))
-			}
-		}
-	} else if (kind == "texts") {
+	if (kind == "calls") {
 		enter(1)
-		alternate(size, 1)
-	} else if (kind == "pieces") {
-		enter(1)
-		alternate(4, size)
+		alternate()
 	} else if (kind == "ticks") {
-		for (conn = 1; conn <= size; conn++)
+		for (conn = 1; conn <= opened; conn++)
 			open(conn)
 		for (moment = 1; moment <= count; moment++)
 			print moment " tick" > script
-		data(size, request(1, "HELLO", "1000 100"))
-		reply(size, 1, "HELLO", "1")
+		data(opened, request(1, "HELLO", "1000 100"))
+		reply(opened, 1, "HELLO", "1")
 	} else {
 		print "scripts.awk: no kind " kind > "/dev/stderr"
 		exit 1

@@ -12,7 +12,7 @@ set -eu
 
 ipcd=${1:?usage: sh tests/runs.sh IPCD}
 folder=${TMPDIR:-/tmp}/ipcd-runs.$$
-long_script=$(dirname "$0")/../bench/scripts.awk
+generator=$(dirname "$0")/../bench/scripts.awk
 runs=0
 
 fail() {
@@ -177,17 +177,75 @@ wanted << END
 END
 run 0 replay
 
-# A thousand sends and as many receives on one connection, which says HELLO and msgget first: 2003 lines. The generator
-# has the protocol's rows, and writes what is to be printed beside the script.
+# A thousand sends and as many receives on one connection, 20 requests in a line, after its HELLO and msgget: 103 lines,
+# of which 102 accept events. Their commits fill 202 sectors of the journal. Before them 1900 more connections are
+# opened. The generator has the protocol's rows, and writes what is to be printed beside the script.
+long_script() {
+	awk 'BEGIN { for (conn = 2; conn <= 1901; conn++) print "0 open " conn }' | script
+	awk -v kind=calls -v count=2000 -v size=4 -v together=20 \
+		-v script="$folder/calls" -v wanted="$folder/wanted" -f "$generator"
+	script < "$folder/calls"
+	[ "$(awk 'END { print NR }' "$folder/script")" -eq 2003 ] || fail "it has not 2003 lines"
+}
 name "a script of more than 1000 lines"
-awk -v kind=texts -v count=1000 -v size=4 -v script="$folder/script" -v wanted="$folder/wanted" -f "$long_script"
-[ "$(awk 'END { print NR }' "$folder/script")" -eq 2003 ] || fail "it has not 2003 lines"
+long_script
 run 0 replay
 name "a script whose line 2004 is bad"
-awk -v kind=texts -v count=1000 -v size=4 -v script="$folder/script" -v wanted="$folder/wanted" -f "$long_script"
+long_script
 echo "0 data 1 0" | script
 says "ipcd: line 2004: bad line"
 run 2 replay
+
+# Connection 1 says HELLO, and then gets its queue again and again: 255 lines that each accept events. `open` accepts
+# none. The journal has 256 sectors, of which the device's open takes one and each of these lines one.
+lines_of_255() {
+	script << 'END'
+0 open 3
+0 open 1
+0 data 1 0000000d0000000101000003e800000064
+END
+	echo "1 0000000a00000001000000000001" | wanted
+	serial=2
+	while [ "$serial" -le 255 ]; do
+		printf '0 data 1 0000000d%08x0a000004d200000380\n' "$serial" >> "$folder/script"
+		printf '1 0000000a%08x000000000001\n' "$serial" >> "$folder/wanted"
+		serial=$((serial + 1))
+	done
+}
+name "a journal that gets full"
+lines_of_255
+echo "0 open 2" | script
+run 0 replay --small
+
+# No sector is left for what the next line accepts. Each connection, in rising number, is told EIO, 5, and has ended.
+# The line after it is not run.
+name "a line more than the journal has room for"
+lines_of_255
+script << 'END'
+0 data 1 0000000d000001000a000004d200000380
+0 open 1
+END
+wanted << 'END'
+1 00000006000000000005
+1 end
+3 00000006000000000005
+3 end
+END
+says "ipcd: device fault"
+run 1 replay --small
+name "a tick more than the journal has room for"
+lines_of_255
+script << 'END'
+0 tick
+END
+wanted << 'END'
+1 00000006000000000005
+1 end
+3 00000006000000000005
+3 end
+END
+says "ipcd: device fault"
+run 1 replay
 
 # A length of 4 is a fault of the stream: EPROTO, 71, and the connection ends.
 name "a fault of the stream, and then a bad line"

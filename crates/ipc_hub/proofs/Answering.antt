@@ -1,8 +1,9 @@
 -- A request is answered: the replies have room, the hub's connections go on, and they match the clients of the definitions.
 use Rattle.std.proofs.Common.{◌≡◌, ◌≢◌, ℕ, ◌+◌, ◌<◌, ◌≤◌, ◌^◌, Bool, true, false, List, [], ◌∷◌, Option, Some, None}
-use Rattle.std.proofs.Common.{refl, sym, ap, ◌∙◌, subst, arith, ◌⊎◌, inl, inr}
+use Rattle.std.proofs.Common.{refl, sym, ap, ◌∙◌, subst, arith, ◌⊎◌, inl, inr, ◌++◌, length}
 use Rattle.std.specs.Prelude.{nat_eq, option_and_then, if◌then◌else◌}
 use Rattle.std.proofs.lemmas.Bool.{cases_eq, eqb-true}
+use Rattle.std.proofs.lemmas.List.{length-append}
 use Rattle.ipc_base.specs.Limits.{longest_reply}
 use Rattle.ipc_base.specs.Table.{value_at, with_value, keys_of, EachValue, ArePaired}
 use Rattle.ipc_base.specs.declared.limits.Limits.{Limits}
@@ -11,9 +12,9 @@ use Rattle.ipc_state.specs.State.{State, is_process}
 use Rattle.ipc_engine.specs.Event.{PlainEvent, PlainOutcome}
 use Rattle.ipc_engine.specs.Step.{Step, step}
 use Rattle.ipc_engine.specs.View.{reply_of}
-use Rattle.ipc_hub.specs.Clients.{Client, Clients, client_at, is_for, last_reply, welcomed, serve, accept, with_client, with_frame}
+use Rattle.ipc_hub.specs.Clients.{accepted, Client, Clients, client_at, is_for, last_reply, welcomed, serve, accept, with_client, with_frame}
 use Rattle.ipc_hub.specs.View.{ConnectionView, HubView}
-use Rattle.ipc_hub.specs.Relations.Delivery.{last_frame, pushed, put_all, answered, with_answer, IsShort, AllShort}
+use Rattle.ipc_hub.specs.Relations.Delivery.{last_frames, pushed, put_all, answered, with_answer, IsShort, AllShort}
 use Rattle.ipc_hub.specs.Relations.Delivery.{HasRoom, HasRoomIn, HaveRoom, HasRoomToAnswer}
 use Rattle.ipc_hub.specs.Relations.Invariant.{process_in, AreOwn, IsKept, HubInvariant, GoesOn}
 use Rattle.ipc_hub.specs.Relations.Matches.{ClientMatches, HubMatches, IsAhead}
@@ -54,9 +55,9 @@ told-kept limits o v k room = by_process v.process
     by_process : (p : Option ℕ) → IsKept limits (answered (Some o) (record v { process = p }))
     by_process None =
         choice (IsKept limits) (nat_eq o.pid 0) _ _ (λ _. kept-pushed limits o (record v { process = None })
-        (record { input = k.input; last = k.last; size = k.size }) (omega (arith, room)) (λ _. room))
-        (λ _. record { input = k.input; last = k.last; size = k.size })
-    by_process (Some pid) = record { input = k.input; last = k.last; size = k.size }
+        (record { input = k.input; last = k.last; spare = k.spare; size = k.size }) (omega (arith, room)) (λ _. room))
+        (λ _. record { input = k.input; last = k.last; spare = k.spare; size = k.size })
+    by_process (Some pid) = record { input = k.input; last = k.last; spare = k.spare; size = k.size }
 
 told-room : (o : PlainOutcome) (v : ConnectionView) → HasRoom o v → HasRoomIn o (answered (Some o) v)
 told-room o v room = by_process v.process
@@ -74,7 +75,7 @@ for-process pid (Some q) is = ap Some (eqb-true q pid is)
 -- ---- the hub
 
 module _ (h : HubView) (conn : ℕ) (v : ConnectionView) (now : Step) (inv : HubInvariant h) (found : value_at nat_eq h.connections conn ≡ Some v)
-    (room : longest_reply h.limits + last_frame ≤ v.outbox.free) (a : Answers h.limits h.state v.process now) where
+    (room : longest_reply h.limits + last_frames ≤ v.outbox.free) (a : Answers h.limits h.state v.process now) where
   abbrev table : List (ℕ × ConnectionView)
   table = with_value nat_eq h.connections conn (answered (Some a.o) v)
 
@@ -208,7 +209,8 @@ pub serve-matches : (limits : Limits) (confirmed : ℕ) (old new : HubView) (h :
     (with_answer (step old.limits old.state e).outcomes (conn, v) old.connections)
     → IsAhead limits confirmed new (serve limits h conn c e)
 serve-matches limits confirmed old new h conn v c e m found here a same state rows =
-    let mark : ℕ = h.accepted + 1 in
+    let mark : ℕ = length (h.events ++ e ∷ []) in
+    let more : mark ≡ accepted h + 1 = omega (arith, length-append h.events (e ∷ [])) in
     let was : Step = step old.limits old.state e in
     let mine = client-there limits confirmed old h conn v c m found here in
     let now : Step = step limits h.state e in
@@ -220,9 +222,9 @@ serve-matches limits confirmed old new h conn v c e m found here a same state ro
     let told : with_answer was.outcomes (conn, v) old.connections ≡ table = ap (λ (os : List PlainOutcome). with_answer os (conn, v) old.connections) a.one in
     let paired : ArePaired (ClientMatches confirmed mark) table clients =
     paired-with (ClientMatches confirmed mark) old.connections h.clients conn (answered (Some a.o) v) d
-    (paired-weaker (ClientMatches confirmed h.accepted) (ClientMatches confirmed mark) old.connections h.clients m.clients
-    (λ x y. matches-later confirmed h.accepted mark x y (omega arith)))
-    (told-matches confirmed h.accepted mark a.o v c (omega (arith, m.known)) (omega arith) a.short mine) in
+    (paired-weaker (ClientMatches confirmed (accepted h)) (ClientMatches confirmed mark) old.connections h.clients m.clients
+    (λ x y. matches-later confirmed (accepted h) mark x y (omega (arith, more))))
+    (told-matches confirmed (accepted h) mark a.o v c (omega (arith, m.known, more)) (omega (arith, more)) a.short mine) in
     let short : AllShort was.outcomes = subst AllShort (sym a.one) (a.short, tt) in
     subst (λ (r : Option PlainOutcome). IsAhead limits confirmed new (accept limits (with_client h conn (welcomed mark r c)) e)) (sym last)
     (accept-matches limits confirmed mark old new h e table clients m (omega arith) paired same state (rows ∙ ap (put_all was.outcomes) told) short)

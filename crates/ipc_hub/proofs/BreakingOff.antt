@@ -37,7 +37,7 @@ module _ (engine : Machine) (cs : List Connection) (place : ℕ) (was closed : C
   closed-rows = set-there cs place was was closed (ended v) at within number (view ∙ ap (λ (c : Connection). ended (view_of c)) (sym is))
 
   ended-kept : IsKept engine.limits (ended v)
-  ended-kept = record { input = first_short [] (omega arith); last = λ live. let never : true ≡ false = live in cc; size = kept.size }
+  ended-kept = record { input = first_short [] (omega arith); last = λ live. let never : true ≡ false = live in cc; spare = kept.spare; size = kept.size }
 
   pub closed-invariant : HubInvariant (hub_view engine (set cs place closed))
   closed-invariant = subst (λ (t : List (ℕ × ConnectionView)). HubInvariant (record { limits = engine.limits; state = engine.state; connections = t }))
@@ -56,7 +56,7 @@ module _ (engine : Machine) (cs : List Connection) (place : ℕ) (was closed : C
   module _ (live : was.ended ≡ false) (left : Machine) (ds : List Connection) (then new : Connection) (serial : ℕ)
       (goes_on : GoesOn (hub_view engine (set cs place closed)) (hub_view left ds))
       (others : LeavesOthers (rows (set cs place closed)) (rows ds)) (is' : then ≡ get_or ds place then) where
-    numbers : keys_of (rows ds) ≡ keys_of (rows cs)
+    pub numbers : keys_of (rows ds) ≡ keys_of (rows cs)
     numbers = goes_on.numbers ∙ ap keys_of closed-rows ∙ keys_of-with_value nat_eq (rows cs) was.number (ended v)
 
     within' : place < length ds

@@ -12,7 +12,7 @@ use Rattle.ipc_base.proofs.CallerLemmas.{nobody, each-entry, each-without, each-
 use Rattle.ipc_base.proofs.CallerLemmas.{rising-entry, rising-without, rising-gone, value_at-without}
 use Rattle.ipc_base.proofs.CallerLemmas.{paired-entry, paired-without, paired-seen, paired-none, paired-at, at-map, keys-map}
 use Rattle.ipc_wire.proofs.CallerLemmas.{first_short, length-reply_bytes}
-use Rattle.ipc_hub.specs.Clients.{Frame, Client, Clients, client_at, start_client, with_client, all_bytes}
+use Rattle.ipc_hub.specs.Clients.{accepted, Frame, Client, Clients, client_at, start_client, with_client, all_bytes}
 use Rattle.ipc_hub.specs.Clients.{confirmed_bytes, consumed_from, shown_at, ended_at, connect, consume}
 use Rattle.ipc_hub.specs.View.{ConnectionView, HubView, kept}
 use Rattle.ipc_hub.specs.Relations.Delivery.{released, consumed}
@@ -44,6 +44,7 @@ entry-invariant h conn v inv small none new =
           (record {
             input = rw new.input (first_short [] (omega arith));
             last = λ _. omega (arith, new.room);
+            spare = omega (arith, new.room);
             size = omega (arith, new.room);
           });
       rising = rising-entry 0 h.connections (2 ^ 32) conn v inv.rising (omega arith) small none;
@@ -56,7 +57,7 @@ entry-matches limits confirmed old new h conn v reply m same state rows n =
     record {
       same = same ∙ m.same;
       state = state ∙ m.state;
-      clients = rw rows (paired-entry (ClientMatches confirmed h.accepted) old.connections h.clients conn v start_client m.clients
+      clients = rw rows (paired-entry (ClientMatches confirmed (accepted h)) old.connections h.clients conn v start_client m.clients
           (record {
             process = n.process;
             input = n.input;
@@ -107,7 +108,7 @@ without-matches limits confirmed old new h conn m same state rows =
     record {
       same = same ∙ m.same;
       state = state ∙ m.state;
-      clients = rw rows (paired-without (ClientMatches confirmed h.accepted) old.connections h.clients conn m.clients);
+      clients = rw rows (paired-without (ClientMatches confirmed (accepted h)) old.connections h.clients conn m.clients);
       known = m.known;
     }
 
@@ -115,7 +116,7 @@ without-matches limits confirmed old new h conn m same state rows =
 
 released-kept : (limits : Limits) (v : ConnectionView) → IsKept limits v → IsKept limits (released v)
 released-kept limits v k =
-    record { input = k.input; last = k.last; size = omega (arith, k.size, length-append (kept v.outbox) []) }
+    record { input = k.input; last = k.last; spare = k.spare; size = omega (arith, k.size, length-append (kept v.outbox) []) }
 
 pub released-invariant : (h : HubView) → HubInvariant h → HubInvariant (record h { connections = seen_as released h.connections })
 released-invariant h inv =
@@ -148,14 +149,14 @@ released-matches confirmed accepted v c m =
     }
 
 pub release-matches : (limits : Limits) (confirmed : ℕ) (old new : HubView) (h : Clients) → HubMatches limits confirmed old h → new.limits ≡ old.limits
-    → new.state ≡ old.state → new.connections ≡ seen_as released old.connections → HubMatches limits h.accepted new h
+    → new.state ≡ old.state → new.connections ≡ seen_as released old.connections → HubMatches limits (accepted h) new h
 release-matches limits confirmed old new h m same state rows =
     record {
       same = same ∙ m.same;
       state = state ∙ m.state;
-      clients = rw rows (subst (ArePaired (ClientMatches h.accepted h.accepted) (seen_as released old.connections)) (map-same h.clients)
-          (paired-seen (ClientMatches confirmed h.accepted) (ClientMatches h.accepted h.accepted) old.connections h.clients released (λ c. c) m.clients
-          (released-matches confirmed h.accepted)));
+      clients = rw rows (subst (ArePaired (ClientMatches (accepted h) (accepted h)) (seen_as released old.connections)) (map-same h.clients)
+          (paired-seen (ClientMatches confirmed (accepted h)) (ClientMatches (accepted h) (accepted h)) old.connections h.clients released (λ c. c) m.clients
+          (released-matches confirmed (accepted h))));
       known = omega arith;
     }
   where
@@ -170,6 +171,7 @@ consumed-kept limits v n within k =
     record {
       input = k.input;
       last = λ live. omega (arith, k.last live);
+      spare = omega (arith, k.spare);
       size = omega (
         arith,
         k.size,
@@ -210,16 +212,16 @@ pub consume-matches : (limits : Limits) (confirmed : ℕ) (old new : HubView) (h
     → value_at nat_eq old.connections conn ≡ Some v → n ≤ length v.outbox.visible → new.limits ≡ old.limits → new.state ≡ old.state
     → new.connections ≡ with_value nat_eq old.connections conn (consumed n v) → HubMatches limits confirmed new (consume h conn n)
 consume-matches limits confirmed old new h conn n v m found within same state rows =
-    let p = paired-at (ClientMatches confirmed h.accepted) old.connections h.clients conn v m.clients found in
+    let p = paired-at (ClientMatches confirmed (accepted h)) old.connections h.clients conn v m.clients found in
     let to : consume h conn n ≡ with_client h conn (taken_by n p.0) = rw p.1.0 refl in
     subst (HubMatches limits confirmed new) (sym to)
     (change-matches limits confirmed old new h conn (consumed n v) (taken_by n p.0) m same state rows
-    (consumed-matches confirmed h.accepted v p.0 n within p.1.1))
+    (consumed-matches confirmed (accepted h) v p.0 n within p.1.1))
 
 pub consume-nowhere : (limits : Limits) (confirmed : ℕ) (old : HubView) (h : Clients) (conn n : ℕ) → HubMatches limits confirmed old h
     → value_at nat_eq old.connections conn ≡ None → HubMatches limits confirmed old (consume h conn n)
 consume-nowhere limits confirmed old h conn n m none =
-    let no : client_at h conn ≡ None = paired-none (ClientMatches confirmed h.accepted) old.connections h.clients conn m.clients none in
+    let no : client_at h conn ≡ None = paired-none (ClientMatches confirmed (accepted h)) old.connections h.clients conn m.clients none in
     let same : consume h conn n ≡ h = rw no refl in
     subst (HubMatches limits confirmed old) (sym same) m
 
@@ -228,13 +230,13 @@ consume-nowhere limits confirmed old h conn n m none =
 pub shown-there : (limits : Limits) (confirmed : ℕ) (old : HubView) (h : Clients) (conn : ℕ) (v : ConnectionView) → HubMatches limits confirmed old h
     → value_at nat_eq old.connections conn ≡ Some v → (v.outbox.visible ≡ shown_at confirmed h conn) × (v.ended ≡ ended_at h conn)
 shown-there limits confirmed old h conn v m found =
-    let p = paired-at (ClientMatches confirmed h.accepted) old.connections h.clients conn v m.clients found in
+    let p = paired-at (ClientMatches confirmed (accepted h)) old.connections h.clients conn v m.clients found in
     rw p.1.0 (p.1.1.visible, p.1.1.ended)
 
 pub shown-nowhere : (limits : Limits) (confirmed : ℕ) (old : HubView) (h : Clients) (conn : ℕ) → HubMatches limits confirmed old h
     → value_at nat_eq old.connections conn ≡ None → ([] ≡ shown_at confirmed h conn) × (false ≡ ended_at h conn)
 shown-nowhere limits confirmed old h conn m none =
-    let no : client_at h conn ≡ None = paired-none (ClientMatches confirmed h.accepted) old.connections h.clients conn m.clients none in
+    let no : client_at h conn ≡ None = paired-none (ClientMatches confirmed (accepted h)) old.connections h.clients conn m.clients none in
     rw no (refl, refl)
 
 pub drop-empty : (n : ℕ) → drop {A = ℕ} n [] ≡ []

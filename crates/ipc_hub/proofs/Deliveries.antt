@@ -3,7 +3,7 @@ use Rattle.std.proofs.Common.{◌≡◌, ℕ, ◌+◌, ◌<◌, ◌≤◌, Bool,
 use Rattle.std.proofs.Common.{append_assoc, append-nil}
 use Rattle.std.specs.Prelude.{nat_le, if◌then◌else◌}
 use Rattle.std.proofs.lemmas.Bool.Decides.{nat_tests}
-use Rattle.std.proofs.lemmas.List.{drop-append-le}
+use Rattle.std.proofs.lemmas.List.{drop-append-le, length-append}
 use Rattle.std.proofs.lemmas.List.Elements.{All-weaker, All-push}
 use Rattle.std.proofs.lemmas.Grind.{flat_map-append}
 use Rattle.ipc_base.specs.Table.{seen_as, ArePaired}
@@ -13,7 +13,7 @@ use Rattle.ipc_wire.specs.Reply.{reply_bytes}
 use Rattle.ipc_engine.specs.Event.{PlainEvent, PlainOutcome}
 use Rattle.ipc_engine.specs.Step.{Step, step}
 use Rattle.ipc_engine.specs.View.{reply_of}
-use Rattle.ipc_hub.specs.Clients.{Frame, Client, Clients, all_bytes, confirmed_bytes, with_frame, is_for, delivered, deliver_all, accept}
+use Rattle.ipc_hub.specs.Clients.{accepted, Frame, Client, Clients, all_bytes, confirmed_bytes, with_frame, is_for, delivered, deliver_all, accept}
 use Rattle.ipc_hub.specs.View.{ConnectionView, HubView}
 use Rattle.ipc_hub.specs.Relations.Delivery.{pushed, put_for, put_all, IsShort, AllShort}
 use Rattle.ipc_hub.specs.Relations.Matches.{IsFrame, AreFrames, ClientMatches, HubMatches, IsAhead}
@@ -27,7 +27,7 @@ not_yet confirmed [] f later =
     rw above refl
 not_yet confirmed (g ∷ gs) f later = ap (λ (bytes : List ℕ). if nat_le g.mark confirmed then g.bytes ++ bytes else []) (not_yet confirmed gs f later)
 
-frames-later : (accepted mark : ℕ) (frames : List Frame) → accepted ≤ mark → AreFrames accepted frames → AreFrames mark frames
+pub frames-later : (accepted mark : ℕ) (frames : List Frame) → accepted ≤ mark → AreFrames accepted frames → AreFrames mark frames
 frames-later accepted mark frames le =
     All-weaker (λ (f : Frame). (f.mark ≤ accepted) × IsFrame f.bytes) (λ (f : Frame). (f.mark ≤ mark) × IsFrame f.bytes)
     (λ f is. (omega (arith, is.0, le), is.1)) frames
@@ -94,16 +94,18 @@ put-pairs confirmed accepted mark (o ∷ os) table clients later le short paired
 
 -- an event that was accepted, with these connections and clients before its replies
 pub accept-matches : (limits : Limits) (confirmed base : ℕ) (old new : HubView) (h : Clients) (e : PlainEvent) (table : List (ℕ × ConnectionView))
-    (clients : List (ℕ × Client)) → HubMatches limits confirmed old h → base ≤ h.accepted + 1 → ArePaired (ClientMatches confirmed base) table clients
+    (clients : List (ℕ × Client)) → HubMatches limits confirmed old h → base ≤ length (h.events ++ e ∷ []) → ArePaired
+    (ClientMatches confirmed base) table clients
     → new.limits ≡ old.limits → new.state ≡ (step old.limits old.state e).state
     → new.connections ≡ put_all (step old.limits old.state e).outcomes table → AllShort (step old.limits old.state e).outcomes
     → IsAhead limits confirmed new (accept limits (record h { clients = clients }) e)
 accept-matches limits confirmed base old new h e table clients m le paired same state connections short =
-    let mark : ℕ = h.accepted + 1 in
+    let mark : ℕ = length (h.events ++ e ∷ []) in
+    let more : mark ≡ accepted h + 1 = omega (arith, length-append h.events (e ∷ [])) in
     let was : Step = step old.limits old.state e in
     let now : Step = step limits h.state e in
     let at : was ≡ now = λ i. step (m.same i) (m.state i) e in
-    let put = put-pairs confirmed base mark was.outcomes table clients (omega (arith, m.known)) le short paired in
+    let put = put-pairs confirmed base mark was.outcomes table clients (omega (arith, m.known, more)) le short paired in
     record {
       matches = record {
         same = same ∙ m.same;
@@ -111,7 +113,7 @@ accept-matches limits confirmed base old new h e table clients m le paired same 
         clients = subst (λ (t : List (ℕ × ConnectionView)). ArePaired (ClientMatches confirmed mark) t (deliver_all mark clients now.outcomes))
             (sym connections)
             (subst (λ (s : Step). ArePaired (ClientMatches confirmed mark) (put_all was.outcomes table) (deliver_all mark clients s.outcomes)) at put);
-        known = omega (arith, m.known);
+        known = omega (arith, m.known, more);
       };
-      later = omega (arith, m.known);
+      later = omega (arith, m.known, more);
     }

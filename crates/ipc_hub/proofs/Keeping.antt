@@ -1,5 +1,5 @@
 -- What holds of the hub's connections goes on holding when replies are put into their outboxes.
-use Rattle.std.proofs.Common.{◌≡◌, ◌≢◌, ℕ, ◌≤◌, true, false, List, [], ◌∷◌, ◌++◌, length, Option, Some, None, refl, sym, ap, ◌∙◌, arith, ◌⊎◌, inl, inr}
+use Rattle.std.proofs.Common.{◌≡◌, ◌≢◌, ℕ, ◌+◌, ◌≤◌, true, false, List, [], ◌∷◌, ◌++◌, length, Option, Some, None, refl, sym, ap, ◌∙◌, arith, ◌⊎◌, inl, inr}
 use Rattle.std.specs.Prelude.{nat_eq, option_map, option_and_then}
 use Rattle.std.proofs.lemmas.Bool.{cases_eq}
 use Rattle.std.proofs.lemmas.List.{length-append}
@@ -12,18 +12,19 @@ use Rattle.ipc_engine.specs.View.{reply_of}
 use Rattle.ipc_state.specs.State.{State, is_process}
 use Rattle.ipc_hub.specs.Clients.{is_for}
 use Rattle.ipc_hub.specs.View.{ConnectionView, HubView, kept}
-use Rattle.ipc_hub.specs.Relations.Delivery.{pushed, put_for, put_all, HasRoom, HasRoomIn, HaveRoom, AllShort}
+use Rattle.ipc_hub.specs.Relations.Delivery.{last_frame, pushed, put_for, put_all, HasRoom, HasRoomIn, HaveRoom, AllShort}
 use Rattle.ipc_hub.specs.Relations.Invariant.{process_in, AreOwn, IsKept, HubInvariant, GoesOn, LeavesOthers, IsNobodys, IsConnected}
 
 -- ---- one connection
 
-pub kept-pushed : (limits : Limits) (o : PlainOutcome) (v : ConnectionView) → IsKept limits v → length (reply_bytes (reply_of o)) ≤ v.outbox.free
+pub kept-pushed : (limits : Limits) (o : PlainOutcome) (v : ConnectionView) → IsKept limits v → length (reply_bytes (reply_of o)) + last_frame ≤ v.outbox.free
     → (v.ended ≡ false → HasRoom o v) → IsKept limits (pushed (reply_of o) v)
 kept-pushed limits o v k fits room =
     let bytes : List ℕ = reply_bytes (reply_of o) in
     record {
       input = k.input;
       last = λ live. omega (arith, room live);
+      spare = omega (arith, fits);
       size = omega (
         arith,
         k.size,

@@ -13,3 +13,8 @@ pub mod Pieces
 pub mod Taking
 pub mod Receiving
 pub mod Changes
+pub mod Failing
+pub mod Committing
+pub mod Coming
+pub mod Naming
+pub mod Leaving

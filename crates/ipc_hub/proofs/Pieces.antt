@@ -1,5 +1,5 @@
 -- Bytes taken in at once, and in pieces.
-use Rattle.std.proofs.Common.{◌≡◌, ℕ, zero, suc, ◌+◌, Bool, true, false, ◌&&◌, List, [], ◌∷◌, ◌++◌, length, drop, Option, Some, None, refl, sym, ap, ◌∙◌}
+use Rattle.std.proofs.Common.{◌≡◌, ℕ, zero, suc, Bool, true, false, ◌&&◌, List, [], ◌∷◌, ◌++◌, length, drop, Option, Some, None, refl, sym, ap, ◌∙◌}
 use Rattle.std.proofs.Common.{subst, arith, append_assoc, append-nil}
 use Rattle.std.specs.Prelude.{nat_eq, if◌then◌else◌, option_map}
 use Rattle.ipc_base.specs.declared.limits.Limits.{Limits}
@@ -86,7 +86,7 @@ module _ (limits : Limits) where
       → KeepsNone (if b then refuse h conn c serial else serve limits h conn c e) conn
   event-keeps h conn serial c e true none = put-keeps h.clients conn _ none
   event-keeps h conn serial c e false none =
-      let mark : ℕ = h.accepted + 1 in
+      let mark : ℕ = length (h.events ++ e ∷ []) in
       let d : Client = welcomed mark (last_reply (step limits h.state e).outcomes) c in
       delivers-keep mark conn (step limits h.state e).outcomes (with_value nat_eq h.clients conn d)
       (put-keeps h.clients conn d (welcome-keeps mark (last_reply (step limits h.state e).outcomes) c none))

@@ -1,7 +1,8 @@
 -- Bytes up to the end of a frame on a connection: what is done with them is their taking in by the definitions.
 use Rattle.std.proofs.Common.{◌≡◌, ℕ, ◌≤◌, Bool, true, false, List, [], ◌∷◌, ◌++◌, length, drop, Option, Some, None, refl, sym, ap, ◌∙◌, subst, arith}
+use Rattle.std.proofs.Common.{append-nil, append_assoc}
 use Rattle.std.specs.Prelude.{nat_eq}
-use Rattle.std.proofs.lemmas.List.{length-drop}
+use Rattle.std.proofs.lemmas.List.{length-drop, length-append}
 use Rattle.ipc_base.specs.Table.{value_at, with_value}
 use Rattle.ipc_base.specs.declared.errno.Errno.TheVariants.{ENOMEM}
 use Rattle.ipc_base.specs.declared.limits.Limits.{Limits}
@@ -14,11 +15,14 @@ use Rattle.ipc_wire.proofs.CallerLemmas.{first_short, whole_last, stream_begun}
 use Rattle.ipc_engine.specs.Engine.{takes_memory}
 use Rattle.ipc_engine.specs.Event.{PlainEvent}
 use Rattle.ipc_engine.specs.View.{reply_of}
-use Rattle.ipc_hub.specs.Clients.{Client, Clients, client_at, with_client, refusal, event_of, break_off, refuse, serve}
+use Rattle.ipc_hub.specs.Clients.{accepted, Client, Clients, client_at, with_client, refusal, event_of, break_off, refuse, serve}
 use Rattle.ipc_hub.specs.Clients.{on_request, on_ending, take_in, fitted, arriving}
-use Rattle.ipc_hub.specs.View.{ConnectionView, HubView}
+use Rattle.ipc_disk.specs.Medium.{Image, Medium}
+use Rattle.ipc_store.specs.View.{StoreView}
+use Rattle.ipc_store.proofs.CallerLemmas.{Takes-none, Takes-both}
+use Rattle.ipc_hub.specs.View.{ConnectionView, HubView, StoredHub}
 use Rattle.ipc_hub.specs.Relations.Delivery.{pushed}
-use Rattle.ipc_hub.specs.Relations.Matches.{ClientMatches, IsAhead, TakesIn}
+use Rattle.ipc_hub.specs.Relations.Matches.{ClientMatches, IsAhead, TakesIn, Waits, Accepts}
 use Rattle.ipc_hub.proofs.Deliveries.{push-matches}
 use Rattle.ipc_hub.proofs.Keeping.{with_connection}
 use Rattle.ipc_hub.proofs.Ending.{change-matches}
@@ -41,8 +45,8 @@ ending-none limits h conn moment none = by_client (client_at h conn) refl
 
 module _ (limits : Limits) (confirmed : ℕ) (old : HubView) (h : Clients) (conn moment : ℕ) (v : ConnectionView) (next : List ℕ)
     (ahead : IsAhead limits confirmed old h) (found : value_at nat_eq old.connections conn ≡ Some v) (live : v.ended ≡ false) where
-  pub partner : (c : Client) × ((client_at h conn ≡ Some c) × ClientMatches confirmed h.accepted v c)
-  partner = paired-at (ClientMatches confirmed h.accepted) old.connections h.clients conn v ahead.matches.clients found
+  pub partner : (c : Client) × ((client_at h conn ≡ Some c) × ClientMatches confirmed (accepted h) v c)
+  partner = paired-at (ClientMatches confirmed (accepted h)) old.connections h.clients conn v ahead.matches.clients found
 
   -- the client, and when the bytes that it keeps are taken out
   abbrev pub cl : Client
@@ -57,7 +61,7 @@ module _ (limits : Limits) (confirmed : ℕ) (old : HubView) (h : Clients) (conn
   here : client_at h conn ≡ Some cl
   here = partner.1.0
 
-  mine : ClientMatches confirmed h.accepted v cl
+  pub mine : ClientMatches confirmed (accepted h) v cl
   mine = partner.1.1
 
   open_still : cl.ended ≡ false
@@ -97,17 +101,21 @@ module _ (limits : Limits) (confirmed : ℕ) (old : HubView) (h : Clients) (conn
       (ap (λ (i : List ℕ). stream_of (i ++ next)) (sym mine.input) ∙ stream_begun bytes f is)
 
   -- no whole frame yet
-  pub more-matches : (new : HubView) → first bytes ≡ More → new.limits ≡ old.limits → new.state ≡ old.state
-      → new.connections ≡ with_value nat_eq old.connections conn (record v { input = bytes })
-      → IsAhead limits confirmed new (take_in limits h conn next moment [])
-  more-matches new is same state rows =
+  pub more-taken : (P : Clients → Type 0) → first bytes ≡ More → P (with_client h conn (record cl { input = bytes }))
+      → P (take_in limits h conn next moment [])
+  more-taken P is =
       let d : Client = record cl { input = bytes } in
       let to : take_in limits h conn next moment [] ≡ with_client h conn d =
       taken [] More is ∙ acts emptied_hub conn _ bare bare-here open_still
       ∙ ap (λ (es : List (ℕ × Client)). record h { clients = es }) (twice h.clients conn bare d) in
-      subst (IsAhead limits confirmed new) (sym to)
-      (record {
-        matches = change-matches limits confirmed old new h conn (record v { input = bytes }) d ahead.matches same state rows
+      subst P (sym to)
+
+  pub more-matches : (new : HubView) → new.limits ≡ old.limits → new.state ≡ old.state
+      → new.connections ≡ with_value nat_eq old.connections conn (record v { input = bytes })
+      → IsAhead limits confirmed new (with_client h conn (record cl { input = bytes }))
+  more-matches new same state rows =
+      record {
+        matches = change-matches limits confirmed old new h conn (record v { input = bytes }) (record cl { input = bytes }) ahead.matches same state rows
             (record {
               process = mine.process;
               input = refl;
@@ -118,14 +126,12 @@ module _ (limits : Limits) (confirmed : ℕ) (old : HubView) (h : Clients) (conn
               frames = mine.frames;
             });
         later = ahead.later;
-      })
+      }
 
   -- a fault
-  pub fault-taken : (new : HubView) (serial : ℕ) → first bytes ≡ Fault serial
-      → IsAhead limits confirmed new (break_off limits emptied_hub conn bare serial moment)
-      → IsAhead limits confirmed new (take_in limits h conn next moment [])
-  fault-taken new serial is =
-      subst (IsAhead limits confirmed new) (sym (taken [] (Fault serial) is ∙ acts emptied_hub conn _ bare bare-here open_still))
+  pub fault-taken : (P : Clients → Type 0) (serial : ℕ) → first bytes ≡ Fault serial → P (break_off limits emptied_hub conn bare serial moment)
+      → P (take_in limits h conn next moment [])
+  fault-taken P serial is = subst P (sym (taken [] (Fault serial) is ∙ acts emptied_hub conn _ bare bare-here open_still))
 
   module _ (used : ℕ) (request : PlainRequest) (waits : first v.input ≡ More) (few : length next ≤ missing v.input)
       (whole : first bytes ≡ Whole used request) where
@@ -140,9 +146,9 @@ module _ (limits : Limits) (confirmed : ℕ) (old : HubView) (h : Clients) (conn
         none (x ∷ xs) is = absurd (omega (arith, is))
 
     -- a request, and what it came to
-    request-taken : (new : HubView) (refused : Bool) → IsAhead limits confirmed new (on_request limits emptied_hub conn bare moment request refused)
-        → IsAhead limits confirmed new (take_in limits h conn next moment (refused ∷ []))
-    request-taken new refused came =
+    request-taken : (P : Clients → Type 0) (refused : Bool) → P (on_request limits emptied_hub conn bare moment request refused)
+        → P (take_in limits h conn next moment (refused ∷ []))
+    request-taken P refused came =
         let after : Clients = on_request limits emptied_hub conn bare moment request refused in
         let to : take_in limits h conn next moment (refused ∷ []) ≡ after =
         taken (refused ∷ []) (Whole used request) whole
@@ -150,71 +156,97 @@ module _ (limits : Limits) (confirmed : ℕ) (old : HubView) (h : Clients) (conn
         (ap stream_of nothing-behind ∙ stream_begun [] More (first_short [] (omega arith)))
         ∙ ap (λ (t : Clients). on_ending limits t conn moment (Rest [])) (acts emptied_hub conn _ bare bare-here open_still)
         ∙ ending-none limits after conn moment (request-keeps limits emptied_hub conn moment bare request refused refl) in
-        subst (IsAhead limits confirmed new) (sym to) came
+        subst P (sym to) came
 
     made-by : (made : Option PlainEvent) → event_of v.process request moment ≡ made → event_of cl.process request moment ≡ made
     made-by made is = ap (λ (p : Option ℕ). event_of p request moment) (sym mine.process) ∙ is
 
-    pub served-taken : (new : HubView) (e : PlainEvent) → event_of v.process request moment ≡ Some e
-        → IsAhead limits confirmed new (serve limits emptied_hub conn bare e) → IsAhead limits confirmed new (take_in limits h conn next moment (false ∷ []))
-    served-taken new e made came = request-taken new false (rw (made-by (Some e) made) came)
+    pub served-taken : (P : Clients → Type 0) (e : PlainEvent) → event_of v.process request moment ≡ Some e → P (serve limits emptied_hub conn bare e)
+        → P (take_in limits h conn next moment (false ∷ []))
+    served-taken P e made came = request-taken P false (rw (made-by (Some e) made) came)
 
-    pub broken-taken : (new : HubView) → event_of v.process request moment ≡ None
-        → IsAhead limits confirmed new (break_off limits emptied_hub conn bare request.serial moment)
-        → IsAhead limits confirmed new (take_in limits h conn next moment (false ∷ []))
-    broken-taken new made came = request-taken new false (rw (made-by None made) came)
+    pub broken-taken : (P : Clients → Type 0) → event_of v.process request moment ≡ None → P (break_off limits emptied_hub conn bare request.serial moment)
+        → P (take_in limits h conn next moment (false ∷ []))
+    broken-taken P made came = request-taken P false (rw (made-by None made) came)
 
-    pub refused-taken : (new : HubView) (e : PlainEvent) → event_of v.process request moment ≡ Some e → takes_memory old.limits old.state e ≡ true
-        → new.limits ≡ old.limits → new.state ≡ old.state
+    pub refused-taken : (P : Clients → Type 0) (e : PlainEvent) → event_of v.process request moment ≡ Some e
+        → takes_memory old.limits old.state e ≡ true → P (refuse emptied_hub conn bare request.serial) → P (take_in limits h conn next moment (true ∷ []))
+    refused-taken P e made takes came =
+        let takes' : takes_memory limits h.state e ≡ true = sym (λ i. takes_memory (ahead.matches.same i) (ahead.matches.state i) e) ∙ takes in
+        request-taken P true (rw (made-by (Some e) made) (rw takes' came))
+
+    pub refused-matches : (new : HubView) → new.limits ≡ old.limits → new.state ≡ old.state
         → new.connections ≡ with_value nat_eq (with_value nat_eq old.connections conn (record v { input = [] })) conn
         (pushed (reply_of (refusal request.serial ENOMEM)) (record v { input = [] }))
-        → IsAhead limits confirmed new (take_in limits h conn next moment (true ∷ []))
-    refused-taken new e made takes same state rows =
-        let takes' : takes_memory limits h.state e ≡ true = sym (λ i. takes_memory (ahead.matches.same i) (ahead.matches.state i) e) ∙ takes in
-        request-taken new true (rw (made-by (Some e) made) (rw takes' came))
-      where
-        came : IsAhead limits confirmed new (refuse emptied_hub conn bare request.serial)
-        came =
-            record {
-              matches = change-matches limits confirmed (with_connection old conn (record v { input = [] })) new emptied_hub conn _ _ emptied-matches.matches
-                  same state rows
-                  (push-matches confirmed h.accepted h.accepted (record v { input = [] }) bare (refusal request.serial ENOMEM) ahead.later (omega arith)
-                  (omega arith)
-                  (record {
-                    process = mine.process;
-                    input = refl;
-                    ended = mine.ended;
-                    kept = mine.kept;
-                    visible = mine.visible;
-                    seen = mine.seen;
-                    frames = mine.frames;
-                  }));
-              later = ahead.later;
-            }
+        → IsAhead limits confirmed new (refuse emptied_hub conn bare request.serial)
+    refused-matches new same state rows =
+        record {
+          matches = change-matches limits confirmed (with_connection old conn (record v { input = [] })) new emptied_hub conn _ _ emptied-matches.matches
+              same state rows
+              (push-matches confirmed (accepted h) (accepted h) (record v { input = [] }) bare (refusal request.serial ENOMEM) ahead.later (omega arith)
+              (omega arith)
+              (record {
+                process = mine.process;
+                input = refl;
+                ended = mine.ended;
+                kept = mine.kept;
+                visible = mine.visible;
+                seen = mine.seen;
+                frames = mine.frames;
+              }));
+          later = ahead.later;
+        }
 
 -- ---- nothing, an ended connection, and bytes in a row
 
-pub nothing-takes : (old : HubView) (conn moment : ℕ) (v : ConnectionView) → value_at nat_eq old.connections conn ≡ Some v → first v.input ≡ More
-    → TakesIn old old conn [] moment
-nothing-takes old conn moment v found waits limits confirmed h ahead =
-    let p = paired-at (ClientMatches confirmed h.accepted) old.connections h.clients conn v ahead.matches.clients found in (
-      [],
-      subst (IsAhead limits confirmed old)
-          (sym (take_in-nothing limits h conn moment (Some p.0) p.1.0 (λ c is.
-          let same : p.0 ≡ c = cc in subst (λ (d : Client). first d.input ≡ More) same (ap first (sym p.1.1.input) ∙ waits)))) ahead,
-    )
+module _ {D : Type 0} (medium : D → Medium) (law : (d : D) (image : Image) → (medium d).images_since (medium d).moment image → (medium d).images_now image)
+  where
+    -- no event came
+    pub same-waits : (old new : StoreView D) → new ≡ old → Waits medium old [] new
+    same-waits old new same =
+        subst (Waits medium old []) (sym same) (record { confirmed = refl; waiting = omega arith; takes = Takes-none medium law old })
 
-pub ended-takes : (old : HubView) (conn moment : ℕ) (v : ConnectionView) (bytes : List ℕ) → value_at nat_eq old.connections conn ≡ Some v → v.ended ≡ true
-    → TakesIn old old conn bytes moment
-ended-takes old conn moment v next found over limits confirmed h ahead =
-    let p = paired-at (ClientMatches confirmed h.accepted) old.connections h.clients conn v ahead.matches.clients found in
-    ([], subst (IsAhead limits confirmed old) (sym (ended-stays h conn _ p.0 p.1.0 (sym p.1.1.ended ∙ over))) ahead)
+    pub same-accepts : (old new : StoreView D) (h : Clients) → new ≡ old → Accepts medium old new h h
+    same-accepts old new h same = record { events = []; adds = sym (append-nil h.events); waits = same-waits old new same }
 
-pub takes-then : (one two three : HubView) (conn moment : ℕ) (bytes more : List ℕ) → TakesIn one two conn bytes moment → TakesIn two three conn more moment
-    → TakesIn one three conn (bytes ++ more) moment
-takes-then one two three conn moment bytes more first_part second_part limits confirmed h ahead =
-    let a = first_part limits confirmed h ahead in
-    let b = second_part limits confirmed (take_in limits h conn bytes moment a.0) a.1 in (
-      fitted (length (arriving (client_at h conn) bytes)) a.0 ++ b.0,
-      subst (IsAhead limits confirmed three) (take_in-pieces limits h conn moment bytes more a.0 b.0 (client_at h conn) refl) b.1,
-    )
+    pub nothing-takes : (old : StoredHub D) (conn moment : ℕ) (v : ConnectionView) → value_at nat_eq old.hub.connections conn ≡ Some v → first v.input ≡ More
+        → TakesIn medium old old conn [] moment
+    nothing-takes old conn moment v found waits limits confirmed h ahead =
+        let p = paired-at (ClientMatches confirmed (accepted h)) old.hub.connections h.clients conn v ahead.matches.clients found in
+        let to = take_in-nothing limits h conn moment (Some p.0) p.1.0 (λ c is.
+        let same : p.0 ≡ c = cc in subst (λ (d : Client). first d.input ≡ More) same (ap first (sym p.1.1.input) ∙ waits)) in
+        let is = subst (λ (t : Clients). IsAhead limits confirmed old.hub t × Accepts medium old.store old.store h t) (sym to)
+        (ahead, same-accepts old.store old.store h refl) in
+        ([], is.0, is.1)
+
+    pub ended-takes : (old : StoredHub D) (conn moment : ℕ) (v : ConnectionView) (bytes : List ℕ) → value_at nat_eq old.hub.connections conn ≡ Some v
+        → v.ended ≡ true → TakesIn medium old old conn bytes moment
+    ended-takes old conn moment v next found over limits confirmed h ahead =
+        let p = paired-at (ClientMatches confirmed (accepted h)) old.hub.connections h.clients conn v ahead.matches.clients found in
+        let is = subst (λ (t : Clients). IsAhead limits confirmed old.hub t × Accepts medium old.store old.store h t)
+        (sym (ended-stays h conn _ p.0 p.1.0 (sym p.1.1.ended ∙ over))) (ahead, same-accepts old.store old.store h refl) in
+        ([], is.0, is.1)
+
+    pub accepts-then : (one two three : StoreView D) (h h' h'' : Clients) → Accepts medium one two h h' → Accepts medium two three h' h''
+        → Accepts medium one three h h''
+    accepts-then one two three h h' h'' a b =
+        record {
+          events = a.events ++ b.events;
+          adds = b.adds ∙ ap (λ (es : List PlainEvent). es ++ b.events) a.adds ∙ append_assoc h.events a.events b.events;
+          waits = record {
+            confirmed = b.waits.confirmed ∙ a.waits.confirmed;
+            waiting = omega (arith, a.waits.waiting, b.waits.waiting, length-append a.events b.events);
+            takes = Takes-both medium one two three a.events b.events a.waits.takes b.waits.takes;
+          };
+        }
+
+    pub takes-then : (one two three : StoredHub D) (conn moment : ℕ) (part more : List ℕ) → TakesIn medium one two conn part moment
+        → TakesIn medium two three conn more moment → TakesIn medium one three conn (part ++ more) moment
+    takes-then one two three conn moment part more first_part second_part limits confirmed h ahead =
+        let a = first_part limits confirmed h ahead in
+        let h' : Clients = take_in limits h conn part moment a.0 in
+        let b = second_part limits confirmed h' a.1 in
+        let is = subst (λ (t : Clients). IsAhead limits confirmed three.hub t × Accepts medium one.store three.store h t)
+        (take_in-pieces limits h conn moment part more a.0 b.0 (client_at h conn) refl)
+        (b.1, accepts-then one.store two.store three.store h h' (take_in limits h' conn more moment b.0) a.2 b.2) in
+        (fitted (length (arriving (client_at h conn) part)) a.0 ++ b.0, is.0, is.1)

@@ -3,7 +3,7 @@
 use Rattle.std.specs.Prelude.{ℕ, zero, suc, ◌+◌, ◌-◌, Bool, true, false, ◌&&◌, List, [], ◌∷◌, ◌++◌, length, drop}
 use Rattle.std.specs.Prelude.{nat_eq, nat_le, ◌==◌, if◌then◌else◌, Option, Some, None, option_and_then}
 use Rattle.std.specs.List.{flat_map}
-use Rattle.ipc_base.specs.declared.errno.Errno.TheVariants.{ENOMEM, EPROTO}
+use Rattle.ipc_base.specs.declared.errno.Errno.TheVariants.{EIO, ENOMEM, EPROTO}
 use Rattle.ipc_base.specs.declared.errno.Errno.{Errno}
 use Rattle.ipc_base.specs.declared.limits.Limits.{Limits}
 use Rattle.ipc_wire.specs.Request.{PlainKind, PlainRequest, Hello, Calls}
@@ -36,17 +36,21 @@ pub record Client : Type 0 where
 
 pub record Clients : Type 0 where
   pub state : State
-  -- how many events were accepted
-  pub accepted : ℕ
+  -- the events that were accepted since the store was opened, the restart first
+  pub events : List PlainEvent
   -- the connections, by number
   pub clients : List (ℕ × Client)
 
 abbrev pub start_client : Client
 start_client = record { process = None; input = []; frames = []; consumed = 0; ended = false }
 
--- no connection, over a state that is there
-abbrev pub no_clients : State → Clients
-no_clients s = record { state = s; accepted = 0; clients = [] }
+-- no connection, over a state that is there after these events
+abbrev pub no_clients : State → List PlainEvent → Clients
+no_clients s events = record { state = s; events = events; clients = [] }
+
+-- how many events were accepted
+abbrev pub accepted : Clients → ℕ
+accepted h = length h.events
 
 -- the client that a number has, and its process
 abbrev pub client_at : Clients → ℕ → Option Client
@@ -89,8 +93,8 @@ deliver_all mark clients (o ∷ os) = deliver_all mark (deliver mark clients o) 
 abbrev pub accept : Limits → Clients → PlainEvent → Clients
 accept limits h e =
     let now = step limits h.state e in
-    let mark = h.accepted + 1 in
-    record { state = now.state; accepted = mark; clients = deliver_all mark h.clients now.outcomes }
+    let events = h.events ++ e ∷ [] in
+    record { state = now.state; events = events; clients = deliver_all (length events) h.clients now.outcomes }
 
 -- the process of a connection that is over leaves, if it had one
 abbrev pub leave : Limits → Clients → Option ℕ → ℕ → Clients
@@ -104,11 +108,11 @@ over c = record c { process = None; input = []; ended = true }
 abbrev pub break_off : Limits → Clients → ℕ → Client → ℕ → ℕ → Clients
 break_off limits h conn c serial moment =
     let left = leave limits (with_client h conn (over c)) c.process moment in
-    with_client left conn (with_frame (over c) left.accepted (refusal serial EPROTO))
+    with_client left conn (with_frame (over c) (accepted left) (refusal serial EPROTO))
 
 -- a request that was refused for memory is no event
 abbrev pub refuse : Clients → ℕ → Client → ℕ → Clients
-refuse h conn c serial = with_client h conn (with_frame c h.accepted (refusal serial ENOMEM))
+refuse h conn c serial = with_client h conn (with_frame c (accepted h) (refusal serial ENOMEM))
 
 -- the event that a request of a process, or of none, makes: a HELLO asks for a process, a call needs one
 abbrev pub event_of : Option ℕ → PlainRequest → ℕ → Option PlainEvent
@@ -143,7 +147,7 @@ welcomed mark reply c = by_process c.process
 abbrev pub serve : Limits → Clients → ℕ → Client → PlainEvent → Clients
 serve limits h conn c e =
     let reply = last_reply (step limits h.state e).outcomes in
-    accept limits (with_client h conn (welcomed (h.accepted + 1) reply c)) e
+    accept limits (with_client h conn (welcomed (length (h.events ++ e ∷ [])) reply c)) e
 
 -- A request of a client. If it makes no event, it has no place here. Refused says whether memory was refused, which
 -- only an event that may need some can meet.
@@ -252,6 +256,20 @@ shown_at confirmed h conn = of_client (client_at h conn)
     of_client : Option Client → List ℕ
     of_client None = []
     of_client (Some c) = shown confirmed c
+
+-- the frames up to the first whose mark is above what is confirmed
+abbrev pub confirmed_frames : ℕ → List Frame → List Frame
+confirmed_frames confirmed [] = []
+confirmed_frames confirmed (f ∷ fs) = if nat_le f.mark confirmed then f ∷ confirmed_frames confirmed fs else []
+
+-- The disk has failed, or its journal is full. The frames that are confirmed stay, the others are dropped, and an EIO
+-- frame is the last of each connection, which has ended.
+abbrev pub cut_off : ℕ → Client → Client
+cut_off confirmed c =
+    with_frame (record (over c) { frames = confirmed_frames confirmed c.frames }) confirmed (refusal 0 EIO)
+
+abbrev pub fail : ℕ → Clients → Clients
+fail confirmed h = record h { clients = seen_as (cut_off confirmed) h.clients }
 
 -- whether the server has ended a connection; not so where none has the number
 abbrev pub ended_at : Clients → ℕ → Bool

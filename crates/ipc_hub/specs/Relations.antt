@@ -2,5 +2,7 @@
 pub mod Rows
 pub mod Delivery
 pub mod Matches
+pub mod Faults
+pub mod Lives
 pub mod Invariant
 pub mod Requests

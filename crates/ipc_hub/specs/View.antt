@@ -1,9 +1,14 @@
 -- What a caller sees of the hub: its limits, the state of its machine, and its connections by number, which rise.
-use Rattle.std.specs.Prelude.{◌≡◌, ℕ, Bool, false, nat_eq, List, [], ◌++◌, Option, is_some, option_map}
+use Rattle.std.specs.Prelude.{◌≡◌, ◌<◌, ℕ, Bool, false, nat_eq, List, [], ◌++◌, Option, is_some, option_map}
 use Rattle.std.specs.Prelude.{unwrap_or, IfSome}
 use Rattle.ipc_base.specs.declared.limits.Limits.{Limits}
 use Rattle.ipc_base.specs.Table.{value_at}
 use Rattle.ipc_state.specs.State.{State}
+use Rattle.ipc_store.specs.declared.fault.CommitError.{CommitError}
+use Rattle.ipc_store.specs.declared.fault.CommitError.TheVariants as commit
+use Rattle.ipc_store.specs.View.{StoreView, events_left}
+use Rattle.ipc_hub.specs.declared.fault.ServeError.{ServeError}
+use Rattle.ipc_hub.specs.declared.fault.ServeError.TheVariants.{Device, JournalFull, Stopped}
 
 -- the bytes of frames that a connection keeps
 pub record Outgoing : Type 0 where
@@ -27,6 +32,25 @@ pub record HubView : Type 0 where
   pub limits : Limits
   pub state : State
   pub connections : List (ℕ × ConnectionView)
+
+-- a hub over its store
+pub record StoredHub (D : Type 0) : Type 0 where
+  pub hub : HubView
+  pub store : StoreView D
+
+-- how many events a call may come to before the next request of it is looked at: a tick, and one more
+abbrev pub most_events : ℕ
+most_events = 2
+
+-- it goes on no more: its store has stopped, or has not so many events left
+abbrev pub HasStopped : {D : Type 0} → StoredHub D → Type 0
+HasStopped h = events_left h.store < most_events
+
+-- the fault of a call that commits and meets this fault
+abbrev pub of_commit_error : CommitError → ServeError
+of_commit_error commit.Device = Device
+of_commit_error commit.JournalFull = JournalFull
+of_commit_error commit.Stopped = Stopped
 
 -- the connection that has the number
 abbrev pub connection_of : HubView → ℕ → Option ConnectionView

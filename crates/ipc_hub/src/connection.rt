@@ -6,20 +6,23 @@ ghost use Rattle.std.specs.Option.{option_copied};
 ghost use Rattle.ipc_wire.specs.Reply.{plain_reply, reply_bytes, body_bytes};
 ghost use Rattle.ipc_wire.specs.Stream.{first, missing};
 ghost use Rattle.ipc_wire.specs.Stream.PlainFrame.{More};
-ghost use Rattle.ipc_hub.specs.Relations.Delivery.{last_frame};
+ghost use Rattle.ipc_engine.specs.View.{reply_of};
+ghost use Rattle.ipc_hub.specs.Clients.{refusal as refusal_of};
+ghost use Rattle.ipc_hub.specs.Relations.Delivery.{last_frame, last_frames};
 
 use crate::outbox::Outbox;
-use ipc_base::Pid;
+use ipc_base::{Errno, Pid};
 use ipc_engine::Outcome;
-use ipc_wire::{GREATEST_FRAME, Reply, bytes_missing};
+use ipc_wire::{Body, GREATEST_FRAME, Reply, bytes_missing};
 use std::alloc::{AllocError, Global};
 
 /// The bytes of frames that may wait before a request is left untaken: some 400 short replies, so that a client
 /// that sends ahead is served many requests at a time.
 const AHEAD: usize = 4096;
 
-/// The bytes of the last frame of a connection that the server ends.
-const LAST_FRAME: usize = 10;
+/// The bytes of the two frames that may be the last of a connection: EPROTO when the server ends it, and EIO when the
+/// disk fails.
+const LAST_FRAMES: usize = 20;
 
 /// A connection. All its buffers are made with it.
 #[derive(Drop)]
@@ -48,10 +51,11 @@ impl Connection {
       pushed,
       put_for,
       answered,
+      failed,
     };
 
     /// A connection without a process. A reply of `reply` bytes has room in it, some others before it, and the last
-    /// frame behind it.
+    /// frames behind it.
     pub(crate) fn new(alloc: Global, number: u32, reply: u32) -> Result<Connection, AllocError>
         ensures number { IfOk result (λ c. c.number ≡ number) }
         ensures new { IfOk result (λ c. IsNew reply (view_of c)) }
@@ -60,7 +64,7 @@ impl Connection {
             number,
             process: None,
             input: Vec::with_capacity(alloc, GREATEST_FRAME)?,
-            outbox: Outbox::new(alloc, AHEAD + reply as usize + LAST_FRAME)?,
+            outbox: Outbox::new(alloc, AHEAD + reply as usize + LAST_FRAMES)?,
             ended: false,
         })
     }
@@ -86,11 +90,11 @@ impl Connection {
         self.ended
     }
 
-    /// Whether a reply of so many bytes, and the last frame behind it, has room.
+    /// Whether a reply of so many bytes, and the last frames behind it, have room.
     pub(crate) fn has_room(&self, reply: u32) -> bool
-        ensures { IsTrue result ↔ (reply + last_frame ≤ self.now.outbox.free) }
+        ensures { IsTrue result ↔ (reply + last_frames ≤ self.now.outbox.free) }
     {
-        reply as usize + LAST_FRAME <= self.outbox.free()
+        reply as usize + LAST_FRAMES <= self.outbox.free()
     }
 
     /// Takes bytes of a piece, up to the end of a frame at most. Answers how many.
@@ -175,5 +179,31 @@ impl Connection {
         self.input.clear();
         self.ended = true;
         self.process.take()
+    }
+
+    /// The disk has failed: the frames that wait are dropped, and an EIO frame is the last, which is seen. What comes
+    /// is dropped.
+    pub(crate) fn fail(&mut self)
+        requires { last_frame ≤ self.old.outbox.free }
+        ensures number { self.new.number ≡ self.old.number }
+        ensures view { view_of self.new ≡ failed (view_of self.old) }
+    {
+        self.process = None;
+        self.input.clear();
+        self.ended = true;
+        self.outbox.retract();
+        self.outbox.push(&refusal(0, Errno::EIO));
+        self.outbox.release();
+    }
+}
+
+/// A reply without a body.
+pub(crate) fn refusal(serial: u32, errno: Errno) -> Reply<'static>
+    ensures { plain_reply result ≡ reply_of (refusal_of serial errno) }
+{
+    Reply {
+        serial,
+        errno: Some(errno),
+        body: Body::Empty,
     }
 }

@@ -1,9 +1,9 @@
 //! A client's bytes in every two pieces, its frames taken byte by byte; and connections that have ended.
 
 use super::*;
-use crate::tests::{BROKEN, HELLO, WELCOME};
-use ipc_base::{Limits, Moment};
-use ipc_engine::Engine;
+use crate::tests::{BROKEN, HELLO, WELCOME, served};
+use ipc_base::Moment;
+use ipc_disk::MemoryDisk;
 use std::alloc::{AllocError, Global};
 use std::process::Abort;
 use std::test::Fail;
@@ -22,26 +22,28 @@ const GET: &[u8] = b"\x00\x00\x00\x0d\x00\x00\x00\x02\x0a\x00\x00\x04\xd2\x00\x0
 const GOT: &[u8] = b"\x00\x00\x00\x0a\x00\x00\x00\x02\x00\x00\x00\x00\x00\x01";
 
 /// msgsnd of `hi` with type 5.
-const SEND: &[u8] =
+pub(crate) const SEND: &[u8] =
     b"\x00\x00\x00\x17\x00\x00\x00\x03\x0b\x00\x00\x00\x01\x00\x00\x08\x00\x00\x00\x00\x00\x00\x00\x00\x05\x68\x69";
 
-const SENT: &[u8] = b"\x00\x00\x00\x06\x00\x00\x00\x03\x00\x00";
+pub(crate) const SENT: &[u8] = b"\x00\x00\x00\x06\x00\x00\x00\x03\x00\x00";
 
 /// msgrcv of type 0 and size 64.
-const RECEIVE: &[u8] = b"\x00\x00\x00\x19\x00\x00\x00\x04\x0c\x00\x00\x00\x01\x00\x00\x08\x00\
+pub(crate) const RECEIVE: &[u8] =
+    b"\x00\x00\x00\x19\x00\x00\x00\x04\x0c\x00\x00\x00\x01\x00\x00\x08\x00\
       \x00\x00\x00\x40\x00\x00\x00\x00\x00\x00\x00\x00";
 
-const RECEIVED: &[u8] =
+pub(crate) const RECEIVED: &[u8] =
     b"\x00\x00\x00\x10\x00\x00\x00\x04\x00\x00\x00\x00\x00\x00\x00\x00\x00\x05\x68\x69";
 
 /// The same under serial 5, with the queue empty: ENOMSG.
-const RECEIVE_AGAIN: &[u8] = b"\x00\x00\x00\x19\x00\x00\x00\x05\x0c\x00\x00\x00\x01\x00\x00\x08\x00\
+pub(crate) const RECEIVE_AGAIN: &[u8] =
+    b"\x00\x00\x00\x19\x00\x00\x00\x05\x0c\x00\x00\x00\x01\x00\x00\x08\x00\
       \x00\x00\x00\x40\x00\x00\x00\x00\x00\x00\x00\x00";
 
-const NOTHING: &[u8] = b"\x00\x00\x00\x06\x00\x00\x00\x05\x00\x2a";
+pub(crate) const NOTHING: &[u8] = b"\x00\x00\x00\x06\x00\x00\x00\x05\x00\x2a";
 
 /// A length of 0.
-const SHORT: &[u8] = b"\x00\x00\x00\x00";
+pub(crate) const SHORT: &[u8] = b"\x00\x00\x00\x00";
 
 /// A length of 8449, one above the greatest.
 const LONG: &[u8] = b"\x00\x00\x21\x01";
@@ -117,7 +119,11 @@ fn joined(alloc: Global, frames: &[&[u8]]) -> Result<Vec<u8>, AllocError> {
 }
 
 /// Takes what connection 1 may see, byte by byte; whether there was any.
-fn take_all(rt: &impl Abort, hub: &mut Hub, taken: &mut Vec<u8>) -> Result<bool, AllocError> {
+fn take_all(
+    rt: &impl Abort,
+    hub: &mut Hub<MemoryDisk>,
+    taken: &mut Vec<u8>,
+) -> Result<bool, AllocError> {
     let waiting = hub.output(1).len();
     for left in 0..waiting {
         let output = hub.output(1);
@@ -131,7 +137,12 @@ fn take_all(rt: &impl Abort, hub: &mut Hub, taken: &mut Vec<u8>) -> Result<bool,
 
 /// Gives connection 1 a piece until all of it is taken. A feed lets nothing be seen, and where no frame
 /// waits after it, it took all.
-fn give(rt: &impl Abort, hub: &mut Hub, piece: &[u8], taken: &mut Vec<u8>) -> Result<(), Fail> {
+fn give(
+    rt: &impl Abort,
+    hub: &mut Hub<MemoryDisk>,
+    piece: &[u8],
+    taken: &mut Vec<u8>,
+) -> Result<(), Fail> {
     let mut rest = piece;
     for _ in piece {
         if rest.is_empty() {
@@ -140,7 +151,7 @@ fn give(rt: &impl Abort, hub: &mut Hub, piece: &[u8], taken: &mut Vec<u8>) -> Re
         let count = hub.feed(1, rest, Moment(0))?;
         rest = &rest[count..];
         assert_eq!(rt; hub.output(1).len(), 0);
-        hub.release();
+        hub.release()?;
         let waited = take_all(rt, hub, taken)?;
         assert!(rt; waited || rest.is_empty());
     }
@@ -154,7 +165,7 @@ fn a_stream_in_two_pieces(rt: HostRuntime) -> Result<(), Fail> {
         let bytes = joined(rt.alloc(), stream.sent)?;
         let wanted = joined(rt.alloc(), stream.answered)?;
         for cut in 0..bytes.len() {
-            let mut hub = Hub::new(rt.alloc(), Engine::new(rt.alloc(), Limits::small())?);
+            let mut hub = served(rt.alloc())?;
             hub.connect(1)?;
             let mut taken = Vec::new(rt.alloc());
             let (first, second) = bytes.as_slice().split_at(cut);
@@ -175,7 +186,7 @@ fn a_stream_in_two_pieces(rt: HostRuntime) -> Result<(), Fail> {
 #[test]
 fn a_frame_comes_with_the_last_byte(rt: HostRuntime) -> Result<(), Fail> {
     for stream in &STREAMS {
-        let mut hub = Hub::new(rt.alloc(), Engine::new(rt.alloc(), Limits::small())?);
+        let mut hub = served(rt.alloc())?;
         hub.connect(1)?;
         for (place, sent) in stream.sent.iter().enumerate() {
             let wanted = stream.answered.get(place).map_or(&[][..], |frame| *frame);
@@ -199,7 +210,7 @@ fn a_frame_comes_with_the_last_byte(rt: HostRuntime) -> Result<(), Fail> {
 
 #[test]
 fn a_number_is_free_after_hangup(rt: HostRuntime) -> Result<(), Fail> {
-    let mut hub = Hub::new(rt.alloc(), Engine::new(rt.alloc(), Limits::small())?);
+    let mut hub = served(rt.alloc())?;
     for pid in 1..7 {
         hub.connect(1)?;
         assert!(rt; !hub.ended(1));
@@ -219,7 +230,7 @@ fn a_number_is_free_after_hangup(rt: HostRuntime) -> Result<(), Fail> {
         } else {
             assert_eq!(rt; hub.feed(1, GET, Moment(0)), Ok(17));
         }
-        hub.release();
+        hub.release()?;
         assert_eq!(rt; hub.output(1).is_empty(), pid % 2 == 0);
         assert_eq!(rt; hub.hangup(1, Moment(0)), Ok(()));
         assert_eq!(rt; hub.output(1).len(), 0);

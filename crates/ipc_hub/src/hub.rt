@@ -1,72 +1,70 @@
-//! The hub: connections by number, over one machine.
+//! The hub: connections by number, over one store.
 
-ghost use Rattle.std.specs.Prelude.{◌≡◌, ◌<◌, ◌≤◌, ◌↔◌, ℕ, [], true, false, length, drop, take};
-ghost use Rattle.std.specs.Prelude.{IfOk, IsErr, OnErr, OnOk, Err};
+ghost use Rattle.std.specs.Prelude.{◌≡◌, ◌<◌, ◌≤◌, ◌↔◌, ℕ, List, [], true, false, length, drop, take};
+ghost use Rattle.std.specs.Prelude.{IfOk, IfErr, IsTrue, OnErr, OnOk, Err};
 ghost use Rattle.std.specs.Bool.{OnTrue};
 ghost use Rattle.ipc_base.specs.declared.limits.Limits.{Limits};
+ghost use Rattle.ipc_engine.specs.Event.{PlainEvent};
+ghost use Rattle.ipc_store.specs.Histories.{Takes};
+ghost use Rattle.ipc_store.specs.View.{IsReadyFor};
 ghost use Rattle.ipc_hub.specs.Clients.{Clients, no_clients, connect, hangup, tick, consume, shown_at, ended_at};
-ghost use Rattle.ipc_hub.specs.View.{HasNoFrame, is_connected, output_of, ended_of};
-ghost use Rattle.ipc_hub.specs.Relations.Matches.{HubMatches, Simulates, SimulatesFeed};
+ghost use Rattle.ipc_hub.specs.View.{HasNoFrame, HasStopped, is_connected, output_of, ended_of, of_commit_error};
+ghost use Rattle.ipc_hub.specs.Relations.Matches.{HubMatches, StoredMatches, Simulates, Serves, ServesFeed};
+ghost use Rattle.ipc_hub.specs.Relations.Faults.{Halts, Refuses};
+ghost use Rattle.ipc_hub.specs.Relations.Invariant.{SameButSeen};
 
 use crate::connection::Connection;
-use crate::places::{place_for, place_of, release_all};
+use crate::fault::{ConnectError, ServeError};
+use crate::places::{fail_all, place_for, place_of, release_all};
 use crate::serving;
 use ipc_base::Moment;
-use ipc_engine::Engine;
+use ipc_disk::SectorDisk;
+use ipc_store::{CommitError, Store};
 use std::alloc::{AllocError, Global};
 use std::marker::Model;
-use thiserror::Error;
 
-/// Why a connection was not made.
-#[derive(Clone, Copy, Debug, PartialEq, Eq, Error)]
-pub enum ConnectError {
-    #[error("connection in use")]
-    InUse,
-    #[error("no memory")]
-    NoMemory,
-}
+/// How many events a call may come to before the next request of it is looked at: a tick, and one more.
+const MOST_EVENTS: usize = 2;
 
-/// No connection has the number.
-#[derive(Clone, Copy, Debug, PartialEq, Eq, Error)]
-#[error("no such connection")]
-pub struct UnknownConnection;
-
-/// The server as its clients see it: bytes in, bytes out. A contract sees its limits, the state of its machine, and
-/// its connections by number.
+/// The server as its clients see it: bytes in, bytes out. A frame is seen once its event was made to last. A contract
+/// sees its limits, the state of its machine, its connections by number, and its store.
 #[derive(Drop)]
-pub struct Hub {
+pub struct Hub<D: SectorDisk> {
     alloc: Global,
-    engine: Engine,
+    store: Store<D>,
     /// In rising number.
     connections: Vec<Connection>,
 }
 
-impl Model for Hub {
-    ghost use Rattle.ipc_hub.specs.View.{HubView};
+impl<D: SectorDisk> Model for Hub<D> {
+    ghost use Rattle.ipc_hub.specs.View.{StoredHub};
 
-    ghost Value = { HubView };
+    ghost Value = { StoredHub D };
 
-    ghost use Rattle.ipc_hub.specs.Relations.Rows.{hub_view};
-    ghost use Rattle.ipc_hub.specs.Relations.Invariant.{HubInvariant};
+    ghost use Rattle.ipc_hub.specs.Relations.Rows.{stored_view};
+    ghost use Rattle.ipc_hub.specs.Relations.Invariant.{StoredInvariant};
 
-    ghost view = { λ h. hub_view h.engine h.connections.items };
+    ghost view = { λ h. stored_view h.store h.connections.items };
 
-    ghost invariant = { λ h. HubInvariant (hub_view h.engine h.connections.items) };
+    ghost invariant = { λ h. StoredInvariant (stored_view h.store h.connections.items) };
 }
 
-impl Hub {
-    ghost use Rattle.std.specs.Prelude.{◌^◌};
-    ghost use Rattle.ipc_base.specs.Table.{keys_of, IsRising};
+impl<D: SectorDisk> Hub<D> {
+    ghost use Rattle.std.specs.Prelude.{◌^◌, ◌+◌};
+    ghost use Rattle.ipc_base.specs.Table.{keys_of, seen_as, IsRising};
+    ghost use Rattle.ipc_hub.specs.Relations.Delivery.{released};
     ghost use Rattle.ipc_hub.specs.Relations.Rows.{rows};
 
     /// A hub without connections. It takes no memory.
-    pub fn new(alloc: Global, engine: Engine) -> Hub
-        ensures matches { HubMatches engine.limits 0 result (no_clients engine.state) }
-        ensures empty { result.connections ≡ [] }
+    pub fn new(alloc: Global, store: Store<D>) -> Hub<D>
+        ensures matches { (events : List PlainEvent) → length events ≡ store.confirmed + store.waiting
+            → StoredMatches store.machine.limits result (no_clients store.machine.state events) }
+        ensures empty { result.hub.connections ≡ [] }
+        ensures store { result.store ≡ store }
     {
         Hub {
             alloc,
-            engine,
+            store,
             connections: Vec::new(alloc),
         }
     }
@@ -74,10 +72,16 @@ impl Hub {
     /// Adds a connection under a number that is not in use. All that it will ever need is taken now.
     /// After a refusal nothing has changed.
     pub fn connect(&mut self, conn: u32) -> Result<(), ConnectError>
-        ensures ok { OnOk result (Simulates self.old self.new (λ _ h. connect h conn)) }
-        ensures in_use { (result ≡ Err ConnectError.InUse) ↔ (is_connected self.old conn ≡ true) }
+        ensures ok { OnOk result (Simulates self.old.hub self.new.hub (λ _ h. connect h conn)) }
+        ensures store { self.new.store ≡ self.old.store }
+        ensures stopped { (result ≡ Err ConnectError.Stopped) ↔ HasStopped self.old }
+        ensures in_use { (result ≡ Err ConnectError.InUse)
+            ↔ ((¬ HasStopped self.old) × (is_connected self.old.hub conn ≡ true)) }
         ensures err { OnErr result (self.new ≡ self.old) }
     {
+        if self.has_stopped() {
+            return Err(ConnectError::Stopped);
+        }
         if place_of(&self.connections, conn).is_some() {
             return Err(ConnectError::InUse);
         }
@@ -88,11 +92,13 @@ impl Hub {
     }
 
     fn add(&mut self, conn: u32) -> Result<(), AllocError>
-        requires { is_connected self.old conn ≡ false }
-        ensures ok { OnOk result (Simulates self.old self.new (λ _ h. connect h conn)) }
+        requires free { is_connected self.old.hub conn ≡ false }
+        requires goes_on { ¬ HasStopped self.old }
+        ensures ok { OnOk result (Simulates self.old.hub self.new.hub (λ _ h. connect h conn)) }
+        ensures store { self.new.store ≡ self.old.store }
         ensures err { OnErr result (self.new ≡ self.old) }
     {
-        let reply = self.engine.limits().longest_reply();
+        let reply = self.store.engine().limits().longest_reply();
         let connection = Connection::new(self.alloc, conn, reply)?;
         let place = place_for(&self.connections, conn);
         self.connections.insert(place, connection)?;
@@ -101,49 +107,53 @@ impl Hub {
 
     /// Gives a connection the next bytes of its stream, at a moment. Answers how many it took: all of them if
     /// no frame of the connection is kept when it returns, or if the server has ended it. Requests are taken
-    /// while the longest reply has room behind the frames that are kept.
-    pub fn feed(
-        &mut self,
-        conn: u32,
-        piece: &[u8],
-        moment: Moment,
-    ) -> Result<usize, UnknownConnection>
+    /// while the longest reply has room behind the frames that are kept, and an event has room among those that wait.
+    /// Where the first has none, the call begins with a release.
+    pub fn feed(&mut self, conn: u32, piece: &[u8], moment: Moment) -> Result<usize, ServeError>
         ensures ok { IfOk result (λ taken.
-            SimulatesFeed self.old self.new conn (take taken piece.now) moment.0) }
+            ServesFeed D.medium self.old self.new conn (take taken piece.now) moment.0) }
         ensures within { IfOk result (λ taken. taken ≤ length piece.now) }
-        ensures whole { IfOk result (λ taken. HasNoFrame self.new conn → taken ≡ length piece.now) }
-        ensures starts { HasNoFrame self.old conn → 0 < length piece.now → IfOk result (λ taken. 0 < taken) }
-        ensures dropped { ended_of self.old conn ≡ true → IfOk result (λ taken. taken ≡ length piece.now) }
-        ensures unknown { IsErr result ↔ (is_connected self.old conn ≡ false) }
-        ensures err { OnErr result (self.new ≡ self.old) }
+        ensures whole { IfOk result (λ taken. HasNoFrame self.new.hub conn → taken ≡ length piece.now) }
+        ensures starts { HasNoFrame self.old.hub conn → 0 < length piece.now → IfOk result (λ taken. 0 < taken) }
+        ensures dropped { ended_of self.old.hub conn ≡ true → IfOk result (λ taken. taken ≡ length piece.now) }
+        ensures refused { IfErr result (λ e. Refuses D.medium D.counts self.old self.new conn e) }
+        ensures stopped { HasStopped self.old → result ≡ Err ServeError.Stopped }
+        ensures unknown { ¬ HasStopped self.old → is_connected self.old.hub conn ≡ false
+            → result ≡ Err ServeError.Unknown }
     {
+        if self.has_stopped() {
+            return Err(ServeError::Stopped);
+        }
         let Some(place) = place_of(&self.connections, conn) else {
-            return Err(UnknownConnection);
+            return Err(ServeError::Unknown);
         };
-        serving::tick(&mut self.engine, &mut self.connections, moment);
-        let taken = serving::take_in(
-            &mut self.engine,
-            &mut self.connections,
-            place,
-            piece,
-            moment,
-        );
+        if let Err(error) = self.pass(moment) {
+            return Err(ServeError::from(error));
+        }
+        let taken = serving::take_in(&mut self.store, &mut self.connections, place, piece, moment);
         Ok(taken)
     }
 
     /// The client is gone, at a moment: its process leaves, its frames are dropped, its number is free.
-    pub fn hangup(&mut self, conn: u32, moment: Moment) -> Result<(), UnknownConnection>
-        ensures ok { OnOk result (Simulates self.old self.new (λ limits h. hangup limits h conn moment.0)) }
-        ensures unknown { IsErr result ↔ (is_connected self.old conn ≡ false) }
-        ensures err { OnErr result (self.new ≡ self.old) }
+    pub fn hangup(&mut self, conn: u32, moment: Moment) -> Result<(), ServeError>
+        ensures ok { OnOk result (Serves D.medium self.old self.new (λ limits h. hangup limits h conn moment.0)) }
+        ensures refused { IfErr result (λ e. Refuses D.medium D.counts self.old self.new conn e) }
+        ensures stopped { HasStopped self.old → result ≡ Err ServeError.Stopped }
+        ensures unknown { ¬ HasStopped self.old → is_connected self.old.hub conn ≡ false
+            → result ≡ Err ServeError.Unknown }
     {
+        if self.has_stopped() {
+            return Err(ServeError::Stopped);
+        }
         let Some(place) = place_of(&self.connections, conn) else {
-            return Err(UnknownConnection);
+            return Err(ServeError::Unknown);
         };
-        serving::tick(&mut self.engine, &mut self.connections, moment);
+        if let Err(error) = self.pass(moment) {
+            return Err(ServeError::from(error));
+        }
         let connection = self.connections.remove(place);
         serving::leave(
-            &mut self.engine,
+            &mut self.store,
             &mut self.connections,
             connection.process,
             moment,
@@ -152,24 +162,90 @@ impl Hub {
     }
 
     /// Time passes: the clock is the greatest moment so far.
-    pub fn tick(&mut self, moment: Moment)
-        ensures { Simulates self.old self.new (λ limits h. tick limits h moment.0) }
+    pub fn tick(&mut self, moment: Moment) -> Result<(), CommitError>
+        ensures ok { OnOk result (Serves D.medium self.old self.new (λ limits h. tick limits h moment.0)) }
+        ensures refused { IfErr result (λ e. Halts D.medium D.counts self.old self.new e) }
+        ensures stopped { HasStopped self.old → result ≡ Err CommitError.Stopped }
     {
-        serving::tick(&mut self.engine, &mut self.connections, moment);
+        if self.has_stopped() {
+            return Err(CommitError::Stopped);
+        }
+        self.pass(moment)
     }
 
-    /// Lets all frames that wait be seen.
-    pub fn release(&mut self)
-        ensures { (limits : Limits) (confirmed : ℕ) (h : Clients) → HubMatches limits confirmed self.old h
-            → HubMatches limits h.accepted self.new h }
+    // Time passes, and one event more has room then. The call begins with a release if two events may have no room.
+    fn pass(&mut self, moment: Moment) -> Result<(), CommitError>
+        requires { ¬ HasStopped self.old }
+        ensures ok { OnOk result (Serves D.medium self.old self.new (λ limits h. tick limits h moment.0)) }
+        ensures ready { OnOk result (IsReadyFor self.new.store 1) }
+        ensures later { OnOk result (0 < self.new.store.waiting) }
+        ensures same { OnOk result (SameButSeen self.old.hub self.new.hub) }
+        ensures refused { IfErr result (λ e. Halts D.medium D.counts self.old self.new e) }
     {
-        release_all(&mut self.connections);
+        if let Err(error) = self.make_room() {
+            return Err(error);
+        }
+        serving::tick(&mut self.store, &mut self.connections, moment);
+        Ok(())
+    }
+
+    /// Makes all events that wait last, and lets their frames be seen. If the disk fails, or its journal is full, the
+    /// frames that could be seen stay, the others are dropped, an EIO frame is the last of each connection, which has
+    /// ended, and the hub goes on no more.
+    pub fn release(&mut self) -> Result<(), CommitError>
+        ensures ok { OnOk result ((limits : Limits) (h : Clients) → StoredMatches limits self.old h
+            → StoredMatches limits self.new h) }
+        ensures takes { Takes D.medium self.old.store [] self.new.store }
+        ensures all { OnOk result (self.new.hub.connections ≡ seen_as released self.old.hub.connections) }
+        ensures confirmed { OnOk result (self.new.store.confirmed ≡ self.old.store.confirmed + self.old.store.waiting) }
+        ensures waiting { OnOk result (self.new.store.waiting ≡ 0) }
+        ensures ready { OnOk result (IsReadyFor self.new.store 2) }
+        ensures nothing { self.old.store.waiting ≡ 0 → self.new.store ≡ self.old.store }
+        ensures refused { IfErr result (λ e. Halts D.medium D.counts self.old self.new e) }
+        ensures stopped { HasStopped self.old → result ≡ Err CommitError.Stopped }
+    {
+        if self.has_stopped() {
+            return Err(CommitError::Stopped);
+        }
+        match self.store.commit() {
+            Ok(()) => {
+                release_all(&mut self.connections);
+                Ok(())
+            }
+            Err(error) => {
+                fail_all(&mut self.connections);
+                Err(error)
+            }
+        }
+    }
+
+    // Whether the hub goes on no more.
+    fn has_stopped(&self) -> bool
+        ensures { IsTrue result ↔ HasStopped self.now }
+    {
+        self.store.events_left() < MOST_EVENTS as u64
+    }
+
+    // Releases if the events of a call may have no room among those that wait.
+    fn make_room(&mut self) -> Result<(), CommitError>
+        requires { ¬ HasStopped self.old }
+        ensures ok { OnOk result ((limits : Limits) (h : Clients) → StoredMatches limits self.old h
+            → StoredMatches limits self.new h) }
+        ensures takes { OnOk result (Takes D.medium self.old.store [] self.new.store) }
+        ensures ready { OnOk result (IsReadyFor self.new.store 2) }
+        ensures same { OnOk result (SameButSeen self.old.hub self.new.hub) }
+        ensures refused { IfErr result (λ e. Halts D.medium D.counts self.old self.new e) }
+    {
+        if self.store.is_ready_for(MOST_EVENTS) {
+            return Ok(());
+        }
+        self.release()
     }
 
     /// The connections, in rising number.
     pub fn connections(&self) -> &[Connection]
-        ensures rows { rows result.now ≡ self.now.connections }
-        ensures rising { IsRising 0 (keys_of self.now.connections) (2 ^ 32) }
+        ensures rows { rows result.now ≡ self.now.hub.connections }
+        ensures rising { IsRising 0 (keys_of self.now.hub.connections) (2 ^ 32) }
     {
         &self.connections
     }
@@ -177,7 +253,7 @@ impl Hub {
     /// Whether the connection at this place among them all has this number, and nothing to say: no byte that its client
     /// may see, and no end. Who walks all connections asks this first, since it takes no search.
     pub fn is_silent(&self, place: usize, conn: u32) -> bool
-        ensures { OnTrue result ((output_of self.now conn ≡ []) × (ended_of self.now conn ≡ false)) }
+        ensures { OnTrue result ((output_of self.now.hub conn ≡ []) × (ended_of self.now.hub conn ≡ false)) }
     {
         if place >= self.connections.len() {
             return false;
@@ -188,9 +264,9 @@ impl Hub {
 
     /// The bytes that the client of a connection may see; none where no connection has the number.
     pub fn output(&self, conn: u32) -> &[u8]
-        ensures shown { (limits : Limits) (confirmed : ℕ) (h : Clients) → HubMatches limits confirmed self.now h
+        ensures shown { (limits : Limits) (confirmed : ℕ) (h : Clients) → HubMatches limits confirmed self.now.hub h
             → result.now ≡ shown_at confirmed h conn }
-        ensures bytes { result.now ≡ output_of self.now conn }
+        ensures bytes { result.now ≡ output_of self.now.hub conn }
     {
         match place_of(&self.connections, conn) {
             Some(place) => {
@@ -203,9 +279,10 @@ impl Hub {
 
     /// The client has taken the first `count` bytes of its output.
     pub fn consume(&mut self, conn: u32, count: usize)
-        requires { count ≤ length (output_of self.old conn) }
-        ensures ok { Simulates self.old self.new (λ _ h. consume h conn count) }
-        ensures output { output_of self.new conn ≡ drop count (output_of self.old conn) }
+        requires { count ≤ length (output_of self.old.hub conn) }
+        ensures ok { Simulates self.old.hub self.new.hub (λ _ h. consume h conn count) }
+        ensures output { output_of self.new.hub conn ≡ drop count (output_of self.old.hub conn) }
+        ensures store { self.new.store ≡ self.old.store }
     {
         if let Some(place) = place_of(&self.connections, conn) {
             let connection = &mut self.connections[place];
@@ -215,9 +292,9 @@ impl Hub {
 
     /// Whether the server has ended a connection; not so where none has the number.
     pub fn ended(&self, conn: u32) -> bool
-        ensures server { (limits : Limits) (confirmed : ℕ) (h : Clients) → HubMatches limits confirmed self.now h
+        ensures server { (limits : Limits) (confirmed : ℕ) (h : Clients) → HubMatches limits confirmed self.now.hub h
             → result ≡ ended_at h conn }
-        ensures ended { result ≡ ended_of self.now conn }
+        ensures ended { result ≡ ended_of self.now.hub conn }
     {
         match place_of(&self.connections, conn) {
             Some(place) => {
@@ -226,5 +303,12 @@ impl Hub {
             }
             None => false,
         }
+    }
+
+    /// The store as it is; the connections, and frames that wait, are gone.
+    pub fn close(self) -> Store<D>
+        ensures { result ≡ self.store }
+    {
+        self.store
     }
 }

@@ -3,6 +3,7 @@
 #![tactic(auto)]
 
 mod connection;
+mod fault;
 mod hub;
 mod laws;
 mod outbox;
@@ -10,10 +11,15 @@ mod places;
 mod serving;
 
 pub use connection::Connection;
-pub use hub::{ConnectError, Hub, UnknownConnection};
-pub use laws::{bytes_come_in_any_pieces, released_frames_are_all_shown};
+pub use fault::{ConnectError, ServeError};
+pub use hub::Hub;
+pub use laws::{
+    a_crash_takes_no_answer_back, bytes_come_in_any_pieces, released_frames_are_all_shown,
+};
 
 #[cfg(test)]
 mod cuts;
+#[cfg(test)]
+mod lasting;
 #[cfg(test)]
 mod tests;

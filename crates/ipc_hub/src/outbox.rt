@@ -3,7 +3,7 @@
 ghost use Rattle.std.specs.Prelude.{◌≡◌, ◌+◌, ◌<◌, ◌≤◌, ◌^◌, [], ◌++◌, length, drop, IfOk};
 ghost use Rattle.ipc_wire.specs.Reply.{plain_reply, reply_bytes, body_bytes};
 ghost use Rattle.ipc_hub.specs.View.{kept};
-ghost use Rattle.ipc_hub.specs.Relations.Delivery.{with_bytes};
+ghost use Rattle.ipc_hub.specs.Relations.Delivery.{with_bytes, retracted};
 
 use ipc_wire::{Reply, reply_len, write_reply};
 use std::alloc::{AllocError, Global};
@@ -67,6 +67,13 @@ impl Outbox {
     {
         write_reply(reply, &mut self.buffer[self.end..]);
         self.end += reply_len(reply);
+    }
+
+    /// What waits is dropped.
+    pub(crate) fn retract(&mut self)
+        ensures { self.new ≡ retracted self.old }
+    {
+        self.end = self.released;
     }
 
     /// The client may see all that is kept.

@@ -1,9 +1,9 @@
 //! Where connections stand among those that rise by number, and what is done to each.
 
 ghost use Rattle.std.specs.Prelude.{◌≡◌, ◌==◌, ◌<◌, ◌≤◌, ◌^◌, ℕ, length, get_or, position};
-ghost use Rattle.ipc_base.specs.Table.{keys_of, seen_as, IsRising};
+ghost use Rattle.ipc_base.specs.Table.{keys_of, seen_as, EachValue, IsRising};
 ghost use Rattle.ipc_hub.specs.declared.connection.Connection.{Connection};
-ghost use Rattle.ipc_hub.specs.Relations.Delivery.{released};
+ghost use Rattle.ipc_hub.specs.Relations.Delivery.{released, failed, HasSpare};
 ghost use Rattle.ipc_hub.specs.Relations.Rows.{rows};
 
 use crate::connection::Connection;
@@ -41,5 +41,15 @@ pub(crate) fn release_all(connections: &mut [Connection])
 {
     for connection in connections.iter_mut() {
         connection.release();
+    }
+}
+
+/// The disk has failed: the frames that wait on each connection are dropped, and an EIO frame is its last.
+pub(crate) fn fail_all(connections: &mut [Connection])
+    requires { EachValue HasSpare (rows connections.old) }
+    ensures { rows connections.new ≡ seen_as failed (rows connections.old) }
+{
+    for connection in connections.iter_mut() {
+        connection.fail();
     }
 }

@@ -1,31 +1,35 @@
 //! Requests become events of the machine, and the replies of every event go to the connections of their processes.
 
-ghost use Rattle.std.specs.Prelude.{◌≡◌, ◌+◌, ◌<◌, ◌≤◌, ◌^◌, true, false, [], ◌++◌, length, map, take, nat_eq};
-ghost use Rattle.std.specs.Prelude.{option_map};
+ghost use Rattle.std.specs.Prelude.{◌≡◌, ◌≢◌, ◌+◌, ◌<◌, ◌≤◌, ◌^◌, true, false, [], ◌∷◌, ◌++◌, length, map, take};
+ghost use Rattle.std.specs.Prelude.{nat_eq, option_map, IfSome};
 ghost use Rattle.ipc_base.specs.declared.errno.Errno.TheVariants.{ENOMEM};
 ghost use Rattle.ipc_base.specs.Limits.{longest_reply, ArePassed};
 ghost use Rattle.ipc_base.specs.Table.{EachValue, IsRising, keys_of, seen_as, with_value};
 ghost use Rattle.ipc_wire.specs.Request.{plain_request};
-ghost use Rattle.ipc_wire.specs.Reply.{plain_reply};
+ghost use Rattle.ipc_wire.specs.Spelling.{HasFrame};
 ghost use Rattle.ipc_wire.specs.Stream.{first, missing};
 ghost use Rattle.ipc_wire.specs.Stream.PlainFrame.{More};
+ghost use Rattle.ipc_engine.specs.Event.{Tick};
 ghost use Rattle.ipc_engine.specs.View.{plain_event, plain_outcome, reply_of};
 ghost use Rattle.ipc_hub.specs.declared.connection.Connection.{Connection};
 ghost use Rattle.ipc_hub.specs.Clients.{Client, refusal as refusal_of, event_of as event_made};
 ghost use Rattle.ipc_hub.specs.Clients.{leave as leaves, break_off as breaks_off, tick as ticks};
 ghost use Rattle.ipc_hub.specs.View.{kept};
-ghost use Rattle.ipc_hub.specs.Relations.Rows.{pid_of, view_of, rows, row, hub_view, IsThere};
-ghost use Rattle.ipc_hub.specs.Relations.Delivery.{last_frame, pushed, put_for, put_all, with_answer};
+ghost use Rattle.ipc_hub.specs.Relations.Rows.{pid_of, view_of, rows, row, hub_view, stored_view, IsThere};
+ghost use Rattle.ipc_hub.specs.Relations.Delivery.{last_frame, last_frames, pushed, put_for, put_all, with_answer};
 ghost use Rattle.ipc_hub.specs.Relations.Delivery.{IsShort, HasRoomIn, HaveRoom, HasRoomToAnswer};
 ghost use Rattle.ipc_hub.specs.Relations.Invariant.{HubInvariant, GoesOn, IsConnected, IsNobodys, LeavesOthers};
-ghost use Rattle.ipc_hub.specs.Relations.Matches.{Simulates, SimulatesAt, TakesIn};
-ghost use Rattle.ipc_hub.specs.Relations.Requests.{ComesTo, taken_off};
+ghost use Rattle.ipc_hub.specs.Relations.Matches.{Simulates, SimulatesAt, TakesIn, Waits};
+ghost use Rattle.ipc_hub.specs.Relations.Requests.{ComesTo, exit_of, taken_off};
+ghost use Rattle.ipc_image.specs.Records.{HasRecord};
+ghost use Rattle.ipc_store.specs.View.{IsReadyFor};
 
-use crate::connection::Connection;
+use crate::connection::{Connection, refusal};
 use ipc_base::{Errno, Moment, Pid};
-use ipc_engine::{Engine, Event, Outcome};
-use ipc_wire::{Body, Frame, Reply, Request, RequestKind, read_frame};
-use std::alloc::AllocError;
+use ipc_disk::SectorDisk;
+use ipc_engine::{Event, Outcome};
+use ipc_store::{StepError, Store};
+use ipc_wire::{Frame, Request, RequestKind, read_frame};
 
 /// What came of what stands at the front of a connection.
 #[derive(Clone, Copy, Debug)]
@@ -61,20 +65,10 @@ fn put(connections: &mut [Connection], outcome: &Outcome)
     }
 }
 
-/// A reply without a body.
-fn refusal(serial: u32, errno: Errno) -> Reply<'static>
-    ensures { plain_reply result ≡ reply_of (refusal_of serial errno) }
-{
-    Reply {
-        serial,
-        errno: Some(errno),
-        body: Body::Empty,
-    }
-}
-
 /// The event that a request of a process, or of none, makes; none, if the request has no place.
 fn event_of<'a>(process: Option<Pid>, request: &Request<'a>, moment: Moment) -> Option<Event<'a>>
-    ensures { option_map plain_event result ≡ event_made (pid_of process) (plain_request request.now) moment.0 }
+    ensures event { option_map plain_event result ≡ event_made (pid_of process) (plain_request request.now) moment.0 }
+    ensures record { IfSome result (λ event. HasFrame (plain_request request.now) → HasRecord (plain_event event)) }
 {
     match (process, request.kind) {
         (None, RequestKind::Hello(cred)) => Some(Event::Connect {
@@ -92,47 +86,57 @@ fn event_of<'a>(process: Option<Pid>, request: &Request<'a>, moment: Moment) -> 
 }
 
 /// Time passes.
-pub(crate) fn tick(engine: &mut Engine, connections: &mut [Connection], moment: Moment)
-    requires { HubInvariant (hub_view engine.old connections.old) }
-    ensures goes_on { GoesOn (hub_view engine.old connections.old) (hub_view engine.new connections.new) }
-    ensures ticks { Simulates (hub_view engine.old connections.old) (hub_view engine.new connections.new)
+pub(crate) fn tick<D: SectorDisk>(
+    store: &mut Store<D>,
+    connections: &mut [Connection],
+    moment: Moment,
+)
+    requires hub { HubInvariant (hub_view store.old.machine connections.old) }
+    requires ready { IsReadyFor store.old 2 }
+    ensures ready { IsReadyFor store.new 1 }
+    ensures accepts { Waits D.medium store.old (Tick moment.0 ∷ []) store.new }
+    ensures goes_on { GoesOn (hub_view store.old.machine connections.old) (hub_view store.new.machine connections.new) }
+    ensures ticks { Simulates (hub_view store.old.machine connections.old) (hub_view store.new.machine connections.new)
         (λ limits h. ticks limits h moment.0) }
     ensures quiet { rows connections.new ≡ rows connections.old }
 {
-    engine.step(Event::Tick { moment }).unwrap();
-    deliver(connections, engine.outcomes());
+    store.step(Event::Tick { moment }).unwrap();
+    deliver(connections, store.engine().outcomes());
 }
 
 /// The process of a connection that is over leaves, if it had one.
-pub(crate) fn leave(
-    engine: &mut Engine,
+pub(crate) fn leave<D: SectorDisk>(
+    store: &mut Store<D>,
     connections: &mut [Connection],
     process: Option<Pid>,
     moment: Moment,
 )
-    requires hub { HubInvariant (hub_view engine.old connections.old) }
-    requires connected { IsConnected engine.old.state (pid_of process) }
+    requires hub { HubInvariant (hub_view store.old.machine connections.old) }
+    requires connected { IsConnected store.old.machine.state (pid_of process) }
     requires nobodys { IsNobodys (rows connections.old) (pid_of process) }
-    ensures goes_on { GoesOn (hub_view engine.old connections.old) (hub_view engine.new connections.new) }
-    ensures leaves { Simulates (hub_view engine.old connections.old) (hub_view engine.new connections.new)
+    requires ready { IsReadyFor store.old 1 }
+    ensures accepts { Waits D.medium store.old (exit_of (pid_of process) moment.0) store.new }
+    ensures goes_on { GoesOn (hub_view store.old.machine connections.old) (hub_view store.new.machine connections.new) }
+    ensures leaves { Simulates (hub_view store.old.machine connections.old) (hub_view store.new.machine connections.new)
         (λ limits h. leaves limits h (pid_of process) moment.0) }
     ensures others { LeavesOthers (rows connections.old) (rows connections.new) }
 {
     if let Some(pid) = process {
-        engine.step(Event::Exit { pid, moment }).unwrap();
-        deliver(connections, engine.outcomes());
+        store.step(Event::Exit { pid, moment }).unwrap();
+        deliver(connections, store.engine().outcomes());
     }
 }
 
 /// Takes the frame at the front of a connection off it, if it is whole, and asks the machine.
-fn ask(engine: &mut Engine, connection: &mut Connection, moment: Moment) -> Asked
-    requires { IsConnected engine.old.state (pid_of connection.old.process) }
-    ensures comes { ComesTo engine.old engine.new (pid_of connection.old.process)
+fn ask<D: SectorDisk>(store: &mut Store<D>, connection: &mut Connection, moment: Moment) -> Asked
+    requires ready { IsReadyFor store.old 1 }
+    requires connected { IsConnected store.old.machine.state (pid_of connection.old.process) }
+    ensures comes { ComesTo D.medium store.old store.new (pid_of connection.old.process)
         (first connection.old.input.items) moment.0 result }
     ensures number { connection.new.number ≡ connection.old.number }
     ensures view { view_of connection.new ≡ taken_off result (view_of connection.old) }
 {
-    let asked = come_to(engine, connection, moment);
+    let asked = come_to(store, connection, moment);
     match asked {
         Asked::More => {}
         Asked::Served | Asked::NoMemory { .. } | Asked::Broken { .. } => connection.input.clear(),
@@ -141,9 +145,10 @@ fn ask(engine: &mut Engine, connection: &mut Connection, moment: Moment) -> Aske
 }
 
 /// Reads what stands at the front of a connection. If that is a request which makes an event, the machine takes a step.
-fn come_to(engine: &mut Engine, connection: &Connection, moment: Moment) -> Asked
-    requires { IsConnected engine.old.state (pid_of connection.now.process) }
-    ensures { ComesTo engine.old engine.new (pid_of connection.now.process) (first connection.now.input.items)
+fn come_to<D: SectorDisk>(store: &mut Store<D>, connection: &Connection, moment: Moment) -> Asked
+    requires ready { IsReadyFor store.old 1 }
+    requires connected { IsConnected store.old.machine.state (pid_of connection.now.process) }
+    ensures { ComesTo D.medium store.old store.new (pid_of connection.now.process) (first connection.now.input.items)
         moment.0 result }
 {
     let request = match read_frame(&connection.input) {
@@ -155,9 +160,10 @@ fn come_to(engine: &mut Engine, connection: &Connection, moment: Moment) -> Aske
     let Some(event) = event_of(connection.process, &request, moment) else {
         return Asked::Broken { serial };
     };
-    match engine.step(event) {
+    match store.step(event) {
         Ok(()) => Asked::Served,
-        Err(AllocError) => Asked::NoMemory { serial },
+        Err(StepError::NoMemory) => Asked::NoMemory { serial },
+        Err(StepError::Stopped) => unreachable!(),
     }
 }
 
@@ -190,39 +196,44 @@ fn refuse(connections: &mut [Connection], place: usize, serial: u32)
 }
 
 /// The server ends a connection: its process leaves, and an EPROTO frame is the last.
-fn break_off(
-    engine: &mut Engine,
+fn break_off<D: SectorDisk>(
+    store: &mut Store<D>,
     connections: &mut [Connection],
     place: usize,
     serial: u32,
     moment: Moment,
 )
-    requires hub { HubInvariant (hub_view engine.old connections.old) }
+    requires hub { HubInvariant (hub_view store.old.machine connections.old) }
     requires place { place < length connections.old }
     requires live { (c : Connection) → IsThere connections.old place c → c.ended ≡ false }
-    ensures goes_on { GoesOn (hub_view engine.old connections.old) (hub_view engine.new connections.new) }
+    requires ready { IsReadyFor store.old 1 }
+    ensures accepts { (c : Connection) → IsThere connections.old place c
+        → Waits D.medium store.old (exit_of (pid_of c.process) moment.0) store.new }
+    ensures goes_on { GoesOn (hub_view store.old.machine connections.old) (hub_view store.new.machine connections.new) }
     ensures ends { (c : Connection) (client : Client) → IsThere connections.old place c
-        → SimulatesAt c.number client (hub_view engine.old connections.old) (hub_view engine.new connections.new)
-        (λ limits h. breaks_off limits h c.number client serial moment.0) }
+        → SimulatesAt c.number client (hub_view store.old.machine connections.old)
+        (hub_view store.new.machine connections.new) (λ limits h. breaks_off limits h c.number client serial moment.0) }
+    ensures answers { (c : Connection) → IsThere connections.new place c → kept c.outbox ≢ [] }
 {
     let connection = &mut connections[place];
     let process = connection.close();
-    leave(engine, connections, process, moment);
+    leave(store, connections, process, moment);
     let connection = &mut connections[place];
     connection.push(&refusal(serial, Errno::EPROTO));
 }
 
 /// Gives a connection bytes of a piece, up to the end of a frame at most, and asks the machine if it is whole. Answers
 /// how many bytes it took, and what came of them.
-fn receive(
-    engine: &mut Engine,
+fn receive<D: SectorDisk>(
+    store: &mut Store<D>,
     connection: &mut Connection,
     piece: &[u8],
     moment: Moment,
 ) -> (usize, Asked)
     requires more { first connection.old.input.items ≡ More }
-    requires connected { IsConnected engine.old.state (pid_of connection.old.process) }
-    ensures comes { ComesTo engine.old engine.new (pid_of connection.old.process)
+    requires ready { IsReadyFor store.old 1 }
+    requires connected { IsConnected store.old.machine.state (pid_of connection.old.process) }
+    ensures comes { ComesTo D.medium store.old store.new (pid_of connection.old.process)
         (first (connection.old.input.items ++ take result.0 piece.now)) moment.0 result.1 }
     ensures number { connection.new.number ≡ connection.old.number }
     ensures view { view_of connection.new ≡ taken_off result.1
@@ -232,59 +243,62 @@ fn receive(
     ensures some { 0 < length piece.now → 0 < result.0 }
 {
     let count = connection.fill(piece);
-    let asked = ask(engine, connection, moment);
+    let asked = ask(store, connection, moment);
     (count, asked)
 }
 
 /// Takes bytes of a piece, up to the end of a frame at most, and serves the request if it is whole. Answers how many
 /// bytes it took.
-fn take(
-    engine: &mut Engine,
+fn take<D: SectorDisk>(
+    store: &mut Store<D>,
     connections: &mut [Connection],
     place: usize,
     piece: &[u8],
     moment: Moment,
 ) -> usize
-    requires passed { ArePassed engine.old.limits }
-    requires hub { HubInvariant (hub_view engine.old connections.old) }
+    requires passed { ArePassed store.old.machine.limits }
+    requires hub { HubInvariant (hub_view store.old.machine connections.old) }
     requires place { place < length connections.old }
     requires room { (c : Connection) → IsThere connections.old place c → c.ended ≡ false
-        → longest_reply engine.old.limits + last_frame ≤ c.outbox.free }
-    ensures goes_on { GoesOn (hub_view engine.old connections.old) (hub_view engine.new connections.new) }
+        → longest_reply store.old.machine.limits + last_frames ≤ c.outbox.free }
+    requires ready { IsReadyFor store.old 1 }
+    ensures goes_on { GoesOn (hub_view store.old.machine connections.old) (hub_view store.new.machine connections.new) }
     ensures bytes { (c : Connection) → IsThere connections.old place c
-        → TakesIn (hub_view engine.old connections.old) (hub_view engine.new connections.new) c.number
+        → TakesIn D.medium (stored_view store.old connections.old) (stored_view store.new connections.new) c.number
         (take result piece.now) moment.0 }
     ensures within { result ≤ length piece.now }
     ensures some { 0 < length piece.now → 0 < result }
+    ensures answers { (c : Connection) → IsThere connections.new place c → kept c.outbox ≡ [] → store.new ≡ store.old }
 {
     let connection = &mut connections[place];
     if connection.ended {
         return piece.len();
     }
-    let (count, asked) = receive(engine, connection, piece, moment);
+    let (count, asked) = receive(store, connection, piece, moment);
     match asked {
         Asked::More => {}
-        Asked::Served => answer(connections, place, engine.outcomes()),
+        Asked::Served => answer(connections, place, store.engine().outcomes()),
         Asked::NoMemory { serial } => refuse(connections, place, serial),
-        Asked::Broken { serial } => break_off(engine, connections, place, serial, moment),
+        Asked::Broken { serial } => break_off(store, connections, place, serial, moment),
     }
     count
 }
 
-/// Takes bytes of a piece while a request has room for its reply, and serves each request that they complete; of a
-/// connection that has ended it takes and drops all. Answers how many bytes it took.
-pub(crate) fn take_in(
-    engine: &mut Engine,
+/// Takes bytes of a piece while a request has room for its event and for its reply, and serves each request that they
+/// complete; of a connection that has ended it takes and drops all. Answers how many bytes it took.
+pub(crate) fn take_in<D: SectorDisk>(
+    store: &mut Store<D>,
     connections: &mut [Connection],
     place: usize,
     piece: &[u8],
     moment: Moment,
 ) -> usize
-    requires hub { HubInvariant (hub_view engine.old connections.old) }
+    requires hub { HubInvariant (hub_view store.old.machine connections.old) }
     requires place { place < length connections.old }
-    ensures goes_on { GoesOn (hub_view engine.old connections.old) (hub_view engine.new connections.new) }
+    requires ready { IsReadyFor store.old 1 }
+    ensures goes_on { GoesOn (hub_view store.old.machine connections.old) (hub_view store.new.machine connections.new) }
     ensures bytes { (c : Connection) → IsThere connections.old place c
-        → TakesIn (hub_view engine.old connections.old) (hub_view engine.new connections.new) c.number
+        → TakesIn D.medium (stored_view store.old connections.old) (stored_view store.new connections.new) c.number
         (take result piece.now) moment.0 }
     ensures within { result ≤ length piece.now }
     ensures whole { (c : Connection) → IsThere connections.new place c
@@ -298,14 +312,17 @@ pub(crate) fn take_in(
     if connection.ended {
         return piece.len();
     }
-    let reply = engine.limits().longest_reply();
+    let reply = store.engine().limits().longest_reply();
     let mut taken = 0;
     while taken < piece.len() {
+        if !store.is_ready_for(1) {
+            return taken;
+        }
         let connection = &connections[place];
         if !connection.ended && !connection.has_room(reply) {
             return taken;
         }
-        taken += take(engine, connections, place, &piece[taken..], moment);
+        taken += take(store, connections, place, &piece[taken..], moment);
     }
     taken
 }

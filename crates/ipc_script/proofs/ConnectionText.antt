@@ -4,8 +4,8 @@ use Rattle.std.specs.Prelude.{not}
 use Rattle.std.specs.Io.KnownBytes.{Appends}
 use Rattle.std.proofs.KnownBytes.{Appends-nil, Appends-trans}
 use Rattle.ipc_base.specs.declared.limits.Limits.{Limits}
-use Rattle.ipc_hub.specs.declared.hub.Hub.{Hub}
-use Rattle.ipc_hub.specs.Clients.{Client, Clients, client_at, ended_at}
+use Rattle.ipc_hub.specs.View.{HubView}
+use Rattle.ipc_hub.specs.Clients.{accepted, Client, Clients, client_at, ended_at}
 use Rattle.ipc_hub.specs.Relations.Matches.{HubMatches}
 use Rattle.ipc_script.specs.declared.report.Opened.{Opened}
 use Rattle.ipc_script.specs.Script.{Run, emptied, end_line, conn_text, WritesPart}
@@ -34,8 +34,8 @@ said r conn = at (client_at r.hub conn) refl
 pub frames_part : (r : Run) (conn : ℕ) (w0 w1 : Option (List ℕ)) → WritesPart w0 w1 (frames_text r.hub conn) → WritesPart w0 w1 (conn_text r conn)
 frames_part r conn w0 w1 part = subst (WritesPart w0 w1) (sym (said r conn)) (part_more w0 w1 (frames_text r.hub conn) _ part)
 
-module _ (limits : Limits) (r : Run) (conn : ℕ) (hub : Hub) (w0 w1 w2 : Option (List ℕ)) (told ended : Bool)
-    (matches : HubMatches limits r.hub.accepted hub (without_frames r.hub conn)) (frames : Appends w0 w1 (frames_text r.hub conn))
+module _ (limits : Limits) (r : Run) (conn : ℕ) (hub : HubView) (w0 w1 w2 : Option (List ℕ)) (told ended : Bool)
+    (matches : HubMatches limits (accepted r.hub) hub (without_frames r.hub conn)) (frames : Appends w0 w1 (frames_text r.hub conn))
     (was : told ≡ r.told conn) (is : ended ≡ ended_at (without_frames r.hub conn) conn) where
   server : ended ≡ ended_at r.hub conn
   server = is ∙ ended_taken r.hub conn

@@ -7,16 +7,17 @@ use Rattle.std.proofs.KnownBytes.{Appends-nil, Appends-trans}
 use Rattle.std.proofs.lemmas.Bool.Decides.{nat_tests}
 use Rattle.std.proofs.lemmas.List.{take_rest, length-drop, take-append-drop}
 use Rattle.ipc_base.specs.declared.limits.Limits.{Limits}
-use Rattle.ipc_hub.specs.declared.hub.Hub.{Hub}
+use Rattle.ipc_disk.specs.Medium.{Medium}
 use Rattle.ipc_hub.specs.Clients.{Client, client_at, feed}
-use Rattle.ipc_hub.specs.View.{is_connected, HasNoFrame}
-use Rattle.ipc_hub.specs.Relations.Matches.{HubMatches, SimulatesFeed}
+use Rattle.ipc_hub.specs.View.{StoredHub, is_connected, HasNoFrame}
+use Rattle.ipc_hub.specs.Relations.Matches.{Comes, ServesFeed}
 use Rattle.ipc_script.specs.declared.report.Opened.{Opened}
 use Rattle.ipc_script.specs.declared.script.Sender.{Sender}
 use Rattle.ipc_script.specs.declared.fault.ScriptFault.{ScriptFault}
 use Rattle.ipc_script.specs.declared.fault.ScriptFault.TheVariants.{Unknown}
 use Rattle.ipc_script.specs.Line.PlainLine.{Data}
 use Rattle.ipc_script.specs.Script.{Run, Progress, Piece, Cut, followed, is_open, fed, fed_in_pieces, report, reported, emptied, line_done, WritesPart}
+use Rattle.ipc_script.specs.Script.{WritesMore}
 use Rattle.ipc_script.specs.Relations.Faults.{ByFault, IfRefused}
 use Rattle.ipc_script.specs.Relations.Matches.{RunMatches, RunMatchesBetween, ProgressMatches}
 use Rattle.ipc_script.specs.Relations.Pieces.{SimulatesPiece, PieceBreaksOff}
@@ -32,7 +33,8 @@ abbrev pub behind : List ℕ → Progress → Progress
 behind text p = record { text = text ++ p.text; run = p.run }
 
 -- some pieces are fed, and some bytes are left
-pub record PartlyFed (limits : Limits) (r : Run) (sender : Sender) (bytes : List ℕ) (hub : Hub) (opened : List Opened) (rest : List ℕ)
+pub record PartlyFed {D : Type 0} (limits : Limits) (r : Run) (sender : Sender) (bytes : List ℕ) (hub : StoredHub D) (opened : List Opened)
+    (rest : List ℕ)
     (before after : Option (List ℕ)) : Type 0 where
   pub now : Run
   pub pieces : List Piece
@@ -58,63 +60,64 @@ module _ (limits : Limits) (r : Run) (moment conn : ℕ) (bytes : List ℕ) (ref
       let past : nat_lt (length bytes + 1) (length bytes) ≡ false = grind (arith, nat_tests) in
       rw past refl
 
-module _ (limits : Limits) (r : Run) (sender : Sender) (bytes : List ℕ) where
-  pub fed_begun : (hub : Hub) (opened : List Opened) (w : Option (List ℕ)) → RunMatchesBetween limits hub opened r
+module _ {D : Type 0} (limits : Limits) (r : Run) (sender : Sender) (bytes : List ℕ) where
+  pub fed_begun : (hub : StoredHub D) (opened : List Opened) (w : Option (List ℕ)) → RunMatchesBetween limits hub opened r
       → PartlyFed limits r sender bytes hub opened bytes w w
   fed_begun hub opened w b =
       record { now = r; pieces = []; text = []; at = b; there = refl; shut = λ _. refl; written = Appends-nil w; runs = λ more. refl }
 
-  module _ (hub : Hub) (opened : List Opened) (rest : List ℕ) (w0 w1 : Option (List ℕ)) (p : PartlyFed limits r sender bytes hub opened rest w0 w1)
-      (taken : ℕ) (next : Hub) (changed : List Opened) (w2 : Option (List ℕ)) (s : SimulatesPiece limits p.now sender rest taken next changed w1 w2) where
-    abbrev step : Progress
-    step = fed limits p.now sender.moment.0 sender.conn (take taken rest) s.refused
+  module _ (hub : StoredHub D) (opened : List Opened) (rest : List ℕ) (w0 w1 : Option (List ℕ)) (p : PartlyFed limits r sender bytes hub opened rest w0 w1)
+      (taken : ℕ) (next : StoredHub D) (changed : List Opened) (w2 : Option (List ℕ)) (s : SimulatesPiece limits p.now sender rest taken next changed w1 w2)
+    where
+      abbrev step : Progress
+      step = fed limits p.now sender.moment.0 sender.conn (take taken rest) s.refused
 
-    abbrev piece : Piece
-    piece = record { more = taken - 1; refused = s.refused }
+      abbrev piece : Piece
+      piece = record { more = taken - 1; refused = s.refused }
 
-    open_all : is_open r sender.conn ≡ true
-    open_all = sym p.there ∙ s.open_before
+      open_all : is_open r sender.conn ≡ true
+      open_all = sym p.there ∙ s.open_before
 
-    runs_on : 0 < length rest → taken < length rest → (more : Cut)
-        → fed_in_pieces limits r sender.moment.0 sender.conn bytes ((p.pieces ++ piece ∷ []) ++ more)
-        ≡ behind (p.text ++ step.text) (fed_in_pieces limits step.run sender.moment.0 sender.conn (drop taken rest) more)
-    runs_on some below more =
-        let then : Progress = fed_in_pieces limits step.run sender.moment.0 sender.conn (drop taken rest) more in
-        let took : taken - 1 + 1 ≡ taken = omega (arith, s.takes_some some) in
-        ap (fed_in_pieces limits r sender.moment.0 sender.conn bytes) (append_assoc p.pieces (piece ∷ []) more)
-        ∙ (p.runs (piece ∷ more)
-        ∙ (ap (behind p.text) (first_piece limits p.now sender.moment.0 sender.conn rest s.refused (taken - 1) taken took below more)
-        ∙ ap (λ (t : List ℕ). record { text = t; run = then.run }) (sym (append_assoc p.text step.text then.text))))
+      runs_on : 0 < length rest → taken < length rest → (more : Cut)
+          → fed_in_pieces limits r sender.moment.0 sender.conn bytes ((p.pieces ++ piece ∷ []) ++ more)
+          ≡ behind (p.text ++ step.text) (fed_in_pieces limits step.run sender.moment.0 sender.conn (drop taken rest) more)
+      runs_on some below more =
+          let then : Progress = fed_in_pieces limits step.run sender.moment.0 sender.conn (drop taken rest) more in
+          let took : taken - 1 + 1 ≡ taken = omega (arith, s.takes_some some) in
+          ap (fed_in_pieces limits r sender.moment.0 sender.conn bytes) (append_assoc p.pieces (piece ∷ []) more)
+          ∙ (p.runs (piece ∷ more)
+          ∙ (ap (behind p.text) (first_piece limits p.now sender.moment.0 sender.conn rest s.refused (taken - 1) taken took below more)
+          ∙ ap (λ (t : List ℕ). record { text = t; run = then.run }) (sym (append_assoc p.text step.text then.text))))
 
-    -- one piece more
-    pub fed_more : 0 < length rest → taken < length rest
-        → PartlyFed limits r sender bytes next changed (take (length rest - taken) (drop taken rest)) w0 w2
-    fed_more some below =
-        record {
-          now = step.run;
-          pieces = p.pieces ++ piece ∷ [];
-          text = p.text ++ step.text;
-          at = s.matches.0;
-          there = s.open_after ∙ sym open_all;
-          shut = λ f. (let bad : true ≡ false = sym open_all ∙ f in cc);
-          written = Appends-trans w0 w1 w2 p.text step.text p.written s.matches.1;
-          runs = λ more. runs_on some below more
-              ∙ ap (λ (bs : List ℕ). behind (p.text ++ step.text) (fed_in_pieces limits step.run sender.moment.0 sender.conn bs more))
-              (sym (take_rest rest taken));
-        }
+      -- one piece more
+      pub fed_more : 0 < length rest → taken < length rest
+          → PartlyFed limits r sender bytes next changed (take (length rest - taken) (drop taken rest)) w0 w2
+      fed_more some below =
+          record {
+            now = step.run;
+            pieces = p.pieces ++ piece ∷ [];
+            text = p.text ++ step.text;
+            at = s.matches.0;
+            there = s.open_after ∙ sym open_all;
+            shut = λ f. (let bad : true ≡ false = sym open_all ∙ f in cc);
+            written = Appends-trans w0 w1 w2 p.text step.text p.written s.matches.1;
+            runs = λ more. runs_on some below more
+                ∙ ap (λ (bs : List ℕ). behind (p.text ++ step.text) (fed_in_pieces limits step.run sender.moment.0 sender.conn bs more))
+                (sym (take_rest rest taken));
+          }
 
-    -- the last piece
-    pub fed_all : take taken rest ≡ rest → (cut : Cut) × (q : Progress) × (fed_in_pieces limits r sender.moment.0 sender.conn bytes cut ≡ q)
-        × ProgressMatches limits next changed w0 w2 q
-    fed_all whole =
-        let last : Piece = record { more = length rest; refused = s.refused } in (
-          p.pieces ++ last ∷ [],
-          behind p.text step,
-          p.runs (last ∷ [])
-              ∙ (ap (behind p.text) (last_piece limits p.now sender.moment.0 sender.conn rest s.refused)
-              ∙ ap (λ (bs : List ℕ). behind p.text (fed limits p.now sender.moment.0 sender.conn bs s.refused)) (sym whole)),
-          (s.matches.0, Appends-trans w0 w1 w2 p.text step.text p.written s.matches.1),
-        )
+      -- the last piece
+      pub fed_all : take taken rest ≡ rest → (cut : Cut) × (q : Progress) × (fed_in_pieces limits r sender.moment.0 sender.conn bytes cut ≡ q)
+          × ProgressMatches limits next changed w0 w2 q
+      fed_all whole =
+          let last : Piece = record { more = length rest; refused = s.refused } in (
+            p.pieces ++ last ∷ [],
+            behind p.text step,
+            p.runs (last ∷ [])
+                ∙ (ap (behind p.text) (last_piece limits p.now sender.moment.0 sender.conn rest s.refused)
+                ∙ ap (λ (bs : List ℕ). behind p.text (fed limits p.now sender.moment.0 sender.conn bs s.refused)) (sym whole)),
+            (s.matches.0, Appends-trans w0 w1 w2 p.text step.text p.written s.matches.1),
+          )
 
 -- ---- one piece
 
@@ -127,19 +130,20 @@ pub open_reported : (r : Run) (conn : ℕ) → is_open (reported r) conn ≡ is_
 open_reported r conn = ap is_some (value_mapped emptied r.hub.clients conn) ∙ some_emptied (client_at r.hub conn)
 
 -- a hub that knows a number stands for one in which it is open
-pub open_here : (limits : Limits) (hub : Hub) (opened : List Opened) (r : Run) (conn : ℕ) → RunMatches limits hub opened r → (is_connected hub conn ≡ false → ⊥)
+pub open_here : {D : Type 0} (limits : Limits) (hub : StoredHub D) (opened : List Opened) (r : Run) (conn : ℕ) → RunMatches limits hub opened r
+    → (is_connected hub.hub conn ≡ false → ⊥)
     → is_open r conn ≡ true
 open_here limits hub opened r conn i known =
-    let same = connected limits i.confirmed hub r.hub conn i.matches in
+    let same = connected limits hub.store.confirmed hub.hub r.hub conn i.matches.hub in
     elim (test (is_open r conn)) [ inl t ↦ t | inr f ↦ absurd (known (same ∙ f)) ]
 
-module _ (limits : Limits) (r : Run) (sender : Sender) (bytes : List ℕ) (taken : ℕ) (hub mid next : Hub) (opened changed : List Opened)
-    (w0 w2 : Option (List ℕ))
-    (b : RunMatchesBetween limits hub opened r) (takes : SimulatesFeed hub mid sender.conn (take taken bytes) sender.moment.0)
-    (starts : HasNoFrame hub sender.conn → 0 < length bytes → 0 < taken)
-    (known : is_connected hub sender.conn ≡ false → ⊥) where
-  taken_in : (refused : List Bool) × HubMatches limits b.run.confirmed mid (feed limits r.hub sender.conn (take taken bytes) sender.moment.0 refused)
-  taken_in = takes limits b.run.confirmed r.hub b.run.matches
+module _ {D : Type 0} (medium : D → Medium) (limits : Limits) (r : Run) (sender : Sender) (bytes : List ℕ) (taken : ℕ) (hub mid next : StoredHub D)
+    (opened changed : List Opened) (w0 w2 : Option (List ℕ))
+    (b : RunMatchesBetween limits hub opened r) (takes : ServesFeed medium hub mid sender.conn (take taken bytes) sender.moment.0)
+    (starts : HasNoFrame hub.hub sender.conn → 0 < length bytes → 0 < taken)
+    (known : is_connected hub.hub sender.conn ≡ false → ⊥) where
+  taken_in : (refused : List Bool) × Comes medium limits hub mid r.hub (feed limits r.hub sender.conn (take taken bytes) sender.moment.0 refused)
+  taken_in = takes limits r.hub b.run.matches
 
   abbrev fed_run : Run
   fed_run = record r { hub = feed limits r.hub sender.conn (take taken bytes) sender.moment.0 taken_in.0 }
@@ -148,13 +152,13 @@ module _ (limits : Limits) (r : Run) (sender : Sender) (bytes : List ℕ) (taken
   like = heads_feed limits sender.conn sender.moment.0 r.hub (take taken bytes) taken_in.0
 
   in_line : RunMatches limits mid opened fed_run
-  in_line = steady limits b.run.confirmed hub mid opened r fed_run.hub b.run like taken_in.1
+  in_line = steady limits hub mid opened r fed_run.hub b.run like taken_in.1.matches
 
   was_open : is_open r sender.conn ≡ true
   was_open = open_here limits hub opened r sender.conn b.run known
 
   some_taken : 0 < length bytes → 0 < taken
-  some_taken = starts (no_frame limits b.run.confirmed hub r.hub sender.conn b.run.matches (b.run.whole sender.conn) (b.quiet sender.conn))
+  some_taken = starts (no_frame limits hub.store.confirmed hub.hub r.hub sender.conn b.run.matches.hub (b.run.whole sender.conn) (b.quiet sender.conn))
 
   pub feeds_some : ((limits : Limits) (r : Run) → RunMatches limits mid opened r → ProgressMatches limits next changed w0 w2 (report r))
       → SimulatesPiece limits r sender bytes taken next changed w0 w2
@@ -187,7 +191,7 @@ all_taken rest n e =
     let none : drop n rest ≡ [] = no_length (drop n rest) (ap length (sym (take_rest rest n)) ∙ e) in
     sym (append-nil (take n rest)) ∙ (ap (λ (xs : List ℕ). take n rest ++ xs) (sym none) ∙ take-append-drop n rest)
 
-module _ (limits : Limits) (r : Run) (sender : Sender) (bytes : List ℕ) (hub : Hub) (opened : List Opened) (rest : List ℕ)
+module _ {D : Type 0} (limits : Limits) (r : Run) (sender : Sender) (bytes : List ℕ) (hub : StoredHub D) (opened : List Opened) (rest : List ℕ)
     (w0 w1 w2 : Option (List ℕ))
     (p : PartlyFed limits r sender bytes hub opened rest w0 w1) (more : 0 < length rest) where
   -- a beginning of what a piece lets out is written
@@ -228,17 +232,17 @@ module _ (limits : Limits) (r : Run) (sender : Sender) (bytes : List ℕ) (hub :
         ]
 
   pub fed_refused : (e : ScriptFault)
-      → ByFault e ((limits : Limits) (r : Run) → RunMatchesBetween limits hub opened r → PieceBreaksOff limits r sender rest w1 w2)
+      → ByFault e ((limits : Limits) (r : Run) → RunMatchesBetween limits hub opened r → PieceBreaksOff limits r sender rest w1 w2) (Appends w1 w2 [])
       ((e ≡ Unknown sender.number) × Appends w1 w2 [])
       → IfRefused e ((limits : Limits) (r : Run) → RunMatchesBetween limits hub opened r → is_open r sender.conn ≡ false)
       → LineStops (line_done limits sender.number r (Data sender.moment.0 sender.conn bytes)) w0 w2 e
   fed_refused e err unknown =
       by_fault_both ((limits : Limits) (r : Run) → RunMatchesBetween limits hub opened r → PieceBreaksOff limits r sender rest w1 w2)
       ((cut : Cut) × WritesPart w0 w2 (text_of (line_done limits sender.number r (Data sender.moment.0 sender.conn bytes) cut)))
-      ((e ≡ Unknown sender.number) × Appends w1 w2 [])
+      (Appends w1 w2 []) (WritesMore w0 w2 []) ((e ≡ Unknown sender.number) × Appends w1 w2 [])
       ((limits : Limits) (r : Run) → RunMatchesBetween limits hub opened r → is_open r sender.conn ≡ false)
       (((cut : Cut) → line_done limits sender.number r (Data sender.moment.0 sender.conn bytes) cut ≡ Err e) × Appends w0 w2 []) e
-      (λ part. fed_part (part limits p.now p.at)) (λ a u.
+      (λ part. fed_part (part limits p.now p.at)) (λ none. (p.text ++ [], Appends-trans w0 w1 w2 p.text [] p.written none)) (λ a u.
       let shut : is_open r sender.conn ≡ false = sym p.there ∙ u limits p.now p.at in (
         λ cut. rw shut (ap (λ (f : ScriptFault). Err f) (sym a.0)),
         Appends-trans w0 w1 w2 [] [] (subst (Appends w0 w1) (p.shut shut) p.written) a.1,

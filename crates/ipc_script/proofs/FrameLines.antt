@@ -11,8 +11,8 @@ use Rattle.std.proofs.lemmas.List.Elements.{All-head, All-tail, All-weaker}
 use Rattle.std.proofs.lemmas.Bool.Decides.{nat_tests}
 use Rattle.ipc_base.specs.declared.limits.Limits.{Limits}
 use Rattle.ipc_base.specs.Table.{with_value}
-use Rattle.ipc_hub.specs.declared.hub.Hub.{Hub}
-use Rattle.ipc_hub.specs.Clients.{Frame, Client, Clients, client_at, with_client, consume, consumed_from, confirmed_bytes, shown, shown_at}
+use Rattle.ipc_hub.specs.View.{HubView}
+use Rattle.ipc_hub.specs.Clients.{accepted, Frame, Client, Clients, client_at, with_client, consume, consumed_from, confirmed_bytes, shown, shown_at}
 use Rattle.ipc_hub.specs.Relations.Matches.{IsFrame, AreFrames, ClientMatches}
 use Rattle.ipc_hub.specs.Relations.Matches.{HubMatches, Simulates}
 use Rattle.ipc_script.specs.Script.{emptied, frame_line, WritesPart}
@@ -24,20 +24,20 @@ use Rattle.ipc_script.proofs.HubAndClients.{partner-at}
 use Rattle.ipc_script.proofs.WrittenText.{part_after, part_more}
 
 -- some frames are written and taken: what is behind them now, and the text so far
-pub record Partly (limits : Limits) (h : Clients) (conn : ℕ) (hub : Hub) (before after : Option (List ℕ)) : Type 0 where
+pub record Partly (limits : Limits) (h : Clients) (conn : ℕ) (hub : HubView) (before after : Option (List ℕ)) : Type 0 where
   pub now : Clients
   pub text : List ℕ
-  pub matches : HubMatches limits h.accepted hub now
-  pub accepted : now.accepted ≡ h.accepted
+  pub matches : HubMatches limits (accepted h) hub now
+  pub events : now.events ≡ h.events
   pub untouched : IfSome (client_at now conn) HasWholeFrames
   pub left : without_frames now conn ≡ without_frames h conn
   pub said : text ++ frames_text now conn ≡ frames_text h conn
   pub written : Appends before after text
 
-pub partly_begun : (limits : Limits) (h : Clients) (conn : ℕ) (hub : Hub) (w : Option (List ℕ)) → HubMatches limits h.accepted hub h
+pub partly_begun : (limits : Limits) (h : Clients) (conn : ℕ) (hub : HubView) (w : Option (List ℕ)) → HubMatches limits (accepted h) hub h
     → IfSome (client_at h conn) HasWholeFrames → Partly limits h conn hub w w
 partly_begun limits h conn hub w s u =
-    record { now = h; text = []; matches = s; accepted = refl; untouched = u; left = refl; said = refl; written = Appends-nil w }
+    record { now = h; text = []; matches = s; events = refl; untouched = u; left = refl; said = refl; written = Appends-nil w }
 
 -- ---- what a client sees
 
@@ -84,28 +84,29 @@ same_emptied : (c : Client) → c.frames ≡ [] → c.consumed ≡ 0 → emptied
 same_emptied c e none =
     sym (ap (λ (fs : List Frame). record c { frames = fs }) e ∙ ap (λ (n : ℕ). record c { frames = []; consumed = n }) none)
 
-module _ (limits : Limits) (h : Clients) (conn : ℕ) (hub : Hub) (w0 w1 : Option (List ℕ)) (out : List ℕ) (p : Partly limits h conn hub w0 w1)
+module _ (limits : Limits) (h : Clients) (conn : ℕ) (hub : HubView) (w0 w1 : Option (List ℕ)) (out : List ℕ) (p : Partly limits h conn hub w0 w1)
     (see : (limits : Limits) (confirmed : ℕ) (h : Clients) → HubMatches limits confirmed hub h → out ≡ shown_at confirmed h conn) where
-  shows : (c : Client) → client_at p.now conn ≡ Some c → out ≡ shown h.accepted c
-  shows c e = let s = see limits h.accepted p.now p.matches in rw e at s
+  shows : (c : Client) → client_at p.now conn ≡ Some c → out ≡ shown (accepted h) c
+  shows c e = let s = see limits (accepted h) p.now p.matches in rw e at s
 
   whole : (c : Client) → client_at p.now conn ≡ Some c → c.consumed ≡ 0
   whole c e = subst (λ (o : Option Client). IfSome o HasWholeFrames) e p.untouched
 
-  are_frames : (c : Client) → client_at p.now conn ≡ Some c → AreFrames h.accepted c.frames
-  are_frames c e = subst (λ (n : ℕ). AreFrames n c.frames) p.accepted
-      (partner-at (ClientMatches h.accepted p.now.accepted) hub.connections p.now.clients conn c p.matches.clients e).1.frames
+  are_frames : (c : Client) → client_at p.now conn ≡ Some c → AreFrames (accepted h) c.frames
+  are_frames c e = subst (λ (n : ℕ). AreFrames n c.frames) (ap length p.events)
+      (partner-at (ClientMatches (accepted h) (accepted p.now)) hub.connections p.now.clients conn c p.matches.clients e).1.frames
 
   frames_of : (c : Client) → client_at p.now conn ≡ Some c → (f : Frame) (fs : List Frame) → c.frames ≡ f ∷ fs → All (λ f. IsFrame f.bytes) (f ∷ fs)
   frames_of c e f fs is = subst (All (λ (f : Frame). IsFrame f.bytes)) is
-      (All-weaker (λ (f : Frame). (f.mark ≤ h.accepted) × IsFrame f.bytes) (λ (f : Frame). IsFrame f.bytes) (λ f both. both.1) c.frames (are_frames c e))
+      (All-weaker (λ (f : Frame). (f.mark ≤ (accepted h)) × IsFrame f.bytes) (λ (f : Frame). IsFrame f.bytes) (λ f both. both.1) c.frames (are_frames c e))
 
   first_seen : (c : Client) → client_at p.now conn ≡ Some c → (f : Frame) (fs : List Frame) → c.frames ≡ f ∷ fs
-      → out ≡ f.bytes ++ confirmed_bytes h.accepted fs
+      → out ≡ f.bytes ++ confirmed_bytes (accepted h) fs
   first_seen c e f fs is =
-      let marks = subst (All (λ (f : Frame). f.mark ≤ h.accepted)) is
-      (All-weaker (λ (f : Frame). (f.mark ≤ h.accepted) × IsFrame f.bytes) (λ (f : Frame). f.mark ≤ h.accepted) (λ f both. both.0) c.frames (are_frames c e)) in
-      shows c e ∙ seen h.accepted c f fs is (whole c e) (All-head (λ (f : Frame). f.mark ≤ h.accepted) f fs marks)
+      let marks = subst (All (λ (f : Frame). f.mark ≤ (accepted h))) is
+      (All-weaker (λ (f : Frame). (f.mark ≤ (accepted h)) × IsFrame f.bytes) (λ (f : Frame). f.mark ≤ (accepted h)) (λ f both. both.0) c.frames
+      (are_frames c e)) in
+      shows c e ∙ seen (accepted h) c f fs is (whole c e) (All-head (λ (f : Frame). f.mark ≤ (accepted h)) f fs marks)
 
   -- nothing more is written
   pub partly_none : WritesPart w0 w1 (frames_text h conn)
@@ -115,13 +116,13 @@ module _ (limits : Limits) (h : Clients) (conn : ℕ) (hub : Hub) (w0 w1 : Optio
       (spelled : line ≡ frame_line conn (take count out)) where
     first_length : (c : Client) → client_at p.now conn ≡ Some c → (f : Frame) (fs : List Frame) → c.frames ≡ f ∷ fs → count ≡ length f.bytes
     first_length c e f fs is =
-        first f.bytes (confirmed_bytes h.accepted fs) (All-head (λ (f : Frame). IsFrame f.bytes) f fs (frames_of c e f fs is)) (first_seen c e f fs is)
+        first f.bytes (confirmed_bytes (accepted h) fs) (All-head (λ (f : Frame). IsFrame f.bytes) f fs (frames_of c e f fs is)) (first_seen c e f fs is)
 
     is_line : (c : Client) → client_at p.now conn ≡ Some c → (f : Frame) (fs : List Frame) → c.frames ≡ f ∷ fs → line ≡ frame_line conn f.bytes
     is_line c e f fs is =
         let bytes : take count out ≡ f.bytes =
         ap (λ (n : ℕ). take n out) (first_length c e f fs is)
-        ∙ (ap (take (length f.bytes)) (first_seen c e f fs is) ∙ take-append_seam f.bytes (confirmed_bytes h.accepted fs)) in
+        ∙ (ap (take (length f.bytes)) (first_seen c e f fs is) ∙ take-append_seam f.bytes (confirmed_bytes (accepted h) fs)) in
         spelled ∙ ap (frame_line conn) bytes
 
     line_first : (c : Client) → client_at p.now conn ≡ Some c → (f : Frame) (fs : List Frame) → c.frames ≡ f ∷ fs
@@ -131,10 +132,10 @@ module _ (limits : Limits) (h : Clients) (conn : ℕ) (hub : Hub) (w0 w1 : Optio
         ∙ ap (λ (l : List ℕ). l ++ flat_map (λ (f : Frame). frame_line conn f.bytes) fs) (sym (is_line c e f fs is)))
 
     no_client : client_at p.now conn ≡ None → ⊥
-    no_client e = let s = see limits h.accepted p.now p.matches in let nothing : out ≡ [] = rw e at s in absurd (omega (arith, ap length nothing))
+    no_client e = let s = see limits (accepted h) p.now p.matches in let nothing : out ≡ [] = rw e at s in absurd (omega (arith, ap length nothing))
 
     no_first : (c : Client) → client_at p.now conn ≡ Some c → c.frames ≡ [] → ⊥
-    no_first c e is = let nothing : out ≡ [] = shows c e ∙ unseen h.accepted c is (whole c e) in absurd (omega (arith, ap length nothing))
+    no_first c e is = let nothing : out ≡ [] = shows c e ∙ unseen (accepted h) c is (whole c e) in absurd (omega (arith, ap length nothing))
 
     part_of : (w2 : Option (List ℕ)) → WritesPart w1 w2 line → (c : Client) → client_at p.now conn ≡ Some c → (fs : List Frame) → c.frames ≡ fs
         → WritesPart w0 w2 (frames_text h conn)
@@ -151,7 +152,7 @@ module _ (limits : Limits) (h : Clients) (conn : ℕ) (hub : Hub) (w0 w1 : Optio
     pub partly_part : (w2 : Option (List ℕ)) → WritesPart w1 w2 line → WritesPart w0 w2 (frames_text h conn)
     partly_part w2 part = part_at w2 part (client_at p.now conn) refl
 
-    module _ (next : Hub) (w2 : Option (List ℕ)) (wrote : Appends w1 w2 line) (takes : Simulates hub next (λ _ h. consume h conn count)) where
+    module _ (next : HubView) (w2 : Option (List ℕ)) (wrote : Appends w1 w2 line) (takes : Simulates hub next (λ _ h. consume h conn count)) where
       one_more : (c : Client) → client_at p.now conn ≡ Some c → (fs : List Frame) → c.frames ≡ fs → Partly limits h conn next w0 w2
       one_more c e [] is = absurd (no_first c e is)
       one_more c e (f ∷ fs) is =
@@ -167,8 +168,8 @@ module _ (limits : Limits) (h : Clients) (conn : ℕ) (hub : Hub) (w0 w1 : Optio
           record {
             now = now;
             text = p.text ++ line;
-            matches = subst (HubMatches limits h.accepted next) taken (takes limits h.accepted p.now p.matches);
-            accepted = p.accepted;
+            matches = subst (HubMatches limits (accepted h) next) taken (takes limits (accepted h) p.now p.matches);
+            events = p.events;
             untouched = subst (λ (o : Option Client). IfSome o HasWholeFrames) (sym there) refl;
             left = left ∙ p.left;
             said = append_assoc p.text line (frames_text now conn) ∙ (ap (λ (l : List ℕ). p.text ++ l) (sym before) ∙ p.said);
@@ -184,11 +185,11 @@ module _ (limits : Limits) (h : Clients) (conn : ℕ) (hub : Hub) (w0 w1 : Optio
       partly_more = more_at (client_at p.now conn) refl
 
   abbrev Done : Type 0
-  Done = HubMatches limits h.accepted hub (without_frames h conn) × Appends w0 w1 (frames_text h conn)
+  Done = HubMatches limits (accepted h) hub (without_frames h conn) × Appends w0 w1 (frames_text h conn)
 
   done_at : without_frames p.now conn ≡ p.now → frames_text p.now conn ≡ [] → Done
   done_at same nothing = (
-    subst (HubMatches limits h.accepted hub) (sym same ∙ p.left) p.matches,
+    subst (HubMatches limits (accepted h) hub) (sym same ∙ p.left) p.matches,
     subst (Appends w0 w1) (sym (append-nil p.text) ∙ (ap (λ (l : List ℕ). p.text ++ l) (sym nothing) ∙ p.said)) p.written,
   )
 
@@ -200,7 +201,7 @@ module _ (limits : Limits) (h : Clients) (conn : ℕ) (hub : Hub) (w0 w1 : Optio
       (rw e (ap (flat_map (λ (f : Frame). frame_line conn f.bytes)) is))
   none_more none c e (f ∷ fs) is =
       let long = frame_nonempty f.bytes (All-head (λ (f : Frame). IsFrame f.bytes) f fs (frames_of c e f fs is)) in
-      absurd (omega (arith, ap length (first_seen c e f fs is), length-append f.bytes (confirmed_bytes h.accepted fs)))
+      absurd (omega (arith, ap length (first_seen c e f fs is), length-append f.bytes (confirmed_bytes (accepted h) fs)))
 
   ended_at : length out ≡ 0 → (o : Option Client) → client_at p.now conn ≡ o → Done
   ended_at none None e = done_at (rw e refl) (rw e refl)

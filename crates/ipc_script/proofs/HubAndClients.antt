@@ -1,5 +1,6 @@
 -- What the clients of the definitions tell of the code's hub.
-use Rattle.std.proofs.Common.{◌≡◌, ◌<◌, ◌+◌, ℕ, Bool, true, false, List, [], ◌∷◌, drop, Option, Some, None, IfSome, refl, ap, ◌∙◌, subst, arith}
+use Rattle.std.proofs.Common.{◌≡◌, ◌<◌, ◌+◌, ℕ, Bool, true, false, List, [], ◌∷◌, drop, Option, Some, None, IfSome, Result}
+use Rattle.std.proofs.Common.{Ok, Err, refl, sym, ap, ◌∙◌, subst, arith}
 use Rattle.std.specs.Prelude.{is_some, nat_eq}
 use Rattle.ipc_base.specs.declared.limits.Limits.{Limits}
 use Rattle.std.specs.List.{IsDistinct, AllByRecursion}
@@ -7,43 +8,74 @@ use Rattle.std.proofs.lemmas.Bool.Decides.{nat_tests}
 use Rattle.std.proofs.lemmas.Map.Keys.{IsDistinct-cons}
 use Rattle.ipc_base.specs.Table.{value_at, ArePaired, IsRising}
 use Rattle.ipc_base.proofs.CallerLemmas.{same_keys, paired-keys, paired-at, paired-none}
-use Rattle.ipc_hub.specs.declared.hub.Hub.{Hub}
-use Rattle.ipc_hub.specs.Clients.{Clients, client_at, all_bytes, shown_at, ended_at}
-use Rattle.ipc_hub.specs.View.{ConnectionView, kept, is_connected, output_of, ended_of, HasNoFrame}
+use Rattle.ipc_disk.specs.Counts.{Counts}
+use Rattle.ipc_disk.specs.Medium.{Medium}
+use Rattle.ipc_hub.specs.declared.fault.ServeError.{ServeError}
+use Rattle.ipc_hub.specs.declared.fault.ServeError.TheVariants as serve
+use Rattle.ipc_script.specs.declared.fault.ScriptFault.TheVariants.{Unknown}
+use Rattle.ipc_script.specs.Relations.Faults.{ByFault, IfRefused, of_serve_error}
+use Rattle.ipc_hub.specs.Relations.Faults.{Refuses}
+use Rattle.ipc_hub.specs.Clients.{accepted, Clients, client_at, all_bytes, shown_at, ended_at}
+use Rattle.ipc_hub.specs.View.{ConnectionView, HubView, StoredHub, HasStopped, kept, is_connected, output_of, ended_of, HasNoFrame}
 use Rattle.ipc_hub.specs.Relations.Matches.{ClientMatches, HubMatches}
 
 -- the numbers that are connected
-pub connected : (limits : Limits) (confirmed : ℕ) (hub : Hub) (h : Clients) (conn : ℕ) → HubMatches limits confirmed hub h
+pub connected : (limits : Limits) (confirmed : ℕ) (hub : HubView) (h : Clients) (conn : ℕ) → HubMatches limits confirmed hub h
     → is_connected hub conn ≡ is_some (client_at h conn)
 connected limits confirmed hub h conn m =
-    same_keys hub.connections h.clients conn (paired-keys (ClientMatches confirmed h.accepted) hub.connections h.clients m.clients)
+    same_keys hub.connections h.clients conn (paired-keys (ClientMatches confirmed (accepted h)) hub.connections h.clients m.clients)
 
 -- a client without frames has an empty outbox
-pub no_frame : (limits : Limits) (confirmed : ℕ) (hub : Hub) (h : Clients) (conn : ℕ) → HubMatches limits confirmed hub h
+pub no_frame : (limits : Limits) (confirmed : ℕ) (hub : HubView) (h : Clients) (conn : ℕ) → HubMatches limits confirmed hub h
     → IfSome (client_at h conn) (λ c. c.consumed ≡ 0) → IfSome (client_at h conn) (λ c. c.frames ≡ []) → HasNoFrame hub conn
 no_frame limits confirmed hub h conn m u q = by_value (value_at nat_eq hub.connections conn) refl
   where
     by_value : (r : Option ConnectionView) → value_at nat_eq hub.connections conn ≡ r → IfSome r (λ v. kept v.outbox ≡ [])
     by_value None is = tt
     by_value (Some v) is =
-        let p = paired-at (ClientMatches confirmed h.accepted) hub.connections h.clients conn v m.clients is in
+        let p = paired-at (ClientMatches confirmed (accepted h)) hub.connections h.clients conn v m.clients is in
         let none : p.0.consumed ≡ 0 = rw p.1.0 at u in
         let empty : p.0.frames ≡ [] = rw p.1.0 at q in
         p.1.1.kept ∙ ap (λ (n : ℕ). drop n (all_bytes p.0.frames)) none ∙ ap all_bytes empty
 
 -- what the hub shows of a connection is what the client may see, and so is whether it has ended
-pub shows : (limits : Limits) (confirmed : ℕ) (hub : Hub) (h : Clients) (conn : ℕ) → HubMatches limits confirmed hub h
+pub shows : (limits : Limits) (confirmed : ℕ) (hub : HubView) (h : Clients) (conn : ℕ) → HubMatches limits confirmed hub h
     → (output_of hub conn ≡ shown_at confirmed h conn) × (ended_of hub conn ≡ ended_at h conn)
 shows limits confirmed hub h conn m = by_value (value_at nat_eq hub.connections conn) refl
   where
     by_value : (r : Option ConnectionView) → value_at nat_eq hub.connections conn ≡ r
         → (output_of hub conn ≡ shown_at confirmed h conn) × (ended_of hub conn ≡ ended_at h conn)
     by_value None is =
-        let none = paired-none (ClientMatches confirmed h.accepted) hub.connections h.clients conn m.clients is in
+        let none = paired-none (ClientMatches confirmed (accepted h)) hub.connections h.clients conn m.clients is in
         rw is (rw none (refl, refl))
     by_value (Some v) is =
-        let p = paired-at (ClientMatches confirmed h.accepted) hub.connections h.clients conn v m.clients is in
+        let p = paired-at (ClientMatches confirmed (accepted h)) hub.connections h.clients conn v m.clients is in
         rw is (rw p.1.0 (p.1.1.visible, p.1.1.ended))
+
+-- ---- refusals
+
+-- a call that was done named a connection
+pub is_known : {A D : Type 0} (hub : StoredHub D) (conn : ℕ) (result : Result A ServeError) (v : A) → result ≡ Ok v
+    → (HasStopped hub → result ≡ Err serve.Stopped)
+    → (¬ HasStopped hub → is_connected hub.hub conn ≡ false → result ≡ Err serve.Unknown) → is_connected hub.hub conn ≡ false → ⊥
+is_known hub conn result v is stopped unknown none =
+    let goes_on : ¬ HasStopped hub = λ has. let bad : Ok v ≡ Err serve.Stopped = sym is ∙ stopped has in cc in
+    let bad : Ok v ≡ Err serve.Unknown = sym is ∙ unknown goes_on none in cc
+
+-- a call that was refused and did not fail named none
+pub is_unknown : {D : Type 0} (medium : D → Medium) (counts : D → Counts) (hub next : StoredHub D) (conn : ℕ) (P : Type 0) (e : ServeError) (number : ℕ)
+    → (is_connected hub.hub conn ≡ false → P) → Refuses medium counts hub next conn e → IfRefused (of_serve_error e number) P
+is_unknown medium counts hub next conn P serve.Unknown number makes r = makes r.1
+is_unknown medium counts hub next conn P serve.Device number makes r = tt
+is_unknown medium counts hub next conn P serve.JournalFull number makes r = tt
+is_unknown medium counts hub next conn P serve.Stopped number makes r = tt
+
+-- so it has that fault
+pub is_its_fault : (W P : Type 0) (e : ServeError) (number : ℕ) → P → ByFault (of_serve_error e number) W P ((of_serve_error e number ≡ Unknown number) × P)
+is_its_fault W P serve.Unknown number p = (refl, p)
+is_its_fault W P serve.Device number p = p
+is_its_fault W P serve.JournalFull number p = p
+is_its_fault W P serve.Stopped number p = p
 
 -- ---- tables
 

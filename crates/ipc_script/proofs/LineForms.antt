@@ -5,18 +5,18 @@ use Rattle.std.specs.Io.KnownBytes.{Appends}
 use Rattle.std.proofs.KnownBytes.{Appends-nil}
 use Rattle.std.proofs.Math.Seq.{take-append_seam}
 use Rattle.ipc_base.specs.declared.limits.Limits.{Limits}
-use Rattle.ipc_hub.specs.declared.hub.Hub.{Hub}
+use Rattle.ipc_hub.specs.View.{StoredHub}
 use Rattle.ipc_hub.specs.Clients.{hangup}
 use Rattle.ipc_script.specs.declared.fault.ScriptFault.{ScriptFault}
 use Rattle.ipc_script.specs.declared.fault.ScriptFault.TheVariants.{InUse, Unknown}
 use Rattle.ipc_script.specs.declared.report.Opened.{Opened}
 use Rattle.ipc_script.specs.Line.{PlainLine, Open, End}
-use Rattle.ipc_script.specs.Script.{Run, Progress, Cut, is_open, opened, report, line_done, first_cut, WritesPart}
-use Rattle.ipc_script.specs.Relations.Faults.{IfRefused, WorldFailed}
+use Rattle.ipc_script.specs.Script.{Run, Progress, Cut, is_open, opened, report, line_done, first_cut, WritesPart, WritesMore}
+use Rattle.ipc_script.specs.Relations.Faults.{ByFault, IfRefused}
 use Rattle.ipc_script.specs.Relations.Matches.{RunMatches, ProgressMatches}
 use Rattle.ipc_script.specs.Relations.Simulation.{LineStops, SimulatesLine, text_of}
-use Rattle.ipc_script.proofs.FaultCases.{by_fault_both, world_failed}
-use Rattle.ipc_script.proofs.WrittenText.{part_none}
+use Rattle.ipc_script.proofs.FaultCases.{by_fault_both, by_fault}
+use Rattle.ipc_script.proofs.WrittenText.{part_none, grown_none}
 
 -- a list that is written back into its vector
 pub written_back : {A : Type 0} (n : ℕ) (new old : List A) → n ≡ length old → length new ≡ length old → take n (new ++ drop (length new) old) ≡ new
@@ -28,30 +28,33 @@ pub line_unwritten : (limits : Limits) (number : ℕ) (r : Run) (line : PlainLin
     × WritesPart w w (text_of (line_done limits number r line cut))
 line_unwritten limits number r line w = ([], part_none w (text_of (line_done limits number r line [])))
 
-module _ (limits : Limits) (number : ℕ) (r : Run) (hub mid next : Hub) (w0 w1 : Option (List ℕ)) where
+module _ {D : Type 0} (limits : Limits) (number : ℕ) (r : Run) (mid next : StoredHub D) (w0 w1 : Option (List ℕ)) where
   -- what is done is reported
   pub line_reported : (line : PlainLine) (between changed final : List Opened) (result : Result ⊤ ScriptFault)
       → OnOk result ((limits : Limits) (r : Run) → RunMatches limits mid between r → ProgressMatches limits next changed w0 w1 (report r))
-      → IfErr result (λ e. WorldFailed e ((limits : Limits) (r : Run) → RunMatches limits mid between r → WritesPart w0 w1 (report r).text))
+      → IfErr result (λ e. ByFault e ((limits : Limits) (r : Run) → RunMatches limits mid between r → WritesPart w0 w1 (report r).text)
+      (Appends w0 w1 []) ⊥)
       → final ≡ changed → (now : Run) → RunMatches limits mid between now → ((cut : Cut) → line_done limits number r line cut ≡ Ok (report now))
       → SimulatesLine limits (line_done limits number r line) next final w0 w1 result
   line_reported line between changed final (Ok u) ok err same now i done =
       let matches = subst (λ (os : List Opened). ProgressMatches limits next os w0 w1 (report now)) (sym same) (ok limits now i) in
       (first_cut [], report now, done (first_cut []), matches)
   line_reported line between changed final (Err e) ok err same now i done =
-      world_failed ((limits : Limits) (r : Run) → RunMatches limits mid between r → WritesPart w0 w1 (report r).text)
-      ((cut : Cut) × WritesPart w0 w1 (text_of (line_done limits number r line cut))) (((cut : Cut) → line_done limits number r line cut ≡ Err e)
-      × Appends w0 w1 []) e
-      (λ part. ([], subst (λ (p : Result Progress ScriptFault). WritesPart w0 w1 (text_of p)) (sym (done [])) (part limits now i))) err
+      by_fault ((limits : Limits) (r : Run) → RunMatches limits mid between r → WritesPart w0 w1 (report r).text)
+      ((cut : Cut) × WritesPart w0 w1 (text_of (line_done limits number r line cut))) (Appends w0 w1 []) (WritesMore w0 w1 []) ⊥
+      (((cut : Cut) → line_done limits number r line cut ≡ Err e) × Appends w0 w1 []) e
+      (λ part. ([], subst (λ (p : Result Progress ScriptFault). WritesPart w0 w1 (text_of p)) (sym (done [])) (part limits now i)))
+      (λ none. ([], none)) (λ never. absurd never) err
 
-  -- a line that is refused
-  pub line_refused : (line : PlainLine) (e fault : ScriptFault) (U : Type 0) → IfRefused e (e ≡ fault) → IfRefused e U
-      → (U → (cut : Cut) → line_done limits number r line cut ≡ Err fault)
-      → LineStops (line_done limits number r line) w0 w0 e
-  line_refused line e fault U a u refused =
-      by_fault_both ⊤ ((cut : Cut) × WritesPart w0 w0 (text_of (line_done limits number r line cut)))
-      (e ≡ fault) U (((cut : Cut) → line_done limits number r line cut ≡ Err e) × Appends w0 w0 []) e
-      (λ _. line_unwritten limits number r line w0) (λ is v. (λ cut. refused v cut ∙ ap (λ (f : ScriptFault). Err f) (sym is), Appends-nil w0)) a u
+-- a line that is refused
+pub line_refused : (limits : Limits) (number : ℕ) (r : Run) (w : Option (List ℕ)) (line : PlainLine) (e fault : ScriptFault) (U : Type 0)
+    → IfRefused e (e ≡ fault) → IfRefused e U → (U → (cut : Cut) → line_done limits number r line cut ≡ Err fault)
+    → LineStops (line_done limits number r line) w w e
+line_refused limits number r w line e fault U a u refused =
+    by_fault_both ⊤ ((cut : Cut) × WritesPart w w (text_of (line_done limits number r line cut))) ⊤ (WritesMore w w [])
+    (e ≡ fault) U (((cut : Cut) → line_done limits number r line cut ≡ Err e) × Appends w w []) e
+    (λ _. line_unwritten limits number r line w) (λ _. grown_none w)
+    (λ is v. (λ cut. refused v cut ∙ ap (λ (f : ScriptFault). Err f) (sym is), Appends-nil w)) a u
 
 -- the forms, where they are done and where they are refused
 pub open_done : (limits : Limits) (number : ℕ) (r : Run) (conn : ℕ) → is_open r conn ≡ false → (cut : Cut)

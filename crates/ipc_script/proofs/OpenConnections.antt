@@ -1,6 +1,6 @@
 -- The connections that are open, when one comes and when one goes.
 use Rattle.std.proofs.Common.{◌≡◌, ◌<◌, ◌^◌, ℕ, ◌+◌, arith, Bool, true, false, ◌&&◌, List, [], ◌∷◌, ◌++◌, map, take, drop, Option, Some, None, refl, sym}
-use Rattle.std.proofs.Common.{ap, ◌∙◌, inl, inr}
+use Rattle.std.proofs.Common.{ap, ◌∙◌, subst, inl, inr}
 use Rattle.std.specs.Prelude.{nat_eq, nat_lt, not, is_some, if◌then◌else◌}
 use Rattle.std.proofs.lemmas.Bool.Decides.{nat_tests}
 use Rattle.std.specs.List.{insert, prefix_len, AllByRecursion}
@@ -11,10 +11,10 @@ use Rattle.ipc_base.specs.Table.{value_at, without, with_entry, keys_of}
 use Rattle.ipc_base.proofs.CallerLemmas.{value_at-without}
 use Rattle.ipc_base.proofs.CallerLemmas.{entry-at, entry-other, rising-entry, rising-gone, rising-without}
 use Rattle.ipc_base.proofs.CallerLemmas.{nobody}
-use Rattle.ipc_hub.specs.View.{is_connected}
-use Rattle.ipc_hub.specs.declared.hub.Hub.{Hub}
+use Rattle.ipc_disk.specs.Medium.{Medium}
+use Rattle.ipc_hub.specs.View.{StoredHub, is_connected}
 use Rattle.ipc_hub.specs.Clients.{Client, Clients, client_at, start_client, connect, hangup, leave, tick, process_at}
-use Rattle.ipc_hub.specs.Relations.Matches.{Simulates}
+use Rattle.ipc_hub.specs.Relations.Matches.{HubMatches, Simulates, Serves}
 use Rattle.ipc_script.specs.declared.report.Opened.{Opened}
 use Rattle.ipc_script.specs.Script.{Run, is_open, opened}
 use Rattle.ipc_script.specs.Relations.Matches.{RunMatches, RunMatchesBetween, opened_of}
@@ -85,22 +85,25 @@ keys_entry (e ∷ es) n x apart =
     ]
 
 -- a connection was opened
-pub open_in : (limits : Limits) (hub next : Hub) (os : List Opened) (r : Run) (conn : ℕ) → conn < 2 ^ 32
-    → RunMatchesBetween limits hub os r → is_connected hub conn ≡ false
-    → Simulates hub next (λ _ h. connect h conn)
+pub open_in : {D : Type 0} (limits : Limits) (hub next : StoredHub D) (os : List Opened) (r : Run) (conn : ℕ) → conn < 2 ^ 32
+    → RunMatchesBetween limits hub os r → is_connected hub.hub conn ≡ false
+    → Simulates hub.hub next.hub (λ _ h. connect h conn) → next.store ≡ hub.store
     → (is_open r conn ≡ false)
     × RunMatches limits next (insert os (prefix_len (λ o. nat_lt o.conn conn) os) (record { conn = conn; told = false })) (opened r conn)
-open_in limits hub next os r conn small b new takes =
+open_in limits hub next os r conn small b new takes same =
     let i : RunMatches limits hub os r = b.run in
-    let closed : is_open r conn ≡ false = sym (connected limits i.confirmed hub r.hub conn i.matches) ∙ new in
+    let closed : is_open r conn ≡ false = sym (connected limits hub.store.confirmed hub.hub r.hub conn i.matches.hub) ∙ new in
     let none : client_at r.hub conn ≡ None = nobody (client_at r.hub conn) closed in
     let numbers : List ℕ = keys_of r.hub.clients in
     let later : ℕ → Bool = λ other. not (nat_eq other conn) && r.told other in
     let placed = put_place r.told later conn numbers (no_key r.hub.clients conn closed) (λ m apart. rw apart refl) (rw (same_number conn) refl) in (
       closed,
       record {
-        confirmed = i.confirmed;
-        matches = takes limits i.confirmed r.hub i.matches;
+        matches = record {
+          hub = subst (λ (n : ℕ). HubMatches limits n next.hub (connect r.hub conn)) (sym (ap (λ st. st.confirmed) same))
+              (takes limits hub.store.confirmed r.hub i.matches.hub);
+          counts = ap (λ st. st.confirmed + st.waiting) same ∙ i.matches.counts;
+        };
         kept = ap (λ (xs : List Opened). insert xs (prefix_len (λ o. nat_lt o.conn conn) xs) (record { conn = conn; told = false })) i.kept ∙ placed
             ∙ ap (λ (ns : List ℕ). map (opened_of later) ns) (sym (keys_entry r.hub.clients conn start_client (no_key r.hub.clients conn closed)));
         whole = λ n. elim (cases_eq n conn) [
@@ -143,11 +146,12 @@ left_clients limits now None moment = refl
 left_clients limits now (Some pid) moment = refl
 
 -- a connection was closed, and taken out of those that are open
-pub close_in : (limits : Limits) (hub next : Hub) (os items : List Opened) (r : Run) (conn moment : ℕ) → RunMatchesBetween limits hub os r
-    → (is_connected hub conn ≡ false → ⊥)
-    → Simulates hub next (λ limits h. hangup limits h conn moment) → map by_number items ≡ without nat_eq (map by_number os) conn
+pub close_in : {D : Type 0} (medium : D → Medium) (limits : Limits) (hub next : StoredHub D) (os items : List Opened) (r : Run) (conn moment : ℕ)
+    → RunMatchesBetween limits hub os r
+    → (is_connected hub.hub conn ≡ false → ⊥)
+    → Serves medium hub next (λ limits h. hangup limits h conn moment) → map by_number items ≡ without nat_eq (map by_number os) conn
     → (is_open r conn ≡ true) × RunMatches limits next items (record r { hub = hangup limits r.hub conn moment })
-close_in limits hub next os items r conn moment b known takes left =
+close_in medium limits hub next os items r conn moment b known takes left =
     let i : RunMatches limits hub os r = b.run in
     let t : List (ℕ × Client) = r.hub.clients in
     let now : Clients = hangup limits r.hub conn moment in
@@ -155,8 +159,7 @@ close_in limits hub next os items r conn moment b known takes left =
     left_clients limits (record (tick limits r.hub moment) { clients = without nat_eq t conn }) (process_at (tick limits r.hub moment) conn) moment in (
       open_here limits hub os r conn i known,
       record {
-        confirmed = i.confirmed;
-        matches = takes limits i.confirmed r.hub i.matches;
+        matches = (takes limits r.hub i.matches).matches;
         kept = sym (back items) ∙ ap (map (λ (e : ℕ × Opened). e.1)) (left ∙ ap (λ (xs : List Opened). without nat_eq (map by_number xs) conn) i.kept
             ∙ left_over r.told conn (keys_of t)) ∙ back _
             ∙ ap (map (opened_of r.told)) (sym (ap keys_of clients ∙ keys_left t conn));

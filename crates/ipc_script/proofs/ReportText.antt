@@ -12,8 +12,10 @@ use Rattle.std.proofs.lemmas.Map.Keys.{IsDistinct-head, IsDistinct-tail}
 use Rattle.ipc_base.specs.declared.limits.Limits.{Limits}
 use Rattle.ipc_state.specs.State.{State}
 use Rattle.ipc_base.specs.Table.{keys_of, IsRising}
-use Rattle.ipc_hub.specs.declared.hub.Hub.{Hub}
-use Rattle.ipc_hub.specs.Clients.{Client, Clients, client_at, ended_at}
+use Rattle.ipc_engine.specs.Event.{PlainEvent}
+use Rattle.ipc_store.specs.View.{StoreView}
+use Rattle.ipc_hub.specs.View.{HubView}
+use Rattle.ipc_hub.specs.Clients.{accepted, Client, Clients, client_at, ended_at}
 use Rattle.ipc_hub.specs.Relations.Matches.{HubMatches}
 use Rattle.ipc_script.specs.declared.report.Opened.{Opened}
 use Rattle.ipc_script.specs.Script.{Run, emptied, conn_text, reported, report, WritesPart}
@@ -45,15 +47,15 @@ taken_elsewhere h n m other = at (client_at h n) refl
 -- nothing else of it changes
 pub record IsLike (h now : Clients) : Type 0 where
   pub state : now.state ≡ h.state
-  pub accepted : now.accepted ≡ h.accepted
+  pub events : now.events ≡ h.events
   pub keys : keys_of now.clients ≡ keys_of h.clients
 
 taken_like : (h : Clients) (n : ℕ) → IsLike h (without_frames h n)
 taken_like h n = at (client_at h n) refl
   where
     at : (o : Option Client) → client_at h n ≡ o → IsLike h (without_frames h n)
-    at None e = rw e (record { state = refl; accepted = refl; keys = refl })
-    at (Some c) e = rw e (record { state = refl; accepted = refl; keys = keys_of-with_value nat_eq h.clients n (emptied c) })
+    at None e = rw e (record { state = refl; events = refl; keys = refl })
+    at (Some c) e = rw e (record { state = refl; events = refl; keys = keys_of-with_value nat_eq h.clients n (emptied c) })
 
 -- ---- some of the connections
 
@@ -62,7 +64,7 @@ abbrev left_of : Clients → List ℕ → ℕ → Option Client
 left_of h left n = cond (list_any (nat_eq n) left) (client_at h n) (option_map emptied (client_at h n))
 
 -- some connections are reported, and some are left
-pub record PartlyReported (limits : Limits) (r : Run) (hub : Hub) (opened : List Opened) (index : ℕ) (before after : Option (List ℕ)) : Type 0 where
+pub record PartlyReported (limits : Limits) (r : Run) (hub : HubView) (opened : List Opened) (index : ℕ) (before after : Option (List ℕ)) : Type 0 where
   pub now : Clients
   pub text : List ℕ
   pub done : List ℕ
@@ -71,14 +73,14 @@ pub record PartlyReported (limits : Limits) (r : Run) (hub : Hub) (opened : List
   pub place : length done ≡ index
   pub apart : IsDistinct nat_eq left
   pub rising : IsRising 0 (keys_of r.hub.clients) (2 ^ 32)
-  pub matches : HubMatches limits r.hub.accepted hub now
+  pub matches : HubMatches limits (accepted r.hub) hub now
   pub like : IsLike r.hub now
   pub clients : (n : ℕ) → client_at now n ≡ left_of r.hub left n
   pub kept : opened ≡ map (opened_of (reported r).told) done ++ map (opened_of r.told) left
   pub said : text ++ flat_map (conn_text r) left ≡ flat_map (conn_text r) (keys_of r.hub.clients)
   pub written : Appends before after text
 
-pub reported_begun : (limits : Limits) (r : Run) (hub : Hub) (opened : List Opened) (w : Option (List ℕ)) → HubMatches limits r.hub.accepted hub r.hub
+pub reported_begun : (limits : Limits) (r : Run) (hub : HubView) (opened : List Opened) (w : Option (List ℕ)) → HubMatches limits (accepted r.hub) hub r.hub
     → IsRising 0 (keys_of r.hub.clients) (2 ^ 32) → opened ≡ map (opened_of r.told) (keys_of r.hub.clients) → PartlyReported limits r hub opened 0 w w
 reported_begun limits r hub opened w s up kept =
     let ks = keys_of r.hub.clients in
@@ -92,7 +94,7 @@ reported_begun limits r hub opened w s up kept =
       apart = rising-distinct 0 ks (2 ^ 32) up;
       rising = up;
       matches = s;
-      like = record { state = refl; accepted = refl; keys = refl };
+      like = record { state = refl; events = refl; keys = refl };
       clients = λ n. (elim (test (list_any (nat_eq n) ks)) [
         | inl t ↦ rw t refl
         | inr f ↦ let none : client_at r.hub n ≡ None = no_value r.hub.clients n f in rw f (rw none refl)
@@ -112,7 +114,7 @@ same_end h now n e = rw e refl
 same_untouched : (h now : Clients) (n : ℕ) → client_at now n ≡ client_at h n → IfSome (client_at h n) HasWholeFrames → IfSome (client_at now n) HasWholeFrames
 same_untouched h now n e u = subst (λ (o : Option Client). IfSome o HasWholeFrames) (sym e) u
 
-module _ (limits : Limits) (r : Run) (hub : Hub) (opened : List Opened) (index : ℕ) (w0 w1 : Option (List ℕ))
+module _ (limits : Limits) (r : Run) (hub : HubView) (opened : List Opened) (index : ℕ) (w0 w1 : Option (List ℕ))
     (p : PartlyReported limits r hub opened index w0 w1) where
   -- how many are kept
   count : length opened ≡ index + length p.left
@@ -156,16 +158,17 @@ module _ (limits : Limits) (r : Run) (hub : Hub) (opened : List Opened) (index :
 
       -- what is done with the item is done with its connection
       done_here : (C : Run → ℕ → Type 0)
-          → ((s : Run) → HubMatches limits s.hub.accepted hub s.hub → IfSome (client_at s.hub item.conn) HasWholeFrames → item ≡ opened_of s.told item.conn
+          → ((s : Run) → HubMatches limits (accepted s.hub) hub s.hub → IfSome (client_at s.hub item.conn) HasWholeFrames → item ≡ opened_of s.told item.conn
           → C s item.conn) → C now_run n
       done_here C call =
           let conn_is : item.conn ≡ n = ap (λ (o : Opened). o.conn) item_is in
-          let matches : HubMatches limits p.now.accepted hub p.now = subst (λ (k : ℕ). HubMatches limits k hub p.now) (sym p.like.accepted) p.matches in
+          let matches : HubMatches limits (accepted p.now) hub p.now = subst (λ (k : ℕ). HubMatches limits k hub p.now)
+          (sym (ap length p.like.events)) p.matches in
           let whole : IfSome (client_at p.now item.conn) HasWholeFrames =
           subst (λ (k : ℕ). IfSome (client_at p.now k) HasWholeFrames) (sym conn_is) (same_untouched r.hub p.now n here (untouched n)) in
           subst (C now_run) conn_is (call now_run matches whole (item_is ∙ ap (opened_of r.told) (sym conn_is)))
 
-    module _ (w2 : Option (List ℕ)) (call : (s : Run) → HubMatches limits s.hub.accepted hub s.hub → IfSome (client_at s.hub item.conn) HasWholeFrames
+    module _ (w2 : Option (List ℕ)) (call : (s : Run) → HubMatches limits (accepted s.hub) hub s.hub → IfSome (client_at s.hub item.conn) HasWholeFrames
         → item ≡ opened_of s.told item.conn
         → WritesPart w1 w2 (conn_text s item.conn)) where
       part_left : (left : List ℕ) → p.left ≡ left → WritesPart w0 w2 (report r).text
@@ -181,8 +184,8 @@ module _ (limits : Limits) (r : Run) (hub : Hub) (opened : List Opened) (index :
       pub reported_part : WritesPart w0 w2 (report r).text
       reported_part = part_left p.left refl
 
-    module _ (next : Hub) (w2 : Option (List ℕ)) (item' : Opened)
-        (call : (s : Run) → HubMatches limits s.hub.accepted hub s.hub → IfSome (client_at s.hub item.conn) HasWholeFrames → item ≡ opened_of s.told item.conn
+    module _ (next : HubView) (w2 : Option (List ℕ)) (item' : Opened)
+        (call : (s : Run) → HubMatches limits (accepted s.hub) hub s.hub → IfSome (client_at s.hub item.conn) HasWholeFrames → item ≡ opened_of s.told item.conn
         → SimulatesReportAt limits s next item.conn item' w1 w2) where
       one_reported : (left : List ℕ) → p.left ≡ left → PartlyReported limits r next (set opened index item') (index + 1) w0 w2
       one_reported [] e = absurd (no_rest e)
@@ -207,8 +210,8 @@ module _ (limits : Limits) (r : Run) (hub : Hub) (opened : List Opened) (index :
             place = length-append p.done (n ∷ []) ∙ ap (λ (k : ℕ). k + 1) p.place;
             apart = IsDistinct-tail nat_eq n rest apart;
             rising = p.rising;
-            matches = subst (λ (k : ℕ). HubMatches limits k next (without_frames p.now n)) p.like.accepted one.matches;
-            like = record { state = more.state ∙ p.like.state; accepted = more.accepted ∙ p.like.accepted; keys = more.keys ∙ p.like.keys };
+            matches = subst (λ (k : ℕ). HubMatches limits k next (without_frames p.now n)) (ap length p.like.events) one.matches;
+            like = record { state = more.state ∙ p.like.state; events = more.events ∙ p.like.events; keys = more.keys ∙ p.like.keys };
             clients = λ m. (elim (test (nat_eq m n)) [
               | inl t ↦
                   let same : m ≡ n = eqb-true m n t in
@@ -250,8 +253,10 @@ module _ (limits : Limits) (r : Run) (hub : Hub) (opened : List Opened) (index :
   mapped_quiet (Some c) = refl
 
   -- all connections are reported
-  pub reported_all : length opened ≤ index → RunMatchesBetween limits hub opened (reported r) × Appends w0 w1 (report r).text
-  reported_all most =
+  pub reported_all : {D : Type 0} (store : StoreView D) → store.confirmed ≡ accepted r.hub → store.confirmed + store.waiting ≡ accepted r.hub
+      → length opened ≤ index
+      → RunMatchesBetween limits (record { hub = hub; store = store }) opened (reported r) × Appends w0 w1 (report r).text
+  reported_all store all counts most =
       let none : p.left ≡ [] = nothing_left p.left refl most in
       let after = reported r in
       let values : (n : ℕ) → client_at p.now n ≡ client_at after.hub n = λ n.
@@ -261,8 +266,8 @@ module _ (limits : Limits) (r : Run) (hub : Hub) (opened : List Opened) (index :
       (rising-distinct 0 (keys_of p.now.clients) (2 ^ 32) (rw p.like.keys p.rising)) values in
       let same : p.now ≡ after.hub =
       ap (λ (t : List (ℕ × Client)). record p.now { clients = t }) table
-      ∙ (ap (λ (n : ℕ). record { state = p.now.state; accepted = n; clients = after.hub.clients }) p.like.accepted
-      ∙ ap (λ (s : State). record { state = s; accepted = r.hub.accepted; clients = after.hub.clients }) p.like.state) in
+      ∙ (ap (λ (es : List PlainEvent). record { state = p.now.state; events = es; clients = after.hub.clients }) p.like.events
+      ∙ ap (λ (s : State). record { state = s; events = r.hub.events; clients = after.hub.clients }) p.like.state) in
       let done : p.done ≡ keys_of r.hub.clients = sym (append-nil p.done) ∙ (ap (λ (l : List ℕ). p.done ++ l) (sym none) ∙ p.all) in
       let kept : opened ≡ map (opened_of after.told) (keys_of after.hub.clients) =
       p.kept ∙ (ap (λ (l : List ℕ). map (opened_of after.told) p.done ++ map (opened_of r.told) l) none
@@ -272,8 +277,10 @@ module _ (limits : Limits) (r : Run) (hub : Hub) (opened : List Opened) (index :
       sym (append-nil p.text) ∙ (ap (λ (l : List ℕ). p.text ++ flat_map (conn_text r) l) (sym none) ∙ p.said) in (
         record {
           run = record {
-            confirmed = r.hub.accepted;
-            matches = subst (HubMatches limits r.hub.accepted hub) same p.matches;
+            matches = record {
+              hub = subst (λ (n : ℕ). HubMatches limits n hub after.hub) (sym all) (subst (HubMatches limits (accepted r.hub) hub) same p.matches);
+              counts = counts;
+            };
             kept = kept;
             whole =
                 λ n. subst (λ (o : Option Client). IfSome o HasWholeFrames) (sym (value_mapped emptied r.hub.clients n)) (mapped_untouched (client_at r.hub n));

@@ -1,23 +1,24 @@
 -- The lines of a script, run one after the other.
 use Rattle.std.proofs.Common.{◌≡◌, ℕ, ◌+◌, ◌<◌, ◌≤◌, Bool, true, false, drop, List, [], ◌∷◌, ◌++◌, length, Option, Some, None, refl, sym, ap, ◌∙◌}
-use Rattle.std.proofs.Common.{subst, append_assoc, append-nil, arith}
+use Rattle.std.proofs.Common.{subst, append_assoc, append-nil, arith, map, take}
+use Rattle.std.proofs.Math.Seq.{take-append_seam}
 use Rattle.std.specs.Prelude.{Ok, Err, Result, ⊤, IfSome, if◌then◌else◌}
 use Rattle.std.specs.Io.KnownBytes.{Appends}
 use Rattle.std.proofs.KnownBytes.{Appends-nil, Appends-trans}
 use Rattle.std.proofs.lemmas.List.{length-append}
 use Rattle.ipc_base.specs.declared.limits.Limits.{Limits}
-use Rattle.ipc_state.specs.State.{State}
-use Rattle.ipc_hub.specs.declared.hub.Hub.{Hub}
-use Rattle.ipc_hub.specs.Clients.{no_clients, hangup}
-use Rattle.ipc_hub.specs.Relations.Matches.{HubMatches}
+use Rattle.ipc_base.specs.Table.{keys_of}
+use Rattle.ipc_hub.specs.View.{StoredHub}
+use Rattle.ipc_hub.specs.Clients.{Client, Clients, hangup}
+use Rattle.ipc_hub.specs.Relations.Matches.{StoredMatches}
 use Rattle.ipc_script.specs.declared.fault.ScriptFault.{ScriptFault}
 use Rattle.ipc_script.specs.declared.report.Opened.{Opened}
-use Rattle.ipc_script.specs.declared.fault.ScriptFault.TheVariants.{NoMemory, Input, Output, TooLong, BadLine, InUse, Unknown}
+use Rattle.ipc_script.specs.declared.fault.ScriptFault.TheVariants.{NoMemory, Input, Output, Device, TooLong, BadLine, InUse, Unknown}
 use Rattle.ipc_script.specs.Line.{longest_script, PlainLine, Open, Data, End, Tick, line_of, lines_of}
 use Rattle.ipc_script.specs.Script.{Run, Cut, Progress, Outcome, start_run, text_done, first_cut, goes_on, run_lines, is_open, opened, report}
-use Rattle.ipc_script.specs.Script.{fed_in_pieces, script_run, WritesPart, EndsAs, BreaksOff, Runs}
+use Rattle.ipc_script.specs.Script.{fed_in_pieces, script_run, lines_run, WritesPart, WritesMore, EndsAs, BreaksOff, Halts, Runs}
 use Rattle.ipc_script.specs.Relations.Input.{IsReadFault, ReadsTooMuch}
-use Rattle.ipc_script.specs.Relations.Matches.{RunMatchesBetween}
+use Rattle.ipc_script.specs.Relations.Matches.{RunMatchesBetween, opened_of}
 use Rattle.ipc_script.specs.Relations.Simulation.{SimulatesScript, text_of}
 use Rattle.ipc_script.proofs.WrittenText.{part_none, part_after, part_more}
 
@@ -26,15 +27,17 @@ abbrev pub later : List ℕ → Outcome → Outcome
 later text o = record { text = text ++ o.text; fault = o.fault }
 
 -- some lines are run, and some are left
-pub record PartlyRun (limits : Limits) (s : State) (script : List ℕ) (number : ℕ) (hub : Hub) (opened : List Opened) (rest : List ℕ)
-    (before after : Option (List ℕ)) : Type 0 where
+pub record PartlyRun {D : Type 0} (limits : Limits) (h : Clients) (script : List ℕ) (number : ℕ) (hub : StoredHub D) (opened : List Opened)
+    (rest : List ℕ) (before after : Option (List ℕ)) : Type 0 where
   pub now : Run
+  pub first : List (List ℕ)
+  pub lines : lines_of script ≡ first ++ lines_of rest
   pub done : List Cut
   pub text : List ℕ
   pub at : RunMatchesBetween limits hub opened now
   pub written : Appends before after text
-  pub runs : (more : List Cut)
-      → run_lines limits 1 (start_run s) (lines_of script) (done ++ more) ≡ later text (run_lines limits number now (lines_of rest) more)
+  pub runs : (lines : List (List ℕ)) (more : List Cut)
+      → run_lines limits 1 (start_run h) (first ++ lines) (done ++ more) ≡ later text (run_lines limits number now lines more)
 
 -- a beginning of what a line writes begins what it and the next lines write
 goes_part : (a b : Option (List ℕ)) (result : Result Progress ScriptFault) (next : Run → Outcome) → WritesPart a b (text_of result)
@@ -42,49 +45,82 @@ goes_part : (a b : Option (List ℕ)) (result : Result Progress ScriptFault) (ne
 goes_part a b (Err e) next part = part
 goes_part a b (Ok p) next part = part_more a b p.text (next p.run).text part
 
-module _ (limits : Limits) (s : State) (script : List ℕ) where
-  pub run_begun : (hub : Hub) (w : Option (List ℕ)) → HubMatches limits 0 hub (no_clients s) → PartlyRun limits s script 1 hub [] script w w
-  run_begun hub w matches =
+module _ {D : Type 0} (limits : Limits) (h : Clients) (script : List ℕ) where
+  pub run_begun : (hub : StoredHub D) (w : Option (List ℕ)) → StoredMatches limits hub h → h.clients ≡ [] → PartlyRun limits h script 1 hub [] script w w
+  run_begun hub w matches none =
       record {
-        now = start_run s;
+        now = start_run h;
+        first = [];
+        lines = refl;
         done = [];
         text = [];
-        at = record { run = record { confirmed = 0; matches = matches; kept = refl; whole = λ n. tt; rising = omega arith }; quiet = λ n. tt };
+        at = record {
+          run = record {
+            matches = matches;
+            kept = ap (λ (t : List (ℕ × Client)). map (opened_of (λ _. false)) (keys_of t)) (sym none);
+            whole = λ n. rw none tt;
+            rising = rw none (omega arith);
+          };
+          quiet = λ n. rw none tt;
+        };
         written = Appends-nil w;
-        runs = λ more. refl;
+        runs = λ lines more. refl;
       }
 
-  module _ (number : ℕ) (hub : Hub) (opened : List Opened) (rest : List ℕ) (w0 w1 : Option (List ℕ))
-      (p : PartlyRun limits s script number hub opened rest w0 w1) where
+  module _ (number : ℕ) (hub : StoredHub D) (opened : List Opened) (rest : List ℕ) (w0 w1 : Option (List ℕ))
+      (p : PartlyRun limits h script number hub opened rest w0 w1) where
+    -- the whole script, by what is left
+    ran : (more : List Cut) → run_lines limits 1 (start_run h) (lines_of script) (p.done ++ more)
+        ≡ later p.text (run_lines limits number p.now (lines_of rest) more)
+    ran more = ap (λ (ls : List (List ℕ)). run_lines limits 1 (start_run h) ls (p.done ++ more)) p.lines ∙ p.runs (lines_of rest) more
+
     -- one line more
     pub run_more : (line behind : List ℕ) → lines_of rest ≡ line ∷ lines_of behind → (cut : Cut) (q : Progress)
         → text_done limits number p.now (line_of line) cut ≡ Ok q
-        → (next : Hub) (changed : List Opened) (w2 : Option (List ℕ)) → RunMatchesBetween limits next changed q.run → Appends w1 w2 q.text
-        → PartlyRun limits s script (number + 1) next changed behind w0 w2
+        → (next : StoredHub D) (changed : List Opened) (w2 : Option (List ℕ)) → RunMatchesBetween limits next changed q.run → Appends w1 w2 q.text
+        → PartlyRun limits h script (number + 1) next changed behind w0 w2
     run_more line behind lines cut q is next changed w2 at wrote =
         record {
           now = q.run;
+          first = p.first ++ line ∷ [];
+          lines = p.lines ∙ ap (λ (ls : List (List ℕ)). p.first ++ ls) lines ∙ sym (append_assoc p.first (line ∷ []) (lines_of behind));
           done = p.done ++ cut ∷ [];
           text = p.text ++ q.text;
           at = at;
           written = Appends-trans w0 w1 w2 p.text q.text p.written wrote;
-          runs = λ more.
-              let rest_of : Outcome = run_lines limits (number + 1) q.run (lines_of behind) more in
-              ap (run_lines limits 1 (start_run s) (lines_of script)) (append_assoc p.done (cut ∷ []) more)
-              ∙ (p.runs (cut ∷ more)
-              ∙ (ap (λ (ls : List (List ℕ)). later p.text (run_lines limits number p.now ls (cut ∷ more))) lines
-              ∙ (ap (λ r. later p.text (goes_on r (λ now. run_lines limits (number + 1) now (lines_of behind) more))) is
+          runs = λ others more.
+              let rest_of : Outcome = run_lines limits (number + 1) q.run others more in
+              ap (λ (ls : List (List ℕ)). run_lines limits 1 (start_run h) ls ((p.done ++ cut ∷ []) ++ more)) (append_assoc p.first (line ∷ []) others)
+              ∙ (ap (run_lines limits 1 (start_run h) (p.first ++ line ∷ others)) (append_assoc p.done (cut ∷ []) more)
+              ∙ (p.runs (line ∷ others) (cut ∷ more)
+              ∙ (ap (λ r. later p.text (goes_on r (λ now. run_lines limits (number + 1) now others more))) is
               ∙ ap (λ (t : List ℕ). record { text = t; fault = rest_of.fault }) (sym (append_assoc p.text q.text rest_of.text)))));
+        }
+
+    -- the disk failed in a line: what was written goes on
+    pub run_halted : (w2 : Option (List ℕ)) → WritesMore w1 w2 [] → Halts limits h script w0 w2
+    run_halted w2 more =
+        let count : ℕ = length p.first in
+        let lines : take count (lines_of script) ≡ p.first = ap (take count) p.lines ∙ take-append_seam p.first (lines_of rest) in
+        let ends : lines_run limits h script count p.done ≡ record { text = p.text ++ []; fault = None } =
+        ap (λ (ls : List (List ℕ)). run_lines limits 1 (start_run h) ls p.done) (lines ∙ sym (append-nil p.first))
+        ∙ (ap (run_lines limits 1 (start_run h) (p.first ++ [])) (sym (append-nil p.done)) ∙ p.runs [] []) in
+        let text : (lines_run limits h script count p.done).text ≡ p.text = ap (λ (o : Outcome). o.text) ends ∙ append-nil p.text in
+        record {
+          count = count;
+          cuts = p.done;
+          runs = ap (λ (o : Outcome). o.fault) ends;
+          text = subst (WritesMore w0 w2) (sym text) (more.0, Appends-trans w0 w1 w2 p.text more.0 p.written more.1);
         }
 
     -- a line that is refused
     pub run_refused : (line behind : List ℕ) → lines_of rest ≡ line ∷ lines_of behind → (e : ScriptFault)
         → ((cut : Cut) → text_done limits number p.now (line_of line) cut ≡ Err e)
-        → (w2 : Option (List ℕ)) → Appends w1 w2 [] → EndsAs limits s script w0 w2 (Some e)
+        → (w2 : Option (List ℕ)) → Appends w1 w2 [] → EndsAs limits h script w0 w2 (Some e)
     run_refused line behind lines e is w2 wrote =
-        let ends : run_lines limits 1 (start_run s) (lines_of script) p.done ≡ record { text = p.text ++ []; fault = Some e } =
-        ap (run_lines limits 1 (start_run s) (lines_of script)) (sym (append-nil p.done))
-        ∙ (p.runs []
+        let ends : run_lines limits 1 (start_run h) (lines_of script) p.done ≡ record { text = p.text ++ []; fault = Some e } =
+        ap (run_lines limits 1 (start_run h) (lines_of script)) (sym (append-nil p.done))
+        ∙ (ran []
         ∙ (ap (λ (ls : List (List ℕ)). later p.text (run_lines limits number p.now ls [])) lines
         ∙ ap (λ r. later p.text (goes_on r (λ now. run_lines limits (number + 1) now (lines_of behind) []))) (is (first_cut [])))) in (
           p.done,
@@ -97,23 +133,23 @@ module _ (limits : Limits) (s : State) (script : List ℕ) where
 
     -- a line of which a beginning is written
     pub run_broken : (line behind : List ℕ) → lines_of rest ≡ line ∷ lines_of behind → (cut : Cut) → (w2 : Option (List ℕ))
-        → WritesPart w1 w2 (text_of (text_done limits number p.now (line_of line) cut)) → BreaksOff limits s script w0 w2
+        → WritesPart w1 w2 (text_of (text_done limits number p.now (line_of line) cut)) → BreaksOff limits h script w0 w2
     run_broken line behind lines cut w2 part =
         let next : Run → Outcome = λ now. run_lines limits (number + 1) now (lines_of behind) [] in
         let done : Result Progress ScriptFault = text_done limits number p.now (line_of line) cut in
-        let ends : run_lines limits 1 (start_run s) (lines_of script) (p.done ++ cut ∷ []) ≡ later p.text (goes_on done next) =
-        p.runs (cut ∷ []) ∙ ap (λ (ls : List (List ℕ)). later p.text (run_lines limits number p.now ls (cut ∷ []))) lines in (
+        let ends : run_lines limits 1 (start_run h) (lines_of script) (p.done ++ cut ∷ []) ≡ later p.text (goes_on done next) =
+        ran (cut ∷ []) ∙ ap (λ (ls : List (List ℕ)). later p.text (run_lines limits number p.now ls (cut ∷ []))) lines in (
           p.done ++ cut ∷ [],
           subst (WritesPart w0 w2) (sym (ap (λ (o : Outcome). o.text) ends))
               (part_after w0 w1 w2 p.text (goes_on done next).text p.written (goes_part w1 w2 done next part)),
         )
 
     -- no line more
-    pub run_ended : lines_of rest ≡ [] → EndsAs limits s script w0 w1 None
+    pub run_ended : lines_of rest ≡ [] → EndsAs limits h script w0 w1 None
     run_ended none =
-        let ends : run_lines limits 1 (start_run s) (lines_of script) p.done ≡ record { text = p.text ++ []; fault = None } =
-        ap (run_lines limits 1 (start_run s) (lines_of script)) (sym (append-nil p.done))
-        ∙ (p.runs [] ∙ ap (λ (ls : List (List ℕ)). later p.text (run_lines limits number p.now ls [])) none) in
+        let ends : run_lines limits 1 (start_run h) (lines_of script) p.done ≡ record { text = p.text ++ []; fault = None } =
+        ap (run_lines limits 1 (start_run h) (lines_of script)) (sym (append-nil p.done))
+        ∙ (ran [] ∙ ap (λ (ls : List (List ℕ)). later p.text (run_lines limits number p.now ls [])) none) in
         (p.done, (subst (Appends w0 w1) (sym (append-nil p.text) ∙ sym (ap (λ (o : Outcome). o.text) ends)) p.written, ap (λ (o : Outcome). o.fault) ends))
 
 -- no text, no line
@@ -150,28 +186,25 @@ never_long limits number r (line ∷ lines) cuts is =
     (never_text limits number r (line_of line) (first_cut cuts)) (λ now. never_long limits (number + 1) now lines (drop 1 cuts)) is
 
 -- all lines of a script that is not too long are the script's run
-pub all_lines : (limits : Limits) (s : State) (script : List ℕ) (before after : Option (List ℕ)) (result : Result ⊤ ScriptFault)
+pub all_lines : (limits : Limits) (h : Clients) (script : List ℕ) (before after : Option (List ℕ)) (result : Result ⊤ ScriptFault)
     → length script ≤ longest_script
-    → SimulatesScript limits s script before after result → Runs limits s script before after result
-all_lines limits s script before after (Ok u) short ran = (short, ran)
-all_lines limits s script before after (Err NoMemory) short ran = ran
-all_lines limits s script before after (Err Input) short ran = absurd ran
-all_lines limits s script before after (Err Output) short ran = ran
-all_lines limits s script before after (Err TooLong) short ran = absurd (never_long limits 1 (start_run s) (lines_of script) ran.0 ran.1.1)
-all_lines limits s script before after (Err (BadLine number)) short ran = (short, ran)
-all_lines limits s script before after (Err (InUse number)) short ran = (short, ran)
-all_lines limits s script before after (Err (Unknown number)) short ran = (short, ran)
+    → SimulatesScript limits h script before after result → Runs limits h script before after result
+all_lines limits h script before after (Ok u) short ran = (short, ran)
+all_lines limits h script before after (Err NoMemory) short ran = ran
+all_lines limits h script before after (Err Input) short ran = absurd ran
+all_lines limits h script before after (Err Output) short ran = ran
+all_lines limits h script before after (Err Device) short ran = ran
+all_lines limits h script before after (Err TooLong) short ran = absurd (never_long limits 1 (start_run h) (lines_of script) ran.0 ran.1.1)
+all_lines limits h script before after (Err (BadLine number)) short ran = (short, ran)
+all_lines limits h script before after (Err (InUse number)) short ran = (short, ran)
+all_lines limits h script before after (Err (Unknown number)) short ran = (short, ran)
 
 -- a script that was read whole is run
-pub script_ends : (limits : Limits) (s : State) (seen items : List ℕ) (remaining before after : Option (List ℕ)) (result : Result ⊤ ScriptFault) → seen ≡ items
-    → length items ≤ longest_script → IfSome remaining (λ input. items ≡ input) → SimulatesScript limits s seen before after result
-    → (script : List ℕ) × IfSome remaining (λ input. script ≡ input) × Runs limits s script before after result
-script_ends limits s seen items remaining before after result same short whole ran = (
-  items,
-  whole,
-  subst (λ (text : List ℕ). Runs limits s text before after result) same
-      (all_lines limits s seen before after result (omega (arith, short, ap length same)) ran),
-)
+pub script_done : (limits : Limits) (h : Clients) (seen items : List ℕ) (before after : Option (List ℕ)) (result : Result ⊤ ScriptFault) → seen ≡ items
+    → length items ≤ longest_script → SimulatesScript limits h seen before after result → Runs limits h items before after result
+script_done limits h seen items before after result same short ran =
+    subst (λ (text : List ℕ). Runs limits h text before after result) same
+    (all_lines limits h seen before after result (omega (arith, short, ap length same)) ran)
 
 -- all that there is to read, if the reader tells it
 abbrev input_of : Option (List ℕ) → List ℕ
@@ -189,17 +222,18 @@ long_input (Some input) None long = absurd long.1
 long_input (Some input) (Some rest) long = (input, refl, omega (arith, ap length long.1, length-append long.0 rest, long.2))
 
 -- nothing of a script is written
-unwritten : (limits : Limits) (s : State) (script : List ℕ) (w : Option (List ℕ)) → BreaksOff limits s script w w
-unwritten limits s script w = ([], part_none w (script_run limits s script []).text)
+unwritten : (limits : Limits) (h : Clients) (script : List ℕ) (w : Option (List ℕ)) → BreaksOff limits h script w w
+unwritten limits h script w = ([], part_none w (script_run limits h script []).text)
 
 -- a script that was not read whole
-pub not_read : (limits : Limits) (s : State) (remaining left w : Option (List ℕ)) (e : ScriptFault) → IsReadFault e
-    → (e ≡ TooLong → ReadsTooMuch remaining left)
-    → (script : List ℕ) × IfSome remaining (λ input. script ≡ input) × Runs limits s script w w (Err e)
-not_read limits s remaining left w NoMemory f long = (input_of remaining, is_input remaining, unwritten limits s (input_of remaining) w)
-not_read limits s remaining left w Input f long = (input_of remaining, is_input remaining, Appends-nil w)
-not_read limits s remaining left w Output f long = absurd f
-not_read limits s remaining left w TooLong f long = let l = long_input remaining left (long refl) in (l.0, l.1, (l.2, Appends-nil w))
-not_read limits s remaining left w (BadLine number) f long = absurd f
-not_read limits s remaining left w (InUse number) f long = absurd f
-not_read limits s remaining left w (Unknown number) f long = absurd f
+pub not_read : (remaining left w : Option (List ℕ)) (e : ScriptFault) → IsReadFault e → (e ≡ TooLong → ReadsTooMuch remaining left)
+    → (script : List ℕ) × IfSome remaining (λ input. script ≡ input) × ((limits : Limits) (h : Clients) → Runs limits h script w w (Err e))
+not_read remaining left w NoMemory f long = (input_of remaining, is_input remaining, λ limits h. unwritten limits h (input_of remaining) w)
+not_read remaining left w Input f long = (input_of remaining, is_input remaining, λ limits h. Appends-nil w)
+not_read remaining left w Output f long = absurd f
+not_read remaining left w Device f long = absurd f
+not_read remaining left w TooLong f long =
+    let l = long_input remaining left (long refl) in (l.0, l.1, λ limits h. (l.2, Appends-nil w))
+not_read remaining left w (BadLine number) f long = absurd f
+not_read remaining left w (InUse number) f long = absurd f
+not_read remaining left w (Unknown number) f long = absurd f

@@ -1,5 +1,5 @@
 -- What no call of the hub changes: which numbers there are, and how much of the first frame is consumed.
-use Rattle.std.proofs.Common.{◌≡◌, ℕ, ◌+◌, Bool, true, false, cond, ◌&&◌, List, [], ◌∷◌, ◌++◌, drop, map, Option, Some, None, IfSome, refl, sym, ap, ◌∙◌}
+use Rattle.std.proofs.Common.{length, ◌≡◌, ℕ, Bool, true, false, cond, ◌&&◌, List, [], ◌∷◌, ◌++◌, drop, map, Option, Some, None, IfSome, refl, sym, ap, ◌∙◌}
 use Rattle.std.specs.Prelude.{nat_eq, option_map, is_some, if◌then◌else◌}
 use Rattle.ipc_base.specs.declared.limits.Limits.{Limits}
 use Rattle.ipc_wire.specs.Request.{PlainRequest}
@@ -12,8 +12,8 @@ use Rattle.ipc_engine.specs.Step.{step}
 use Rattle.ipc_hub.specs.Clients.{Client, Clients, client_at, with_client, with_frame, deliver, deliver_all, accept, over, greeted, welcomed, serve}
 use Rattle.ipc_hub.specs.Clients.{last_reply, event_of, leave, break_off, refuse, on_request, unless_ended, first_of}
 use Rattle.ipc_hub.specs.Clients.{on_requests, on_ending, take_in, feed, tick, is_for}
-use Rattle.ipc_hub.specs.declared.hub.Hub.{Hub}
-use Rattle.ipc_hub.specs.Relations.Matches.{HubMatches}
+use Rattle.ipc_hub.specs.View.{StoredHub}
+use Rattle.ipc_hub.specs.Relations.Matches.{StoredMatches}
 use Rattle.ipc_script.specs.declared.report.Opened.{Opened}
 use Rattle.ipc_script.specs.Script.{Run}
 use Rattle.ipc_script.specs.Relations.Matches.{RunMatches, HasWholeFrames, opened_of}
@@ -58,7 +58,7 @@ heads_deliver_all mark t [] = refl
 heads_deliver_all mark t (o ∷ os) = heads_deliver_all mark (deliver mark t o) os ∙ heads_deliver mark t o
 
 pub heads_accept : (limits : Limits) (h : Clients) (e : PlainEvent) → heads (accept limits h e).clients ≡ heads h.clients
-heads_accept limits h e = heads_deliver_all (h.accepted + 1) h.clients (step limits h.state e).outcomes
+heads_accept limits h e = heads_deliver_all (length (h.events ++ e ∷ [])) h.clients (step limits h.state e).outcomes
 
 pub heads_leave : (limits : Limits) (h : Clients) (process : Option ℕ) (moment : ℕ) → heads (leave limits h process moment).clients ≡ heads h.clients
 heads_leave limits h None moment = refl
@@ -81,8 +81,8 @@ module _ (limits : Limits) (conn moment : ℕ) where
     heads_serve : (e : PlainEvent) → heads (serve limits h conn c e).clients ≡ heads h.clients
     heads_serve e =
         let reply = last_reply (step limits h.state e).outcomes in
-        let d : Client = welcomed (h.accepted + 1) reply c in
-        heads_accept limits (with_client h conn d) e ∙ put_like h.clients h.clients conn c d refl at (welcomed_consumed (h.accepted + 1) reply c)
+        let d : Client = welcomed (length (h.events ++ e ∷ [])) reply c in
+        heads_accept limits (with_client h conn d) e ∙ put_like h.clients h.clients conn c d refl at (welcomed_consumed (length (h.events ++ e ∷ [])) reply c)
 
     heads_break_off : (serial : ℕ) → heads (break_off limits h conn c serial moment).clients ≡ heads h.clients
     heads_break_off serial =
@@ -175,11 +175,10 @@ module _ (t u : List (ℕ × Client)) (like : heads u ≡ heads t) where
   same_untouched n = untouched_head (value_at nat_eq t n) (value_at nat_eq u n) (same_heads n)
 
 -- a call that changes no heads leaves the program somewhere in a line
-pub steady : (limits : Limits) (confirmed : ℕ) (hub next : Hub) (opened : List Opened) (r : Run) (now : Clients) → RunMatches limits hub opened r
-    → heads now.clients ≡ heads r.hub.clients → HubMatches limits confirmed next now → RunMatches limits next opened (record r { hub = now })
-steady limits confirmed hub next opened r now i like s =
+pub steady : {D : Type 0} (limits : Limits) (hub next : StoredHub D) (opened : List Opened) (r : Run) (now : Clients) → RunMatches limits hub opened r
+    → heads now.clients ≡ heads r.hub.clients → StoredMatches limits next now → RunMatches limits next opened (record r { hub = now })
+steady limits hub next opened r now i like s =
     record {
-      confirmed = confirmed;
       matches = s;
       kept = i.kept ∙ ap (map (opened_of r.told)) (sym (same_keys r.hub.clients now.clients like));
       rising = rw (same_keys r.hub.clients now.clients like) i.rising;

@@ -3,7 +3,7 @@ use Rattle.std.proofs.Common.{◌≡◌, ℕ, ◌-◌, List, [], ◌++◌, lengt
 use Rattle.std.proofs.lemmas.List.{take-append-drop, take_rest}
 use Rattle.std.proofs.KnownBytes.{Appends-nil, Appends-trans}
 use Rattle.std.specs.Io.KnownBytes.{Appends, Keeps}
-use Rattle.ipc_script.specs.Script.{WritesPart}
+use Rattle.ipc_script.specs.Script.{WritesPart, WritesMore}
 
 -- one piece more of the bytes is written
 pub wrote_more : (a b c : Option (List ℕ)) (done rest bytes : List ℕ) (n : ℕ) → done ++ rest ≡ bytes → Appends a b done → Appends b c (take n rest)
@@ -34,6 +34,20 @@ part_after a b c text more before part = (
 pub part_more : (a b : Option (List ℕ)) (text more : List ℕ) → WritesPart a b text → WritesPart a b (text ++ more)
 part_more a b text more part =
     (part.0, part.1 ++ more, ap (λ (ys : List ℕ). ys ++ more) part.2 ∙ append_assoc part.0 part.1 more, part.3)
+
+-- ---- nothing is taken back
+
+pub grown_none : (w : Option (List ℕ)) → WritesMore w w []
+grown_none w = ([], Appends-nil w)
+
+pub grown_more : (a b c : Option (List ℕ)) → WritesMore a b [] → WritesMore b c [] → WritesMore a c []
+grown_more a b c first next = (first.0 ++ next.0, Appends-trans a b c first.0 next.0 first.1 next.1)
+
+pub grown_by : (a b : Option (List ℕ)) (text : List ℕ) → Appends a b text → WritesMore a b []
+grown_by a b text is = (text, is)
+
+pub grown_part : (a b : Option (List ℕ)) (text : List ℕ) → WritesPart a b text → WritesMore a b []
+grown_part a b text part = (part.0, part.3)
 
 -- a writer that keeps what it holds has taken nothing
 pub kept_nothing : (a b : Option (List ℕ)) → Keeps a b → Appends a b []

@@ -2,13 +2,14 @@
 use Rattle.std.specs.Prelude.{List, ℕ, ◌++◌, codes}
 use Rattle.std.specs.Fmt.{decimal}
 use Rattle.ipc_script.specs.declared.fault.ScriptFault.{ScriptFault}
-use Rattle.ipc_script.specs.declared.fault.ScriptFault.TheVariants.{NoMemory, Input, Output}
+use Rattle.ipc_script.specs.declared.fault.ScriptFault.TheVariants.{NoMemory, Input, Output, Device}
 use Rattle.ipc_script.specs.declared.fault.ScriptFault.TheVariants.{TooLong, BadLine, InUse, Unknown}
 
 abbrev pub fault_text : ScriptFault → List ℕ
 fault_text NoMemory = codes "no memory"
 fault_text Input = codes "input fault"
 fault_text Output = codes "output fault"
+fault_text Device = codes "device fault"
 fault_text TooLong = codes "script too long"
 fault_text (BadLine number) = codes "line " ++ decimal number ++ codes ": bad line"
 fault_text (InUse number) = codes "line " ++ decimal number ++ codes ": connection in use"

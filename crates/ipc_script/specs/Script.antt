@@ -9,12 +9,11 @@ use Rattle.std.specs.Fmt.{decimal}
 use Rattle.std.specs.Io.KnownBytes.{Appends}
 use Rattle.hex.specs.Hex.{encode_lower}
 use Rattle.ipc_base.specs.declared.limits.Limits.{Limits}
-use Rattle.ipc_state.specs.State.{State}
 use Rattle.ipc_base.specs.Table.{keys_of}
-use Rattle.ipc_hub.specs.Clients.{Client, Clients, no_clients, client_at, ended_at}
+use Rattle.ipc_hub.specs.Clients.{Client, Clients, client_at, ended_at}
 use Rattle.ipc_hub.specs.Clients.{connect, feed, hangup, tick}
 use Rattle.ipc_script.specs.declared.fault.ScriptFault.{ScriptFault}
-use Rattle.ipc_script.specs.declared.fault.ScriptFault.TheVariants.{NoMemory, Input, Output}
+use Rattle.ipc_script.specs.declared.fault.ScriptFault.TheVariants.{NoMemory, Input, Output, Device}
 use Rattle.ipc_script.specs.declared.fault.ScriptFault.TheVariants.{TooLong, BadLine, InUse, Unknown}
 use Rattle.ipc_script.specs.Line.{PlainLine, Open, Data, End, Tick}
 use Rattle.ipc_script.specs.Line.{line_of, lines_of, longest_script}
@@ -150,13 +149,17 @@ run_lines limits number r (line ∷ lines) cuts =
     goes_on (text_done limits number r (line_of line) (first_cut cuts))
     (λ now. run_lines limits (number + 1) now lines (drop 1 cuts))
 
--- no connection, over a state that is there
-abbrev pub start_run : State → Run
-start_run s = record { hub = no_clients s; told = λ _. false }
+-- nothing was told of any connection yet
+abbrev pub start_run : Clients → Run
+start_run h = record { hub = h; told = λ _. false }
 
 -- a whole script; lines count from 1
-abbrev pub script_run : Limits → State → List ℕ → List Cut → Outcome
-script_run limits s script cuts = run_lines limits 1 (start_run s) (lines_of script) cuts
+abbrev pub script_run : Limits → Clients → List ℕ → List Cut → Outcome
+script_run limits h script cuts = run_lines limits 1 (start_run h) (lines_of script) cuts
+
+-- the first lines of a script alone
+abbrev pub lines_run : Limits → Clients → List ℕ → ℕ → List Cut → Outcome
+lines_run limits h script count cuts = run_lines limits 1 (start_run h) (take count (lines_of script)) cuts
 
 -- ---- what is promised of a run
 
@@ -166,37 +169,51 @@ WritesPart before after text =
     (part : List ℕ) × (rest : List ℕ) × (text ≡ part ++ rest) × Appends before after part
 
 -- for some cut of each line what is written is the run's text, and the fault is the run's
-abbrev pub EndsAs : Limits → State → List ℕ → Option (List ℕ) → Option (List ℕ)
+abbrev pub EndsAs : Limits → Clients → List ℕ → Option (List ℕ) → Option (List ℕ)
     → Option ScriptFault → Type 0
-EndsAs limits s script before after fault =
+EndsAs limits h script before after fault =
     (cuts : List Cut)
-    × (let outcome = script_run limits s script cuts in
+    × (let outcome = script_run limits h script cuts in
     Appends before after outcome.text × (outcome.fault ≡ fault))
 
 -- for some cut of each line what is written is a beginning of the run's text
-abbrev pub BreaksOff : Limits → State → List ℕ → Option (List ℕ) → Option (List ℕ) → Type 0
-BreaksOff limits s script before after =
-    (cuts : List Cut) × WritesPart before after (script_run limits s script cuts).text
+abbrev pub BreaksOff : Limits → Clients → List ℕ → Option (List ℕ) → Option (List ℕ) → Type 0
+BreaksOff limits h script before after =
+    (cuts : List Cut) × WritesPart before after (script_run limits h script cuts).text
+
+-- this text is written, and maybe more
+abbrev pub WritesMore : Option (List ℕ) → Option (List ℕ) → List ℕ → Type 0
+WritesMore before after text = (more : List ℕ) × Appends before after (text ++ more)
+
+-- the disk failed within a line: for some cut of each line before it these are run, and their text
+-- is written, and then what the connections had to say
+pub record Halts (limits : Limits) (h : Clients) (script : List ℕ) (before after : Option (List ℕ))
+    : Type 0 where
+  pub count : ℕ
+  pub cuts : List Cut
+  pub runs : (lines_run limits h script count cuts).fault ≡ None
+  pub text : WritesMore before after (lines_run limits h script count cuts).text
 
 -- a script that is not too long has run
-abbrev pub HasRun : Limits → State → List ℕ → Option (List ℕ) → Option (List ℕ)
+abbrev pub HasRun : Limits → Clients → List ℕ → Option (List ℕ) → Option (List ℕ)
     → Option ScriptFault → Type 0
-HasRun limits s script before after fault =
-    (length script ≤ longest_script) × EndsAs limits s script before after fault
+HasRun limits h script before after fault =
+    (length script ≤ longest_script) × EndsAs limits h script before after fault
 
--- What holds of a script when its run has ended. If memory or a write failed, the run broke off. A
--- script that is not read to its end, or is too long, is not begun.
-abbrev pub Runs : Limits → State → List ℕ → Option (List ℕ) → Option (List ℕ)
+-- What holds of a script when its run has ended. If memory or a write failed, the run broke off. If
+-- the disk failed, it halted. A script that is not read to its end, or is too long, is not begun.
+abbrev pub Runs : Limits → Clients → List ℕ → Option (List ℕ) → Option (List ℕ)
     → Result ⊤ ScriptFault → Type 0
-Runs limits s script before after (Ok _) = HasRun limits s script before after None
-Runs limits s script before after (Err NoMemory) = BreaksOff limits s script before after
-Runs limits s script before after (Err Input) = Appends before after []
-Runs limits s script before after (Err Output) = BreaksOff limits s script before after
-Runs limits s script before after (Err TooLong) =
+Runs limits h script before after (Ok _) = HasRun limits h script before after None
+Runs limits h script before after (Err NoMemory) = BreaksOff limits h script before after
+Runs limits h script before after (Err Input) = Appends before after []
+Runs limits h script before after (Err Output) = BreaksOff limits h script before after
+Runs limits h script before after (Err Device) = Halts limits h script before after
+Runs limits h script before after (Err TooLong) =
     (longest_script < length script) × Appends before after []
-Runs limits s script before after (Err (BadLine number)) =
-    HasRun limits s script before after (Some (BadLine number))
-Runs limits s script before after (Err (InUse number)) =
-    HasRun limits s script before after (Some (InUse number))
-Runs limits s script before after (Err (Unknown number)) =
-    HasRun limits s script before after (Some (Unknown number))
+Runs limits h script before after (Err (BadLine number)) =
+    HasRun limits h script before after (Some (BadLine number))
+Runs limits h script before after (Err (InUse number)) =
+    HasRun limits h script before after (Some (InUse number))
+Runs limits h script before after (Err (Unknown number)) =
+    HasRun limits h script before after (Some (Unknown number))

@@ -1,8 +1,6 @@
 //! What a connection sends, cut in every way: the lines that answer it stay the same.
 
-use crate::script::run_script;
-use ipc_base::Limits;
-use ipc_engine::Engine;
+use crate::tests::run;
 use std::alloc::{AllocError, Global};
 use std::test::Fail;
 
@@ -84,9 +82,8 @@ fn add_line(script: &mut Vec<u8>, hex: &[u8]) -> Result<(), AllocError> {
 fn written(alloc: Global, lines: &[u8]) -> Result<Vec<u8>, Fail> {
     let mut script = Vec::from_slice(alloc, b"0 open 1\n")?;
     script.extend_from_slice(lines)?;
-    let engine = Engine::new(alloc, Limits::small())?;
     let mut output = Vec::new(alloc);
-    run_script(alloc, engine, &mut script.as_slice(), &mut output)?;
+    run(alloc, &mut script.as_slice(), &mut output)??;
     Ok(output)
 }
 

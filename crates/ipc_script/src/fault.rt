@@ -14,6 +14,8 @@ pub enum ScriptFault {
     Input,
     /// A write failed, or took nothing.
     Output,
+    /// The disk has failed, or its journal is full. What the connections had to say then is written.
+    Device,
     /// The script has more than 16777216 bytes. Nothing of it was done.
     TooLong,
     /// The line has none of the forms. Lines count from 1.
@@ -35,6 +37,7 @@ impl fmt::Display for ScriptFault {
             ScriptFault::NoMemory => write!(f, "no memory"),
             ScriptFault::Input => write!(f, "input fault"),
             ScriptFault::Output => write!(f, "output fault"),
+            ScriptFault::Device => write!(f, "device fault"),
             ScriptFault::TooLong => write!(f, "script too long"),
             ScriptFault::BadLine(number) => write!(f, "line {number}: bad line"),
             ScriptFault::InUse(number) => write!(f, "line {number}: connection in use"),

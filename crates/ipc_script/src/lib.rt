@@ -14,6 +14,8 @@ pub use script::run_script;
 #[cfg(test)]
 mod cuts;
 #[cfg(test)]
+mod lasting;
+#[cfg(test)]
 mod rows;
 #[cfg(test)]
 mod standard;

@@ -1,20 +1,21 @@
 //! What a script's run writes: a line for each frame, and one for a connection that the server has
 //! ended.
 
-ghost use Rattle.std.specs.Prelude.{◌≡◌, ⊤, ◌<◌, ◌≤◌, ℕ, List, ◌++◌, length, string_bytes};
+ghost use Rattle.std.specs.Prelude.{◌≡◌, ⊤, ◌<◌, ◌≤◌, ℕ, List, [], ◌++◌, length, string_bytes};
 ghost use Rattle.std.specs.Prelude.{IfOk, IfErr, IfSome, OnOk};
 ghost use Rattle.std.specs.Io.KnownBytes.{Appends};
 ghost use Rattle.ipc_base.specs.declared.limits.Limits.{Limits};
-ghost use Rattle.ipc_hub.specs.Clients.{Clients, client_at};
+ghost use Rattle.ipc_hub.specs.Clients.{Clients, accepted, client_at};
 ghost use Rattle.ipc_hub.specs.Relations.Matches.{IsFrame, HubMatches};
-ghost use Rattle.ipc_script.specs.Script.{Run, WritesPart, conn_text, report as report_of};
+ghost use Rattle.ipc_script.specs.Script.{Run, WritesPart, WritesMore, conn_text, report as report_of};
 ghost use Rattle.ipc_script.specs.Script.{frame_line as frame_text, end_line as end_text};
-ghost use Rattle.ipc_script.specs.Relations.Faults.{WorldFailed};
+ghost use Rattle.ipc_script.specs.Relations.Faults.{ByFault, WorldFailed};
 ghost use Rattle.ipc_script.specs.Relations.Matches.{RunMatches, ProgressMatches, HasWholeFrames};
 ghost use Rattle.ipc_script.specs.Relations.Matches.{opened_of};
 ghost use Rattle.ipc_script.specs.Relations.Report.{without_frames, frames_text, SimulatesReportAt};
 
 use crate::fault::ScriptFault;
+use ipc_disk::SectorDisk;
 use ipc_hub::Hub;
 use std::alloc::{AllocError, Global};
 use std::io::Write;
@@ -27,22 +28,46 @@ pub struct Opened {
     pub told: bool,
 }
 
-/// Lets the frames that wait be seen. Writes those of each connection, a line each, and takes them;
-/// then, once, that the server has ended it.
-pub fn report<W: Write>(
+/// Makes what was accepted last, and lets its frames be seen. Then writes the frames of each
+/// connection, a line each, and takes them; then, once, that the server has ended it. If the disk
+/// fails nothing is written.
+pub fn report<D: SectorDisk, W: Write>(
     alloc: Global,
-    hub: &mut Hub,
+    hub: &mut Hub<D>,
     opened: &mut [Opened],
     writer: &mut W,
 ) -> Result<(), ScriptFault>
     ensures ok { OnOk result ((limits : Limits) (r : Run) → RunMatches limits hub.old opened.old r →
         ProgressMatches limits hub.new opened.new
         (W.contents writer.old) (W.contents writer.new) (report_of r)) }
+    ensures err { IfErr result (λ e. ByFault e
+        ((limits : Limits) (r : Run) → RunMatches limits hub.old opened.old r →
+        WritesPart (W.contents writer.old) (W.contents writer.new) (report_of r).text)
+        (Appends (W.contents writer.old) (W.contents writer.new) []) ⊥) }
+{
+    match hub.release() {
+        Ok(()) => report_all(alloc, hub, opened, writer),
+        Err(_) => Err(ScriptFault::Device),
+    }
+}
+
+/// Writes the frames that are seen of each connection, and takes them; then, once, that the server
+/// has ended it.
+pub fn report_all<D: SectorDisk, W: Write>(
+    alloc: Global,
+    hub: &mut Hub<D>,
+    opened: &mut [Opened],
+    writer: &mut W,
+) -> Result<(), ScriptFault>
+    ensures ok { OnOk result ((limits : Limits) (r : Run) → RunMatches limits hub.old opened.old r →
+        hub.old.store.confirmed ≡ accepted r.hub → ProgressMatches limits hub.new opened.new
+        (W.contents writer.old) (W.contents writer.new) (report_of r)) }
     ensures err { IfErr result (λ e. WorldFailed e
         ((limits : Limits) (r : Run) → RunMatches limits hub.old opened.old r →
+        hub.old.store.confirmed ≡ accepted r.hub →
         WritesPart (W.contents writer.old) (W.contents writer.new) (report_of r).text)) }
+    ensures grows { WritesMore (W.contents writer.old) (W.contents writer.new) [] }
 {
-    hub.release();
     for (place, connection) in opened.iter_mut().enumerate() {
         report_connection(alloc, hub, place, connection, writer)?;
     }
@@ -51,25 +76,27 @@ pub fn report<W: Write>(
 
 /// Writes what there is to say of a connection, which stands at this place among those that are
 /// open.
-fn report_connection<W: Write>(
+fn report_connection<D: SectorDisk, W: Write>(
     alloc: Global,
-    hub: &mut Hub,
+    hub: &mut Hub<D>,
     place: usize,
     connection: &mut Opened,
     writer: &mut W,
 ) -> Result<(), ScriptFault>
     ensures ok { OnOk result ((limits : Limits) (r : Run) →
-        HubMatches limits r.hub.accepted hub.old r.hub →
+        HubMatches limits (accepted r.hub) hub.old.hub r.hub →
         IfSome (client_at r.hub connection.old.conn) HasWholeFrames →
         connection.old ≡ opened_of r.told connection.old.conn →
-        SimulatesReportAt limits r hub.new connection.old.conn connection.new
+        SimulatesReportAt limits r hub.new.hub connection.old.conn connection.new
         (W.contents writer.old) (W.contents writer.new)) }
     ensures err { IfErr result (λ e. WorldFailed e ((limits : Limits) (r : Run) →
-        HubMatches limits r.hub.accepted hub.old r.hub →
+        HubMatches limits (accepted r.hub) hub.old.hub r.hub →
         IfSome (client_at r.hub connection.old.conn) HasWholeFrames →
         connection.old ≡ opened_of r.told connection.old.conn →
         WritesPart (W.contents writer.old) (W.contents writer.new)
         (conn_text r connection.old.conn))) }
+    ensures store { hub.new.store ≡ hub.old.store }
+    ensures grows { WritesMore (W.contents writer.old) (W.contents writer.new) [] }
 {
     if hub.is_silent(place, connection.conn) {
         return Ok(());
@@ -84,19 +111,21 @@ fn report_connection<W: Write>(
 }
 
 /// Writes the frames that the client of a connection may see, and takes them.
-fn report_frames<W: Write>(
+fn report_frames<D: SectorDisk, W: Write>(
     alloc: Global,
-    hub: &mut Hub,
+    hub: &mut Hub<D>,
     conn: u32,
     writer: &mut W,
 ) -> Result<(), ScriptFault>
     ensures ok { OnOk result ((limits : Limits) (h : Clients) →
-        HubMatches limits h.accepted hub.old h → IfSome (client_at h conn) HasWholeFrames →
-        HubMatches limits h.accepted hub.new (without_frames h conn)
+        HubMatches limits (accepted h) hub.old.hub h → IfSome (client_at h conn) HasWholeFrames →
+        HubMatches limits (accepted h) hub.new.hub (without_frames h conn)
         × Appends (W.contents writer.old) (W.contents writer.new) (frames_text h conn)) }
     ensures err { IfErr result (λ e. WorldFailed e ((limits : Limits) (h : Clients) →
-        HubMatches limits h.accepted hub.old h → IfSome (client_at h conn) HasWholeFrames →
+        HubMatches limits (accepted h) hub.old.hub h → IfSome (client_at h conn) HasWholeFrames →
         WritesPart (W.contents writer.old) (W.contents writer.new) (frames_text h conn))) }
+    ensures store { hub.new.store ≡ hub.old.store }
+    ensures grows { WritesMore (W.contents writer.old) (W.contents writer.new) [] }
 {
     'frames: while !hub.output(conn).is_empty() {
         let output = hub.output(conn);
@@ -144,6 +173,7 @@ fn write_all<W: Write>(writer: &mut W, bytes: &[u8]) -> Result<(), ScriptFault>
     ensures ok { OnOk result (Appends (W.contents writer.old) (W.contents writer.new) bytes.now) }
     ensures err { IfErr result (λ e.
         WorldFailed e (WritesPart (W.contents writer.old) (W.contents writer.new) bytes.now)) }
+    ensures grows { WritesMore (W.contents writer.old) (W.contents writer.new) [] }
 {
     let mut rest = bytes;
     'pieces: while !rest.is_empty() {

@@ -1,16 +1,18 @@
 //! A script: lines of what connections do and when, run on a hub.
 
-ghost use Rattle.std.specs.Prelude.{◌≡◌, ◌<◌, ◌≤◌, ℕ, true, false, List, [], length, position};
+ghost use Rattle.std.specs.Prelude.{◌≡◌, ◌<◌, ◌≤◌, ◌+◌, ℕ, true, false, List, [], length, position};
 ghost use Rattle.std.specs.Prelude.{nat_eq, nat_lt, IfOk, IfErr, IfSome, OnOk};
 ghost use Rattle.std.specs.List.{prefix_len};
 ghost use Rattle.std.specs.Io.KnownBytes.{Appends};
 ghost use Rattle.ipc_base.specs.declared.limits.Limits.{Limits};
-ghost use Rattle.ipc_hub.specs.Clients.{hangup};
+ghost use Rattle.ipc_engine.specs.Event.{PlainEvent};
+ghost use Rattle.ipc_hub.specs.Clients.{Clients, no_clients, hangup};
+ghost use Rattle.ipc_hub.specs.Relations.Matches.{StoredMatches};
 ghost use Rattle.ipc_script.specs.Line.{longest_script};
 ghost use Rattle.ipc_script.specs.Line.PlainLine.{Data};
-ghost use Rattle.ipc_script.specs.Script.{Run, Runs, is_open, line_done, opened as opened_run};
+ghost use Rattle.ipc_script.specs.Script.{Run, Runs, WritesMore, is_open, line_done, opened as opened_run};
 ghost use Rattle.ipc_script.specs.Relations.Lines.{plain_line};
-ghost use Rattle.ipc_script.specs.Relations.Faults.{ByFault, IfRefused};
+ghost use Rattle.ipc_script.specs.Relations.Faults.{ByFault, IfRefused, of_serve_error};
 ghost use Rattle.ipc_script.specs.Relations.Matches.{RunMatches, RunMatchesBetween};
 ghost use Rattle.ipc_script.specs.Relations.Pieces.{SimulatesPiece, PieceBreaksOff};
 ghost use Rattle.ipc_script.specs.Relations.Simulation.{SimulatesLine, SimulatesScript};
@@ -18,44 +20,53 @@ ghost use Rattle.ipc_script.specs.Relations.Simulation.{SimulatesLine, Simulates
 use crate::fault::ScriptFault;
 use crate::input::read_script;
 use crate::line::{Line, first_line, line_of};
-use crate::report::{Opened, report};
+use crate::report::{Opened, report, report_all};
 use ipc_base::Moment;
-use ipc_engine::Engine;
-use ipc_hub::{ConnectError, Hub};
+use ipc_disk::SectorDisk;
+use ipc_hub::{ConnectError, Hub, ServeError};
+use ipc_store::Store;
 use std::alloc::Global;
 use std::io::{Read, Write};
 
 /// Reads a script to its end, and runs it line by line. After each line the frames that it let out
 /// are written. The run stops at the first line that is refused; what the lines before it did
-/// stands. If memory or a write failed, what was written is a beginning of the run's text; after a
-/// read that failed nothing was. The script is all that the reader gives; of a reader that does not
-/// tell its bytes the clause says that there is one.
-pub fn run_script<R: Read, W: Write>(
+/// stands. If memory or a write failed, what was written is a beginning of the run's text; if the
+/// disk failed, it begins with the text of the lines before; after a read that failed nothing was
+/// written. Gives back the disk in every case. The script is all that the reader gives; of a reader
+/// that does not tell its bytes the clause says that there is one.
+pub fn run_script<D: SectorDisk, R: Read, W: Write>(
     alloc: Global,
-    engine: Engine,
+    store: Store<D>,
     reader: &mut R,
     writer: &mut W,
-) -> Result<(), ScriptFault>
+) -> (Result<(), ScriptFault>, D)
     ensures { (script : List ℕ) × IfSome (R.remaining reader.old) (λ input. script ≡ input)
-        × Runs engine.limits engine.state script
-        (W.contents writer.old) (W.contents writer.new) result }
+        × ((events : List PlainEvent) → length events ≡ store.confirmed + store.waiting →
+        Runs store.machine.limits (no_clients store.machine.state events) script
+        (W.contents writer.old) (W.contents writer.new) result.0) }
 {
-    let script = read_script(alloc, reader)?;
-    run_lines(alloc, engine, &script, writer)
+    match read_script(alloc, reader) {
+        Ok(script) => {
+            let mut hub = Hub::new(alloc, store);
+            let result = run_lines(alloc, &mut hub, &script, writer);
+            (result, hub.close().close())
+        }
+        Err(fault) => (Err(fault), store.close()),
+    }
 }
 
 /// Runs the lines of a script on a server without connections.
-fn run_lines<W: Write>(
+fn run_lines<D: SectorDisk, W: Write>(
     alloc: Global,
-    engine: Engine,
+    hub: &mut Hub<D>,
     script: &[u8],
     writer: &mut W,
 ) -> Result<(), ScriptFault>
     requires { length script.now ≤ longest_script }
-    ensures { SimulatesScript engine.limits engine.state script.now
+    ensures { (limits : Limits) (h : Clients) → StoredMatches limits hub.old h → h.clients ≡ [] →
+        SimulatesScript limits h script.now
         (W.contents writer.old) (W.contents writer.new) result }
 {
-    let mut hub = Hub::new(alloc, engine);
     let mut opened = Vec::new(alloc);
     let mut rest = script;
     let mut number: u64 = 0;
@@ -65,16 +76,38 @@ fn run_lines<W: Write>(
         let Some(line) = line_of(text) else {
             return Err(ScriptFault::BadLine(number));
         };
-        run_line(alloc, &mut hub, &mut opened, line, number, writer)?;
+        match run_line(alloc, hub, &mut opened, line, number, writer) {
+            Ok(()) => {}
+            Err(ScriptFault::Device) => {
+                last_words(alloc, hub, &mut opened, writer);
+                return Err(ScriptFault::Device);
+            }
+            Err(fault) => return Err(fault),
+        }
         rest = behind;
     }
     Ok(())
 }
 
-/// Runs a line.
-fn run_line<W: Write>(
+/// The disk has failed: writes what the connections have to say, as far as memory and the writer
+/// allow.
+fn last_words<D: SectorDisk, W: Write>(
     alloc: Global,
-    hub: &mut Hub,
+    hub: &mut Hub<D>,
+    opened: &mut [Opened],
+    writer: &mut W,
+)
+    ensures { WritesMore (W.contents writer.old) (W.contents writer.new) [] }
+{
+    match report_all(alloc, hub, opened, writer) {
+        Ok(()) | Err(_) => {}
+    }
+}
+
+/// Runs a line.
+fn run_line<D: SectorDisk, W: Write>(
+    alloc: Global,
+    hub: &mut Hub<D>,
     opened: &mut Vec<Opened>,
     line: Line<'_>,
     number: u64,
@@ -96,13 +129,21 @@ fn run_line<W: Write>(
             return feed(alloc, hub, opened, sender, &bytes, writer);
         }
         Line::End { moment, conn } => close(hub, opened, conn, Moment(moment), number)?,
-        Line::Tick { moment } => hub.tick(Moment(moment)),
+        Line::Tick { moment } => match hub.tick(Moment(moment)) {
+            Ok(()) => {}
+            Err(_) => return Err(ScriptFault::Device),
+        },
     }
     report(alloc, hub, opened, writer)
 }
 
 /// Opens a connection, and keeps those that are open in rising order.
-fn open(hub: &mut Hub, opened: &mut Vec<Opened>, conn: u32, number: u64) -> Result<(), ScriptFault>
+fn open<D: SectorDisk>(
+    hub: &mut Hub<D>,
+    opened: &mut Vec<Opened>,
+    conn: u32,
+    number: u64,
+) -> Result<(), ScriptFault>
     ensures ok { OnOk result ((limits : Limits) (r : Run) →
         RunMatchesBetween limits hub.old opened.old.items r → (is_open r conn ≡ false)
         × RunMatches limits hub.new opened.new.items (opened_run r conn)) }
@@ -115,6 +156,7 @@ fn open(hub: &mut Hub, opened: &mut Vec<Opened>, conn: u32, number: u64) -> Resu
         Ok(()) => {}
         Err(ConnectError::InUse) => return Err(ScriptFault::InUse(number)),
         Err(ConnectError::NoMemory) => return Err(ScriptFault::NoMemory),
+        Err(ConnectError::Stopped) => return Err(ScriptFault::Device),
     }
     let place = place_for(opened, conn);
     opened.insert(place, Opened { conn, told: false })?;
@@ -130,8 +172,8 @@ fn place_for(opened: &[Opened], conn: u32) -> usize
 }
 
 /// The client of a connection is gone.
-fn close(
-    hub: &mut Hub,
+fn close<D: SectorDisk>(
+    hub: &mut Hub<D>,
     opened: &mut Vec<Opened>,
     conn: u32,
     moment: Moment,
@@ -141,13 +183,14 @@ fn close(
         RunMatchesBetween limits hub.old opened.old.items r → (is_open r conn ≡ true)
         × RunMatches limits hub.new opened.new.items
         (record r { hub = hangup limits r.hub conn moment.0 })) }
-    ensures err { IfErr result (λ e. e ≡ ScriptFault.Unknown number) }
-    ensures unknown { IfErr result (λ e. (limits : Limits) (r : Run) →
-        RunMatchesBetween limits hub.old opened.old.items r → is_open r conn ≡ false) }
+    ensures err { IfErr result (λ e. IfRefused e (e ≡ ScriptFault.Unknown number)) }
+    ensures unknown { IfErr result (λ e. IfRefused e ((limits : Limits) (r : Run) →
+        RunMatchesBetween limits hub.old opened.old.items r → is_open r conn ≡ false)) }
 {
-    let Ok(()) = hub.hangup(conn, moment) else {
-        return Err(ScriptFault::Unknown(number));
-    };
+    match hub.hangup(conn, moment) {
+        Ok(()) => {}
+        Err(error) => return Err(fault_of(error, number)),
+    }
     if let Some(place) = place_of(opened, conn) {
         opened.remove(place);
     }
@@ -171,9 +214,9 @@ struct Sender {
 }
 
 /// Feeds a connection all of these bytes, and writes what they let out.
-fn feed<W: Write>(
+fn feed<D: SectorDisk, W: Write>(
     alloc: Global,
-    hub: &mut Hub,
+    hub: &mut Hub<D>,
     opened: &mut [Opened],
     sender: Sender,
     bytes: &[u8],
@@ -198,9 +241,9 @@ fn feed<W: Write>(
 }
 
 /// Feeds a connection some of these bytes, and writes what they let out. Answers how many.
-fn feed_some<W: Write>(
+fn feed_some<D: SectorDisk, W: Write>(
     alloc: Global,
-    hub: &mut Hub,
+    hub: &mut Hub<D>,
     opened: &mut [Opened],
     sender: Sender,
     bytes: &[u8],
@@ -215,14 +258,27 @@ fn feed_some<W: Write>(
         ((limits : Limits) (r : Run) → RunMatchesBetween limits hub.old opened.old r →
         PieceBreaksOff limits r sender bytes.now
         (W.contents writer.old) (W.contents writer.new))
+        (Appends (W.contents writer.old) (W.contents writer.new) [])
         ((e ≡ ScriptFault.Unknown sender.number)
         × Appends (W.contents writer.old) (W.contents writer.new) [])) }
     ensures unknown { IfErr result (λ e. IfRefused e ((limits : Limits) (r : Run) →
         RunMatchesBetween limits hub.old opened.old r → is_open r sender.conn ≡ false)) }
 {
-    let Ok(taken) = hub.feed(sender.conn, bytes, sender.moment) else {
-        return Err(ScriptFault::Unknown(sender.number));
-    };
-    report(alloc, hub, opened, writer)?;
-    Ok(taken)
+    match hub.feed(sender.conn, bytes, sender.moment) {
+        Ok(taken) => {
+            report(alloc, hub, opened, writer)?;
+            Ok(taken)
+        }
+        Err(error) => Err(fault_of(error, sender.number)),
+    }
+}
+
+/// The fault of a line of which a call of the hub was refused.
+fn fault_of(error: ServeError, number: u64) -> ScriptFault
+    ensures { result ≡ of_serve_error error number }
+{
+    match error {
+        ServeError::Unknown => ScriptFault::Unknown(number),
+        ServeError::Device | ServeError::JournalFull | ServeError::Stopped => ScriptFault::Device,
+    }
 }

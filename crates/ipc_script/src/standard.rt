@@ -3,8 +3,8 @@
 
 use crate::fault::ScriptFault;
 use crate::script::run_script;
+use crate::tests::{device, opened};
 use ipc_base::Limits;
-use ipc_engine::Engine;
 use std::alloc::{AllocError, Global};
 use std::fmt::Write;
 use std::test::Fail;
@@ -115,10 +115,15 @@ impl Trial {
     }
 
     /// How the script ends, and what it writes.
-    fn run(&self) -> Result<(Result<(), ScriptFault>, Vec<u8>), AllocError> {
-        let engine = Engine::new(self.alloc, Limits::standard())?;
+    fn run(&self) -> Result<(Result<(), ScriptFault>, Vec<u8>), Fail> {
+        let store = opened(self.alloc, device(self.alloc, &Limits::standard())?)?;
         let mut output = Vec::new(self.alloc);
-        let outcome = run_script(self.alloc, engine, &mut self.script.as_bytes(), &mut output);
+        let (outcome, _disk) = run_script(
+            self.alloc,
+            store,
+            &mut self.script.as_bytes(),
+            &mut output,
+        );
         Ok((outcome, output))
     }
 }
@@ -194,18 +199,22 @@ fn more_connections_than_processes(rt: HostRuntime) -> Result<(), Fail> {
     Ok(())
 }
 
-/// 1203 good lines, and a bad one.
+/// 1203 good lines, and a bad one. A thousand of them are `open`, which accepts no event: a journal
+/// has no room for a commit of each.
 #[test]
 fn a_long_script(rt: HostRuntime) -> Result<(), Fail> {
     let mut trial = Trial::with_queue(rt.alloc())?;
-    for number in 0..600u32 {
+    for number in 0..100u32 {
+        for digit in 0..10 {
+            trial.open(10 * number + digit + 2)?;
+        }
         let text = number.to_be_bytes();
         trial.msgsnd(1, 3, &text)?;
         trial.answer(1, 3, 0, &[])?;
         trial.msgrcv(1, 4, 4)?;
         trial.received(1, 4, &text)?;
     }
-    trial.line("0 open  2")?;
+    trial.line("0 open  1002")?;
     trial.line("0 data 1 00000000")?;
     let (outcome, output) = trial.run()?;
     assert_eq!(rt; outcome, Err(ScriptFault::BadLine(1204)));

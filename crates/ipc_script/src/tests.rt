@@ -1,22 +1,46 @@
 //! What no clause says: whole scripts with their texts, the text of each fault, and streams that
 //! fail.
 
+ghost use Rattle.ipc_base.specs.Limits.{ArePassed};
+
 use crate::fault::ScriptFault;
 use crate::rows::ROWS;
 use crate::script::run_script;
 use ipc_base::Limits;
-use ipc_engine::Engine;
+use ipc_disk::{MemoryDisk, SectorDisk};
+use ipc_image::need;
+use ipc_store::Store;
 use std::alloc::Global;
 use std::io;
 use std::io::{Read, Write};
 use std::test::Fail;
 
-fn run<R: Read, W: Write>(
+/// A new device under these limits, of as many sectors as they need.
+pub(crate) fn device(alloc: Global, limits: &Limits) -> Result<MemoryDisk, Fail>
+    requires { ArePassed limits.now }
+{
+    let mut disk = MemoryDisk::new(alloc, need(limits))?;
+    Store::format(&mut disk, limits)?;
+    Ok(disk)
+}
+
+/// A device that is to open.
+pub(crate) fn opened<D: SectorDisk + Drop>(alloc: Global, disk: D) -> Result<Store<D>, Fail> {
+    match Store::open(alloc, disk) {
+        Ok(store) => Ok(store),
+        Err(unopened) => Err(Fail::new(unopened.error)),
+    }
+}
+
+/// How a script ends on a new device under small limits.
+pub(crate) fn run<R: Read, W: Write>(
     alloc: Global,
     reader: &mut R,
     writer: &mut W,
-) -> Result<(), ScriptFault> {
-    run_script(alloc, Engine::new(alloc, Limits::small())?, reader, writer)
+) -> Result<Result<(), ScriptFault>, Fail> {
+    let store = opened(alloc, device(alloc, &Limits::small())?)?;
+    let (outcome, _disk) = run_script(alloc, store, reader, writer);
+    Ok(outcome)
 }
 
 #[test]
@@ -24,7 +48,7 @@ fn scripts(rt: HostRuntime) -> Result<(), Fail> {
     for row in &ROWS {
         let mut output: Vec<u8> = Vec::new(rt.alloc());
         let mut script = row.script.as_bytes();
-        let outcome = run(rt.alloc(), &mut script, &mut output);
+        let outcome = run(rt.alloc(), &mut script, &mut output)?;
         assert_eq!(rt; outcome, Ok(()), "{}", row.name);
         assert_eq!(rt; output.as_slice(), row.output.as_bytes(), "{}", row.name);
     }
@@ -56,7 +80,7 @@ fn faults_of_a_script(rt: HostRuntime) -> Result<(), Fail> {
     for (script, text) in faults {
         let mut output: Vec<u8> = Vec::new(rt.alloc());
         let mut reader = script.as_bytes();
-        match run(rt.alloc(), &mut reader, &mut output) {
+        match run(rt.alloc(), &mut reader, &mut output)? {
             Ok(()) => assert!(rt; false, "{script:?} has no fault"),
             Err(fault) => {
                 let said = fault.to_string(rt.alloc())?;
@@ -69,20 +93,21 @@ fn faults_of_a_script(rt: HostRuntime) -> Result<(), Fail> {
 }
 
 #[test]
-fn lines_before_a_fault_stand(rt: HostRuntime) {
+fn lines_before_a_fault_stand(rt: HostRuntime) -> Result<(), Fail> {
     let mut output: Vec<u8> = Vec::new(rt.alloc());
     let mut script = "0 open 1\n0 data 1 00000000\n0 open 1\n0 data 1 00\n".as_bytes();
-    let outcome = run(rt.alloc(), &mut script, &mut output);
+    let outcome = run(rt.alloc(), &mut script, &mut output)?;
     assert_eq!(rt; outcome, Err(ScriptFault::InUse(3)));
     assert_eq!(rt;
         output.as_slice(),
         b"1 00000006000000000047\n1 end\n".as_slice()
     );
+    Ok(())
 }
 
 /// Gives newlines for ever.
 #[derive(Drop)]
-struct Endless;
+pub(crate) struct Endless;
 
 impl Read for Endless {
     fn read(&mut self, into: &mut [u8]) -> io::Result<usize> {
@@ -93,7 +118,7 @@ impl Read for Endless {
 
 /// Fails at once.
 #[derive(Drop)]
-struct Broken;
+pub(crate) struct Broken;
 
 impl Read for Broken {
     fn read(&mut self, _: &mut [u8]) -> io::Result<usize> {
@@ -112,23 +137,24 @@ impl Write for Broken {
 }
 
 #[test]
-fn readers_and_writers_that_fail(rt: HostRuntime) {
+fn readers_and_writers_that_fail(rt: HostRuntime) -> Result<(), Fail> {
     let alloc = rt.alloc();
     let mut output: Vec<u8> = Vec::new(alloc);
     assert_eq!(rt;
-        run(alloc, &mut Endless, &mut output),
+        run(alloc, &mut Endless, &mut output)?,
         Err(ScriptFault::TooLong)
     );
     assert_eq!(rt; output.len(), 0);
     assert_eq!(rt;
-        run(alloc, &mut Broken, &mut output),
+        run(alloc, &mut Broken, &mut output)?,
         Err(ScriptFault::Input)
     );
     let mut script = "0 open 1\n0 data 1 00000000\n".as_bytes();
     assert_eq!(rt;
-        run(alloc, &mut script, &mut Broken),
+        run(alloc, &mut script, &mut Broken)?,
         Err(ScriptFault::Output)
     );
+    Ok(())
 }
 
 /// Gives, and takes, one byte a call.
@@ -156,7 +182,7 @@ impl<S: Write> Write for Slow<S> {
 }
 
 #[test]
-fn readers_and_writers_that_are_slow(rt: HostRuntime) {
+fn readers_and_writers_that_are_slow(rt: HostRuntime) -> Result<(), Fail> {
     for row in &ROWS {
         let mut script = Slow {
             stream: row.script.as_bytes(),
@@ -164,7 +190,7 @@ fn readers_and_writers_that_are_slow(rt: HostRuntime) {
         let mut output = Slow {
             stream: Vec::<u8>::new(rt.alloc()),
         };
-        let outcome = run(rt.alloc(), &mut script, &mut output);
+        let outcome = run(rt.alloc(), &mut script, &mut output)?;
         assert_eq!(rt; outcome, Ok(()), "{}", row.name);
         assert_eq!(rt;
             output.stream.as_slice(),
@@ -173,6 +199,7 @@ fn readers_and_writers_that_are_slow(rt: HostRuntime) {
             row.name
         );
     }
+    Ok(())
 }
 
 /// Gives, and takes, one byte a call; the call of this number fails, and no other.
@@ -216,7 +243,7 @@ impl<S: Write> Write for Faulty<S> {
 
 /// A read that fails ends all; nothing is read after it, and nothing written.
 #[test]
-fn a_read_that_fails_is_not_tried_again(rt: HostRuntime) {
+fn a_read_that_fails_is_not_tried_again(rt: HostRuntime) -> Result<(), Fail> {
     let row = &ROWS[0];
     // A last read finds the end.
     for fails_at in 1..=row.script.len() as u64 + 1 {
@@ -226,16 +253,17 @@ fn a_read_that_fails_is_not_tried_again(rt: HostRuntime) {
             fails_at,
         };
         let mut output: Vec<u8> = Vec::new(rt.alloc());
-        let outcome = run(rt.alloc(), &mut script, &mut output);
+        let outcome = run(rt.alloc(), &mut script, &mut output)?;
         assert_eq!(rt; outcome, Err(ScriptFault::Input), "read {fails_at}");
         assert_eq!(rt; script.calls, fails_at);
         assert_eq!(rt; output.len(), 0);
     }
+    Ok(())
 }
 
 /// A write that fails ends all; nothing is written after it.
 #[test]
-fn a_write_that_fails_is_not_tried_again(rt: HostRuntime) {
+fn a_write_that_fails_is_not_tried_again(rt: HostRuntime) -> Result<(), Fail> {
     let row = &ROWS[0];
     for written in 0..row.output.len() {
         let mut script = row.script.as_bytes();
@@ -244,9 +272,10 @@ fn a_write_that_fails_is_not_tried_again(rt: HostRuntime) {
             calls: 0,
             fails_at: written as u64 + 1,
         };
-        let outcome = run(rt.alloc(), &mut script, &mut output);
+        let outcome = run(rt.alloc(), &mut script, &mut output)?;
         assert_eq!(rt; outcome, Err(ScriptFault::Output), "write {written}");
         assert_eq!(rt; output.calls, output.fails_at);
         assert_eq!(rt; output.stream.as_slice(), &row.output.as_bytes()[..written]);
     }
+    Ok(())
 }

@@ -1,10 +1,11 @@
 -- The bytes of a batch in its buffer.
-use Rattle.std.proofs.Common.{◌≡◌, ◌≤◌, ◌+◌, ◌-◌, ◌++◌, ℕ, List, length, take, drop, sym, ap, ◌∙◌, arith}
+use Rattle.std.proofs.Common.{◌≡◌, ◌≤◌, ◌+◌, ◌-◌, ◌++◌, ℕ, List, ◌∷◌, length, take, drop, sym, ap, ◌∙◌, arith}
 use Rattle.std.proofs.lemmas.List.{take-append-drop, take-take, length-take, length-drop, length-append, take_at, drop_at, append_assoc, drop-append-le}
 use Rattle.byteorder.specs.Endian.{big_bytes}
 use Rattle.std.specs.Int.{w32, w64, to_be_bytes}
-use Rattle.ipc_engine.specs.Event.{PlainEvent, moment_of}
-use Rattle.ipc_image.specs.Records.{record_bytes, details, text_of}
+use Rattle.ipc_wire.specs.Spelling.{opcode_of, fields_of, request_bytes}
+use Rattle.ipc_engine.specs.Event.{PlainEvent, Connect, Call, Tick, Exit, Restart, moment_of}
+use Rattle.ipc_image.specs.Records.{record_bytes, details, text_of, HasDetails, HasRecord}
 use Rattle.ipc_store.specs.Relations.Batch.{IsFilled}
 
 -- what means something in the buffer are the length and the records
@@ -60,3 +61,26 @@ records_behind old front new rec rest len least within four is =
 pub record-length : (e : PlainEvent) → length (record_bytes e) ≡ 13 + length (details e)
 unfolding record_bytes
 record-length e = omega (arith, length-append (to_be_bytes w32 (9 + length (details e))) (text_of e), length-append (to_be_bytes w64 (moment_of e)) (details e))
+
+-- the details of an event have 8452 bytes at most: a pid, a serial, an opcode and 8443 bytes of fields
+details-most : (e : PlainEvent) → HasDetails e → length (details e) ≤ 8452
+details-most (Connect cred serial moment) has =
+    omega (
+      arith,
+      length-append (to_be_bytes w32 serial) (to_be_bytes w32 cred.uid ++ to_be_bytes w32 cred.gid),
+      length-append (to_be_bytes w32 cred.uid) (to_be_bytes w32 cred.gid),
+    )
+details-most (Call pid request moment) has =
+    omega (
+      arith,
+      length-append (to_be_bytes w32 pid) (request_bytes request),
+      length-append (to_be_bytes w32 request.serial) (opcode_of request.kind ∷ fields_of request.kind),
+      has.1.short,
+    )
+details-most (Tick moment) has = omega arith
+details-most (Exit pid moment) has = omega arith
+details-most Restart has = omega arith
+
+-- the longest record has 8465 bytes
+pub record-most : (e : PlainEvent) → HasRecord e → length (record_bytes e) ≤ 8465
+record-most e has = omega (arith, record-length e, details-most e has.details)

@@ -1,11 +1,12 @@
--- What the crates above cite of a store: which events the bytes of a batch hold, and which state an image stands for.
-use Rattle.std.proofs.Common.{◌≡◌, ◌<◌, ◌^◌, ℕ, List, [], ◌∷◌, length, drop, map, refl, sym, ap, subst, ◌∙◌, arith}
-use Rattle.std.specs.Prelude.{All}
+-- What the crates above cite of a store: which events the bytes of a batch hold, which state an image stands for, what a list
+-- of calls accepts, and for how many events a store is ready.
+use Rattle.std.proofs.Common.{◌≡◌, ◌+◌, ◌-◌, ◌≤◌, ◌<◌, ◌^◌, ℕ, Bool, true, false, List, [], ◌∷◌, ◌++◌, length, drop, map, refl, sym, ap, subst, ◌∙◌, arith}
+use Rattle.std.specs.Prelude.{if◌then◌else◌, All}
 use Rattle.std.proofs.lemmas.List.{drop_at, length-append}
 use Rattle.std.proofs.lemmas.List.Elements.{All-head, All-tail}
 use Rattle.byteorder.specs.Endian.{big_bytes}
 use Rattle.ipc_base.specs.declared.limits.Limits.{Limits}
-use Rattle.ipc_disk.specs.Medium.{Image}
+use Rattle.ipc_disk.specs.Medium.{Image, Medium}
 use Rattle.ipc_journal.specs.Journal.{sector_at}
 use Rattle.ipc_journal.proofs.CallerLemmas.{Holds-one}
 use Rattle.ipc_state.specs.State.{State, start}
@@ -14,8 +15,11 @@ use Rattle.ipc_engine.specs.Step.{run}
 use Rattle.ipc_image.specs.Records.{record_bytes, HasRecord, BeginsWith}
 use Rattle.ipc_image.proofs.CallerLemmas.{one-superblock, one-record, record-read}
 use Rattle.ipc_store.specs.Batch.{records_of, batch_bytes, AreBatch}
+use Rattle.ipc_store.specs.Histories.{Takes}
 use Rattle.ipc_store.specs.Image.{journal_range, first_epoch, events_of, StandsFor}
-use Rattle.ipc_store.proofs.Batches.{record-length}
+use Rattle.ipc_store.specs.View.{StoreView, HasRoom, IsReadyFor, events_left}
+use Rattle.ipc_store.proofs.Batches.{record-length, record-most}
+use Rattle.ipc_store.proofs.Lives as lives
 
 -- if there is an event, there is a byte
 no_records : (e : PlainEvent) (events : List PlainEvent) → [] ≡ records_of (e ∷ events) → ⊥
@@ -73,3 +77,59 @@ StandsFor-one limits others s t image fits is also =
       leads.state ∙ ap (λ (l : Limits). (run l start (events_of batches)).state) same_limits
           ∙ ap (λ (bs : List (List PlainEvent)). (run others start (events_of bs)).state) same ∙ sym other_leads.state,
     )
+
+-- ---- what calls accept
+
+-- with no call, no event is accepted; the law is the disk's `only_now`
+pub Takes-none : {D : Type 0} (medium : D → Medium)
+    (law : (d : D) (image : Image) → (medium d).images_since (medium d).moment image → (medium d).images_now image)
+    (store : StoreView D) → Takes medium store [] store
+Takes-none = lives.takes-none
+
+-- two calls, one after the other, accept the events of both
+pub Takes-both : {D : Type 0} (medium : D → Medium) (first mid last : StoreView D) (events others : List PlainEvent)
+    → Takes medium first events mid → Takes medium mid others last → Takes medium first (events ++ others) last
+Takes-both = lives.takes-both
+
+-- ---- for how many events a store is ready
+
+-- what is left of so many events, if the store has stopped or not
+abbrev left_of : ℕ → Bool → ℕ
+left_of came stopped = if stopped then 0 else 2 ^ 64 - 1 - came
+
+-- a store that takes one more has not stopped
+left-goes-on : (came n : ℕ) (stopped : Bool) → 1 ≤ n → n ≤ left_of came stopped → stopped ≡ false
+left-goes-on came n true some fewer = absurd (omega (arith, some, fewer))
+left-goes-on came n false some fewer = refl
+
+-- and so many more can be counted
+left-counts : (came n : ℕ) (stopped : Bool) → 1 ≤ n → n ≤ left_of came stopped → came + n < 2 ^ 64
+left-counts came n true some fewer = absurd (omega (arith, some, fewer))
+left-counts came n false some fewer = omega (arith, some, fewer)
+
+-- the longest record fits
+pub ready-room : {D : Type 0} (store : StoreView D) (n : ℕ) → 1 ≤ n → IsReadyFor store n → HasRoom store
+ready-room store n some ready = omega (arith, some, ready.0)
+
+-- it has not stopped
+pub ready-goes-on : {D : Type 0} (store : StoreView D) (n : ℕ) → 1 ≤ n → IsReadyFor store n → store.stopped ≡ false
+ready-goes-on store n some ready = left-goes-on (store.confirmed + store.waiting) n store.stopped some ready.1
+
+-- so many events more can be counted
+pub ready-counts : {D : Type 0} (store : StoreView D) (n : ℕ) → 1 ≤ n → IsReadyFor store n → store.confirmed + store.waiting + n < 2 ^ 64
+ready-counts store n some ready = left-counts (store.confirmed + store.waiting) n store.stopped some ready.1
+
+-- after a step it is ready for one event less
+pub ready-less : {D : Type 0} (old new : StoreView D) (e : PlainEvent) (n : ℕ) → HasRecord e → new.records ≡ old.records ++ record_bytes e
+    → new.waiting ≡ old.waiting + 1 → new.confirmed ≡ old.confirmed → new.stopped ≡ old.stopped → IsReadyFor old (n + 1) → IsReadyFor new n
+ready-less old new e n has records waiting confirmed stopped ready =
+    let going : old.stopped ≡ false = ready-goes-on old (n + 1) (omega arith) ready in
+    let counts : old.confirmed + old.waiting + (n + 1) < 2 ^ 64 = ready-counts old (n + 1) (omega arith) ready in
+    let fewer : n ≤ 2 ^ 64 - 1 - (new.confirmed + new.waiting) = omega (arith, counts, waiting, confirmed) in (
+      omega (arith, ready.0, ap length records, length-append old.records (record_bytes e), record-most e has),
+      subst (λ (b : Bool). n ≤ left_of (new.confirmed + new.waiting) b) (sym (stopped ∙ going)) fewer,
+    )
+
+-- the longest records of three events fit if none waits
+pub empty-ready : {D : Type 0} (store : StoreView D) (n : ℕ) → n ≤ 3 → store.records ≡ [] → n ≤ events_left store → IsReadyFor store n
+empty-ready store n few none fewer = (omega (arith, few, ap length none), fewer)

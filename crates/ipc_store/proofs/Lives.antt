@@ -1,10 +1,10 @@
 -- What the calls on a store do to its history.
 use Rattle.std.proofs.Common.{◌≡◌, inl, inr, ⊎_elim, ◌+◌, Bool, true, false, List, [], ◌∷◌, ◌++◌, refl, sym, ap, subst, ◌∙◌, append-nil, append_assoc, arith}
-use Rattle.std.proofs.lemmas.List.{length-append}
+use Rattle.std.proofs.lemmas.List.{length-append, append_cancel_left}
 use Rattle.ipc_base.specs.declared.limits.Limits.{Limits}
 use Rattle.ipc_disk.specs.Medium.{Image, Medium, IsHonest}
 use Rattle.ipc_disk.specs.Since.{EachImageSince}
-use Rattle.ipc_disk.proofs.CallerLemmas.{EachImageSince-start, EachImageSince-weaken, EachImageSince-now}
+use Rattle.ipc_disk.proofs.CallerLemmas.{EachImageSince-start, EachImageSince-join, EachImageSince-weaken, EachImageSince-now}
 use Rattle.ipc_state.specs.State.{State, start}
 use Rattle.ipc_engine.specs.Event.{PlainEvent}
 use Rattle.ipc_engine.specs.Step.{run}
@@ -193,3 +193,70 @@ module _ {D : Type 0} (medium : D → Medium) (law : (d : D) (image : Image) →
             count = confirmed ∙ keeps.count;
           };
         }
+
+-- ---- two calls, one after the other
+
+module _ (before mid : History) (events others : List PlainEvent) (first : Follows before events mid) where
+  -- what is acknowledged then was acknowledged before, or was confirmed since
+  acknowledged-more : acknowledged mid ≡ acknowledged before ++ first.more
+  acknowledged-more =
+      ap (λ (es : List PlainEvent). es ++ mid.confirmed) first.found ∙ ap (λ (es : List PlainEvent). before.found ++ es) first.confirms
+      ∙ sym (append_assoc before.found before.confirmed first.more)
+
+  -- what was confirmed since, and what waits then, are what waited before, and the events
+  waiting-more : first.more ++ mid.waiting ≡ before.waiting ++ events
+  waiting-more =
+      append_cancel_left (acknowledged before) (first.more ++ mid.waiting) (before.waiting ++ events)
+      (sym (append_assoc (acknowledged before) first.more mid.waiting) ∙ ap (λ (es : List PlainEvent). es ++ mid.waiting) (sym acknowledged-more)
+      ∙ first.accepts ∙ append_assoc (acknowledged before) before.waiting events)
+
+  -- so what keeps some of the events then keeps some of all of them
+  keeps-since : (limits : Limits) (image : Image) → StandsForPrefix limits (acknowledged mid) (mid.waiting ++ others) image
+      → StandsForPrefix limits (acknowledged before) (before.waiting ++ (events ++ others)) image
+  keeps-since limits image is = record {
+    kept = first.more ++ is.kept;
+    lost = is.lost;
+    prefix =
+        append_assoc first.more is.kept is.lost ∙ ap (λ (es : List PlainEvent). first.more ++ es) is.prefix
+        ∙ sym (append_assoc first.more mid.waiting others) ∙ ap (λ (es : List PlainEvent). es ++ others) waiting-more
+        ∙ append_assoc before.waiting events others;
+    stands = subst (λ (es : List PlainEvent). StandsFor limits (state_after limits es) image)
+        (ap (λ (es : List PlainEvent). es ++ is.kept) acknowledged-more ∙ append_assoc (acknowledged before) first.more is.kept) is.stands;
+  }
+
+  -- the history goes on over both
+  follows-both : (after : History) → Follows mid others after → Follows before (events ++ others) after
+  follows-both after next = record {
+    found = next.found ∙ first.found;
+    accepts = next.accepts ∙ ap (λ (es : List PlainEvent). es ++ others) first.accepts ∙ append_assoc (accepted before) events others;
+    more = first.more ++ next.more;
+    confirms =
+        next.confirms ∙ ap (λ (es : List PlainEvent). es ++ next.more) first.confirms
+        ∙ append_assoc before.confirmed first.more next.more;
+  }
+
+-- they accept the events of both
+pub takes-both : {D : Type 0} (medium : D → Medium) (first mid last : StoreView D) (events others : List PlainEvent)
+    → Takes medium first events mid → Takes medium mid others last → Takes medium first (events ++ others) last
+takes-both medium first mid last events others takes then before keeps =
+    let one = takes before keeps in
+    let two = then one.after one.keeps in
+    let limits : Limits = first.machine.limits in
+    let acked : List PlainEvent = acknowledged before in
+    let P : Image → Type 0 = StandsForPrefix limits acked (before.waiting ++ (events ++ others)) in
+    let front : (image : Image) → StandsForPrefix limits acked (before.waiting ++ events) image → P image =
+    λ image is. subst (λ (es : List PlainEvent). StandsForPrefix limits acked es image) (append_assoc before.waiting events others)
+    (keeps-more limits acked (before.waiting ++ events) others image is) in
+    let back : (image : Image) → StandsForPrefix mid.machine.limits (acknowledged one.after) (one.after.waiting ++ others) image → P image =
+    λ image is. keeps-since before one.after events others one.follows limits image
+    (subst (λ (l : Limits). StandsForPrefix l (acknowledged one.after) (one.after.waiting ++ others) image) one.limits is) in
+    record {
+      crash = EachImageSince-join (medium first.disk) (medium mid.disk) (medium last.disk) P
+          (EachImageSince-weaken (medium first.disk) (medium mid.disk) (StandsForPrefix limits acked (before.waiting ++ events)) P one.crash front)
+          (EachImageSince-weaken (medium mid.disk) (medium last.disk)
+          (StandsForPrefix mid.machine.limits (acknowledged one.after) (one.after.waiting ++ others)) P two.crash back);
+      limits = two.limits ∙ one.limits;
+      after = two.after;
+      follows = follows-both before one.after events others one.follows two.after two.follows;
+      keeps = two.keeps;
+    }

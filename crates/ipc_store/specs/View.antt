@@ -1,7 +1,8 @@
 -- What a store shows.
-use Rattle.std.specs.Prelude.{◌≡◌, ◌≤◌, ◌+◌, ℕ, Bool, true, List, length}
+use Rattle.std.specs.Prelude.{◌≡◌, ◌≤◌, ◌+◌, ◌-◌, ◌*◌, ◌^◌, ℕ, Bool, true, if◌then◌else◌, List, length}
 use Rattle.ipc_engine.specs.Engine.{Machine}
 use Rattle.ipc_journal.specs.declared.journal.Journal.{Journal}
+use Rattle.ipc_journal.specs.View.{Fits}
 use Rattle.ipc_journal.specs.declared.error.JournalError.{JournalError}
 use Rattle.ipc_journal.specs.declared.error.JournalError.TheVariants as journal
 use Rattle.ipc_store.specs.Batch.{most_bytes}
@@ -26,6 +27,18 @@ HasRoom store = 4 + length store.records + 8465 ≤ most_bytes
 
 abbrev pub IsStopped : {D : Type 0} → StoreView D → Type 0
 IsStopped store = store.stopped ≡ true
+
+-- how many more events it takes until it is opened again
+abbrev pub events_left : {D : Type 0} → StoreView D → ℕ
+events_left store = if store.stopped then 0 else 2 ^ 64 - 1 - (store.confirmed + store.waiting)
+
+-- the longest records of so many events fit into the batch, and it takes so many events more
+abbrev pub IsReadyFor : {D : Type 0} → StoreView D → ℕ → Type 0
+IsReadyFor store n = (4 + length store.records + n * 8465 ≤ most_bytes) × (n ≤ events_left store)
+
+-- the batch that waits fits into the journal
+abbrev pub HasPlace : {D : Type 0} → StoreView D → Type 0
+HasPlace store = Fits store.journal (4 + length store.records)
 
 -- the fault of an open that meets this fault of the journal
 abbrev pub of_journal_error : JournalError → OpenError

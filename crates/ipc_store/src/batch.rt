@@ -60,7 +60,14 @@ impl Batch {
     pub(crate) fn has_room(&self) -> bool
         ensures { IsTrue result ↔ (4 + length self.now.records + 8465 ≤ most_bytes) }
     {
-        self.len + LONGEST_RECORD <= MOST_BYTES
+        self.has_room_for(1)
+    }
+
+    /// Whether so many records of the greatest length fit.
+    pub(crate) fn has_room_for(&self, events: usize) -> bool
+        ensures { IsTrue result ↔ (4 + length self.now.records + events * 8465 ≤ most_bytes) }
+    {
+        events <= (MOST_BYTES - self.len) / LONGEST_RECORD
     }
 
     /// How many events wait.
@@ -68,6 +75,7 @@ impl Batch {
         ensures count { result ≡ self.now.count }
         ensures few { 13 * self.now.count + 4 ≤ most_bytes }
         ensures some { 13 * self.now.count ≤ length self.now.records }
+        ensures none { self.now.count ≡ 0 → self.now.records ≡ [] }
     {
         self.count
     }

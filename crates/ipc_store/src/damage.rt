@@ -1,6 +1,8 @@
 //! What an open answers on a device that is damaged, byte by byte.
 
-use crate::tests::{SMALL_DEVICE, TICK, call, get, hello, opened, send, small_device, take, text};
+use crate::tests::{
+    SMALL_DEVICE, TICK, call, commit_all, get, hello, opened, send, small_device, text,
+};
 use crate::{OpenError, Store};
 use ipc_base::{Limits, Moment, Pid};
 use ipc_disk::{MemoryDisk, SectorDisk};
@@ -18,15 +20,14 @@ const GOODBYE: Event<'static> = Event::Exit {
 // refused with a tick, which take two sectors, and a tick with an exit.
 fn good_device(rt: &impl Abort, alloc: Global) -> Result<MemoryDisk, Fail> {
     let mut store = opened(alloc, small_device(alloc)?)?;
-    take(rt, &mut store, hello(1000))?;
-    take(rt, &mut store, call(1, get(1234)))?;
-    store.commit()?;
-    take(rt, &mut store, call(1, send(1, text(500))))?;
-    take(rt, &mut store, TICK)?;
-    store.commit()?;
-    take(rt, &mut store, TICK)?;
-    take(rt, &mut store, GOODBYE)?;
-    store.commit()?;
+    let batches = [
+        [hello(1000), call(1, get(1234))],
+        [call(1, send(1, text(500))), TICK],
+        [TICK, GOODBYE],
+    ];
+    for batch in batches {
+        commit_all(rt, &mut store, &batch)?;
+    }
     Ok(store.close())
 }
 
@@ -63,6 +64,12 @@ fn sector_of<D: SectorDisk>(disk: &mut D, at: u32) -> Result<[u8; 512], Fail> {
     Ok(sector)
 }
 
+// Whether a sector begins with these bytes, and whether the others are zeros.
+fn compared(sector: &[u8; 512], bytes: &[u8]) -> (bool, bool) {
+    let zeros = sector.iter().skip(bytes.len()).all(|byte| *byte == 0);
+    (sector.starts_with(bytes), zeros)
+}
+
 #[test]
 fn a_journal_to_the_byte(rt: HostRuntime) -> Result<(), Fail> {
     let mut disk = good_device(&rt, rt.alloc())?;
@@ -74,9 +81,8 @@ fn a_journal_to_the_byte(rt: HostRuntime) -> Result<(), Fail> {
         (8, &THIRD),
     ];
     for (at, bytes) in sectors {
-        let sector = sector_of(&mut disk, at)?;
-        assert!(rt; sector.starts_with(bytes), "sector {at}");
-        let zeros = sector.iter().skip(bytes.len()).all(|byte| *byte == 0);
+        let (begins, zeros) = compared(&sector_of(&mut disk, at)?, bytes);
+        assert!(rt; begins, "sector {at}");
         assert!(rt; zeros || at == 6, "sector {at}");
     }
     // The tick after the text of 500 bytes.
@@ -304,6 +310,11 @@ fn devices_of_other_sizes(rt: HostRuntime) -> Result<(), Fail> {
         refused(&rt, rt.alloc(), disk, fault);
     }
     opened(rt.alloc(), copied(rt.alloc(), &mut good, SMALL_DEVICE)?)?;
+    Ok(())
+}
+
+#[test]
+fn a_device_of_zeros_is_not_formatted(rt: HostRuntime) -> Result<(), Fail> {
     let zeros = MemoryDisk::new(rt.alloc(), SMALL_DEVICE)?;
     let mut disk = refused(&rt, rt.alloc(), zeros, OpenError::NotFormatted);
     Store::format(&mut disk, &Limits::small())?;

@@ -233,9 +233,8 @@ fn probe<M: Probed>(rt: &impl Abort, alloc: Global, machine: &mut M) -> Result<V
     Ok(replies)
 }
 
-// What the probes find of a machine after the first `count` events of the script and a restart.
-fn probe_after(rt: &impl Abort, alloc: Global, count: u64) -> Result<Vec<u8>, Fail> {
-    let mut engine = Engine::new(alloc, Limits::small())?;
+// Leads a machine through the first `count` events of the script.
+fn go_to(rt: &impl Abort, engine: &mut Engine, count: u64) -> Result<(), Fail> {
     let mut left = count;
     for (number, line) in (1..).zip(SCRIPT) {
         if left == 0 {
@@ -246,6 +245,13 @@ fn probe_after(rt: &impl Abort, alloc: Global, count: u64) -> Result<Vec<u8>, Fa
             left -= 1;
         }
     }
+    Ok(())
+}
+
+// What the probes find of a machine after the first `count` events of the script and a restart.
+fn probe_after(rt: &impl Abort, alloc: Global, count: u64) -> Result<Vec<u8>, Fail> {
+    let mut engine = Engine::new(alloc, Limits::small())?;
+    go_to(rt, &mut engine, count)?;
     engine.go(rt, Event::Restart)?;
     probe(rt, alloc, &mut engine)
 }
@@ -447,6 +453,29 @@ const FORMATS: [(u64, u64, Left); 11] = [
     (7, 0, Left::New), // it lasts
 ];
 
+// What is left on a device, by what the probes find on the old one and on the new one.
+fn left_on(
+    rt: &impl Abort,
+    alloc: Global,
+    disk: MemoryDisk,
+    (old, new): (&[u8], &[u8]),
+) -> Result<Left, Fail> {
+    let mut store = match Store::open(alloc, disk) {
+        Ok(store) => store,
+        Err(unopened) => {
+            assert_eq!(rt; unopened.error, OpenError::NotFormatted);
+            return Ok(Left::Nothing);
+        }
+    };
+    let found = probe(rt, alloc, &mut store)?;
+    assert!(rt; found.as_slice() == old || found.as_slice() == new);
+    Ok(if found.as_slice() == old {
+        Left::Old
+    } else {
+        Left::New
+    })
+}
+
 #[test]
 fn a_format_that_is_stopped(rt: HostRuntime) -> Result<(), Fail> {
     let old = probe_after(&rt, rt.alloc(), 50)?;
@@ -458,17 +487,7 @@ fn a_format_that_is_stopped(rt: HostRuntime) -> Result<(), Fail> {
             Store::format(&mut fuse, &Limits::small()).is_ok(),
             calls == 7
         );
-        let left = match Store::open(rt.alloc(), fuse.crash()) {
-            Err(unopened) => {
-                assert_eq!(rt; unopened.error, OpenError::NotFormatted);
-                Left::Nothing
-            }
-            Ok(mut store) => {
-                let found = probe(&rt, rt.alloc(), &mut store)?;
-                assert!(rt; found == old || found == new);
-                if found == old { Left::Old } else { Left::New }
-            }
-        };
+        let left = left_on(&rt, rt.alloc(), fuse.crash(), (&old, &new))?;
         assert_eq!(rt; left, wanted, "{calls} calls, choice {keep}");
     }
     Ok(())

@@ -7,7 +7,8 @@ ghost use Rattle.ipc_disk.specs.Medium.{Image, IsHonest};
 ghost use Rattle.ipc_disk.specs.Range.{IsWithin};
 ghost use Rattle.ipc_disk.specs.Since.{EachImageSince};
 ghost use Rattle.ipc_journal.specs.Journal.{sectors_for};
-ghost use Rattle.ipc_journal.specs.View.{range_of, Fits};
+ghost use Rattle.ipc_journal.specs.View.{range_of};
+ghost use Rattle.ipc_state.specs.Sound.{IsSound};
 ghost use Rattle.ipc_state.specs.State.{State};
 ghost use Rattle.ipc_engine.specs.Engine.{IsForProcess, takes_memory};
 ghost use Rattle.ipc_engine.specs.Event.{PlainEvent};
@@ -15,7 +16,7 @@ ghost use Rattle.ipc_engine.specs.Step.{step as step_on, run};
 ghost use Rattle.ipc_engine.specs.View.{plain_event};
 ghost use Rattle.ipc_image.specs.Records.{record_bytes, HasRecord};
 ghost use Rattle.ipc_store.specs.Histories.{Takes};
-ghost use Rattle.ipc_store.specs.View.{HasRoom, IsStopped};
+ghost use Rattle.ipc_store.specs.View.{HasRoom, HasPlace, IsStopped, IsReadyFor, events_left};
 ghost use Rattle.ipc_store.specs.Relations.Matches.{StoreMatches, StandsForEither};
 
 use crate::batch::Batch;
@@ -106,6 +107,24 @@ impl<D: SectorDisk> Store<D> {
         self.batch.has_room()
     }
 
+    /// How many more events it takes until it is opened again; none after it has stopped.
+    pub fn events_left(&self) -> u64
+        ensures { result ≡ events_left self.now }
+    {
+        if self.stopped {
+            return 0;
+        }
+        u64::MAX - (self.confirmed + self.batch.count())
+    }
+
+    /// Whether the longest records of so many events still fit into what waits, and it takes so many events more. If
+    /// so, so many steps one after another have room, and none of them is `Stopped`.
+    pub fn is_ready_for(&self, events: usize) -> bool
+        ensures { IsTrue result ↔ IsReadyFor self.now events }
+    {
+        self.batch.has_room_for(events) && events as u64 <= self.events_left()
+    }
+
     /// One step on an event, which then waits for a commit. It makes no call on the disk. After a refusal nothing has
     /// changed. It is `Stopped` after a failed commit, and once 18446744073709551615 events have come.
     pub fn step(&mut self, event: Event<'_>) -> Result<(), StepError>
@@ -118,6 +137,7 @@ impl<D: SectorDisk> Store<D> {
         ensures outcomes { OnOk result (self.new.machine.outcomes
             ≡ (step_on self.old.machine.limits self.old.machine.state (plain_event event.entry)).outcomes) }
         ensures limits { self.new.machine.limits ≡ self.old.machine.limits }
+        ensures was_sound { OnOk result (IsSound self.old.machine.limits self.old.machine.state) }
         ensures waiting { OnOk result (self.new.waiting ≡ self.old.waiting + 1) }
         ensures records { OnOk result (self.new.records
             ≡ self.old.records ++ record_bytes (plain_event event.entry)) }
@@ -157,6 +177,7 @@ impl<D: SectorDisk> Store<D> {
             → StoreMatches (D.medium self.new.disk) self.new
             (run self.old.machine.limits base pending).state []) }
         ensures waiting { OnOk result (self.new.waiting ≡ 0) }
+        ensures records { OnOk result (self.new.records ≡ []) }
         ensures confirmed { OnOk result (self.new.confirmed ≡ self.old.confirmed + self.old.waiting) }
         ensures machine { self.new.machine ≡ self.old.machine }
         ensures takes { Takes D.medium self.old [] self.new }
@@ -171,12 +192,13 @@ impl<D: SectorDisk> Store<D> {
             → StandsForEither self.old.machine.limits base (run self.old.machine.limits base pending).state image }
         // Refusals, and counts.
         ensures stops { OnErr result (IsStopped self.new) }
+        ensures still_waits { OnErr result (self.new.waiting ≡ self.old.waiting) }
         ensures unconfirmed { OnErr result (self.new.confirmed ≡ self.old.confirmed) }
         ensures goes_on { OnOk result (self.new.stopped ≡ false) }
         ensures stopped { (result ≡ Err CommitError.Stopped) ↔ IsStopped self.old }
         ensures kept { result ≡ Err CommitError.Stopped → self.new ≡ self.old }
         ensures full { result ≡ Err CommitError.JournalFull
-            → ¬ Fits self.old.journal (4 + length self.old.records) }
+            → ¬ HasPlace self.old }
         ensures full_keeps { result ≡ Err CommitError.JournalFull → self.new.disk ≡ self.old.disk }
         ensures nothing { self.old.waiting ≡ 0 → self.new ≡ self.old }
         ensures nothing_ok { self.old.waiting ≡ 0 → self.old.stopped ≡ false → IsOk result }
@@ -209,17 +231,19 @@ impl<D: SectorDisk> Store<D> {
             → StoreMatches (D.medium self.new.disk) self.new
             (run self.old.machine.limits base pending).state []) }
         ensures waiting { OnOk result (self.new.waiting ≡ 0) }
+        ensures records { OnOk result (self.new.records ≡ []) }
         ensures confirmed { OnOk result (self.new.confirmed ≡ self.old.confirmed + self.old.waiting) }
         ensures machine { self.new.machine ≡ self.old.machine }
         ensures any_moment { (base : State) (pending : List PlainEvent)
             → StoreMatches (D.medium self.old.disk) self.old base pending
             → EachImageSince (D.medium self.old.disk) (D.medium self.new.disk)
             (StandsForEither self.old.machine.limits base (run self.old.machine.limits base pending).state) }
+        ensures still_waits { OnErr result (self.new.waiting ≡ self.old.waiting) }
         ensures unconfirmed { OnErr result (self.new.confirmed ≡ self.old.confirmed) }
         ensures goes_on { self.new.stopped ≡ self.old.stopped }
         ensures stopped { result ≢ Err CommitError.Stopped }
         ensures full { result ≡ Err CommitError.JournalFull
-            → ¬ Fits self.old.journal (4 + length self.old.records) }
+            → ¬ HasPlace self.old }
         ensures full_keeps { result ≡ Err CommitError.JournalFull → self.new.disk ≡ self.old.disk }
         ensures failure { result ≡ Err CommitError.Device → (D.counts self.new.disk).failures
             ≡ counted (D.counts self.old.disk).failures 1 }

@@ -45,6 +45,29 @@ pub(crate) fn take<D: SectorDisk>(
     store.step(event)
 }
 
+/// Steps on these events.
+pub(crate) fn take_all<D: SectorDisk>(
+    rt: &impl Abort,
+    store: &mut Store<D>,
+    events: &[Event<'_>],
+) -> Result<(), StepError> {
+    for event in events {
+        take(rt, store, *event)?;
+    }
+    Ok(())
+}
+
+/// Steps on these events, and commits them.
+pub(crate) fn commit_all<D: SectorDisk>(
+    rt: &impl Abort,
+    store: &mut Store<D>,
+    events: &[Event<'_>],
+) -> Result<(), Fail> {
+    take_all(rt, store, events)?;
+    store.commit()?;
+    Ok(())
+}
+
 /// Adds the replies to the last event: each the process that gets it, and its frame.
 pub(crate) fn add_replies(
     rt: &impl Abort,
@@ -221,11 +244,8 @@ fn about_to_send<D: SectorDisk + Drop>(
     disk: D,
 ) -> Result<Store<D>, Fail> {
     let mut store = opened(alloc, disk)?;
-    take(rt, &mut store, hello(1000))?;
-    take(rt, &mut store, call(1, get(1234)))?;
-    store.commit()?;
-    take(rt, &mut store, TICK)?;
-    take(rt, &mut store, call(1, send(1, b"hi")))?;
+    commit_all(rt, &mut store, &[hello(1000), call(1, get(1234))])?;
+    take_all(rt, &mut store, &[TICK, call(1, send(1, b"hi"))])?;
     Ok(store)
 }
 
@@ -244,16 +264,32 @@ const CRASHES: [(u8, u64, bool, bool); 10] = [
     (4, 1, true, true),
 ];
 
+// What a crash leaves of a commit of the message that is acknowledged or not.
+fn crashed(
+    rt: &impl Abort,
+    alloc: Global,
+    fuse: FuseDisk,
+    acknowledged: bool,
+) -> Result<MemoryDisk, Fail> {
+    let mut store = about_to_send(rt, alloc, fuse)?;
+    assert_eq!(rt; store.commit().is_ok(), acknowledged);
+    Ok(store.close().crash())
+}
+
+// The replies to a receive on a device, by a process 2.
+fn received(rt: &impl Abort, alloc: Global, disk: MemoryDisk) -> Result<Vec<u8>, Fail> {
+    let mut store = opened(alloc, disk)?;
+    take(rt, &mut store, hello(1000))?;
+    replies_to(rt, alloc, &mut store, call(2, receive(1)))
+}
+
 #[test]
 fn a_crash_leaves_the_message_or_not(rt: HostRuntime) -> Result<(), Fail> {
     for (calls, keep, acknowledged, there) in CRASHES {
         let passed = OPEN_CALLS + COMMIT_CALLS + calls as u64;
         let fuse = FuseDisk::new(small_device(rt.alloc())?, passed, keep);
-        let mut store = about_to_send(&rt, rt.alloc(), fuse)?;
-        assert_eq!(rt; store.commit().is_ok(), acknowledged);
-        let mut store = opened(rt.alloc(), store.close().crash())?;
-        take(&rt, &mut store, hello(1000))?;
-        let replies = replies_to(&rt, rt.alloc(), &mut store, call(2, receive(1)))?;
+        let disk = crashed(&rt, rt.alloc(), fuse, acknowledged)?;
+        let replies = received(&rt, rt.alloc(), disk)?;
         let wanted = if there {
             HI.as_slice()
         } else {
@@ -264,30 +300,51 @@ fn a_crash_leaves_the_message_or_not(rt: HostRuntime) -> Result<(), Fail> {
     Ok(())
 }
 
-#[test]
-fn a_store_stops_at_a_failure(rt: HostRuntime) -> Result<(), Fail> {
+// A store that has stopped after so many events neither steps nor commits.
+fn is_stopped<D: SectorDisk>(rt: &impl Abort, store: &mut Store<D>, confirmed: u64) {
+    for _ in 0..2 {
+        assert_eq!(rt; take(rt, store, TICK), Err(StepError::Stopped));
+        assert_eq!(rt; store.commit(), Err(CommitError::Stopped));
+        assert_eq!(rt; store.confirmed(), confirmed);
+    }
+}
+
+// An event has this reply.
+fn is_answered<D: SectorDisk>(
+    rt: &impl Abort,
+    alloc: Global,
+    store: &mut Store<D>,
+    event: Event<'_>,
+    wanted: &[u8],
+) -> Result<(), Fail> {
+    let replies = replies_to(rt, alloc, store, event)?;
+    assert_eq!(rt; replies.as_slice(), wanted);
+    Ok(())
+}
+
+// A device on which a commit of the message has failed.
+fn failed(rt: &impl Abort, alloc: Global) -> Result<FuseDisk, Fail> {
     let calls = OPEN_CALLS + COMMIT_CALLS + 1;
-    let fuse = FuseDisk::new(small_device(rt.alloc())?, calls, 0);
-    let mut store = about_to_send(&rt, rt.alloc(), fuse)?;
+    let fuse = FuseDisk::new(small_device(alloc)?, calls, 0);
+    let mut store = about_to_send(rt, alloc, fuse)?;
     // The restart, the HELLO and the msgget last.
     assert_eq!(rt; store.confirmed(), 3);
     assert_eq!(rt; store.commit(), Err(CommitError::Device));
-    for _ in 0..2 {
-        assert_eq!(rt; take(&rt, &mut store, TICK), Err(StepError::Stopped));
-        assert_eq!(rt; store.commit(), Err(CommitError::Stopped));
-        assert_eq!(rt; store.confirmed(), 3);
-    }
-    let disk = store.close();
-    assert_eq!(rt; (disk.failures(), disk.unsynced()), (1, 1));
+    is_stopped(rt, &mut store, 3);
+    Ok(store.close())
+}
 
+#[test]
+fn a_store_stops_at_a_failure(rt: HostRuntime) -> Result<(), Fail> {
+    let disk = failed(&rt, rt.alloc())?;
+    assert_eq!(rt; (disk.failures(), disk.unsynced()), (1, 1));
     let mut store = opened(rt.alloc(), disk.crash())?;
     assert_eq!(rt; store.confirmed(), 1);
     take(&rt, &mut store, hello(1000))?;
     // Queue 1 is there, and so a second one has the number 2.
     for (key, id) in [(1234, 1), (0, 2)] {
-        let replies = replies_to(&rt, rt.alloc(), &mut store, call(2, get(key)))?;
         let wanted = [0, 0, 0, 2, 0, 0, 0, 10, 0, 0, 0, 4, 0, 0, 0, 0, 0, id];
-        assert_eq!(rt; replies.as_slice(), wanted.as_slice());
+        is_answered(&rt, rt.alloc(), &mut store, call(2, get(key)), &wanted)?;
     }
     store.commit()?;
     assert_eq!(rt; store.confirmed(), 4);
@@ -341,16 +398,13 @@ fn a_journal_of_256_commits(rt: HostRuntime) -> Result<(), Fail> {
     let mut store = opened(rt.alloc(), small_device(rt.alloc())?)?;
     // The restart takes one sector of the body.
     for _ in 0..255 {
-        take(&rt, &mut store, TICK)?;
-        store.commit()?;
+        commit_all(&rt, &mut store, &[TICK])?;
     }
     assert_eq!(rt; store.confirmed(), 256);
     assert_eq!(rt; store.commit(), Ok(()));
     take(&rt, &mut store, TICK)?;
     assert_eq!(rt; store.commit(), Err(CommitError::JournalFull));
-    assert_eq!(rt; take(&rt, &mut store, TICK), Err(StepError::Stopped));
-    assert_eq!(rt; store.commit(), Err(CommitError::Stopped));
-    assert_eq!(rt; store.confirmed(), 256);
+    is_stopped(&rt, &mut store, 256);
     let disk = is_full(&rt, rt.alloc(), store.close());
     is_full(&rt, rt.alloc(), disk);
     Ok(())
@@ -368,25 +422,28 @@ fn a_device_of_256_opens(rt: HostRuntime) -> Result<(), Fail> {
     Ok(())
 }
 
+// A device on which two processes were connected, and the message was sent. What waited at its close is gone: a HELLO,
+// and the receive of the message.
+fn closed(rt: &impl Abort, alloc: Global) -> Result<MemoryDisk, Fail> {
+    let mut store = about_to_send(rt, alloc, small_device(alloc)?)?;
+    commit_all(rt, &mut store, &[hello(1000)])?;
+    take_all(rt, &mut store, &[hello(1000), call(3, receive(1))])?;
+    assert!(rt; store.engine().connected(Pid(3)));
+    Ok(store.close())
+}
+
 #[test]
 fn a_restart_leaves_queues_and_no_process(rt: HostRuntime) -> Result<(), Fail> {
-    let mut store = about_to_send(&rt, rt.alloc(), small_device(rt.alloc())?)?;
-    take(&rt, &mut store, hello(1000))?;
-    store.commit()?;
-    // What waits at a close is gone: a HELLO, and the receive of the message.
-    take(&rt, &mut store, hello(1000))?;
-    take(&rt, &mut store, call(3, receive(1)))?;
-    assert!(rt; store.engine().connected(Pid(3)));
-
-    let mut store = opened(rt.alloc(), store.close())?;
+    let disk = closed(&rt, rt.alloc())?;
+    let mut store = opened(rt.alloc(), disk)?;
     for pid in 1..4 {
         assert!(rt; !store.engine().connected(Pid(pid)));
     }
-    let replies = replies_to(&rt, rt.alloc(), &mut store, hello(1000))?;
     let welcome = [0, 0, 0, 3, 0, 0, 0, 10, 0, 0, 0, 1, 0, 0, 0, 0, 0, 3];
-    assert_eq!(rt; replies.as_slice(), welcome.as_slice());
-    let replies = replies_to(&rt, rt.alloc(), &mut store, call(3, receive(1)))?;
-    assert_eq!(rt; replies.as_slice().get(4..), HI.get(4..));
+    is_answered(&rt, rt.alloc(), &mut store, hello(1000), &welcome)?;
+    let mut wanted = HI;
+    wanted[3] = 3;
+    is_answered(&rt, rt.alloc(), &mut store, call(3, receive(1)), &wanted)?;
     Ok(())
 }
 
@@ -427,15 +484,25 @@ fn send_texts<D: SectorDisk>(
     Ok(bytes)
 }
 
+// A store in which process 1 is connected, and nothing waits.
+fn connected(rt: &impl Abort, alloc: Global) -> Result<Store<MemoryDisk>, Fail> {
+    let mut store = opened(alloc, small_device(alloc)?)?;
+    commit_all(rt, &mut store, &[hello(1000)])?;
+    Ok(store)
+}
+
+// The disk after a commit of sends of texts of these lengths, in a batch of so many bytes.
+fn sent(rt: &impl Abort, alloc: Global, lens: &[usize], bytes: usize) -> Result<MemoryDisk, Fail> {
+    let mut store = connected(rt, alloc)?;
+    assert_eq!(rt; send_texts(rt, &mut store, lens)?, bytes);
+    store.commit()?;
+    Ok(store.close())
+}
+
 #[test]
 fn a_commit_is_two_syncs(rt: HostRuntime) -> Result<(), Fail> {
     for (lens, bytes, (writes, syncs)) in BATCHES {
-        let mut store = opened(rt.alloc(), small_device(rt.alloc())?)?;
-        take(&rt, &mut store, hello(1000))?;
-        store.commit()?;
-        assert_eq!(rt; send_texts(&rt, &mut store, lens)?, bytes);
-        store.commit()?;
-        let disk = store.close();
+        let disk = sent(&rt, rt.alloc(), lens, bytes)?;
         // The format made 4 writes and 3 syncs, the open 2 and 3, and the HELLO 2 and 2.
         assert_eq!(rt; disk.writes().checked_sub(8), Some(writes), "{bytes} bytes");
         assert_eq!(rt; disk.syncs().checked_sub(8), Some(syncs), "{bytes} bytes");
@@ -443,17 +510,64 @@ fn a_commit_is_two_syncs(rt: HostRuntime) -> Result<(), Fail> {
     Ok(())
 }
 
+// Whether there is room after two of the longest records and one with a text of this length. After a commit there is.
+fn has_room_after(rt: &impl Abort, alloc: Global, last: usize) -> Result<bool, Fail> {
+    let mut store = connected(rt, alloc)?;
+    send_texts(rt, &mut store, &[8427, 8427, last])?;
+    let room = store.has_room();
+    store.commit()?;
+    assert!(rt; store.has_room());
+    Ok(room)
+}
+
 // A record of 8465 bytes has room after 24303 bytes with the length, and not after 24304.
 #[test]
 fn room_for_the_longest_record(rt: HostRuntime) -> Result<(), Fail> {
     for (last, room) in [(7331, true), (7332, false), (8427, false)] {
-        let mut store = opened(rt.alloc(), small_device(rt.alloc())?)?;
-        take(&rt, &mut store, hello(1000))?;
-        store.commit()?;
-        send_texts(&rt, &mut store, &[8427, 8427, last])?;
-        assert_eq!(rt; store.has_room(), room, "{last}");
-        store.commit()?;
-        assert!(rt; store.has_room());
+        assert_eq!(rt; has_room_after(&rt, rt.alloc(), last)?, room, "{last}");
     }
+    Ok(())
+}
+
+// A store takes so many more events. It takes the longest records of so many, and not of one more.
+fn takes_more<D: SectorDisk>(rt: &impl Abort, store: &Store<D>, left: u64, longest: usize) {
+    assert_eq!(rt; store.events_left(), left);
+    assert!(rt; store.is_ready_for(longest));
+    assert!(rt; !store.is_ready_for(longest.saturating_add(1)));
+    assert!(rt; !store.is_ready_for(usize::MAX));
+}
+
+// How many more events a store takes, and of how many the longest records, after each of three longest records.
+const AFTER_EACH: [(u64, usize); 3] = [
+    (18446744073709551612, 2),
+    (18446744073709551611, 1),
+    (18446744073709551610, 0),
+];
+
+// Three records of 8465 bytes have room after the 4 bytes of the length: 25399 of 32768 bytes. Four have not. Of the
+// 18446744073709551615 events that a store takes the restart is the first.
+#[test]
+fn a_batch_of_the_longest_records(rt: HostRuntime) -> Result<(), Fail> {
+    let mut store = opened(rt.alloc(), small_device(rt.alloc())?)?;
+    takes_more(&rt, &store, 18446744073709551614, 3);
+    commit_all(&rt, &mut store, &[hello(1000)])?;
+    takes_more(&rt, &store, 18446744073709551613, 3);
+    for (left, longest) in AFTER_EACH {
+        take(&rt, &mut store, call(1, send(1, &TEXT)))?;
+        takes_more(&rt, &store, left, longest);
+    }
+    store.commit()?;
+    takes_more(&rt, &store, 18446744073709551610, 3);
+    Ok(())
+}
+
+#[test]
+fn a_store_that_has_stopped_takes_no_more(rt: HostRuntime) -> Result<(), Fail> {
+    let fuse = FuseDisk::new(small_device(rt.alloc())?, OPEN_CALLS, 0);
+    let mut store = opened(rt.alloc(), fuse)?;
+    take(&rt, &mut store, TICK)?;
+    takes_more(&rt, &store, 18446744073709551613, 3);
+    assert_eq!(rt; store.commit(), Err(CommitError::Device));
+    takes_more(&rt, &store, 0, 0);
     Ok(())
 }

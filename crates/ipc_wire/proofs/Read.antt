@@ -165,3 +165,7 @@ bytes_back bytes used request all e = (request_back bytes used request (from_all
 
 pub has_back : (bytes : List ℕ) (used : ℕ) (request : PlainRequest) → All (λ byte. byte < 256) bytes → first bytes ≡ Whole used request → HasFrame request
 has_back bytes used request all e = (request_back bytes used request (from_all bytes all) e).1
+
+-- so it is of the bytes of the code
+pub frame_back : (bytes : List ℕ) (used : ℕ) (request : PlainRequest) → IsBytes bytes → first bytes ≡ Whole used request → HasFrame request
+frame_back bytes used request all e = (request_back bytes used request all e).1

@@ -1,6 +1,6 @@
 //! Requests read from the front of a stream.
 
-ghost use Rattle.std.specs.Prelude.{◌≡◌, ◌<◌, ◌≤◌, ◌+◌, length, option_map, IfSome, Some};
+ghost use Rattle.std.specs.Prelude.{◌≡◌, ℕ, ◌<◌, ◌≤◌, ◌+◌, length, option_map, IfSome, Some};
 ghost use Rattle.ipc_wire.specs.Request.{PlainRequest, plain_kind, plain_request};
 ghost use Rattle.ipc_wire.specs.Spelling.{HasFrame, request_bytes};
 ghost use Rattle.ipc_wire.specs.Stream.{
@@ -13,7 +13,7 @@ ghost use Rattle.ipc_wire.specs.Stream.{
   made_by,
 };
 ghost use Rattle.ipc_wire.specs.Table as table;
-ghost use Rattle.ipc_wire.specs.Stream.PlainFrame.{More};
+ghost use Rattle.ipc_wire.specs.Stream.PlainFrame.{More, Whole};
 
 use crate::request::{Call, Frame, Request, RequestKind};
 use ipc_base::{Cred, Cursor, GetFlags, Id, MsgFlags};
@@ -45,6 +45,8 @@ pub fn read_frame(bytes: &[u8]) -> Frame<'_>
     ensures exact { plain_frame result ≡ first bytes.now }
     ensures used { TakesBytes (plain_frame result) (length bytes.now) }
     ensures waiting { plain_frame result ≡ More → length bytes.now < 8452 }
+    ensures has_frame { (used : ℕ) (request : PlainRequest) → plain_frame result ≡ Whole used request
+        → HasFrame request }
 {
     let mut cursor = Cursor::new(bytes);
     let Some(length) = cursor.u32() else {

@@ -1,8 +1,8 @@
 -- How a run ends: the exit status, and what standard error says of a fault.
 use Rattle.std.specs.Prelude.{ℕ, ⊤, List, ◌++◌, codes, Result, Ok, Err}
 use Rattle.ipc_script.specs.declared.fault.ScriptFault.{ScriptFault}
-use Rattle.ipc_script.specs.declared.fault.ScriptFault.TheVariants.{NoMemory, Input, Output, TooLong, BadLine}
-use Rattle.ipc_script.specs.declared.fault.ScriptFault.TheVariants.{InUse, Unknown}
+use Rattle.ipc_script.specs.declared.fault.ScriptFault.TheVariants.{NoMemory, Input, Output, Device}
+use Rattle.ipc_script.specs.declared.fault.ScriptFault.TheVariants.{TooLong, BadLine, InUse, Unknown}
 use Rattle.ipc_script.specs.Fault.{fault_text}
 use Rattle.ipcd.specs.declared.ending.Complaint.{Complaint}
 
@@ -11,6 +11,7 @@ abbrev pub fault_status : ScriptFault → ℕ
 fault_status NoMemory = 1
 fault_status Input = 1
 fault_status Output = 1
+fault_status Device = 1
 fault_status TooLong = 2
 fault_status (BadLine number) = 2
 fault_status (InUse number) = 2

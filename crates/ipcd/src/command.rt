@@ -97,7 +97,7 @@ fn command_line<'a>(alloc: Global) -> Result<Command<'a>, AllocError>
         .action(ArgAction::SetTrue)
         .help("Small limits, as for trials");
     let replay = Command::new(alloc, "replay")
-        .about("Runs the script on standard input, on a fresh server")
+        .about("Runs the script on standard input, on a fresh server with a device in memory")
         .arg(small)?;
     Command::new(alloc, "ipcd")
         .about("System V message queues, run from a script")

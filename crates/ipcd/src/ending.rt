@@ -12,7 +12,9 @@ pub fn exit_of(outcome: &Result<(), ScriptFault>) -> u8
 {
     match outcome {
         Ok(()) => 0,
-        Err(ScriptFault::NoMemory | ScriptFault::Input | ScriptFault::Output) => 1,
+        Err(
+            ScriptFault::NoMemory | ScriptFault::Input | ScriptFault::Output | ScriptFault::Device,
+        ) => 1,
         Err(
             ScriptFault::TooLong
             | ScriptFault::BadLine(_)

@@ -1,13 +1,14 @@
-//! `ipcd`, the program: it runs a script of connections on a fresh server.
+//! `ipcd`, the program: it runs a script of connections on a fresh server, whose device is in memory.
 #![tactic(auto)]
 
 mod command;
+mod device;
 mod ending;
 
 use command::{Request, limits_of, request_of};
+use device::new_store;
 use ending::{Complaint, exit_of};
-use ipc_engine::Engine;
-use ipc_script::{ScriptFault, run_script};
+use ipc_script::run_script;
 use std::io;
 use std::process::ExitCode;
 
@@ -27,9 +28,9 @@ fn main(rt: HostRuntime) -> io::Result<ExitCode> {
 
 /// Runs the script on standard input, and answers the exit status.
 fn replay(rt: &(impl Input + Print + Eprint + AllocGlobal), small: bool) -> u8 {
-    let outcome = match Engine::new(rt.alloc(), limits_of(small)) {
-        Ok(engine) => run_script(rt.alloc(), engine, &mut rt.reader(), &mut io::writer(rt)),
-        Err(_) => Err(ScriptFault::NoMemory),
+    let outcome = match new_store(rt.alloc(), &limits_of(small)) {
+        Ok(store) => run_script(rt.alloc(), store, &mut rt.reader(), &mut io::writer(rt)).0,
+        Err(fault) => Err(fault),
     };
     if let Err(fault) = outcome {
         // The status stands also if standard error is closed.

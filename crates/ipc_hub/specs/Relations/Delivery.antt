@@ -2,16 +2,22 @@
 use Rattle.std.specs.Prelude.{◌≡◌, ℕ, ◌+◌, ◌-◌, ◌<◌, ◌≤◌, ◌^◌, ◌==◌, true, List, [], ◌∷◌, ◌++◌, length, drop}
 use Rattle.std.specs.Prelude.{if◌then◌else◌}
 use Rattle.std.specs.Prelude.{Option, Some, None, nat_eq}
+use Rattle.ipc_base.specs.declared.errno.Errno.TheVariants.{EIO}
 use Rattle.ipc_base.specs.Table.{seen_as, with_value, EachValue}
 use Rattle.ipc_wire.specs.Reply.{PlainReply, reply_bytes, body_bytes}
 use Rattle.ipc_engine.specs.Event.{PlainOutcome}
 use Rattle.ipc_engine.specs.View.{reply_of}
-use Rattle.ipc_hub.specs.Clients.{is_for, last_reply}
+use Rattle.ipc_hub.specs.Clients.{is_for, last_reply, refusal}
 use Rattle.ipc_hub.specs.View.{Outgoing, ConnectionView, kept}
 
 -- the bytes of a frame without a body, such as the last one of a connection that the server ends
 abbrev pub last_frame : ℕ
 last_frame = 10
+
+-- the bytes of the two frames that may be the last of a connection: EPROTO when the server ends it, and EIO when the
+-- disk fails
+abbrev pub last_frames : ℕ
+last_frames = 20
 
 -- an outbox with a frame more
 abbrev pub with_bytes : Outgoing → List ℕ → Outgoing
@@ -24,6 +30,10 @@ all_seen o = record { visible = kept o; waiting = []; free = o.free }
 abbrev pub less : ℕ → Outgoing → Outgoing
 less count o = record { visible = drop count o.visible; waiting = o.waiting; free = o.free + count }
 
+-- an outbox of which what waits is dropped
+abbrev pub retracted : Outgoing → Outgoing
+retracted o = record { visible = o.visible; waiting = []; free = o.free + length o.waiting }
+
 -- the same of a connection
 abbrev pub released : ConnectionView → ConnectionView
 released c = record c { outbox = all_seen c.outbox }
@@ -34,6 +44,13 @@ consumed count c = record c { outbox = less count c.outbox }
 -- a connection with a reply more
 abbrev pub pushed : PlainReply → ConnectionView → ConnectionView
 pushed r c = record c { outbox = with_bytes c.outbox (reply_bytes r) }
+
+-- a connection when the disk has failed
+abbrev pub failed : ConnectionView → ConnectionView
+failed c =
+    let left : ConnectionView =
+    record { process = None; input = []; outbox = retracted c.outbox; ended = true } in
+    released (pushed (reply_of (refusal 0 EIO)) left)
 
 -- a reply, if it is for the process of the connection
 abbrev pub put_for : PlainOutcome → ConnectionView → ConnectionView
@@ -55,6 +72,10 @@ answered reply c = by_process c.process
     by_process None = given reply c
     by_process (Some pid) = c
 
+-- an EIO frame has room
+abbrev pub HasSpare : ConnectionView → Type 0
+HasSpare c = last_frame ≤ c.outbox.free
+
 -- a reply is not too long for its length field
 abbrev pub IsShort : PlainOutcome → Type 0
 IsShort o = 6 + length (body_bytes o.body) < 2 ^ 32
@@ -64,9 +85,9 @@ abbrev pub AllShort : List PlainOutcome → Type 0
 AllShort [] = Unit {0}
 AllShort (o ∷ os) = IsShort o × AllShort os
 
--- a reply has room in the outbox, and the last frame behind it
+-- a reply has room in the outbox, and the last frames behind it
 abbrev pub HasRoom : PlainOutcome → ConnectionView → Type 0
-HasRoom o c = length (reply_bytes (reply_of o)) + last_frame ≤ c.outbox.free
+HasRoom o c = length (reply_bytes (reply_of o)) + last_frames ≤ c.outbox.free
 
 -- a reply has room in the outbox of its process
 abbrev pub HasRoomIn : PlainOutcome → ConnectionView → Type 0

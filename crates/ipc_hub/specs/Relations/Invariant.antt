@@ -1,14 +1,14 @@
 -- What holds of a hub after every call, and while it serves its connections.
-use Rattle.std.specs.Prelude.{◌≡◌, ◌≢◌, ℕ, ◌+◌, ◌≤◌, ◌^◌, true, false, List, [], length, nat_eq, Option, Some, None}
-use Rattle.std.specs.Prelude.{option_and_then}
+use Rattle.std.specs.Prelude.{◌≡◌, ◌≢◌, ◌⊎◌, ℕ, ◌+◌, ◌≤◌, ◌^◌, true, false, List, [], length, nat_eq, Option, Some}
+use Rattle.std.specs.Prelude.{None, option_and_then}
 use Rattle.ipc_base.specs.Limits.{longest_reply}
-use Rattle.ipc_base.specs.Table.{value_at, keys_of, EachValue, IsRising}
+use Rattle.ipc_base.specs.Table.{value_at, keys_of, seen_as, EachValue, IsRising}
 use Rattle.ipc_base.specs.declared.limits.Limits.{Limits}
 use Rattle.ipc_wire.specs.Stream.{first}
 use Rattle.ipc_wire.specs.Stream.PlainFrame.{More}
 use Rattle.ipc_state.specs.State.{State, is_process}
-use Rattle.ipc_hub.specs.View.{ConnectionView, HubView, kept}
-use Rattle.ipc_hub.specs.Relations.Delivery.{last_frame}
+use Rattle.ipc_hub.specs.View.{ConnectionView, HubView, StoredHub, kept}
+use Rattle.ipc_hub.specs.Relations.Delivery.{last_frames, released, HasSpare}
 
 -- the process of the connection that a number has
 abbrev pub process_in : List (ℕ × ConnectionView) → ℕ → Option ℕ
@@ -19,12 +19,13 @@ pub record AreOwn (s : State) (table : List (ℕ × ConnectionView)) : Type 0 wh
   pub connected : (conn pid : ℕ) → process_in table conn ≡ Some pid → is_process s pid ≡ true
   pub one : (conn other pid : ℕ) → process_in table conn ≡ Some pid → process_in table other ≡ Some pid → conn ≡ other
 
--- The bytes kept of a request are no whole frame. A connection that has not ended has room for its last frame. The
--- longest reply and that frame have room in an empty outbox.
+-- The bytes kept of a request are no whole frame. There is room for the frames that may still be the last: both, or
+-- one where the server has ended the connection. The longest reply and both have room in an empty outbox.
 pub record IsKept (limits : Limits) (c : ConnectionView) : Type 0 where
   pub input : first c.input ≡ More
-  pub last : c.ended ≡ false → last_frame ≤ c.outbox.free
-  pub size : longest_reply limits + last_frame ≤ length (kept c.outbox) + c.outbox.free
+  pub last : c.ended ≡ false → last_frames ≤ c.outbox.free
+  pub spare : HasSpare c
+  pub size : longest_reply limits + last_frames ≤ length (kept c.outbox) + c.outbox.free
 
 -- a connection that was just made, with so much room for a reply
 pub record IsNew (reply : ℕ) (c : ConnectionView) : Type 0 where
@@ -33,7 +34,7 @@ pub record IsNew (reply : ℕ) (c : ConnectionView) : Type 0 where
   pub ended : c.ended ≡ false
   pub visible : c.outbox.visible ≡ []
   pub waiting : c.outbox.waiting ≡ []
-  pub room : reply + last_frame ≤ c.outbox.free
+  pub room : reply + last_frames ≤ c.outbox.free
 
 pub record HubInvariant (h : HubView) : Type 0 where
   pub own : AreOwn h.state h.connections
@@ -41,11 +42,21 @@ pub record HubInvariant (h : HubView) : Type 0 where
   -- the numbers of the connections rise
   pub rising : IsRising 0 (keys_of h.connections) (2 ^ 32)
 
+-- Numbers rise. While the store goes on, the rest holds too.
+pub record StoredInvariant {D : Type 0} (v : StoredHub D) : Type 0 where
+  pub rising : IsRising 0 (keys_of v.hub.connections) (2 ^ 32)
+  pub goes_on : v.store.stopped ≡ false → HubInvariant v.hub
+
 -- the same connections go on
 pub record GoesOn (old new : HubView) : Type 0 where
   pub limits : new.limits ≡ old.limits
   pub numbers : keys_of new.connections ≡ keys_of old.connections
   pub invariant : HubInvariant new
+
+-- the same connections, or all that they keep is seen
+abbrev pub SameButSeen : HubView → HubView → Type 0
+SameButSeen old new =
+    (new.connections ≡ old.connections) ⊎ (new.connections ≡ seen_as released old.connections)
 
 -- the process, if there is one, is connected
 abbrev pub IsConnected : State → Option ℕ → Type 0

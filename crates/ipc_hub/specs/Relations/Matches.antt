@@ -1,11 +1,16 @@
 -- The code's hub matches a hub of the definitions when so many events are confirmed: the state is the same, and each
 -- number has a connection and a client that match.
-use Rattle.std.specs.Prelude.{◌≡◌, ℕ, ◌+◌, ◌<◌, ◌≤◌, ◌^◌, Bool, List, length, drop, Some, All}
+use Rattle.std.specs.Prelude.{◌≡◌, ℕ, ◌+◌, ◌<◌, ◌≤◌, ◌^◌, Bool, List, ◌++◌, length, drop, Some, All}
 use Rattle.ipc_base.specs.declared.limits.Limits.{Limits}
 use Rattle.ipc_base.specs.Table.{ArePaired}
 use Rattle.ipc_wire.specs.Reply.{PlainReply, reply_bytes, body_bytes}
-use Rattle.ipc_hub.specs.Clients.{Frame, Client, Clients, client_at, all_bytes, confirmed_bytes, shown, take_in, feed}
-use Rattle.ipc_hub.specs.View.{ConnectionView, HubView, kept}
+use Rattle.ipc_disk.specs.Medium.{Medium}
+use Rattle.ipc_engine.specs.Event.{PlainEvent}
+use Rattle.ipc_store.specs.Histories.{Takes}
+use Rattle.ipc_store.specs.View.{StoreView}
+use Rattle.ipc_hub.specs.Clients.{Frame, Client, Clients, accepted, client_at, all_bytes, confirmed_bytes, shown}
+use Rattle.ipc_hub.specs.Clients.{take_in, feed}
+use Rattle.ipc_hub.specs.View.{ConnectionView, HubView, StoredHub, kept}
 
 -- the bytes of a reply that is not too long for its length field
 abbrev pub IsFrame : List ℕ → Type 0
@@ -28,31 +33,69 @@ pub record ClientMatches (confirmed accepted : ℕ) (v : ConnectionView) (c : Cl
 pub record HubMatches (limits : Limits) (confirmed : ℕ) (v : HubView) (h : Clients) : Type 0 where
   pub same : v.limits ≡ limits
   pub state : v.state ≡ h.state
-  pub clients : ArePaired (ClientMatches confirmed h.accepted) v.connections h.clients
-  pub known : confirmed ≤ h.accepted
+  pub clients : ArePaired (ClientMatches confirmed (accepted h)) v.connections h.clients
+  pub known : confirmed ≤ accepted h
 
--- a call takes whatever hub the code's matches, with what is confirmed, to this one
+-- a step of the code takes whatever hub its own matches, with what is confirmed, to this one
 abbrev pub Simulates : HubView → HubView → (Limits → Clients → Clients) → Type 0
 Simulates old new call =
     (limits : Limits) (confirmed : ℕ) (h : Clients) → HubMatches limits confirmed old h
     → HubMatches limits confirmed new (call limits h)
 
+-- ---- over a store
+
+-- the hub matches, with what its store has confirmed, and the store counts the events
+pub record StoredMatches {D : Type 0} (limits : Limits) (v : StoredHub D) (h : Clients) : Type 0 where
+  pub hub : HubMatches limits v.store.confirmed v.hub h
+  pub counts : v.store.confirmed + v.store.waiting ≡ accepted h
+
+-- A hub comes to what a hub of the definitions comes to, which accepts events; its store takes them. What a crash
+-- leaves at any moment of it is what `Takes` says.
+pub record Comes {D : Type 0} (medium : D → Medium) (limits : Limits) (old new : StoredHub D) (h next : Clients)
+    : Type 0 where
+  pub matches : StoredMatches limits new next
+  pub events : List PlainEvent
+  pub adds : next.events ≡ h.events ++ events
+  pub takes : Takes medium old.store events new.store
+
+-- a call takes whatever hub the code's matches to this one
+abbrev pub Serves : {D : Type 0} → (D → Medium) → StoredHub D → StoredHub D → (Limits → Clients → Clients) → Type 0
+Serves medium old new call =
+    (limits : Limits) (h : Clients) → StoredMatches limits old h → Comes medium limits old new h (call limits h)
+
 -- the same of a feed that took these bytes: some of the requests in them may have been refused for memory
-abbrev pub SimulatesFeed : HubView → HubView → ℕ → List ℕ → ℕ → Type 0
-SimulatesFeed old new conn bytes moment =
-    (limits : Limits) (confirmed : ℕ) (h : Clients) → HubMatches limits confirmed old h
-    → (refused : List Bool) × HubMatches limits confirmed new (feed limits h conn bytes moment refused)
+abbrev pub ServesFeed : {D : Type 0} → (D → Medium) → StoredHub D → StoredHub D → ℕ → List ℕ → ℕ → Type 0
+ServesFeed medium old new conn bytes moment =
+    (limits : Limits) (h : Clients) → StoredMatches limits old h
+    → (refused : List Bool) × Comes medium limits old new h (feed limits h conn bytes moment refused)
+
+-- ---- within a call
+
+-- Events wait in a store that goes on, and nothing was committed. What a crash leaves at any moment of it is what
+-- `Takes` says.
+pub record Waits {D : Type 0} (medium : D → Medium) (old : StoreView D) (events : List PlainEvent) (new : StoreView D)
+    : Type 0 where
+  pub confirmed : new.confirmed ≡ old.confirmed
+  pub waiting : new.waiting ≡ old.waiting + length events
+  pub takes : Takes medium old events new
+
+-- the hub of the definitions accepts events, and they wait in the store
+pub record Accepts {D : Type 0} (medium : D → Medium) (old new : StoreView D) (h next : Clients) : Type 0 where
+  pub events : List PlainEvent
+  pub adds : next.events ≡ h.events ++ events
+  pub waits : Waits medium old events new
 
 -- the hub matches, and the last event is not confirmed yet
 pub record IsAhead (limits : Limits) (confirmed : ℕ) (v : HubView) (h : Clients) : Type 0 where
   pub matches : HubMatches limits confirmed v h
-  pub later : confirmed < h.accepted
+  pub later : confirmed < accepted h
 
 -- the same of what an event begins: bytes of a connection are taken in
-abbrev pub TakesIn : HubView → HubView → ℕ → List ℕ → ℕ → Type 0
-TakesIn old new conn bytes moment =
-    (limits : Limits) (confirmed : ℕ) (h : Clients) → IsAhead limits confirmed old h
-    → (refused : List Bool) × IsAhead limits confirmed new (take_in limits h conn bytes moment refused)
+abbrev pub TakesIn : {D : Type 0} → (D → Medium) → StoredHub D → StoredHub D → ℕ → List ℕ → ℕ → Type 0
+TakesIn medium old new conn bytes moment =
+    (limits : Limits) (confirmed : ℕ) (h : Clients) → IsAhead limits confirmed old.hub h
+    → (refused : List Bool) × IsAhead limits confirmed new.hub (take_in limits h conn bytes moment refused)
+    × Accepts medium old.store new.store h (take_in limits h conn bytes moment refused)
 
 -- the same of what is done to a connection, which has this client
 abbrev pub SimulatesAt : ℕ → Client → HubView → HubView → (Limits → Clients → Clients) → Type 0

@@ -2,7 +2,7 @@
 use Rattle.std.specs.Prelude.{⊤, ◌<◌, ℕ, List, length, Option}
 use Rattle.std.specs.Io.KnownBytes.{Consumes}
 use Rattle.ipc_script.specs.declared.fault.ScriptFault.{ScriptFault}
-use Rattle.ipc_script.specs.declared.fault.ScriptFault.TheVariants.{NoMemory, Input, Output}
+use Rattle.ipc_script.specs.declared.fault.ScriptFault.TheVariants.{NoMemory, Input, Output, Device}
 use Rattle.ipc_script.specs.declared.fault.ScriptFault.TheVariants.{TooLong, BadLine, InUse, Unknown}
 use Rattle.ipc_script.specs.Line.{longest_script}
 
@@ -17,6 +17,7 @@ IsReadFault NoMemory = ⊤
 IsReadFault Input = ⊤
 IsReadFault TooLong = ⊤
 IsReadFault Output = ⊥
+IsReadFault Device = ⊥
 IsReadFault (BadLine number) = ⊥
 IsReadFault (InUse number) = ⊥
 IsReadFault (Unknown number) = ⊥

@@ -5,9 +5,9 @@ use Rattle.std.specs.Prelude.{◌≡◌, ◌^◌, ℕ, Bool, List, [], map, Opti
 use Rattle.std.specs.Io.KnownBytes.{Appends}
 use Rattle.ipc_base.specs.Table.{keys_of, IsRising}
 use Rattle.ipc_base.specs.declared.limits.Limits.{Limits}
-use Rattle.ipc_hub.specs.declared.hub.Hub.{Hub}
+use Rattle.ipc_hub.specs.View.{StoredHub}
 use Rattle.ipc_hub.specs.Clients.{Client, client_at}
-use Rattle.ipc_hub.specs.Relations.Matches.{HubMatches}
+use Rattle.ipc_hub.specs.Relations.Matches.{StoredMatches}
 use Rattle.ipc_script.specs.declared.report.Opened.{Opened}
 use Rattle.ipc_script.specs.Script.{Run, Progress}
 
@@ -23,22 +23,22 @@ abbrev pub HasWholeFrames : Client → Type 0
 HasWholeFrames c = c.consumed ≡ 0
 
 -- a run matches, somewhere in a line
-pub record RunMatches (limits : Limits) (hub : Hub) (opened : List Opened) (r : Run) : Type 0 where
-  pub confirmed : ℕ
-  pub matches : HubMatches limits confirmed hub r.hub
+pub record RunMatches {D : Type 0} (limits : Limits) (hub : StoredHub D) (opened : List Opened)
+    (r : Run) : Type 0 where
+  pub matches : StoredMatches limits hub r.hub
   pub kept : OpenedMatches opened r
   pub whole : (conn : ℕ) → IfSome (client_at r.hub conn) HasWholeFrames
   -- the numbers of the connections rise
   pub rising : IsRising 0 (keys_of r.hub.clients) (2 ^ 32)
 
 -- a run matches, between two lines: besides, no frame waits
-pub record RunMatchesBetween (limits : Limits) (hub : Hub) (opened : List Opened) (r : Run)
-    : Type 0 where
+pub record RunMatchesBetween {D : Type 0} (limits : Limits) (hub : StoredHub D)
+    (opened : List Opened) (r : Run) : Type 0 where
   pub run : RunMatches limits hub opened r
   pub quiet : (conn : ℕ) → IfSome (client_at r.hub conn) (λ c. c.frames ≡ [])
 
 -- so does the run of some progress, and its text is written
-abbrev pub ProgressMatches : Limits → Hub → List Opened → Option (List ℕ) → Option (List ℕ)
-    → Progress → Type 0
+abbrev pub ProgressMatches : {D : Type 0} → Limits → StoredHub D → List Opened
+    → Option (List ℕ) → Option (List ℕ) → Progress → Type 0
 ProgressMatches limits hub opened before after p =
     RunMatchesBetween limits hub opened p.run × Appends before after p.text

@@ -1,15 +1,16 @@
 -- What the program does with one piece of the bytes of a line.
 use Rattle.std.specs.Prelude.{◌≡◌, ◌<◌, ℕ, Bool, true, List, length, take, Option}
 use Rattle.ipc_base.specs.declared.limits.Limits.{Limits}
-use Rattle.ipc_hub.specs.declared.hub.Hub.{Hub}
+use Rattle.ipc_hub.specs.View.{StoredHub}
 use Rattle.ipc_script.specs.declared.report.Opened.{Opened}
 use Rattle.ipc_script.specs.declared.script.Sender.{Sender}
 use Rattle.ipc_script.specs.Script.{Run, is_open, fed, WritesPart}
 use Rattle.ipc_script.specs.Relations.Matches.{ProgressMatches}
 
 -- some of these bytes are fed, and what they let out is written
-pub record SimulatesPiece (limits : Limits) (r : Run) (sender : Sender) (bytes : List ℕ) (taken : ℕ)
-    (hub : Hub) (opened : List Opened) (before after : Option (List ℕ)) : Type 0 where
+pub record SimulatesPiece {D : Type 0} (limits : Limits) (r : Run) (sender : Sender)
+    (bytes : List ℕ) (taken : ℕ) (hub : StoredHub D) (opened : List Opened)
+    (before after : Option (List ℕ)) : Type 0 where
   pub refused : List Bool
   pub matches : ProgressMatches limits hub opened before after
       (fed limits r sender.moment.0 sender.conn (take taken bytes) refused)

@@ -3,8 +3,8 @@ use Rattle.std.specs.Prelude.{◌≡◌, ℕ, List, [], Option, None, Some}
 use Rattle.std.specs.List.{flat_map}
 use Rattle.std.specs.Io.KnownBytes.{Appends}
 use Rattle.ipc_base.specs.declared.limits.Limits.{Limits}
-use Rattle.ipc_hub.specs.declared.hub.Hub.{Hub}
-use Rattle.ipc_hub.specs.Clients.{Client, Clients, client_at, with_client}
+use Rattle.ipc_hub.specs.View.{HubView}
+use Rattle.ipc_hub.specs.Clients.{Client, Clients, accepted, client_at, with_client}
 use Rattle.ipc_hub.specs.Relations.Matches.{HubMatches}
 use Rattle.ipc_script.specs.declared.report.Opened.{Opened}
 use Rattle.ipc_script.specs.Script.{Run, emptied, frame_line, conn_text, reported}
@@ -28,8 +28,8 @@ frames_text h conn = of_client (client_at h conn)
 
 -- what is said of a connection is written, its frames are taken, and it is kept whether its end was
 -- told
-pub record SimulatesReportAt (limits : Limits) (r : Run) (hub : Hub) (conn : ℕ) (opened : Opened)
+pub record SimulatesReportAt (limits : Limits) (r : Run) (hub : HubView) (conn : ℕ) (opened : Opened)
     (before after : Option (List ℕ)) : Type 0 where
-  pub matches : HubMatches limits r.hub.accepted hub (without_frames r.hub conn)
+  pub matches : HubMatches limits (accepted r.hub) hub (without_frames r.hub conn)
   pub kept : opened ≡ opened_of (reported r).told conn
   pub text : Appends before after (conn_text r conn)

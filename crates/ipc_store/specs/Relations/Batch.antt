@@ -3,9 +3,11 @@ use Rattle.std.specs.Prelude.{◌≡◌, ◌≤◌, ◌+◌, ◌*◌, ◌-◌, �
 use Rattle.byteorder.specs.Endian.{big_bytes}
 use Rattle.ipc_store.specs.Batch.{most_bytes}
 
--- the first len bytes are a batch of so many records: their length, and at least 13 bytes for each
+-- the first len bytes are a batch of so many records: their length, at least 13 bytes for each, and
+-- nothing else if there is none
 pub record IsFilled (bytes : List ℕ) (len count : ℕ) : Type 0 where
   pub size : length bytes ≡ most_bytes
   pub least : 13 * count + 4 ≤ len
+  pub none : count ≡ 0 → len ≡ 4
   pub within : len ≤ most_bytes
   pub field : take 4 bytes ≡ big_bytes 4 (len - 4)

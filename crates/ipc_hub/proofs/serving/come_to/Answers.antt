@@ -2,7 +2,7 @@ use Rattle.std.proofs.Common.{◌≡◌, inl, inr, true, Some, None, refl, sym, 
 use Rattle.std.specs.Prelude.{option_map}
 use Rattle.ipc_base.proofs.CallerLemmas.{test_cases}
 use Rattle.ipc_wire.specs.Request.{plain_request}
-use Rattle.ipc_wire.specs.Stream.{first}
+use Rattle.ipc_wire.specs.Stream.{first, plain_frame}
 use Rattle.ipc_wire.specs.Stream.PlainFrame.{Whole}
 use Rattle.ipc_engine.specs.Engine.{takes_memory}
 use Rattle.ipc_engine.specs.View.{plain_event}
@@ -10,21 +10,44 @@ use Rattle.ipc_hub.specs.Clients.{event_of}
 use Rattle.ipc_hub.specs.Relations.Rows.{pid_of}
 use Rattle.ipc_hub.proofs.serving.come_to.Goals as goal
 
+pub step-requires-clause-record : goal.step-requires-clause-record
+step-requires-clause-record g c =
+    let whole : plain_frame c.read_frame.result ≡ Whole c.in-Whole.used (plain_request c.in-Whole.request) = search rules in
+    c.in-Some.ensures.record (c.read_frame.ensures.has_frame c.in-Whole.used (plain_request c.in-Whole.request) whole)
+
 pub returns-in_default : goal.returns-in_default
-returns-in_default c =
+returns-in_default g c =
     let whole : first c.args.connection.now.input.items ≡ Whole c.in-Whole.used (plain_request c.in-Whole.request) = search rules in
     let none : event_of (pid_of c.args.connection.now.process) (plain_request c.in-Whole.request) c.args.moment.0 ≡ None =
-    sym c.event_of.ensures ∙ ap (option_map plain_event) c.in_default.is in
+    sym c.event_of.ensures.event ∙ ap (option_map plain_event) c.in_default.is in
     (refl, inr (record { used = c.in-Whole.used; request = plain_request c.in-Whole.request; whole = whole; event = none }, refl))
 
-pub returns-in-Err : goal.returns-in-Err
-returns-in-Err c =
+pub returns-in-Ok : goal.returns-in-Ok
+returns-in-Ok g c =
+    let whole : first c.args.connection.now.input.items ≡ Whole c.in-Whole.used (plain_request c.in-Whole.request) = search rules in
+    let made : event_of (pid_of c.args.connection.now.process) (plain_request c.in-Whole.request) c.args.moment.0 ≡ Some (plain_event c.in-Some.event) =
+    sym c.event_of.ensures.event ∙ ap (option_map plain_event) c.in-Some.is in (
+      plain_event c.in-Some.event,
+      (
+        record { used = c.in-Whole.used; request = plain_request c.in-Whole.request; whole = whole; event = made },
+        record {
+          limits = c.step.ensures.limits;
+          state = c.in-Ok.ensures.state;
+          outcomes = c.in-Ok.ensures.outcomes;
+          sound = c.in-Ok.ensures.was_sound;
+          waits = record { confirmed = c.step.ensures.confirmed; waiting = c.in-Ok.ensures.waiting; takes = c.in-Ok.ensures.takes.0 };
+        },
+      ),
+    )
+
+pub returns-in-Err-NoMemory : goal.returns-in-Err-NoMemory
+returns-in-Err-NoMemory g c =
     let e = plain_event c.in-Some.event in
     let whole : first c.args.connection.now.input.items ≡ Whole c.in-Whole.used (plain_request c.in-Whole.request) = search rules in
     let made : event_of (pid_of c.args.connection.now.process) (plain_request c.in-Whole.request) c.args.moment.0 ≡ Some e =
-    sym c.event_of.ensures ∙ ap (option_map plain_event) c.in-Some.is in
-    let takes : takes_memory c.args.engine.now.limits c.args.engine.now.state e ≡ true =
-    elim (test_cases (takes_memory c.args.engine.now.limits c.args.engine.now.state e)) [
+    sym c.event_of.ensures.event ∙ ap (option_map plain_event) c.in-Some.is in
+    let takes : takes_memory c.args.store.now.machine.limits c.args.store.now.machine.state e ≡ true =
+    elim (test_cases (takes_memory c.args.store.now.machine.limits c.args.store.now.machine.state e)) [
       | inl does ↦ does
       | inr never ↦ absurd (search rules)
     ] in

@@ -1,22 +1,26 @@
-use Rattle.std.proofs.Common.{◌≡◌, ◌≤◌, ◌-◌, length, take}
+use Rattle.std.proofs.Common.{◌≡◌, ◌≤◌, ◌-◌, [], length, take}
 use Rattle.ipc_base.specs.Limits.{ArePassed}
 use Rattle.ipc_hub.specs.declared.connection.Connection.{Connection}
-use Rattle.ipc_hub.specs.Relations.Rows.{hub_view, IsThere}
+use Rattle.ipc_hub.specs.Relations.Rows.{hub_view, stored_view, IsThere}
+use Rattle.ipc_store.specs.View.{IsReadyFor}
+use Rattle.ipc_hub.specs.View.{kept}
 use Rattle.ipc_hub.specs.Relations.Invariant.{GoesOn}
 use Rattle.ipc_hub.specs.Relations.Matches.{TakesIn}
 use Rattle.ipc_hub.proofs.serving.take_in.Given as goal
 
--- the hub goes on and has taken in the bytes so far; before the first it is as it was
+-- The hub goes on and has taken in the bytes so far; before the first it is as it was. While the connection keeps no
+-- frame, the store is ready for an event.
 abbrev pub invariant-loop-taken : goal.invariant-loop-taken
-invariant-loop-taken l = record {
+invariant-loop-taken g l = record {
   within : l.taken ≤ length l.piece;
-  passed : ArePassed l.engine.limits;
-  goes_on : GoesOn (hub_view l.fn.engine l.fn.connections) (hub_view l.engine l.connections);
+  passed : ArePassed l.store.machine.limits;
+  goes_on : GoesOn (hub_view l.fn.store.machine l.fn.connections) (hub_view l.store.machine l.connections);
   bytes : (c : Connection) → IsThere l.fn.connections l.place c
-      → TakesIn (hub_view l.fn.engine l.fn.connections) (hub_view l.engine l.connections) c.number (take l.taken l.piece) l.moment.0;
-  first : l.taken ≡ 0 → l.connections ≡ l.fn.connections;
+      → TakesIn g.D.SectorDisk.medium (stored_view l.fn.store l.fn.connections) (stored_view l.store l.connections) c.number (take l.taken l.piece) l.moment.0;
+  first : l.taken ≡ 0 → (l.connections ≡ l.fn.connections) × (l.store ≡ l.fn.store);
+  ready : (c : Connection) → IsThere l.connections l.place c → kept c.outbox ≡ [] → IsReadyFor l.store 1;
 }
 
 -- the bytes that are left
 abbrev pub decreases-loop-taken : goal.decreases-loop-taken
-decreases-loop-taken l = length l.piece - l.taken
+decreases-loop-taken g l = length l.piece - l.taken

@@ -1,29 +1,37 @@
-use Rattle.std.proofs.Common.{◌<◌, length, get_or, refl, arith}
-use Rattle.std.proofs.lemmas.Result.{err_from_is_err_and}
+use Rattle.std.proofs.Common.{List, ◌∙◌}
+use Rattle.std.specs.Prelude.{Result, Ok, Err, ⊤, OnOk, IfErr}
+use Rattle.ipc_base.specs.declared.limits.Limits.{Limits}
+use Rattle.ipc_hub.specs.View.{StoredHub}
+use Rattle.ipc_hub.specs.Relations.Matches.{StoredMatches}
+use Rattle.ipc_script.specs.declared.fault.ScriptFault.{ScriptFault}
+use Rattle.ipc_script.specs.declared.report.Opened.{Opened}
+use Rattle.ipc_script.specs.Script.{Run}
+use Rattle.ipc_script.specs.Relations.Faults.{ByFault, WorldFailed}
+use Rattle.ipc_script.specs.Relations.Matches.{RunMatches}
 use Rattle.ipc_script.proofs.FaultCases.{world_failed}
-use Rattle.ipc_script.proofs.ReportText.{reported_begun, reported_more, reported_part, reported_all}
 use Rattle.ipc_script.proofs.report.report.Goals as goal
 
-pub loop-place-init : goal.loop-place-init
-loop-place-init g c =
-    λ limits r i. reported_begun limits r c.release.new.self c.args.opened.now _ (c.release.ensures limits i.confirmed r.hub i.matches) i.rising i.kept
+-- a release keeps the run, and all that was accepted is confirmed
+released : {D : Type 0} (old new : StoredHub D) (opened : List Opened) → ((limits : Limits) (h : _) → StoredMatches limits old h → StoredMatches limits new h)
+    → (limits : Limits) (r : Run) → RunMatches limits old opened r → RunMatches limits new opened r
+released old new opened keeps limits r i = record { matches = keeps limits r.hub i.matches; kept = i.kept; whole = i.whole; rising = i.rising }
 
-pub loop-place-preserved : goal.loop-place-preserved
-loop-place-preserved g c = λ limits r i.
-    let inside : c.loop-place.place < length c.loop-place.opened = omega arith in
-    reported_more limits r c.loop-place.hub c.loop-place.opened c.loop-place.place _ _ (c.loop-place.invariant limits r i)
-    i.whole (get_or c.loop-place.opened c.loop-place.place _) _ inside refl
-    c.report_connection.new.hub _ c.report_connection.new.connection (c.in_ok-report_connection.ensures.ok limits)
+on_ok : {P Q : Type 0} (result : Result ⊤ ScriptFault) → (P → Q) → OnOk result P → OnOk result Q
+on_ok (Ok u) f p = f p
+on_ok (Err e) f p = p
 
-pub returns-in_err-report_connection-clause-err : goal.returns-in_err-report_connection-clause-err
-returns-in_err-report_connection-clause-err g c =
-    let q = err_from_is_err_and c.from_residual.result c.from_residual.ensures.1 in
-    let inside : c.loop-place.place < length c.loop-place.opened = omega arith in
-    rw (q.1, q.2) (world_failed _ _ _ c.in_err-report_connection.field-0.0 (λ part limits r i.
-    reported_part limits r c.loop-place.hub c.loop-place.opened c.loop-place.place _ _ (c.loop-place.invariant limits r i)
-    i.whole (get_or c.loop-place.opened c.loop-place.place _) _ inside refl _ (part limits)) c.in_err-report_connection.ensures.err)
+if_err : (P Q B : Type 0) (result : Result ⊤ ScriptFault) → (P → Q) → IfErr result (λ e. WorldFailed e P) → IfErr result (λ e. ByFault e Q B ⊥)
+if_err P Q B (Ok u) f p = p
+if_err P Q B (Err e) f p = world_failed P Q B ⊥ e f p
 
-pub returns-clause-ok : goal.returns-clause-ok
-returns-clause-ok g c =
-    λ limits r i. reported_all limits r c.loop-place.hub c.loop-place.opened c.loop-place.place _ _
-    (c.loop-place.invariant limits r i) (omega arith)
+pub returns-in-Ok-clause-ok : goal.returns-in-Ok-clause-ok
+returns-in-Ok-clause-ok g c =
+    on_ok c.report_all.result
+    (λ done limits r i. done limits r (released c.args.hub.now c.release.new.self c.args.opened.now c.in-Ok.ensures.ok limits r i)
+    (c.in-Ok.ensures.confirmed ∙ i.matches.counts)) c.report_all.ensures.ok
+
+pub returns-in-Ok-clause-err : goal.returns-in-Ok-clause-err
+returns-in-Ok-clause-err g c =
+    if_err _ _ _ c.report_all.result
+    (λ done limits r i. done limits r (released c.args.hub.now c.release.new.self c.args.opened.now c.in-Ok.ensures.ok limits r i)
+    (c.in-Ok.ensures.confirmed ∙ i.matches.counts)) c.report_all.ensures.err

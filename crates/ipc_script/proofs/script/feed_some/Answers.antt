@@ -1,26 +1,38 @@
-use Rattle.std.proofs.Common.{◌≡◌, false, sym, ◌∙◌, rules}
-use Rattle.ipc_hub.specs.View.{is_connected}
-use Rattle.ipc_script.proofs.HubAndClients.{connected}
+use Rattle.std.proofs.Common.{sym, ◌∙◌}
+use Rattle.std.proofs.KnownBytes.{Appends-nil}
 use Rattle.std.proofs.lemmas.Result.{err_from_is_err_and}
+use Rattle.ipc_script.proofs.HubAndClients.{connected, is_known, is_unknown, is_its_fault}
 use Rattle.ipc_script.proofs.FedPieces.{feeds_some, feeds_part}
-use Rattle.ipc_script.proofs.FaultCases.{world_failed}
+use Rattle.ipc_script.proofs.FaultCases.{by_fault}
 use Rattle.ipc_script.proofs.script.feed_some.Goals as goal
 
-pub returns-in_err-report-clause-err : goal.returns-in_err-report-clause-err
-returns-in_err-report-clause-err g c =
+pub returns-in_err-report-in-Ok-clause-err : goal.returns-in_err-report-in-Ok-clause-err
+returns-in_err-report-in-Ok-clause-err g c =
     let q = err_from_is_err_and c.from_residual.result c.from_residual.ensures.1 in
-    rw (q.1, q.2) (world_failed _ _ _ c.in_err-report.field-0.0 (λ part limits r b.
-    feeds_part limits r c.args.sender c.args.bytes.now c.in-Ok.taken
+    let conn = c.args.sender.conn in
+    rw (q.1, q.2) (by_fault _ _ _ _ _ _ c.in_err-report-in-Ok.field-0.0 (λ part limits r b.
+    feeds_part g.D.SectorDisk.medium limits r c.args.sender c.args.bytes.now c.in-Ok.taken
     c.args.hub.now c.feed.new.self c.report.new.hub c.args.opened.now c.report.new.opened _ _
-    b c.in-Ok.ensures.ok c.in-Ok.ensures.starts (λ h. let bad = c.in-Ok.ensures.unknown.1 h in cc) part) c.in_err-report.ensures.err)
+    b c.in-Ok.ensures.ok c.in-Ok.ensures.starts
+    (is_known c.args.hub.now conn c.feed.result _ c.in-Ok.is c.feed.ensures.stopped c.feed.ensures.unknown) part)
+    (λ none. none) (λ never. absurd never) c.in_err-report-in-Ok.ensures.err)
 
-pub returns-clause-ok : goal.returns-clause-ok
-returns-clause-ok g c = λ limits r b.
-    feeds_some limits r c.args.sender c.args.bytes.now c.in-Ok.taken
+pub returns-in_ok-report-in-Ok-clause-ok : goal.returns-in_ok-report-in-Ok-clause-ok
+returns-in_ok-report-in-Ok-clause-ok g c = λ limits r b.
+    let conn = c.args.sender.conn in
+    feeds_some g.D.SectorDisk.medium limits r c.args.sender c.args.bytes.now c.in-Ok.taken
     c.args.hub.now c.feed.new.self c.report.new.hub c.args.opened.now c.report.new.opened _ _
-    b c.in-Ok.ensures.ok c.in-Ok.ensures.starts (λ h. let bad = c.in-Ok.ensures.unknown.1 h in cc) c.in_ok-report.ensures.ok
+    b c.in-Ok.ensures.ok c.in-Ok.ensures.starts
+    (is_known c.args.hub.now conn c.feed.result _ c.in-Ok.is c.feed.ensures.stopped c.feed.ensures.unknown) c.in_ok-report-in-Ok.ensures.ok
 
-pub returns-in_default-clause-unknown : goal.returns-in_default-clause-unknown
-returns-in_default-clause-unknown g c limits r b =
-    let gone : is_connected c.args.hub.now c.args.sender.conn ≡ false = search rules in
-    sym (connected limits b.run.confirmed c.args.hub.now r.hub c.args.sender.conn b.run.matches) ∙ gone
+pub returns-in-Err-clause-err : goal.returns-in-Err-clause-err
+returns-in-Err-clause-err g c =
+    let w = Appends-nil (g.W.Write.contents c.args.writer.now) in
+    rw c.fault_of.ensures (is_its_fault _ _ c.in-Err.error c.args.sender.number w)
+
+pub returns-in-Err-clause-unknown : goal.returns-in-Err-clause-unknown
+returns-in-Err-clause-unknown g c =
+    let hub = c.args.hub.now in
+    rw c.fault_of.ensures (is_unknown g.D.SectorDisk.medium g.D.SectorDisk.counts hub c.feed.new.self c.args.sender.conn _ c.in-Err.error
+    c.args.sender.number (λ none limits r b. sym (connected limits hub.store.confirmed hub.hub r.hub c.args.sender.conn b.run.matches.hub) ∙ none)
+    c.in-Err.ensures.refused)

@@ -9,16 +9,15 @@ use Rattle.ipc_script.specs.declared.fault.ScriptFault.TheVariants.{InUse, Unkno
 use Rattle.ipc_script.specs.Script.{Run, is_open, opened}
 use Rattle.ipc_script.specs.Relations.Matches.{RunMatches, RunMatchesBetween}
 use Rattle.ipc_script.proofs.UnchangedHeads.{heads_tick, steady}
-use Rattle.ipc_script.proofs.FaultCases.{refused_unknown}
 use Rattle.ipc_script.proofs.HexBytes.{hex_nonempty}
 use Rattle.ipc_script.proofs.LineForms.{written_back, line_unwritten, line_reported, line_refused, open_done, open_refused, end_done, end_refused}
-use Rattle.ipc_script.proofs.script.run_line.Goals.{in-Open+in_ok-open-in-Open, in-End+in_ok-close-in-End, in-Tick}
+use Rattle.ipc_script.proofs.script.run_line.Goals.{in-Open+in_ok-open-in-Open, in-End+in_ok-close-in-End, in-Tick+in-Ok}
 use Rattle.ipc_script.proofs.script.run_line.Goals as goal
 
 pub returns-in_err-open-in-Open : goal.returns-in_err-open-in-Open
 returns-in_err-open-in-Open g c = λ limits r b.
     let q = err_from_is_err_and c.from_residual.result c.from_residual.ensures.1 in
-    rw (q.1, q.2, c.in-Open.is) (line_refused limits c.args.number r c.open.new.hub c.open.new.hub c.open.new.hub _ (g.W.Write.contents c.args.writer.now)
+    rw (q.1, q.2, c.in-Open.is) (line_refused limits c.args.number r (g.W.Write.contents c.args.writer.now)
     (Open c.in-Open.conn) c.in_err-open-in-Open.field-0.0 (InUse c.args.number)
     ((limits : Limits) (r : Run) → RunMatchesBetween limits c.args.hub.now c.args.opened.now.items r → is_open r c.in-Open.conn ≡ true)
     c.in_err-open-in-Open.ensures.err c.in_err-open-in-Open.ensures.in_use (λ u. open_refused limits c.args.number r c.in-Open.conn (u limits r b)))
@@ -45,15 +44,12 @@ returns-in-Data g c = λ limits r b.
 pub returns-in_err-close-in-End : goal.returns-in_err-close-in-End
 returns-in_err-close-in-End g c = λ limits r b.
     let q = err_from_is_err_and c.from_residual-in_err-close-in-End.result c.from_residual-in_err-close-in-End.ensures.1 in
-    let e = c.in_err-close-in-End.field-0.0 in
-    let is : e ≡ Unknown c.args.number = c.in_err-close-in-End.ensures.err in
-    let closed = c.in_err-close-in-End.ensures.unknown limits r b in
     rw (q.1, q.2, c.in-End.is)
-    (line_refused limits c.args.number r c.close.new.hub c.close.new.hub c.close.new.hub _ (g.W.Write.contents c.args.writer.now)
-    (End c.in-End.moment c.in-End.conn) e (Unknown c.args.number)
-    (is_open r c.in-End.conn ≡ false)
-    (refused_unknown (e ≡ Unknown c.args.number) e c.args.number is is) (refused_unknown (is_open r c.in-End.conn ≡ false) e c.args.number is closed)
-    (end_refused limits c.args.number r c.in-End.moment c.in-End.conn))
+    (line_refused limits c.args.number r (g.W.Write.contents c.args.writer.now)
+    (End c.in-End.moment c.in-End.conn) c.in_err-close-in-End.field-0.0 (Unknown c.args.number)
+    ((limits : Limits) (r : Run) → RunMatchesBetween limits c.args.hub.now c.args.opened.now.items r → is_open r c.in-End.conn ≡ false)
+    c.in_err-close-in-End.ensures.err c.in_err-close-in-End.ensures.unknown
+    (λ u. end_refused limits c.args.number r c.in-End.moment c.in-End.conn (u limits r b)))
 
 pub returns : goal.returns
 returns g c = λ limits r b.
@@ -68,22 +64,22 @@ returns g c = λ limits r b.
       | in-Open+in_ok-open-in-Open w ↦
           let o = w.in_ok-open-in-Open.ensures.ok limits r b in
           rw w.in-Open.is
-          (line_reported limits c.args.number r hub hub c.report.new.hub _ _ (Open w.in-Open.conn) c.deref_mut-2.result.now c.report.new.opened
+          (line_reported limits c.args.number r hub c.report.new.hub _ _ (Open w.in-Open.conn) c.deref_mut-2.result.now c.report.new.opened
           c.report.new.opened c.report.result
           c.report.ensures.ok c.report.ensures.err refl (opened r w.in-Open.conn) (at _ (rw (← w.hub-is, ← w.opened-is) at o.1))
           (open_done limits c.args.number r w.in-Open.conn o.0))
       | in-End+in_ok-close-in-End w ↦
           let o = w.in_ok-close-in-End.ensures.ok limits r b in
           rw w.in-End.is
-          (line_reported limits c.args.number r hub hub c.report.new.hub _ _ (End w.in-End.moment w.in-End.conn) c.deref_mut-2.result.now
+          (line_reported limits c.args.number r hub c.report.new.hub _ _ (End w.in-End.moment w.in-End.conn) c.deref_mut-2.result.now
           c.report.new.opened c.report.new.opened c.report.result
           c.report.ensures.ok c.report.ensures.err refl _ (at _ (rw (← w.hub-is, ← w.opened-is) at o.1))
           (end_done limits c.args.number r w.in-End.moment w.in-End.conn o.0))
-      | in-Tick w ↦
-          let i = steady limits b.run.confirmed c.args.hub.now w.tick.new.self c.args.opened.now.items r (tick limits r.hub w.in-Tick.moment) b.run
-          (heads_tick limits 0 w.in-Tick.moment r.hub) (w.tick.ensures limits b.run.confirmed r.hub b.run.matches) in
+      | in-Tick+in-Ok w ↦
+          let i = steady limits c.args.hub.now w.tick.new.self c.args.opened.now.items r (tick limits r.hub w.in-Tick.moment) b.run
+          (heads_tick limits 0 w.in-Tick.moment r.hub) (w.in-Ok.ensures.ok limits r.hub b.run.matches).matches in
           rw w.in-Tick.is
-          (line_reported limits c.args.number r hub hub c.report.new.hub _ _ (Tick w.in-Tick.moment) c.deref_mut-2.result.now c.report.new.opened
+          (line_reported limits c.args.number r hub c.report.new.hub _ _ (Tick w.in-Tick.moment) c.deref_mut-2.result.now c.report.new.opened
           c.report.new.opened c.report.result
           c.report.ensures.ok c.report.ensures.err refl _ (at _ (rw (← w.hub-is, ← w.opened-is) at i)) (λ cut. refl))
     ])

@@ -1,13 +1,17 @@
-use Rattle.std.proofs.Common.{◌+◌, ◌≤◌, length}
+use Rattle.std.proofs.Common.{◌≡◌, ◌+◌, ◌≤◌, [], length}
+use Rattle.ipc_base.specs.declared.limits.Limits.{Limits}
+use Rattle.ipc_hub.specs.Clients.{Clients}
+use Rattle.ipc_hub.specs.Relations.Matches.{StoredMatches}
 use Rattle.ipc_script.proofs.ScriptLines.{PartlyRun}
 use Rattle.ipc_script.proofs.script.run_lines.Given as goal
 
 -- there are no more lines so far than bytes, and they are run
 abbrev pub invariant-lines : goal.invariant-lines
-invariant-lines g l =
-    (l.number + length l.rest ≤ length l.initial.rest)
-    × PartlyRun l.fn.engine.limits l.fn.engine.state l.fn.script (l.number + 1) l.hub l.opened.items l.rest
-    (g.W.Write.contents l.fn.writer) (g.W.Write.contents l.writer)
+invariant-lines g l = record {
+  few : l.number + length l.rest ≤ length l.initial.rest;
+  runs : (limits : Limits) (h : Clients) → StoredMatches limits l.fn.hub h → h.clients ≡ []
+      → PartlyRun limits h l.fn.script (l.number + 1) l.hub l.opened.items l.rest (g.W.Write.contents l.fn.writer) (g.W.Write.contents l.writer);
+}
 
 -- the text behind the lines so far
 abbrev pub decreases-lines : goal.decreases-lines

@@ -1,12 +1,14 @@
-use Rattle.std.proofs.Common.{◌≡◌, ◌<◌, ◌≤◌, ℕ, List, length, get_or, None, refl, sym, ap, subst, ◌∙◌, arith, rules}
-use Rattle.std.specs.Prelude.{nat_eq, insert}
+use Rattle.std.proofs.Common.{◌≡◌, ◌<◌, ◌≤◌, ◌^◌, ℕ, Bool, true, false, List, length, get_or, None, refl, sym, ap, subst, ◌∙◌, arith, rules}
+use Rattle.std.specs.Prelude.{nat_eq, insert, if◌then◌else◌}
 use Rattle.ipc_base.specs.Limits.{longest_reply}
 use Rattle.ipc_base.specs.Table.{value_at, with_entry}
 use Rattle.ipc_base.proofs.CallerLemmas.{nobody}
+use Rattle.ipc_engine.specs.Engine.{Machine}
 use Rattle.ipc_hub.specs.declared.connection.Connection.{Connection}
-use Rattle.ipc_hub.specs.View.{HubView, is_connected}
+use Rattle.ipc_hub.specs.Clients.{connect}
+use Rattle.ipc_hub.specs.View.{HubView, StoredHub, HasStopped, is_connected}
 use Rattle.ipc_hub.specs.Relations.Invariant.{IsNew, HubInvariant}
-use Rattle.ipc_hub.specs.Relations.Matches.{HubMatches}
+use Rattle.ipc_hub.specs.Relations.Matches.{HubMatches, Simulates}
 use Rattle.ipc_hub.specs.Relations.Rows.{view_of, rows, hub_view}
 use Rattle.ipc_hub.proofs.Changes.{entry-invariant, entry-matches}
 use Rattle.ipc_hub.proofs.Rows.{apart-from, entry-there}
@@ -26,32 +28,50 @@ put-in items cs place conn new same within below rest none number =
     let apart = apart-from cs conn k d (subst (λ (xs : List Connection). value_at nat_eq (rows xs) conn ≡ None) (sym same) none) lt in
     omega (arith, rest k d le lt, number, apart))))
 
+-- the connection that was made, put in
+module _ (engine : Machine) {items cs : List Connection} {place : ℕ} (conn : ℕ) {hub : HubView} (same : cs ≡ items) (within : place ≤ length cs)
+    (below : (k : ℕ) (d : Connection) → k < place → (get_or cs k d).number < conn)
+    (rest : (k : ℕ) (d : Connection) → place ≤ k → k < length cs → conn ≤ (get_or cs k d).number)
+    (seen : hub_view engine items ≡ hub) (free : is_connected hub conn ≡ false) {reply : ℕ} (new : Connection) (number : new.number ≡ conn)
+    (is : IsNew reply (view_of new)) where
+  none : value_at nat_eq (rows items) conn ≡ None
+  none = nobody (value_at nat_eq (rows items) conn) (ap (λ (v : HubView). is_connected v conn) seen ∙ free)
+
+  added : rows (insert items place new) ≡ with_entry (rows items) conn (view_of new)
+  added = put-in items cs place conn new same within below rest none number
+
+  keeps : HubInvariant (hub_view engine items) → conn < 2 ^ 32 → reply ≡ longest_reply engine.limits → HubInvariant (hub_view engine (insert items place new))
+  keeps inv small longest = rw added (entry-invariant (hub_view engine items) conn (view_of new) inv small none (rw longest at is))
+
+  matches : Simulates hub (hub_view engine (insert items place new)) (λ _ h. connect h conn)
+  matches limits confirmed h m =
+      entry-matches limits confirmed (hub_view engine items) (hub_view engine (insert items place new)) h conn (view_of new) reply
+      (subst (λ (v : HubView). HubMatches limits confirmed v h) (sym seen) m) refl refl added is
+
+-- a store that takes events has not stopped
+going : (left : ℕ) (stopped : Bool) → ¬ ((if stopped then 0 else left) < 2) → stopped ≡ false
+going left true more = absurd (more (omega arith))
+going left false more = refl
+
 pub invariant_of-self-2 : goal.invariant_of-self-2
-invariant_of-self-2 c =
-    let items = c.self.inside.connections.items in
+invariant_of-self-2 g c =
     let new = c.in_ok-connection.connection in
-    let none : value_at nat_eq (rows items) c.args.conn ≡ None =
-    nobody (value_at nat_eq (rows items) c.args.conn) (ap (λ (v : HubView). is_connected v c.args.conn) c.self.view_is ∙ c.requires) in
-    let inserted : c.insert.new.self.items ≡ insert items c.place_for-place.result new = search rules in
+    let inserted : c.insert.new.self.items ≡ insert c.self.inside.connections.items c.place_for-place.result new = search rules in
     let number : new.number ≡ c.args.conn = search rules in
     let is : IsNew c.longest_reply-reply.result (view_of new) = search rules in
-    let reply : c.longest_reply-reply.result ≡ longest_reply c.self.inside.engine.limits =
-    c.longest_reply-reply.ensures.longest ∙ ap longest_reply c.limits.ensures.limits in
-    let there = put-in items c.deref.result.now c.place_for-place.result c.args.conn new c.deref.ensures.value c.place_for-place.ensures.within
-    c.place_for-place.ensures.below c.place_for-place.ensures.rest none number in
-    subst (λ (cs : List Connection). HubInvariant (hub_view c.self.inside.engine cs)) (sym inserted)
-    (rw there (entry-invariant (hub_view c.self.inside.engine items) c.args.conn (view_of new) c.self.invariant c.ranges.conn.fits none (rw reply at is)))
+    let goes_on = going _ c.self.inside.store.stopped (subst (λ (v : StoredHub g.row.D.Denot). ¬ HasStopped v) (sym c.self.view_is) c.requires.goes_on) in
+    let inv : HubInvariant (hub_view c.self.inside.store.machine c.insert.new.self.items) = rw inserted
+    (keeps c.self.inside.store.machine c.args.conn c.deref.ensures.value c.place_for-place.ensures.within c.place_for-place.ensures.below
+    c.place_for-place.ensures.rest (ap (λ v. v.hub) c.self.view_is) c.requires.free new number is (c.self.invariant.goes_on goes_on) c.ranges.conn.fits
+    (c.longest_reply-reply.ensures.longest ∙ ap longest_reply (c.limits.ensures.limits ∙ ap (λ (m : Machine). m.limits) c.engine.ensures))) in
+    record { rising = inv.rising; goes_on = λ _. inv }
 
 pub returns-clause-ok : goal.returns-clause-ok
-returns-clause-ok c limits confirmed h m =
-    let items = c.self.inside.connections.items in
+returns-clause-ok g c limits confirmed h m =
     let new = c.in_ok-connection.connection in
-    let none : value_at nat_eq (rows items) c.args.conn ≡ None =
-    nobody (value_at nat_eq (rows items) c.args.conn) (ap (λ (v : HubView). is_connected v c.args.conn) c.self.view_is ∙ c.requires) in
-    let inserted : c.insert.new.self.items ≡ insert items c.place_for-place.result new = search rules in
+    let inserted : c.insert.new.self.items ≡ insert c.self.inside.connections.items c.place_for-place.result new = search rules in
     let number : new.number ≡ c.args.conn = search rules in
     let is : IsNew c.longest_reply-reply.result (view_of new) = search rules in
-    let there = put-in items c.deref.result.now c.place_for-place.result c.args.conn new c.deref.ensures.value c.place_for-place.ensures.within
-    c.place_for-place.ensures.below c.place_for-place.ensures.rest none number in
-    entry-matches limits confirmed (hub_view c.self.inside.engine items) (hub_view c.self.inside.engine c.insert.new.self.items) h c.args.conn (view_of new)
-    c.longest_reply-reply.result (subst (λ (v : HubView). HubMatches limits confirmed v h) (sym c.self.view_is) m) refl refl (ap rows inserted ∙ there) is
+    rw inserted
+    (matches c.self.inside.store.machine c.args.conn c.deref.ensures.value c.place_for-place.ensures.within c.place_for-place.ensures.below
+    c.place_for-place.ensures.rest (ap (λ v. v.hub) c.self.view_is) c.requires.free new number is limits confirmed h m)

@@ -1,100 +1,77 @@
-use Rattle.std.proofs.Common.{◌≡◌, ◌^◌, List, [], true, false, take, is_some, Option, Some, refl, sym, ap, subst, ◌∙◌, arith}
-use Rattle.std.specs.Prelude.{nat_eq, position, option_map, unwrap_or, IfSome}
-use Rattle.std.specs.Vec.{with_items}
-use Rattle.ipc_base.specs.Table.{value_at, keys_of}
+use Rattle.std.proofs.Common.{◌≡◌, ◌^◌, List, take, Some, refl, sym, ap, subst, ◌∙◌, arith}
+use Rattle.std.specs.Prelude.{nat_eq}
+use Rattle.ipc_base.specs.Table.{value_at, keys_of, IsRising}
 use Rattle.ipc_hub.specs.declared.connection.Connection.{Connection}
-use Rattle.ipc_hub.specs.Clients.{Clients, tick, feed}
-use Rattle.ipc_hub.specs.View
-use Rattle.ipc_hub.specs.View.{ConnectionView, HubView, HasNoFrame, ended_of, is_connected}
-use Rattle.ipc_hub.specs.Relations.Matches.{HubMatches}
-use Rattle.ipc_hub.specs.Relations.Rows.{rows, hub_view}
-use Rattle.ipc_hub.proofs.Rows.{sliced, searched, found-there, at-there}
+use Rattle.ipc_hub.specs.View.{HasNoFrame}
+use Rattle.ipc_hub.specs.Relations.Rows.{view_of, rows, hub_view}
+use Rattle.ipc_hub.proofs.Coming.{comes-fed}
+use Rattle.ipc_hub.proofs.Committing.{some-left}
+use Rattle.ipc_hub.proofs.Naming.{not-there, not-missing, kept-keys, Named, named, still-empty, still-ended}
+use Rattle.ipc_hub.proofs.Rows.{sliced}
+use Rattle.ipc_hub.proofs.hub.Hub.feed.Given.{Over}
 use Rattle.ipc_hub.proofs.hub.Hub.feed.Goals as goal
 
-pub returns-in_default-clause-unknown : goal.returns-in_default-clause-unknown
-returns-in_default-clause-unknown c =
-    let there = searched c.self.inside.engine c.self.inside.connections.items c.deref.result.now c.args.conn c.args.self.now c.deref.ensures.value
-    c.self.view_is
-    ∙ ap is_some (sym c.place_of.ensures ∙ c.in_default.is) in
-    (λ _. there, λ _. refl)
+pub returns-in_default-clause-refused : goal.returns-in_default-clause-refused
+returns-in_default-clause-refused g c = (
+  some-left c.args.self.now c.if-has_stopped.ensures.1,
+  not-there c.self.inside.store c.self.inside.connections.items c.deref.result.now c.args.conn c.args.self.now c.deref.ensures.value c.self.view_is
+      (sym c.place_of.ensures ∙ c.in_default.is),
+  refl,
+)
+
+pub returns-in-Err-clause-unknown : goal.returns-in-Err-clause-unknown
+returns-in-Err-clause-unknown g c = λ _ missing. absurd
+    (not-missing c.self.inside.store c.self.inside.connections.items c.deref.result.now c.args.conn c.args.self.now c.deref.ensures.value c.self.view_is
+    c.in-Some.place (sym c.place_of.ensures ∙ c.in-Some.is) missing)
 
 pub returns-clause-unknown : goal.returns-clause-unknown
-returns-clause-unknown c =
-    let there = searched c.self.inside.engine c.self.inside.connections.items c.deref.result.now c.args.conn c.args.self.now c.deref.ensures.value
-    c.self.view_is
-    ∙ ap is_some (sym c.place_of.ensures ∙ c.in-Some.is) in
-    (λ e. cc, λ h. let bad : true ≡ false = sym there ∙ h in cc)
+returns-clause-unknown g c = λ _ missing. absurd
+    (not-missing c.self.inside.store c.self.inside.connections.items c.deref.result.now c.args.conn c.args.self.now c.deref.ensures.value c.self.view_is
+    c.in-Some.place (sym c.place_of.ensures ∙ c.in-Some.is) missing)
+
+-- the connection that has the number, where the same numbers are in a row after time has passed
+still : (g : Over) (c : goal.After-self-1 g) (ds : List Connection) → keys_of (rows ds) ≡ keys_of (rows c.self-2.inside.connections.items)
+    → Named ds c.in-Some.place c.args.conn
+still g c ds same =
+    named c.deref.result.now ds c.in-Some.place c.args.conn (subst (λ ks. IsRising 0 ks (2 ^ 32)) (sym same) c.self-2.invariant.rising)
+    (same ∙ kept-keys c.self.inside.store c.self-2.inside.store _ _ _ _ _ c.deref.ensures.value c.self.view_is c.self-2.view_is c.in_default-pass.ensures.same)
+    (sym c.place_of.ensures ∙ c.in-Some.is)
+
+-- that to which bytes are given
+before : (g : Over) (c : goal.After-self-1 g) → Named c.deref_mut.result.now c.in-Some.place c.args.conn
+before g c = still g c c.deref_mut.result.now (ap (λ cs. keys_of (rows cs)) c.deref_mut.ensures.value)
 
 pub returns-clause-ok : goal.returns-clause-ok
-returns-clause-ok c limits confirmed h m =
-    let items = c.self.inside.connections.items in
-    let ys = c.deref_mut-2.result.now in
-    let ticked = sliced c.self.inside.connections c.deref_mut.result.now c.tick.new.connections c.deref_mut.ensures.value c.tick.ensures.goes_on.numbers in
-    let mid-is : ys ≡ c.tick.new.connections = c.deref_mut-2.ensures.value ∙ ticked in
-    let quiet : rows ys ≡ rows items = ap rows mid-is ∙ c.tick.ensures.quiet ∙ ap rows c.deref_mut.ensures.value in
-    let found : position (λ (e : Connection). nat_eq e.number c.args.conn) items ≡ Some c.in-Some.place =
-    ap (position (λ (e : Connection). nat_eq e.number c.args.conn)) (sym c.deref.ensures.value) ∙ sym c.place_of.ensures ∙ c.in-Some.is in
-    let d = found-there items ys 0 (2 ^ 32) c.in-Some.place c.args.conn (rw quiet c.self.invariant.rising) (ap keys_of quiet) found in
-    let new = c.take_in-taken.new.connections in
-    let last = sliced (with_items c.self.inside.connections c.tick.new.connections) ys new c.deref_mut-2.ensures.value
-    c.take_in-taken.ensures.goes_on.numbers in
-    let before : HubMatches limits confirmed (hub_view c.self.inside.engine c.deref_mut.result.now) h =
-    subst (λ (cs : List Connection). HubMatches limits confirmed (hub_view c.self.inside.engine cs) h) (sym c.deref_mut.ensures.value)
-    (subst (λ (v : HubView). HubMatches limits confirmed v h) (sym c.self.view_is) m) in
-    let now : Clients = tick limits h c.args.moment.0 in
-    let then : HubMatches limits confirmed (hub_view c.tick.new.engine ys) now =
-    subst (λ (cs : List Connection). HubMatches limits confirmed (hub_view c.tick.new.engine cs) now) (sym mid-is)
-    (c.tick.ensures.ticks limits confirmed h before) in
-    let took = c.take_in-taken.ensures.bytes d.0 d.1.0 limits confirmed now (record { matches = then; later = omega (arith, m.known) }) in (
-      took.0,
-      subst (λ (cs : List Connection). HubMatches limits confirmed (hub_view c.take_in-taken.new.engine cs)
-          (feed limits h c.args.conn (take c.take_in-taken.result c.args.piece.now) c.args.moment.0 took.0)) (sym last) (rw d.1.1 at took.1.matches),
-    )
+returns-clause-ok g c limits h m =
+    let store = c.self-2.inside.store in
+    let v = c.self-2.inside.connections in
+    let new = c.take_in-taken.new in
+    let one = before g c in
+    let bytes = take c.take_in-taken.result c.args.piece.now in
+    comes-fed g.D.SectorDisk.medium limits c.args.self.now store new.store v c.deref_mut.result.now new.connections c.deref_mut.ensures.value
+    c.take_in-taken.ensures.goes_on.numbers c.args.conn bytes c.args.moment.0 h (rw c.self-2.view_is (c.in_default-pass.ensures.ok limits h m))
+    (omega (arith, c.in_default-pass.ensures.later, ap (λ w. w.store.waiting) c.self-2.view_is))
+    (rw one.number at (c.take_in-taken.ensures.bytes one.one one.there))
 
 pub returns-clause-whole : goal.returns-clause-whole
-returns-clause-whole c none =
-    let items = c.self.inside.connections.items in
-    let ys = c.deref_mut-2.result.now in
-    let ticked = sliced c.self.inside.connections c.deref_mut.result.now c.tick.new.connections c.deref_mut.ensures.value c.tick.ensures.goes_on.numbers in
-    let mid-is : ys ≡ c.tick.new.connections = c.deref_mut-2.ensures.value ∙ ticked in
-    let quiet : rows ys ≡ rows items = ap rows mid-is ∙ c.tick.ensures.quiet ∙ ap rows c.deref_mut.ensures.value in
-    let found : position (λ (e : Connection). nat_eq e.number c.args.conn) items ≡ Some c.in-Some.place =
-    ap (position (λ (e : Connection). nat_eq e.number c.args.conn)) (sym c.deref.ensures.value) ∙ sym c.place_of.ensures ∙ c.in-Some.is in
-    let new = c.take_in-taken.new.connections in
-    let last = sliced (with_items c.self.inside.connections c.tick.new.connections) ys new c.deref_mut-2.ensures.value
-    c.take_in-taken.ensures.goes_on.numbers in
+returns-clause-whole g c = λ none.
     let goes = c.take_in-taken.ensures.goes_on in
-    let d = found-there items new 0 (2 ^ 32) c.in-Some.place c.args.conn goes.invariant.rising (goes.numbers ∙ ap keys_of quiet) found in
-    let there = rw d.1.1 at (at-there new c.in-Some.place d.0 d.1.0) in
-    let empty = subst (λ (cs : List Connection). HasNoFrame (hub_view c.take_in-taken.new.engine cs) c.args.conn) last none in
-    c.take_in-taken.ensures.whole d.0 d.1.0 (subst (λ (r : Option ConnectionView). IfSome r (λ v. View.kept v.outbox ≡ [])) there empty)
+    let new = c.take_in-taken.new.connections in
+    let last = sliced c.self-2.inside.connections c.deref_mut.result.now new c.deref_mut.ensures.value goes.numbers in
+    let one = still g c new (subst (λ cs. keys_of (rows new) ≡ keys_of (rows cs)) c.deref_mut.ensures.value goes.numbers) in
+    let empty = subst (λ cs. HasNoFrame (hub_view c.take_in-taken.new.store.machine cs) c.args.conn) last none in
+    c.take_in-taken.ensures.whole one.one one.there (rw one.at at empty)
+
+-- the same one in the hub
+there : (g : Over) (c : goal.After-self-1 g) → value_at nat_eq c.pass.new.self.hub.connections c.args.conn ≡ Some (view_of (before g c).one)
+there g c =
+    ap (λ v. value_at nat_eq v.hub.connections c.args.conn) (sym c.self-2.view_is)
+    ∙ ap (λ cs. value_at nat_eq (rows cs) c.args.conn) (sym c.deref_mut.ensures.value) ∙ (before g c).at
 
 pub returns-clause-starts : goal.returns-clause-starts
-returns-clause-starts c none some =
-    let items = c.self.inside.connections.items in
-    let ys = c.deref_mut-2.result.now in
-    let ticked = sliced c.self.inside.connections c.deref_mut.result.now c.tick.new.connections c.deref_mut.ensures.value c.tick.ensures.goes_on.numbers in
-    let mid-is : ys ≡ c.tick.new.connections = c.deref_mut-2.ensures.value ∙ ticked in
-    let quiet : rows ys ≡ rows items = ap rows mid-is ∙ c.tick.ensures.quiet ∙ ap rows c.deref_mut.ensures.value in
-    let found : position (λ (e : Connection). nat_eq e.number c.args.conn) items ≡ Some c.in-Some.place =
-    ap (position (λ (e : Connection). nat_eq e.number c.args.conn)) (sym c.deref.ensures.value) ∙ sym c.place_of.ensures ∙ c.in-Some.is in
-    let d = found-there items ys 0 (2 ^ 32) c.in-Some.place c.args.conn (rw quiet c.self.invariant.rising) (ap keys_of quiet) found in
-    let there = rw d.1.1 at (at-there ys c.in-Some.place d.0 d.1.0) in
-    let empty : IfSome (value_at nat_eq (rows ys) c.args.conn) (λ v. View.kept v.outbox ≡ []) =
-    rw quiet (subst (λ (v : HubView). HasNoFrame v c.args.conn) (sym c.self.view_is) none) in
-    c.take_in-taken.ensures.starts d.0 d.1.0 (subst (λ (r : Option ConnectionView). IfSome r (λ v. View.kept v.outbox ≡ [])) there empty) some
+returns-clause-starts g c = λ none. c.take_in-taken.ensures.starts (before g c).one (before g c).there
+    (still-empty c.args.self.now.hub c.pass.new.self.hub c.in_default-pass.ensures.same c.args.conn (view_of (before g c).one) (there g c) none)
 
 pub returns-clause-dropped : goal.returns-clause-dropped
-returns-clause-dropped c over =
-    let items = c.self.inside.connections.items in
-    let ys = c.deref_mut-2.result.now in
-    let ticked = sliced c.self.inside.connections c.deref_mut.result.now c.tick.new.connections c.deref_mut.ensures.value c.tick.ensures.goes_on.numbers in
-    let mid-is : ys ≡ c.tick.new.connections = c.deref_mut-2.ensures.value ∙ ticked in
-    let quiet : rows ys ≡ rows items = ap rows mid-is ∙ c.tick.ensures.quiet ∙ ap rows c.deref_mut.ensures.value in
-    let found : position (λ (e : Connection). nat_eq e.number c.args.conn) items ≡ Some c.in-Some.place =
-    ap (position (λ (e : Connection). nat_eq e.number c.args.conn)) (sym c.deref.ensures.value) ∙ sym c.place_of.ensures ∙ c.in-Some.is in
-    let d = found-there items ys 0 (2 ^ 32) c.in-Some.place c.args.conn (rw quiet c.self.invariant.rising) (ap keys_of quiet) found in
-    let there = rw d.1.1 at (at-there ys c.in-Some.place d.0 d.1.0) in
-    let ended : unwrap_or (option_map (λ (v : ConnectionView). v.ended) (value_at nat_eq (rows ys) c.args.conn)) false ≡ true =
-    rw quiet (subst (λ (v : HubView). ended_of v c.args.conn ≡ true) (sym c.self.view_is) over) in
-    c.take_in-taken.ensures.dropped d.0 d.1.0 (rw there at ended)
+returns-clause-dropped g c = λ over. c.take_in-taken.ensures.dropped (before g c).one (before g c).there
+    (still-ended c.args.self.now.hub c.pass.new.self.hub c.in_default-pass.ensures.same c.args.conn (view_of (before g c).one) (there g c) over)

@@ -1,4 +1,4 @@
-use Rattle.std.proofs.Common.{◌≡◌, ◌<◌, ◌^◌, ℕ, true, false, Bool, not, length, List, [], ◌∷◌, refl, sym, subst, ◌∙◌, arith, rules}
+use Rattle.std.proofs.Common.{◌≡◌, ◌<◌, ◌^◌, ℕ, true, false, Bool, not, length, List, [], ◌∷◌, refl, sym, ap, subst, ◌∙◌, arith, rules}
 use Rattle.std.specs.Bool.{OnTrue}
 use Rattle.std.proofs.lemmas.Bool.Decides.{nat_tests}
 use Rattle.ipc_hub.specs.View.{HubView, output_of, ended_of}
@@ -7,7 +7,7 @@ use Rattle.ipc_hub.proofs.hub.Hub.is_silent.Goals.{then-number-conn, else-number
 use Rattle.ipc_hub.proofs.hub.Hub.is_silent.Goals as goal
 
 pub returns-then-is_empty : goal.returns-then-is_empty
-returns-then-is_empty c =
+returns-then-is_empty g c =
     elim c.if-number-conn.branch [
       | then-number-conn w ↦
           let items = c.self.inside.connections.items in
@@ -19,8 +19,8 @@ returns-then-is_empty c =
           let short : length w.output.result.now ≡ 0 = grind (arith, nat_tests, w.is_empty.ensures, said) in
           let empty : was.outbox.visible ≡ [] = sym w.output.ensures ∙ none w.output.result.now short in
           let found = rw number at (at-there items c.args.place was at) in
-          by_end c.ended.result c.ended.ensures (subst (λ (v : HubView). output_of v c.args.conn ≡ []) c.self.view_is (rw found empty))
-          (λ over. subst (λ (v : HubView). ended_of v c.args.conn ≡ false) c.self.view_is (rw found over))
+          by_end c.ended.result c.ended.ensures (subst (λ (v : HubView). output_of v c.args.conn ≡ []) (ap (λ v. v.hub) c.self.view_is) (rw found empty))
+          (λ over. subst (λ (v : HubView). ended_of v c.args.conn ≡ false) (ap (λ v. v.hub) c.self.view_is) (rw found over))
       | else-number-conn w ↦ absurd (search rules)
     ]
   where

@@ -14,6 +14,7 @@ invariant_of-self c =
     rw back (record {
       size = p.size;
       least = omega (arith, p.least, c.self.invariant.least);
+      none = λ zero. absurd (omega (arith, zero));
       within = omega (
         arith,
         p.most,

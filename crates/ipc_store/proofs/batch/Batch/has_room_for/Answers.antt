@@ -1,6 +1,6 @@
 use Rattle.std.proofs.Common.{sym, arith}
 use Rattle.ipc_store.proofs.Batches.{filled-length}
-use Rattle.ipc_store.proofs.batch.Batch.has_room.Goals as goal
+use Rattle.ipc_store.proofs.batch.Batch.has_room_for.Goals as goal
 
 pub returns : goal.returns
 returns c =

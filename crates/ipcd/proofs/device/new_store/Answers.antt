@@ -1,0 +1,44 @@
+use Rattle.std.proofs.Common.{◌≡◌, ◌<◌, ◌^◌, ◌∙◌, ℕ, ap, length, arith}
+use Rattle.ipc_base.specs.declared.limits.Limits.{Limits}
+use Rattle.ipc_disk.specs.declared.memory.MemoryDisk.{MemoryDisk}
+use Rattle.ipc_disk.specs.Medium.{Medium, IsHonest, Image}
+use Rattle.std.proofs.lemmas.List.{length-map}
+use Rattle.ipc_disk.specs.Memory.{memory_medium, memory_size}
+use Rattle.ipc_disk.specs.declared.memory.Slot.{Slot}
+use Rattle.ipc_state.specs.State.{start, restart}
+use Rattle.ipc_store.specs.Histories.{OpensOn}
+use Rattle.ipc_store.specs.Image.{StandsFor}
+use Rattle.ipc_store.specs.View.{StoreView}
+use Rattle.ipc_store.proofs.CallerLemmas.{StandsFor-one}
+use Rattle.ipcd.proofs.device.new_store.Goals as goal
+
+-- what an open gives of a disk that stands for the first state
+module _ {D : Type 0} (limits : Limits) (image : Image) (medium : Medium) (store : StoreView D) (fits : length image < 2 ^ 32)
+    (stands : StandsFor limits start image) (opens : OpensOn image medium store) where
+  same : (store.machine.limits ≡ limits) × (opens.found.0 ≡ start)
+  same = StandsFor-one store.machine.limits limits opens.found.0 start image fits opens.found.1 stands
+
+  state : store.machine.state ≡ start
+  state = opens.found.2.waits.state ∙ ap restart same.1
+
+-- what a new device in memory stands for, and how many sectors it has
+contents-fit : (disk : MemoryDisk) (sectors : ℕ) → sectors < 2 ^ 32 → memory_size disk ≡ sectors → length (memory_medium disk).contents < 2 ^ 32
+contents-fit disk sectors few size = omega (arith, few, size, length-map disk.slots.items (λ (slot : Slot). slot.last))
+
+pub returns-in-Ok-open-clause-limits : goal.returns-in-Ok-open-clause-limits
+returns-in-Ok-open-clause-limits c =
+    let disk = c.format.new.disk in
+    let honest : IsHonest (memory_medium disk) = c.format.ensures.honest.0 c.in_ok-disk.ensures.honest in
+    let image = (memory_medium disk).contents in
+    let few = contents-fit disk c.need.result (omega (arith, c.need.ensures.bounded)) (c.format.ensures.size ∙ c.in_ok-disk.ensures.size) in
+    (same c.args.limits.now image _ c.in-Ok-open.store few (c.in-Ok.ensures.ok c.in_ok-disk.ensures.honest image honest.reads)
+    (c.in-Ok-open.ensures.ok honest)).0
+
+pub returns-in-Ok-open-clause-state : goal.returns-in-Ok-open-clause-state
+returns-in-Ok-open-clause-state c =
+    let disk = c.format.new.disk in
+    let honest : IsHonest (memory_medium disk) = c.format.ensures.honest.0 c.in_ok-disk.ensures.honest in
+    let image = (memory_medium disk).contents in
+    let few = contents-fit disk c.need.result (omega (arith, c.need.ensures.bounded)) (c.format.ensures.size ∙ c.in_ok-disk.ensures.size) in
+    state c.args.limits.now image _ c.in-Ok-open.store few (c.in-Ok.ensures.ok c.in_ok-disk.ensures.honest image honest.reads)
+    (c.in-Ok-open.ensures.ok honest)
