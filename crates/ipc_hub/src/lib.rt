@@ -22,4 +22,6 @@ mod cuts;
 #[cfg(test)]
 mod lasting;
 #[cfg(test)]
+mod stops;
+#[cfg(test)]
 mod tests;
