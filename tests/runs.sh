@@ -219,32 +219,29 @@ run 0 replay --small
 
 # No sector is left for what the next line accepts. Each connection, in rising number, is told EIO, 5, and has ended.
 # The line after it is not run.
+last_words() {
+	wanted << 'END'
+1 00000006000000000005
+1 end
+3 00000006000000000005
+3 end
+END
+	says "ipcd: device fault"
+}
 name "a line more than the journal has room for"
 lines_of_255
 script << 'END'
 0 data 1 0000000d000001000a000004d200000380
 0 open 1
 END
-wanted << 'END'
-1 00000006000000000005
-1 end
-3 00000006000000000005
-3 end
-END
-says "ipcd: device fault"
+last_words
 run 1 replay --small
 name "a tick more than the journal has room for"
 lines_of_255
 script << 'END'
 0 tick
 END
-wanted << 'END'
-1 00000006000000000005
-1 end
-3 00000006000000000005
-3 end
-END
-says "ipcd: device fault"
+last_words
 run 1 replay
 
 # A length of 4 is a fault of the stream: EPROTO, 71, and the connection ends.

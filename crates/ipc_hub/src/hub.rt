@@ -1,7 +1,7 @@
 //! The hub: connections by number, over one store.
 
-ghost use Rattle.std.specs.Prelude.{◌≡◌, ◌<◌, ◌≤◌, ◌↔◌, ℕ, List, [], true, false, length, drop, take};
-ghost use Rattle.std.specs.Prelude.{IfOk, IfErr, IsTrue, OnErr, OnOk, Err};
+ghost use Rattle.std.specs.Prelude.{◌≡◌, ◌<◌, ◌≤◌, ◌↔◌, ℕ, List, [], true, false, length};
+ghost use Rattle.std.specs.Prelude.{drop, take, IfOk, IfErr, IsTrue, OnErr, OnOk, Err};
 ghost use Rattle.std.specs.Bool.{OnTrue};
 ghost use Rattle.ipc_base.specs.declared.limits.Limits.{Limits};
 ghost use Rattle.ipc_engine.specs.Event.{PlainEvent};
@@ -197,7 +197,8 @@ impl<D: SectorDisk> Hub<D> {
             → StoredMatches limits self.new h) }
         ensures takes { Takes D.medium self.old.store [] self.new.store }
         ensures all { OnOk result (self.new.hub.connections ≡ seen_as released self.old.hub.connections) }
-        ensures confirmed { OnOk result (self.new.store.confirmed ≡ self.old.store.confirmed + self.old.store.waiting) }
+        ensures confirmed { OnOk result (self.new.store.confirmed
+            ≡ self.old.store.confirmed + self.old.store.waiting) }
         ensures waiting { OnOk result (self.new.store.waiting ≡ 0) }
         ensures ready { OnOk result (IsReadyFor self.new.store 2) }
         ensures nothing { self.old.store.waiting ≡ 0 → self.new.store ≡ self.old.store }
@@ -292,8 +293,8 @@ impl<D: SectorDisk> Hub<D> {
 
     /// Whether the server has ended a connection; not so where none has the number.
     pub fn ended(&self, conn: u32) -> bool
-        ensures server { (limits : Limits) (confirmed : ℕ) (h : Clients) → HubMatches limits confirmed self.now.hub h
-            → result ≡ ended_at h conn }
+        ensures server { (limits : Limits) (confirmed : ℕ) (h : Clients)
+            → HubMatches limits confirmed self.now.hub h → result ≡ ended_at h conn }
         ensures ended { result ≡ ended_of self.now.hub conn }
     {
         match place_of(&self.connections, conn) {

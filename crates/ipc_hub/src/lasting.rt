@@ -121,7 +121,7 @@ fn a_journal_of_256_releases(rt: HostRuntime) -> Result<(), Fail> {
 
 // ---- a feed that releases
 
-/// The bytes of the longest request, a msgsnd of the longest text.
+/// The bytes of the longest request, a message of the longest text.
 const LONGEST: usize = 8452;
 
 static TEXT: [u8; 8427] = [7; 8427];
@@ -200,7 +200,7 @@ fn a_feed_whose_release_fails(rt: HostRuntime) -> Result<(), Fail> {
 // ---- what lasts
 
 /// A hub with connection 1, which has made queue 1 and taken all its answers. Since the open it has come to a HELLO and
-/// a msgget, a tick before each, and has made two releases.
+/// a queue, a tick before each, and has made two releases.
 fn with_queue(alloc: Global) -> Result<Hub<MemoryDisk>, Fail> {
     let mut hub = greeted(alloc)?;
     hub.feed(1, &GET, Moment(0))?;
@@ -274,7 +274,7 @@ fn closed(rt: &impl Abort, alloc: Global) -> Result<MemoryDisk, Fail> {
     answers(rt, &mut hub, SEND, SENT)?;
     assert_eq!(rt; hub.feed(1, SEND, Moment(0)), Ok(27));
     let store = hub.close();
-    // The restart, and the HELLO, the msgget and the msgsnd with a tick before each.
+    // The restart, and the HELLO, the queue and the message with a tick before each.
     assert_eq!(rt; store.confirmed(), 7);
     assert!(rt; store.engine().connected(Pid(1)));
     Ok(store.close())

@@ -1,7 +1,7 @@
 //! Requests become events of the machine, and the replies of every event go to the connections of their processes.
 
-ghost use Rattle.std.specs.Prelude.{◌≡◌, ◌≢◌, ◌+◌, ◌<◌, ◌≤◌, ◌^◌, true, false, [], ◌∷◌, ◌++◌, length, map, take};
-ghost use Rattle.std.specs.Prelude.{nat_eq, option_map, IfSome};
+ghost use Rattle.std.specs.Prelude.{◌≡◌, ◌≢◌, ◌+◌, ◌<◌, ◌≤◌, ◌^◌, true, false, []};
+ghost use Rattle.std.specs.Prelude.{◌∷◌, ◌++◌, length, map, take, nat_eq, option_map, IfSome};
 ghost use Rattle.ipc_base.specs.declared.errno.Errno.TheVariants.{ENOMEM};
 ghost use Rattle.ipc_base.specs.Limits.{longest_reply, ArePassed};
 ghost use Rattle.ipc_base.specs.Table.{EachValue, IsRising, keys_of, seen_as, with_value};
@@ -212,7 +212,8 @@ fn break_off<D: SectorDisk>(
     ensures goes_on { GoesOn (hub_view store.old.machine connections.old) (hub_view store.new.machine connections.new) }
     ensures ends { (c : Connection) (client : Client) → IsThere connections.old place c
         → SimulatesAt c.number client (hub_view store.old.machine connections.old)
-        (hub_view store.new.machine connections.new) (λ limits h. breaks_off limits h c.number client serial moment.0) }
+        (hub_view store.new.machine connections.new)
+        (λ limits h. breaks_off limits h c.number client serial moment.0) }
     ensures answers { (c : Connection) → IsThere connections.new place c → kept c.outbox ≢ [] }
 {
     let connection = &mut connections[place];
@@ -268,7 +269,8 @@ fn take<D: SectorDisk>(
         (take result piece.now) moment.0 }
     ensures within { result ≤ length piece.now }
     ensures some { 0 < length piece.now → 0 < result }
-    ensures answers { (c : Connection) → IsThere connections.new place c → kept c.outbox ≡ [] → store.new ≡ store.old }
+    ensures answers { (c : Connection) → IsThere connections.new place c → kept c.outbox ≡ []
+        → store.new ≡ store.old }
 {
     let connection = &mut connections[place];
     if connection.ended {

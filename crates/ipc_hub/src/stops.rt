@@ -15,11 +15,11 @@ use std::test::Fail;
 enum Line {
     /// A HELLO.
     Hello(u32),
-    /// A msgget of a key, with IPC_CREAT.
+    /// A queue of a key, made if there is none.
     Get(u32, u8),
-    /// A msgsnd with IPC_NOWAIT: queue, type and text.
+    /// A message, without waiting: queue, type and text.
     Send(u32, u8, i64, &'static [u8]),
-    /// A msgrcv with IPC_NOWAIT: queue and type.
+    /// A receipt, without waiting: queue and type.
     Receive(u32, u8, i64),
     /// The same two in one piece, of the same queue and type.
     Both(u32, u8, i64, &'static [u8]),
@@ -111,13 +111,13 @@ const SCRIPT: [Line; 73] = [
     Release,
 ];
 
-/// Adds a msgget.
+/// Adds a request for a queue.
 fn add_get(piece: &mut Vec<u8>, key: u8) -> Result<(), AllocError> {
     piece.extend_from_slice(&[0, 0, 0, 13, 0, 0, 0, 2, 10, 0, 0, 0, key])?;
     piece.extend_from_slice(&[0, 0, 3, 0x80])
 }
 
-/// Adds a msgsnd with IPC_NOWAIT, of at most 64 bytes of text.
+/// Adds a message that does not wait, of at most 64 bytes of text.
 fn add_send(piece: &mut Vec<u8>, queue: u8, mtype: i64, text: &[u8]) -> Result<(), AllocError> {
     let len = text.len().min(64) as u8 + 21;
     piece.extend_from_slice(&[0, 0, 0, len, 0, 0, 0, 3, 11, 0, 0, 0, queue])?;
@@ -126,7 +126,7 @@ fn add_send(piece: &mut Vec<u8>, queue: u8, mtype: i64, text: &[u8]) -> Result<(
     piece.extend_from_slice(text)
 }
 
-/// Adds a msgrcv of 64 bytes with IPC_NOWAIT.
+/// Adds a receipt of at most 64 bytes that does not wait.
 fn add_receive(piece: &mut Vec<u8>, queue: u8, mtype: i64) -> Result<(), AllocError> {
     piece.extend_from_slice(&[0, 0, 0, 25, 0, 0, 0, 4, 12, 0, 0, 0, queue])?;
     piece.extend_from_slice(&[0, 0, 8, 0, 0, 0, 0, 64])?;

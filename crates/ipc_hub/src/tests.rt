@@ -75,7 +75,7 @@ fn a_client_comes_and_goes(rt: HostRuntime) -> Result<(), Fail> {
     Ok(())
 }
 
-/// msgget of key 1234 with IPC_CREAT, and its answer.
+/// A queue of key 1234, made if there is none, and its answer.
 pub(crate) const GET: [u8; 17] = [0, 0, 0, 13, 0, 0, 0, 2, 10, 0, 0, 4, 210, 0, 0, 3, 128];
 
 const GOT: [u8; 14] = [0, 0, 0, 10, 0, 0, 0, 2, 0, 0, 0, 0, 0, 1];

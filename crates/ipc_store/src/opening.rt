@@ -1,6 +1,7 @@
 //! The opening of a device.
 
-ghost use Rattle.std.specs.Prelude.{◌≡◌, ◌≢◌, ◌⊎◌, ◌<◌, ◌+◌, ℕ, false, [], length, Err, IfOk, IfErr, OnOk, OnErr};
+ghost use Rattle.std.specs.Prelude.{◌≡◌, ◌≢◌, ◌⊎◌, ◌<◌, ◌+◌, ℕ, false, [], length};
+ghost use Rattle.std.specs.Prelude.{Err, IfOk, IfErr, OnOk, OnErr};
 ghost use Rattle.ipc_base.specs.declared.limits.Limits.{Limits};
 ghost use Rattle.ipc_disk.specs.Counts.{counted};
 ghost use Rattle.ipc_disk.specs.Medium.{IsHonest, Stays};
@@ -50,11 +51,13 @@ impl<D: SectorDisk> Store<D> {
         // A crash at any moment of the call, also of one that fails.
         ensures any_moment { IsHonest (D.medium disk)
             → (IfOk result (λ store. EachImageSince (D.medium disk) (D.medium store.disk) (OpensTo (D.medium disk))))
-            × (IfErr result (λ fault. EachImageSince (D.medium disk) (D.medium fault.disk) (OpensTo (D.medium disk)))) }
+            × (IfErr result (λ fault. EachImageSince (D.medium disk) (D.medium fault.disk)
+            (OpensTo (D.medium disk)))) }
         // Refusals. A disk that stands for a state is refused by the disk, for want of memory, or for a full journal.
         ensures refusals { IfErr result (λ fault. (limits : Limits) (s : State) → IsHonest (D.medium disk)
             → StandsFor limits s (D.medium disk).contents
-            → (fault.error ≡ errors.Device) ⊎ (fault.error ≡ errors.NoMemory) ⊎ (fault.error ≡ errors.JournalFull)) }
+            → (fault.error ≡ errors.Device) ⊎ (fault.error ≡ errors.NoMemory)
+            ⊎ (fault.error ≡ errors.JournalFull)) }
         ensures not_formatted { IfErr result (λ fault. fault.error ≡ errors.NotFormatted → IsHonest (D.medium disk)
             → IsNotFormatted (D.medium disk).contents) }
         ensures version { IfErr result (λ fault. (found : ℕ) → fault.error ≡ errors.Version found

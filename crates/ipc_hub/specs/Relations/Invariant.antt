@@ -1,6 +1,6 @@
 -- What holds of a hub after every call, and while it serves its connections.
-use Rattle.std.specs.Prelude.{◌≡◌, ◌≢◌, ◌⊎◌, ℕ, ◌+◌, ◌≤◌, ◌^◌, true, false, List, [], length, nat_eq, Option, Some}
-use Rattle.std.specs.Prelude.{None, option_and_then}
+use Rattle.std.specs.Prelude.{◌≡◌, ◌≢◌, ◌⊎◌, ℕ, ◌+◌, ◌≤◌, ◌^◌, true, false, List, []}
+use Rattle.std.specs.Prelude.{length, nat_eq, Option, Some, None, option_and_then}
 use Rattle.ipc_base.specs.Limits.{longest_reply}
 use Rattle.ipc_base.specs.Table.{value_at, keys_of, seen_as, EachValue, IsRising}
 use Rattle.ipc_base.specs.declared.limits.Limits.{Limits}
@@ -17,7 +17,8 @@ process_in table conn = option_and_then (λ c. c.process) (value_at nat_eq table
 -- each process of a connection is connected, and no other connection has it
 pub record AreOwn (s : State) (table : List (ℕ × ConnectionView)) : Type 0 where
   pub connected : (conn pid : ℕ) → process_in table conn ≡ Some pid → is_process s pid ≡ true
-  pub one : (conn other pid : ℕ) → process_in table conn ≡ Some pid → process_in table other ≡ Some pid → conn ≡ other
+  pub one : (conn other pid : ℕ) → process_in table conn ≡ Some pid → process_in table other ≡ Some pid
+      → conn ≡ other
 
 -- The bytes kept of a request are no whole frame. There is room for the frames that may still be the last: both, or
 -- one where the server has ended the connection. The longest reply and both have room in an empty outbox.

@@ -1,6 +1,7 @@
 -- The code's hub matches a hub of the definitions when so many events are confirmed: the state is the same, and each
 -- number has a connection and a client that match.
-use Rattle.std.specs.Prelude.{◌≡◌, ℕ, ◌+◌, ◌<◌, ◌≤◌, ◌^◌, Bool, List, ◌++◌, length, drop, Some, All}
+use Rattle.std.specs.Prelude.{◌≡◌, ℕ, ◌+◌, ◌<◌, ◌≤◌, ◌^◌, Bool, List, ◌++◌, length, drop}
+use Rattle.std.specs.Prelude.{Some, All}
 use Rattle.ipc_base.specs.declared.limits.Limits.{Limits}
 use Rattle.ipc_base.specs.Table.{ArePaired}
 use Rattle.ipc_wire.specs.Reply.{PlainReply, reply_bytes, body_bytes}
@@ -59,12 +60,14 @@ pub record Comes {D : Type 0} (medium : D → Medium) (limits : Limits) (old new
   pub takes : Takes medium old.store events new.store
 
 -- a call takes whatever hub the code's matches to this one
-abbrev pub Serves : {D : Type 0} → (D → Medium) → StoredHub D → StoredHub D → (Limits → Clients → Clients) → Type 0
+abbrev pub Serves : {D : Type 0} → (D → Medium) → StoredHub D → StoredHub D → (Limits → Clients → Clients)
+    → Type 0
 Serves medium old new call =
     (limits : Limits) (h : Clients) → StoredMatches limits old h → Comes medium limits old new h (call limits h)
 
 -- the same of a feed that took these bytes: some of the requests in them may have been refused for memory
-abbrev pub ServesFeed : {D : Type 0} → (D → Medium) → StoredHub D → StoredHub D → ℕ → List ℕ → ℕ → Type 0
+abbrev pub ServesFeed : {D : Type 0} → (D → Medium) → StoredHub D → StoredHub D → ℕ → List ℕ → ℕ
+    → Type 0
 ServesFeed medium old new conn bytes moment =
     (limits : Limits) (h : Clients) → StoredMatches limits old h
     → (refused : List Bool) × Comes medium limits old new h (feed limits h conn bytes moment refused)
@@ -91,7 +94,8 @@ pub record IsAhead (limits : Limits) (confirmed : ℕ) (v : HubView) (h : Client
   pub later : confirmed < accepted h
 
 -- the same of what an event begins: bytes of a connection are taken in
-abbrev pub TakesIn : {D : Type 0} → (D → Medium) → StoredHub D → StoredHub D → ℕ → List ℕ → ℕ → Type 0
+abbrev pub TakesIn : {D : Type 0} → (D → Medium) → StoredHub D → StoredHub D → ℕ → List ℕ → ℕ
+    → Type 0
 TakesIn medium old new conn bytes moment =
     (limits : Limits) (confirmed : ℕ) (h : Clients) → IsAhead limits confirmed old.hub h
     → (refused : List Bool) × IsAhead limits confirmed new.hub (take_in limits h conn bytes moment refused)
@@ -100,5 +104,6 @@ TakesIn medium old new conn bytes moment =
 -- the same of what is done to a connection, which has this client
 abbrev pub SimulatesAt : ℕ → Client → HubView → HubView → (Limits → Clients → Clients) → Type 0
 SimulatesAt conn client old new call =
-    (limits : Limits) (confirmed : ℕ) (h : Clients) → IsAhead limits confirmed old h → client_at h conn ≡ Some client
+    (limits : Limits) (confirmed : ℕ) (h : Clients) → IsAhead limits confirmed old h
+    → client_at h conn ≡ Some client
     → IsAhead limits confirmed new (call limits h)

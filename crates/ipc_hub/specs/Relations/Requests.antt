@@ -29,7 +29,8 @@ pub record Steps {D : Type 0} (medium : D → Medium) (old new : StoreView D) (e
   pub waits : Waits medium old (e ∷ []) new
 
 -- what stands at the front is a request, and makes this event or none
-pub record IsRequest (frame : PlainFrame) (process : Option ℕ) (moment : ℕ) (made : Option PlainEvent) : Type 0 where
+pub record IsRequest (frame : PlainFrame) (process : Option ℕ) (moment : ℕ) (made : Option PlainEvent)
+    : Type 0 where
   pub used : ℕ
   pub request : PlainRequest
   pub whole : frame ≡ Whole used request
@@ -51,8 +52,8 @@ IsBroken frame process moment serial =
 
 -- What came of what stands at the front of the bytes of a process, or of none: no whole frame yet, a step, a want of
 -- memory, or a fault.
-abbrev pub ComesTo : {D : Type 0} → (D → Medium) → StoreView D → StoreView D → Option ℕ → PlainFrame → ℕ → Asked
-    → Type 0
+abbrev pub ComesTo : {D : Type 0} → (D → Medium) → StoreView D → StoreView D → Option ℕ → PlainFrame
+    → ℕ → Asked → Type 0
 ComesTo medium old new process frame moment asked.More = (frame ≡ More) × (new ≡ old)
 ComesTo medium old new process frame moment asked.Served =
     (e : PlainEvent) × (IsRequest frame process moment (Some e) × Steps medium old new e)
