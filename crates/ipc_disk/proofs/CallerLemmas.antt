@@ -1,9 +1,17 @@
 -- What the crates above cite of runs of calls: how what holds of each image since goes on over the next call, and from
--- one run of calls to the next.
-use Rattle.std.specs.Prelude.{◌≡◌, ◌≢◌, ℕ, zero, suc, List, [], ◌∷◌, slice_get, slice_set, refl}
-use Rattle.std.proofs.Common.{inl, inr, ⊎_elim, sym, ◌∙◌, ap, subst, arith}
+-- one run of calls to the next; and of bytes that stand on a disk.
+use Rattle.std.specs.Prelude.{◌≡◌, ◌≢◌, ℕ, zero, suc, ◌+◌, ◌-◌, ◌*◌, ◌<◌, ◌≤◌, List, [], ◌∷◌, ◌++◌, length, take, drop, replicate}
+use Rattle.std.specs.Prelude.{slice_get, slice_set, refl}
+use Rattle.std.specs.Option.{unwrap_or}
+use Rattle.std.proofs.Common.{inl, inr, ⊎_elim, sym, ◌∙◌, ap, subst, arith, take-append-drop}
+use Rattle.std.proofs.lemmas.List.{get_or-set_same, get_or-set_other, take_at, take_all, take-take, drop-take, length-take, length-drop}
+use Rattle.std.proofs.lemmas.Option.{unwrap_or-slice_get}
+use Rattle.ipc_disk.specs.declared.range.Range.{Range}
+use Rattle.ipc_disk.specs.Counts.{Counts, counted, with_calls}
 use Rattle.ipc_disk.specs.Medium.{Image, Medium, IsHonest, Elapses, SetOrNot, Stays, Writes}
+use Rattle.ipc_disk.specs.Range.{IsOutside}
 use Rattle.ipc_disk.specs.Since.{EachImageSince, SameAt, LeavesAlone}
+use Rattle.ipc_disk.specs.Standing.{sectors_for, sector_at, piece, StandsAt, IsWrittenAt}
 
 -- no call yet
 pub Stays-start : (old : Medium) → Stays old old
@@ -199,3 +207,97 @@ LeavesAlone-keeps places old new P run here decides =
     EachImageSince-weaken old new (λ image. (before : Image) × old.images_now before × SameAt places before image) P
     run.images
     (λ image from. decides from.0 image from.2 (here from.0 from.1))
+
+-- ---- bytes that stand from a sector on
+
+-- a sector that two images share
+pub sector_at-same : (places : ℕ → Type 0) (a b : Image) (i : ℕ) → SameAt places a b → places i
+    → sector_at a i ≡ sector_at b i
+sector_at-same places a b i same here =
+    sym (unwrap_or-slice_get a i []) ∙ ap (λ o. unwrap_or o []) (same i here) ∙ unwrap_or-slice_get b i []
+
+-- the sector that was written
+pub sector_at-set_same : (image : Image) (at : ℕ) (bytes : List ℕ) → at < length image → sector_at (slice_set image at bytes) at ≡ bytes
+sector_at-set_same image at bytes lt = get_or-set_same image at bytes [] lt
+
+-- another one
+pub sector_at-set_other : (image : Image) (at i : ℕ) (bytes : List ℕ) → i ≢ at → sector_at (slice_set image at bytes) i ≡ sector_at image i
+sector_at-set_other image at i bytes other = get_or-set_other image at i bytes [] other
+
+-- fewer places are left alone too
+pub LeavesAlone-fewer : (fewer places : ℕ → Type 0) (old new : Medium) → ((i : ℕ) → fewer i → places i) → LeavesAlone places old new → LeavesAlone fewer old new
+LeavesAlone-fewer fewer places old new sub run = record {
+  images = EachImageSince-weaken old new (λ image. (before : Image) × old.images_now before × SameAt places before image)
+      (λ image. (before : Image) × old.images_now before × SameAt fewer before image) run.images
+      (λ image from. (from.0, from.1, λ i here. from.2 i (sub i here)));
+  contents = λ i here. run.contents i (sub i here);
+  honest = run.honest;
+}
+
+-- what is outside a range is outside its first sector
+pub outside-first : (range : Range) → 0 < range.count → (i : ℕ) → IsOutside range i → IsOutside (record { first = range.first; count = 1 }) i
+outside-first range has i (inl low) = inl low
+outside-first range has i (inr high) = inr (omega (arith, high, has))
+
+-- a sync goes on with what each image has
+pub EachImageSince-sync : (old mid new : Medium) (P : Image → Type 0) → EachImageSince old mid P → IsHonest mid → Stays mid new → EachImageSince old new P
+EachImageSince-sync old mid new P so_far honest call =
+    EachImageSince-step old mid new P so_far call.time (λ image now. EachImageSince-now old mid P so_far honest image (call.images image now))
+
+-- what is written there stands there
+pub StandsAt-written : (at : ℕ) (bytes : List ℕ) (image : Image) → IsWrittenAt at bytes image → StandsAt at bytes image
+StandsAt-written at bytes image written i lt =
+    ap (λ (s : List ℕ). take (length (piece i bytes)) s) (written i lt)
+    ∙ take_at (piece i bytes) (replicate (512 - length (piece i bytes)) 0) (length (piece i bytes)) refl
+
+-- another sector is written, and they are as they were
+pub IsWrittenAt-under : (first at : ℕ) (bytes sector : List ℕ) (old new : Image) → first < at → new ≡ slice_set old first sector
+    → IsWrittenAt at bytes old → IsWrittenAt at bytes new
+IsWrittenAt-under first at bytes sector old new lt set written i less =
+    ap (λ (c : Image). sector_at c (at + i)) set ∙ sector_at-set_other old first (at + i) sector (λ same. absurd (omega (arith, same, lt))) ∙ written i less
+
+take_pieces : (n : ℕ) (xs : List ℕ) → take (512 * n + 512) xs ≡ take (512 * n) xs ++ piece n xs
+take_pieces n xs =
+    sym (take-append-drop (512 * n) (take (512 * n + 512) xs))
+    ∙ ap (λ (l : List ℕ). l ++ drop (512 * n) (take (512 * n + 512) xs)) (take-take (512 * n) (512 * n + 512) xs (omega arith))
+    ∙ ap (λ (l : List ℕ). take (512 * n) xs ++ l) (drop-take (512 * n) 512 xs)
+
+length-piece : (i : ℕ) (xs ys : List ℕ) → length xs ≡ length ys → length (piece i xs) ≡ length (piece i ys)
+length-piece i xs ys same =
+    omega (arith, length-take 512 (drop (512 * i) xs), length-take 512 (drop (512 * i) ys), length-drop (512 * i) xs, length-drop (512 * i) ys)
+
+-- what stands in the same sectors, and is as long, is the same
+module _ (at : ℕ) (xs ys : List ℕ) (image : Image) (same : length xs ≡ length ys) (first : StandsAt at xs image) (second : StandsAt at ys image) where
+  fronts : (n : ℕ) → n ≤ sectors_for (length xs) → take (512 * n) xs ≡ take (512 * n) ys
+  fronts zero le = refl
+  fronts (suc n) le =
+      let here : piece n xs ≡ piece n ys =
+      sym (first n (omega arith)) ∙ ap (λ (k : ℕ). take k (sector_at image (at + n))) (length-piece n xs ys same) ∙ second n (omega arith) in
+      let before = fronts n (omega arith) in
+      let bound : 512 * suc n ≡ 512 * n + 512 = omega arith in
+      ap (λ (k : ℕ). take k xs) bound ∙ take_pieces n xs
+      ∙ ap (λ (l : List ℕ). l ++ piece n xs) before ∙ ap (λ (l : List ℕ). take (512 * n) ys ++ l) here
+      ∙ sym (take_pieces n ys) ∙ ap (λ (k : ℕ). take k ys) (sym bound)
+
+  pub stands-same : xs ≡ ys
+  stands-same =
+      sym (take_all (512 * sectors_for (length xs)) xs (omega arith)) ∙ fronts (sectors_for (length xs)) (omega arith)
+      ∙ take_all (512 * sectors_for (length xs)) ys (omega arith)
+
+-- the first sector begins with the first of the bytes
+pub StandsAt-front : (at : ℕ) (bytes : List ℕ) (image : Image) → 4 ≤ length bytes → StandsAt at bytes image
+    → take 4 (sector_at image at) ≡ take 4 bytes
+StandsAt-front at bytes image long stands =
+    let some : at + 0 ≡ at = omega arith in
+    let front : ℕ = length (take 512 bytes) in
+    let there : take front (sector_at image at) ≡ take 512 bytes =
+    ap (λ (k : ℕ). take front (sector_at image k)) (sym some) ∙ stands 0 (omega (arith, long)) in
+    sym (take-take 4 front (sector_at image at) (omega (arith, length-take 512 bytes, long)))
+    ∙ ap (take 4) there ∙ take-take 4 512 bytes (omega arith)
+
+-- the counts after some writes and syncs
+pub counts-calls : (new old : Counts) (writes syncs : ℕ) → new.failures ≡ old.failures → new.writes ≡ counted old.writes writes
+    → new.syncs ≡ counted old.syncs syncs → new ≡ with_calls writes syncs old
+counts-calls new old writes syncs f w s =
+    ap (λ (n : ℕ). record new { failures = n }) f ∙ ap (λ (n : ℕ). record new { failures = old.failures; writes = n }) w
+    ∙ ap (λ (n : ℕ). record (with_calls writes 0 old) { syncs = n }) s

@@ -2,4 +2,5 @@
 pub mod CallerLemmas
 mod Choices
 mod Listed
+mod Pieces
 mod SlotsLemmas

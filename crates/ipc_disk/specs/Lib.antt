@@ -1,10 +1,13 @@
 -- What clauses of this crate, and of those above it, speak of.
 pub mod Counts
 pub mod Crash
+pub mod File
 pub mod Fuse
 pub mod Medium
 pub mod Memory
 pub mod Range
 pub mod Relations
+pub mod Run
 pub mod Since
 pub mod Slots
+pub mod Standing

@@ -1,5 +1,6 @@
-//! Each constructor once, the table of a crash, and a fuse that burns down.
+//! Each constructor once, the table of a crash, a fuse that burns down, and a disk in a file.
 
+mod file;
 mod remembering;
 
 use crate::{DiskFault, FuseDisk, MemoryDisk, SectorDisk};

@@ -5,23 +5,20 @@ use Rattle.ipc_disk.specs.declared.range.Range.{Range}
 use Rattle.ipc_disk.specs.Medium.{Image, Medium, IsHonest, IsDurable, SetOrNot, Stays}
 use Rattle.ipc_disk.specs.Range.{IsOutside}
 use Rattle.ipc_disk.specs.Since.{EachImageSince, LeavesAlone}
-use Rattle.ipc_disk.proofs.CallerLemmas.{EachImageSince-step, EachImageSince-join, EachImageSince-weaken, EachImageSince-now, LeavesAlone-keeps}
+use Rattle.ipc_disk.proofs.CallerLemmas.{EachImageSince-join, EachImageSince-weaken, EachImageSince-now}
+use Rattle.ipc_disk.proofs.CallerLemmas.{EachImageSince-sync, LeavesAlone-keeps, sector_at-same}
+use Rattle.ipc_disk.proofs.CallerLemmas.{LeavesAlone-fewer, outside-first, StandsAt-written}
 use Rattle.ipc_journal.specs.declared.journal.Journal.{Journal}
-use Rattle.ipc_journal.specs.Journal.{sectors_for, sectors_of, epoch_in, used_in, IsBatch, IsWrittenAt, StandsAt, Holds}
+use Rattle.ipc_disk.specs.Standing.{sectors_for, IsWrittenAt, StandsAt}
+use Rattle.ipc_journal.specs.Journal.{sectors_of, epoch_in, used_in, IsBatch, Holds}
 use Rattle.ipc_journal.specs.View.{Fits}
 use Rattle.ipc_journal.specs.Matches.{JournalMatches, HoldsOneMoreOrNot}
-use Rattle.ipc_journal.proofs.CallerLemmas.{sector_at-same, Holds-same}
-use Rattle.ipc_journal.proofs.Runs.{LeavesAlone-fewer, outside-first, StandsAt-written}
+use Rattle.ipc_journal.proofs.CallerLemmas.{Holds-same}
 use Rattle.ipc_journal.proofs.Images.{Holds-push}
 
 -- the free sectors that a batch of so many bytes is written to
 abbrev pub run_of : Journal → ℕ → Range
 run_of journal len = record { first = journal.range.first + 1 + journal.used; count = sectors_for len }
-
--- a sync goes on with what each image has
-pub synced : (old mid new : Medium) (P : Image → Type 0) → EachImageSince old mid P → IsHonest mid → Stays mid new → EachImageSince old new P
-synced old mid new P so_far honest call =
-    EachImageSince-step old mid new P so_far call.time (λ image now. EachImageSince-now old mid P so_far honest image (call.images image now))
 
 module _ (journal : Journal) (batch : List ℕ) (fits : Fits journal (length batch)) where
   -- what lies outside the range lies outside the free sectors
@@ -55,7 +52,7 @@ module _ (journal : Journal) (batch : List ℕ) (fits : Fits journal (length bat
     moment-body mid run = EachImageSince-weaken old mid Before Both (body mid run) (λ image holds. inl holds)
 
     pub moment-sync : (mid new : Medium) → LeavesAlone (IsOutside (run_of journal (length batch))) old mid → Stays mid new → EachImageSince old new Both
-    moment-sync mid new run call = synced old mid new Both (moment-body mid run) run.honest call
+    moment-sync mid new run call = EachImageSince-sync old mid new Both (moment-body mid run) run.honest call
 
     module _ (mid kept : Medium) (run : LeavesAlone (IsOutside (run_of journal (length batch))) old mid) (call : Stays mid kept)
         (durable : IsDurable kept) (is : IsBatch batch) (written : IsWrittenAt (journal.range.first + 1 + journal.used) batch mid.contents)
@@ -66,7 +63,7 @@ module _ (journal : Journal) (batch : List ℕ) (fits : Fits journal (length bat
       honest = call.time.honest.0 run.honest
 
       before : Before kept.contents
-      before = EachImageSince-now old kept Before (synced old mid kept Before (body mid run) run.honest call) honest kept.contents honest.reads
+      before = EachImageSince-now old kept Before (EachImageSince-sync old mid kept Before (body mid run) run.honest call) honest kept.contents honest.reads
 
       pub pushed : Holds journal.range journal.epoch (batches ++ batch ∷ []) (slice_set kept.contents journal.range.first sector)
       pushed =

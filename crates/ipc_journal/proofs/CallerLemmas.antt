@@ -1,28 +1,21 @@
 -- What the crates above cite of a journal: which batches stand on a disk, and that a journal stays what it is over a
 -- turn, over reads, and over calls that leave its sectors alone.
-use Rattle.std.specs.Prelude.{◌≡◌, ℕ, zero, suc, ◌+◌, ◌*◌, ◌<◌, ◌≤◌, List, [], ◌∷◌, ◌++◌, length, take, drop, refl}
-use Rattle.std.proofs.Common.{inl, inr, sym, ◌∙◌, ap, subst, arith, take-append-drop}
-use Rattle.std.specs.Option.{unwrap_or}
-use Rattle.std.proofs.lemmas.List.{take_all, take-take, drop-take, length-take, length-drop}
-use Rattle.std.proofs.lemmas.Option.{unwrap_or-slice_get}
+use Rattle.std.specs.Prelude.{◌≡◌, ℕ, ◌+◌, ◌<◌, ◌≤◌, List, [], ◌∷◌, ◌++◌, length, take, refl}
+use Rattle.std.proofs.Common.{inl, inr, sym, ◌∙◌, ap, subst, arith}
 use Rattle.byteorder.specs.Endian.{big_number}
 use Rattle.byteorder.specs.Numbers.{big_from-take}
 use Rattle.ipc_disk.specs.declared.range.Range.{Range}
 use Rattle.ipc_disk.specs.Medium.{Image, Medium, Stays}
 use Rattle.ipc_disk.specs.Range.{IsInside}
-use Rattle.ipc_disk.specs.Since.{EachImageSince, SameAt, LeavesAlone}
-use Rattle.ipc_disk.proofs.CallerLemmas.{EachImageSince-now, LeavesAlone-keeps}
+use Rattle.ipc_disk.specs.Since.{EachImageSince, LeavesAlone}
+use Rattle.ipc_disk.proofs.CallerLemmas.{EachImageSince-now, LeavesAlone-keeps, sector_at-same, stands-same, StandsAt-front}
 use Rattle.ipc_journal.specs.declared.journal.Journal.{Journal}
-use Rattle.ipc_journal.specs.Journal.{sectors_for, sectors_of, sector_at, epoch_in, used_in, length_in}
-use Rattle.ipc_journal.specs.Journal.{header_used, piece, IsBatch, StandsAt, Fill, Holds}
+use Rattle.ipc_disk.specs.Standing.{sectors_for, sector_at}
+use Rattle.ipc_journal.specs.Journal.{sectors_of, epoch_in, used_in, length_in}
+use Rattle.ipc_disk.specs.Standing.{piece, StandsAt}
+use Rattle.ipc_journal.specs.Journal.{header_used, IsBatch, Fill, Holds}
 use Rattle.ipc_journal.specs.View.{range_of, epoch_of, used_of}
 use Rattle.ipc_journal.specs.Matches.{JournalMatches}
-
--- a sector that two images share
-pub sector_at-same : (places : ℕ → Type 0) (a b : Image) (i : ℕ) → SameAt places a b → places i
-    → sector_at a i ≡ sector_at b i
-sector_at-same places a b i same here =
-    sym (unwrap_or-slice_get a i []) ∙ ap (λ o. unwrap_or o []) (same i here) ∙ unwrap_or-slice_get b i []
 
 module _ (range : Range) where
   -- where the batches end
@@ -53,45 +46,6 @@ module _ (range : Range) where
       (is, subst (λ (n : ℕ). StandsAt (range.first + 1 + n) batch image) (sym fill) stands, ap (λ (n : ℕ). n + sectors_for (length batch)) fill)
   Fill-push place end (first ∷ batches) batch image fill is stands =
       (fill.0, fill.1, Fill-push (place + sectors_for (length first)) end batches batch image fill.2 is stands)
-
-take_pieces : (n : ℕ) (xs : List ℕ) → take (512 * n + 512) xs ≡ take (512 * n) xs ++ piece n xs
-take_pieces n xs =
-    sym (take-append-drop (512 * n) (take (512 * n + 512) xs))
-    ∙ ap (λ (l : List ℕ). l ++ drop (512 * n) (take (512 * n + 512) xs)) (take-take (512 * n) (512 * n + 512) xs (omega arith))
-    ∙ ap (λ (l : List ℕ). take (512 * n) xs ++ l) (drop-take (512 * n) 512 xs)
-
-length-piece : (i : ℕ) (xs ys : List ℕ) → length xs ≡ length ys → length (piece i xs) ≡ length (piece i ys)
-length-piece i xs ys same =
-    omega (arith, length-take 512 (drop (512 * i) xs), length-take 512 (drop (512 * i) ys), length-drop (512 * i) xs, length-drop (512 * i) ys)
-
--- what stands in the same sectors, and is as long, is the same
-module _ (at : ℕ) (xs ys : List ℕ) (image : Image) (same : length xs ≡ length ys) (first : StandsAt at xs image) (second : StandsAt at ys image) where
-  fronts : (n : ℕ) → n ≤ sectors_for (length xs) → take (512 * n) xs ≡ take (512 * n) ys
-  fronts zero le = refl
-  fronts (suc n) le =
-      let here : piece n xs ≡ piece n ys =
-      sym (first n (omega arith)) ∙ ap (λ (k : ℕ). take k (sector_at image (at + n))) (length-piece n xs ys same) ∙ second n (omega arith) in
-      let before = fronts n (omega arith) in
-      let bound : 512 * suc n ≡ 512 * n + 512 = omega arith in
-      ap (λ (k : ℕ). take k xs) bound ∙ take_pieces n xs
-      ∙ ap (λ (l : List ℕ). l ++ piece n xs) before ∙ ap (λ (l : List ℕ). take (512 * n) ys ++ l) here
-      ∙ sym (take_pieces n ys) ∙ ap (λ (k : ℕ). take k ys) (sym bound)
-
-  pub stands-same : xs ≡ ys
-  stands-same =
-      sym (take_all (512 * sectors_for (length xs)) xs (omega arith)) ∙ fronts (sectors_for (length xs)) (omega arith)
-      ∙ take_all (512 * sectors_for (length xs)) ys (omega arith)
-
--- the first sector of a batch begins with its length field
-pub StandsAt-front : (at : ℕ) (batch : List ℕ) (image : Image) → 4 ≤ length batch → StandsAt at batch image
-    → take 4 (sector_at image at) ≡ take 4 batch
-StandsAt-front at batch image long stands =
-    let some : at + 0 ≡ at = omega arith in
-    let front : ℕ = length (take 512 batch) in
-    let there : take front (sector_at image at) ≡ take 512 batch =
-    ap (λ (k : ℕ). take front (sector_at image k)) (sym some) ∙ stands 0 (omega (arith, long)) in
-    sym (take-take 4 front (sector_at image at) (omega (arith, length-take 512 batch, long)))
-    ∙ ap (take 4) there ∙ take-take 4 512 batch (omega arith)
 
 length-front : (at : ℕ) (batch : List ℕ) (image : Image) → 4 ≤ length batch → StandsAt at batch image
     → length_in (sector_at image at) ≡ length_in batch

@@ -4,9 +4,10 @@ use Rattle.std.proofs.Common.{length, refl, sym, ◌∙◌, ap, subst, arith}
 use Rattle.std.specs.Prelude.{slice_set}
 use Rattle.ipc_disk.specs.declared.range.Range.{Range}
 use Rattle.ipc_disk.specs.Medium.{Image}
-use Rattle.ipc_journal.specs.Journal.{sectors_for, sectors_of, epoch_in, used_in, header_epoch, header_used, IsBatch, StandsAt, Fill, Holds}
+use Rattle.ipc_disk.specs.Standing.{sectors_for, StandsAt}
+use Rattle.ipc_journal.specs.Journal.{sectors_of, epoch_in, used_in, header_epoch, header_used, IsBatch, Fill, Holds}
 use Rattle.ipc_journal.proofs.CallerLemmas.{Fill-end, Fill-same, Fill-push}
-use Rattle.ipc_journal.proofs.Runs.{sector_at-set_same, sector_at-set_other}
+use Rattle.ipc_disk.proofs.CallerLemmas.{sector_at-set_same, sector_at-set_other}
 
 -- the sectors of one batch more
 pub sectors_of-push : (batches : List (List ℕ)) (batch : List ℕ) → sectors_of (batches ++ batch ∷ []) ≡ sectors_of batches + sectors_for (length batch)

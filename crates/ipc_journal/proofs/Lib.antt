@@ -1,8 +1,6 @@
 -- Lemmas on sectors of images, and on what a journal's images hold.
 mod Append
 pub mod CallerLemmas
-mod Counted
 mod Headers
 mod Images
 mod Pieces
-mod Runs

@@ -1,25 +1,16 @@
 -- What the sectors of a journal mean. The first sector of its range is the header: the epoch in 8 bytes, and in 4
 -- how many of the sectors behind it, the body, are used. There stand the batches, each from a sector of its own on.
 -- Numbers have their highest byte first.
-use Rattle.std.specs.Prelude.{◌≡◌, ◌⊎◌, ℕ, ◌+◌, ◌-◌, ◌*◌, ◌/◌, ◌≤◌, ◌<◌}
-use Rattle.std.specs.Prelude.{List, [], ◌∷◌, ◌++◌, length}
-use Rattle.std.specs.Prelude.{take, drop, replicate, slice_index_or}
+use Rattle.std.specs.Prelude.{◌≡◌, ◌⊎◌, ℕ, ◌+◌, ◌≤◌, ◌<◌, List, [], ◌∷◌, ◌++◌, length, drop, replicate}
 use Rattle.byteorder.specs.Endian.{big_bytes, big_number}
 use Rattle.ipc_disk.specs.declared.range.Range.{Range}
 use Rattle.ipc_disk.specs.Medium.{Image}
-
--- the sectors that so many bytes take
-abbrev pub sectors_for : ℕ → ℕ
-sectors_for len = (len + 511) / 512
+use Rattle.ipc_disk.specs.Standing.{sectors_for, sector_at, StandsAt}
 
 -- the sectors that these batches take
 abbrev pub sectors_of : List (List ℕ) → ℕ
 sectors_of [] = 0
 sectors_of (batch ∷ batches) = sectors_for (length batch) + sectors_of batches
-
--- a sector of an image
-abbrev pub sector_at : Image → ℕ → List ℕ
-sector_at image i = slice_index_or image i []
 
 -- the epoch that a header names
 unfoldable pub epoch_in : List ℕ → ℕ
@@ -49,24 +40,6 @@ header_used range image = used_in (sector_at image range.first)
 pub record IsBatch (batch : List ℕ) : Type 0 where
   pub field : 4 ≤ length batch
   pub right : length_in batch + 4 ≡ length batch
-
--- the bytes of a batch that stand in the i-th of its sectors
-abbrev pub piece : ℕ → List ℕ → List ℕ
-piece i batch = take 512 (drop (512 * i) batch)
-
--- from this sector on, each sector begins with the next piece of the batch
-abbrev pub StandsAt : ℕ → List ℕ → Image → Type 0
-StandsAt at batch image = (i : ℕ) → i < sectors_for (length batch)
-    → take (length (piece i batch)) (sector_at image (at + i)) ≡ piece i batch
-
--- the i-th of the sectors of a batch: the bytes that stand in it, and zeros
-abbrev pub batch_sector : ℕ → List ℕ → List ℕ
-batch_sector i batch = piece i batch ++ replicate (512 - length (piece i batch)) 0
-
--- from this sector on stand the sectors of the batch, to the byte
-abbrev pub IsWrittenAt : ℕ → List ℕ → Image → Type 0
-IsWrittenAt at batch image = (i : ℕ) → i < sectors_for (length batch)
-    → sector_at image (at + i) ≡ batch_sector i batch
 
 -- the batches, one after another, fill the body's sectors from place to end
 abbrev pub Fill : Range → ℕ → ℕ → List (List ℕ) → Image → Type 0

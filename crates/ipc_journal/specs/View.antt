@@ -2,7 +2,7 @@
 use Rattle.std.specs.Prelude.{ℕ, ◌+◌, ◌<◌}
 use Rattle.ipc_disk.specs.declared.range.Range.{Range}
 use Rattle.ipc_journal.specs.declared.journal.Journal.{Journal}
-use Rattle.ipc_journal.specs.Journal.{sectors_for}
+use Rattle.ipc_disk.specs.Standing.{sectors_for}
 
 -- the sectors that it has
 abbrev pub range_of : Journal → Range

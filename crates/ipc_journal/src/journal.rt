@@ -7,9 +7,11 @@ ghost use Rattle.std.specs.Prelude.{OnOk, OnErr, IsErrOf, IsTrue};
 ghost use Rattle.ipc_disk.specs.Range.{IsWithin, IsOutside};
 
 use crate::JournalError;
-use crate::sectors::{header_sector, read_batch, sectors_for_len, settle_sector, write_batch};
+use crate::header::header_sector;
 use byteorder::{BigEndian, ByteOrder};
-use ipc_disk::{DiskFault, Range, SectorDisk};
+use ipc_disk::{
+    DiskFault, Range, SectorDisk, read_bytes, sectors_for_len, settle_sector, write_bytes,
+};
 
 /// A place between two batches: the number of the body's sectors passed, 0 at first.
 #[derive(Clone, Copy, Debug, PartialEq, Eq)]
@@ -31,8 +33,9 @@ impl Journal {
     ghost use Rattle.ipc_disk.specs.Counts.{counted, with_failure, with_calls};
     ghost use Rattle.ipc_disk.specs.Medium.{Image, Medium, IsHonest, IsDurable, SetOrNot, Stays};
     ghost use Rattle.ipc_disk.specs.Since.{EachImageSince, LeavesAlone};
-    ghost use Rattle.ipc_journal.specs.Journal.{Holds, header_epoch, header_used, sectors_for, sectors_of, sector_at};
-    ghost use Rattle.ipc_journal.specs.Journal.{header_bytes, length_in, IsBatch, IsWrittenAt, StandsAt};
+    ghost use Rattle.ipc_disk.specs.Standing.{sectors_for, sector_at, IsWrittenAt, StandsAt};
+    ghost use Rattle.ipc_journal.specs.Journal.{Holds, header_epoch, header_used, sectors_of};
+    ghost use Rattle.ipc_journal.specs.Journal.{header_bytes, length_in, IsBatch};
     ghost use Rattle.ipc_journal.specs.View.{range_of, epoch_of, used_of, Fits};
     ghost use Rattle.ipc_journal.specs.Matches.{JournalMatches, HoldsOneMoreOrNot};
 
@@ -208,7 +211,7 @@ impl Journal {
             ≡ with_calls (sectors_for (length batch.now) + 1) 2 (D.counts disk.old)) }
     {
         let used = self.used + sectors_for_len(batch.len()) as u32;
-        write_batch(disk, self.range.first + 1 + self.used, batch)?;
+        write_bytes(disk, self.range.first + 1 + self.used, batch)?;
         // The batch has to be on the disk before a header that counts it may be.
         disk.sync()?;
         settle_sector(disk, self.range.first, &header_sector(self.epoch, used))?;
@@ -294,7 +297,7 @@ impl Journal {
         if taken > (self.used - place.sector) as usize || len > into.len() {
             return Err(JournalError::Damaged { sector: at });
         }
-        read_batch(disk, at, &sector, &mut into[..len])?;
+        read_bytes(disk, at, &sector, &mut into[..len])?;
         place.sector += taken as u32;
         Ok(Some(len))
     }

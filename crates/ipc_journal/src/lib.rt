@@ -3,9 +3,9 @@
 #![tactic(auto)]
 
 mod error;
+mod header;
 mod journal;
 mod laws;
-mod sectors;
 
 pub use error::JournalError;
 pub use journal::{Journal, Place};

@@ -7,7 +7,7 @@ use Rattle.std.proofs.lemmas.List.Elements.{All-head, All-tail}
 use Rattle.byteorder.specs.Endian.{big_bytes}
 use Rattle.ipc_base.specs.declared.limits.Limits.{Limits}
 use Rattle.ipc_disk.specs.Medium.{Image, Medium}
-use Rattle.ipc_journal.specs.Journal.{sector_at}
+use Rattle.ipc_disk.specs.Standing.{sector_at}
 use Rattle.ipc_journal.proofs.CallerLemmas.{Holds-one}
 use Rattle.ipc_state.specs.State.{State, start}
 use Rattle.ipc_engine.specs.Event.{PlainEvent}

@@ -7,8 +7,8 @@ use Rattle.ipc_base.specs.declared.limits.Limits.{Limits}
 use Rattle.ipc_disk.specs.Medium.{Image}
 use Rattle.ipc_disk.specs.Range.{IsOutside}
 use Rattle.ipc_disk.specs.Since.{SameAt}
-use Rattle.ipc_journal.specs.Journal.{sector_at}
-use Rattle.ipc_journal.proofs.CallerLemmas.{sector_at-same}
+use Rattle.ipc_disk.specs.Standing.{sector_at}
+use Rattle.ipc_disk.proofs.CallerLemmas.{sector_at-same}
 use Rattle.ipc_image.specs.Superblock.{IsSuperblock}
 use Rattle.ipc_store.specs.Image.{journal_range, IsDevice}
 

@@ -6,10 +6,10 @@ use Rattle.ipc_base.specs.declared.limits.Limits.{Limits}
 use Rattle.ipc_disk.specs.Medium.{Image, Medium, IsHonest, Writes}
 use Rattle.ipc_disk.specs.Range.{IsOutside}
 use Rattle.ipc_disk.specs.Since.{EachImageSince, LeavesAlone}
-use Rattle.ipc_disk.proofs.CallerLemmas.{EachImageSince-join, EachImageSince-weaken, EachImageSince-now}
+use Rattle.ipc_disk.proofs.CallerLemmas.{EachImageSince-join, EachImageSince-weaken, EachImageSince-now, sector_at-same}
 use Rattle.ipc_disk.proofs.CallerLemmas.{EachImageSince-writes, EachImageSince-set, LeavesAlone-keeps}
-use Rattle.ipc_journal.specs.Journal.{sector_at}
-use Rattle.ipc_journal.proofs.CallerLemmas.{sector_at-same, Holds-same}
+use Rattle.ipc_disk.specs.Standing.{sector_at}
+use Rattle.ipc_journal.proofs.CallerLemmas.{Holds-same}
 use Rattle.ipc_state.specs.State.{start}
 use Rattle.ipc_image.specs.Superblock.{magic, IsFormatted, IsSuperblock}
 use Rattle.ipc_store.specs.Image.{journal_range, first_epoch, HasBatches, StandsFor, IsNotFormatted}

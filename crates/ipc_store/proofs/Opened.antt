@@ -6,7 +6,8 @@ use Rattle.ipc_base.specs.declared.limits.Limits.{Limits}
 use Rattle.ipc_disk.specs.declared.range.Range.{Range}
 use Rattle.ipc_disk.specs.Medium.{Image, Medium, IsHonest}
 use Rattle.ipc_journal.specs.declared.journal.Journal.{Journal}
-use Rattle.ipc_journal.specs.Journal.{sector_at, sectors_for, sectors_of, header_epoch, header_used, Fill, Holds}
+use Rattle.ipc_disk.specs.Standing.{sector_at, sectors_for}
+use Rattle.ipc_journal.specs.Journal.{sectors_of, header_epoch, header_used, Fill, Holds}
 use Rattle.ipc_journal.specs.View.{range_of, epoch_of, used_of}
 use Rattle.ipc_journal.specs.Matches.{JournalMatches}
 use Rattle.ipc_journal.proofs.CallerLemmas.{Fill-end}

@@ -14,9 +14,11 @@ use Rattle.byteorder.specs.Numbers.{big_from-take}
 use Rattle.ipc_base.specs.declared.limits.Limits.{Limits}
 use Rattle.ipc_disk.specs.Medium.{Image, Medium, IsHonest, IsShaped, Stays}
 use Rattle.ipc_journal.specs.declared.journal.Journal.{Journal}
-use Rattle.ipc_journal.specs.Journal.{sectors_for, sectors_of, sector_at, length_in, IsBatch, StandsAt, Fill}
+use Rattle.ipc_disk.specs.Standing.{sectors_for, sector_at, StandsAt}
+use Rattle.ipc_journal.specs.Journal.{sectors_of, length_in, IsBatch, Fill}
 use Rattle.ipc_journal.specs.View.{range_of, used_of}
-use Rattle.ipc_journal.proofs.CallerLemmas.{Fill-end, Fill-push, StandsAt-front, IsBatch-there, stands-same, length-there}
+use Rattle.ipc_disk.proofs.CallerLemmas.{StandsAt-front, stands-same}
+use Rattle.ipc_journal.proofs.CallerLemmas.{Fill-end, Fill-push, IsBatch-there, length-there}
 use Rattle.ipc_state.specs.State.{State, start}
 use Rattle.ipc_engine.specs.Engine.{IsForProcess}
 use Rattle.ipc_engine.specs.Event.{PlainEvent}

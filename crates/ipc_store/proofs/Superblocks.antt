@@ -5,7 +5,7 @@ use Rattle.std.specs.Option.{unwrap_or}
 use Rattle.std.proofs.lemmas.Option.{unwrap_or-slice_get}
 use Rattle.ipc_base.specs.declared.limits.Limits.{Limits}
 use Rattle.ipc_disk.specs.Medium.{Image}
-use Rattle.ipc_journal.specs.Journal.{sector_at}
+use Rattle.ipc_disk.specs.Standing.{sector_at}
 use Rattle.ipc_image.specs.Superblock.{IsFormatted, version_in, IsSuperblock}
 use Rattle.ipc_store.specs.Image.{IsDevice, IsNotFormatted, HasVersion, IsDamaged, IsFirstFault}
 

@@ -5,8 +5,10 @@ use Rattle.std.specs.List.{flat_map}
 use Rattle.ipc_base.specs.declared.limits.Limits.{Limits}
 use Rattle.ipc_disk.specs.declared.range.Range.{Range}
 use Rattle.ipc_disk.specs.Medium.{Image}
-use Rattle.ipc_journal.specs.Journal.{sector_at, sectors_for, sectors_of}
-use Rattle.ipc_journal.specs.Journal.{header_epoch, header_used, StandsAt, Fill, Holds}
+use Rattle.ipc_disk.specs.Standing.{sector_at, sectors_for}
+use Rattle.ipc_journal.specs.Journal.{sectors_of}
+use Rattle.ipc_disk.specs.Standing.{StandsAt}
+use Rattle.ipc_journal.specs.Journal.{header_epoch, header_used, Fill, Holds}
 use Rattle.ipc_state.specs.State.{State, start}
 use Rattle.ipc_engine.specs.Event.{PlainEvent}
 use Rattle.ipc_engine.specs.Engine.{IsForProcess}

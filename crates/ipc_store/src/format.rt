@@ -7,7 +7,7 @@ ghost use Rattle.ipc_base.specs.declared.limits.BadLimits.{BadLimits as BadLimit
 ghost use Rattle.ipc_disk.specs.Counts.{counted};
 ghost use Rattle.ipc_disk.specs.Medium.{Image, IsHonest, IsDurable, SetOrNot};
 ghost use Rattle.ipc_disk.specs.Since.{EachImageSince};
-ghost use Rattle.ipc_journal.specs.Journal.{sector_at};
+ghost use Rattle.ipc_disk.specs.Standing.{sector_at};
 ghost use Rattle.ipc_state.specs.State.{start};
 ghost use Rattle.ipc_image.specs.Sizes.{need_of};
 ghost use Rattle.ipc_image.specs.Superblock.{IsSuperblock};
@@ -18,7 +18,7 @@ use crate::fault::FormatError;
 use crate::places::{FIRST_EPOCH, JOURNAL_RANGE};
 use crate::store::Store;
 use ipc_base::Limits;
-use ipc_disk::{DiskFault, SectorDisk};
+use ipc_disk::{DiskFault, SectorDisk, settle_sector};
 use ipc_image::{ROOT, SUPERBLOCK, need, superblock_is_read, write_superblock};
 use ipc_journal::Journal;
 
@@ -172,6 +172,5 @@ fn settle<D: SectorDisk>(disk: &mut D, at: u32, sector: &[u8; 512]) -> Result<()
         ≡ counted (D.counts disk.old).failures 1) }
     ensures no_failure { OnOk result ((D.counts disk.new).failures ≡ (D.counts disk.old).failures) }
 {
-    disk.write(at, sector)?;
-    disk.sync()
+    settle_sector(disk, at, sector)
 }

@@ -1,7 +1,7 @@
 -- What a disk is on its way to a device.
 use Rattle.std.specs.Prelude.{◌≡◌, [], replicate}
 use Rattle.ipc_disk.specs.Medium.{Image, Medium}
-use Rattle.ipc_journal.specs.Journal.{sector_at}
+use Rattle.ipc_disk.specs.Standing.{sector_at}
 use Rattle.ipc_image.specs.Superblock.{IsFormatted}
 use Rattle.ipc_store.specs.Image.{HasBatches}
 

@@ -3,7 +3,8 @@ use Rattle.std.specs.Prelude.{◌≡◌, ◌+◌, ◌<◌, ◌≤◌, ℕ, List,
 use Rattle.ipc_base.specs.declared.limits.Limits.{Limits}
 use Rattle.ipc_disk.specs.declared.range.Range.{Range}
 use Rattle.ipc_disk.specs.Medium.{Image}
-use Rattle.ipc_journal.specs.Journal.{header_epoch, header_used, sectors_for, sectors_of, StandsAt, Fill}
+use Rattle.ipc_disk.specs.Standing.{sectors_for, StandsAt}
+use Rattle.ipc_journal.specs.Journal.{header_epoch, header_used, sectors_of, Fill}
 use Rattle.ipc_journal.specs.View.{range_of, epoch_of, used_of}
 use Rattle.ipc_journal.specs.declared.journal.Journal.{Journal}
 use Rattle.ipc_state.specs.State.{State}

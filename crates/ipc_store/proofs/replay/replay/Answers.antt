@@ -11,7 +11,8 @@ use Rattle.ipc_disk.specs.Medium.{Image, IsHonest, Stays}
 use Rattle.ipc_disk.proofs.CallerLemmas.{Stays-start, Stays-join}
 use Rattle.ipc_journal.specs.declared.error.JournalError.{JournalError}
 use Rattle.ipc_journal.specs.declared.error.JournalError.TheVariants as journal
-use Rattle.ipc_journal.specs.Journal.{sectors_for, sector_at, length_in}
+use Rattle.ipc_disk.specs.Standing.{sectors_for, sector_at}
+use Rattle.ipc_journal.specs.Journal.{length_in}
 use Rattle.ipc_journal.specs.View.{range_of, used_of}
 use Rattle.ipc_state.specs.State.{State}
 use Rattle.ipc_engine.specs.declared.engine.Engine.{Engine}

@@ -2,58 +2,57 @@
 use Rattle.std.proofs.Common.{[], ◌∷◌, ◌++◌, ◌+◌, sym, ◌∙◌, ap, subst, arith}
 use Rattle.ipc_disk.specs.Medium.{Image}
 use Rattle.ipc_disk.specs.Range.{IsOutside}
-use Rattle.ipc_disk.proofs.CallerLemmas.{EachImageSince-now, LeavesAlone-stays, LeavesAlone-join}
-use Rattle.ipc_journal.specs.Journal.{Holds, sector_at, IsWrittenAt}
+use Rattle.ipc_disk.proofs.CallerLemmas.{EachImageSince-now, LeavesAlone-stays, LeavesAlone-join, counts-calls, sector_at-set_same, IsWrittenAt-under}
+use Rattle.ipc_disk.specs.Standing.{sector_at, IsWrittenAt}
+use Rattle.ipc_journal.specs.Journal.{Holds}
 use Rattle.ipc_journal.specs.Matches.{HoldsOneMoreOrNot}
 use Rattle.ipc_journal.proofs.Append.{moment-body, moment-sync, moment-header, pushed, others-body, others-header}
-use Rattle.ipc_journal.proofs.Counted.{counts-calls}
 use Rattle.ipc_journal.proofs.Images.{sectors_of-push}
-use Rattle.ipc_journal.proofs.Runs.{sector_at-set_same, IsWrittenAt-under}
 use Rattle.ipc_journal.proofs.journal.Journal.append.Goals as goal
 
-pub returns-in_err-write_batch-clause-any_moment : goal.returns-in_err-write_batch-clause-any_moment
-returns-in_err-write_batch-clause-any_moment g c = λ batches at.
-    moment-body c.args.self.now c.args.batch.now c.requires.fits batches _ at _ (c.write_batch.ensures.others at.honest)
+pub returns-in_err-write_bytes-clause-any_moment : goal.returns-in_err-write_bytes-clause-any_moment
+returns-in_err-write_bytes-clause-any_moment g c = λ batches at.
+    moment-body c.args.self.now c.args.batch.now c.requires.fits batches _ at _ (c.write_bytes.ensures.others at.honest)
 
-pub returns-in_err-write_batch-clause-left : goal.returns-in_err-write_batch-clause-left
-returns-in_err-write_batch-clause-left g c = λ batches image at now.
+pub returns-in_err-write_bytes-clause-left : goal.returns-in_err-write_bytes-clause-left
+returns-in_err-write_bytes-clause-left g c = λ batches image at now.
     EachImageSince-now _ _ (HoldsOneMoreOrNot c.args.self.now batches c.args.batch.now)
-    (returns-in_err-write_batch-clause-any_moment g c batches at) (c.write_batch.ensures.others at.honest).honest image now
+    (returns-in_err-write_bytes-clause-any_moment g c batches at) (c.write_bytes.ensures.others at.honest).honest image now
 
 pub returns-in_err-sync-clause-any_moment : goal.returns-in_err-sync-clause-any_moment
 returns-in_err-sync-clause-any_moment g c = λ batches at.
-    moment-sync c.args.self.now c.args.batch.now c.requires.fits batches _ at _ _ (c.write_batch.ensures.others at.honest) c.sync.ensures.medium
+    moment-sync c.args.self.now c.args.batch.now c.requires.fits batches _ at _ _ (c.write_bytes.ensures.others at.honest) c.sync.ensures.medium
 
 pub returns-in_err-sync-clause-left : goal.returns-in_err-sync-clause-left
 returns-in_err-sync-clause-left g c = λ batches image at now.
     EachImageSince-now _ _ (HoldsOneMoreOrNot c.args.self.now batches c.args.batch.now)
-    (returns-in_err-sync-clause-any_moment g c batches at) (c.sync.ensures.medium.time.honest.0 (c.write_batch.ensures.others at.honest).honest) image now
+    (returns-in_err-sync-clause-any_moment g c batches at) (c.sync.ensures.medium.time.honest.0 (c.write_bytes.ensures.others at.honest).honest) image now
 
 pub returns-in_err-sync-clause-others : goal.returns-in_err-sync-clause-others
 returns-in_err-sync-clause-others g c = λ honest.
     LeavesAlone-stays (IsOutside c.args.self.now.range) _ _ _
-    (others-body c.args.self.now c.args.batch.now c.requires.fits _ _ (c.write_batch.ensures.others honest)) c.sync.ensures.medium
+    (others-body c.args.self.now c.args.batch.now c.requires.fits _ _ (c.write_bytes.ensures.others honest)) c.sync.ensures.medium
 
 pub returns-in_err-settle_sector-clause-any_moment : goal.returns-in_err-settle_sector-clause-any_moment
 returns-in_err-settle_sector-clause-any_moment g c = λ batches at.
-    let body = c.write_batch.ensures.others at.honest in
+    let body = c.write_bytes.ensures.others at.honest in
     let kept = c.sync.ensures.medium.time.honest.0 body.honest in
     let long = (g.met.D.SectorDisk.shaped c.sync.new.self _ kept.reads).count in
     moment-header c.args.self.now c.args.batch.now c.requires.fits batches _ at _ _ body c.sync.ensures.medium
-    c.in_ok-sync.ensures.durable c.requires.batch (c.in_ok-write_batch.ensures.written at.honest)
+    c.in_ok-sync.ensures.durable c.requires.batch (c.in_ok-write_bytes.ensures.written at.honest)
     c.header_sector.result c.header_sector.ensures.epoch (omega (arith, c.header_sector.ensures.used, c.sectors_for_len.ensures))
-    (omega (arith, long, c.sync.ensures.size, c.write_batch.ensures.size, c.requires.within, c.requires.fits))
+    (omega (arith, long, c.sync.ensures.size, c.write_bytes.ensures.size, c.requires.within, c.requires.fits))
     _ (c.settle_sector.ensures.any_moment kept)
 
 pub returns-in_err-settle_sector-clause-left : goal.returns-in_err-settle_sector-clause-left
 returns-in_err-settle_sector-clause-left g c = λ batches image at now.
-    let kept = c.sync.ensures.medium.time.honest.0 (c.write_batch.ensures.others at.honest).honest in
+    let kept = c.sync.ensures.medium.time.honest.0 (c.write_bytes.ensures.others at.honest).honest in
     EachImageSince-now _ _ (HoldsOneMoreOrNot c.args.self.now batches c.args.batch.now)
     (returns-in_err-settle_sector-clause-any_moment g c batches at) (c.settle_sector.ensures.others kept).honest image now
 
 pub returns-in_err-settle_sector-clause-others : goal.returns-in_err-settle_sector-clause-others
 returns-in_err-settle_sector-clause-others g c = λ honest.
-    let body = c.write_batch.ensures.others honest in
+    let body = c.write_bytes.ensures.others honest in
     LeavesAlone-join (IsOutside c.args.self.now.range) _ _ _
     (LeavesAlone-stays (IsOutside c.args.self.now.range) _ _ _
     (others-body c.args.self.now c.args.batch.now c.requires.fits _ _ body) c.sync.ensures.medium)
@@ -62,24 +61,24 @@ returns-in_err-settle_sector-clause-others g c = λ honest.
 
 pub returns-clause-any_moment : goal.returns-clause-any_moment
 returns-clause-any_moment g c = λ batches at.
-    let body = c.write_batch.ensures.others at.honest in
+    let body = c.write_bytes.ensures.others at.honest in
     let kept = c.sync.ensures.medium.time.honest.0 body.honest in
     let long = (g.met.D.SectorDisk.shaped c.sync.new.self _ kept.reads).count in
     moment-header c.args.self.now c.args.batch.now c.requires.fits batches _ at _ _ body c.sync.ensures.medium
-    c.in_ok-sync.ensures.durable c.requires.batch (c.in_ok-write_batch.ensures.written at.honest)
+    c.in_ok-sync.ensures.durable c.requires.batch (c.in_ok-write_bytes.ensures.written at.honest)
     c.header_sector.result c.header_sector.ensures.epoch (omega (arith, c.header_sector.ensures.used, c.sectors_for_len.ensures))
-    (omega (arith, long, c.sync.ensures.size, c.write_batch.ensures.size, c.requires.within, c.requires.fits))
+    (omega (arith, long, c.sync.ensures.size, c.write_bytes.ensures.size, c.requires.within, c.requires.fits))
     _ (c.settle_sector.ensures.any_moment kept)
 
 pub returns-clause-left : goal.returns-clause-left
 returns-clause-left g c = λ batches image at now.
-    let kept = c.sync.ensures.medium.time.honest.0 (c.write_batch.ensures.others at.honest).honest in
+    let kept = c.sync.ensures.medium.time.honest.0 (c.write_bytes.ensures.others at.honest).honest in
     EachImageSince-now _ _ (HoldsOneMoreOrNot c.args.self.now batches c.args.batch.now)
     (returns-clause-any_moment g c batches at) (c.settle_sector.ensures.others kept).honest image now
 
 pub returns-clause-others : goal.returns-clause-others
 returns-clause-others g c = λ honest.
-    let body = c.write_batch.ensures.others honest in
+    let body = c.write_bytes.ensures.others honest in
     LeavesAlone-join (IsOutside c.args.self.now.range) _ _ _
     (LeavesAlone-stays (IsOutside c.args.self.now.range) _ _ _
     (others-body c.args.self.now c.args.batch.now c.requires.fits _ _ body) c.sync.ensures.medium)
@@ -89,25 +88,25 @@ returns-clause-others g c = λ honest.
 -- the batch and the header, to the byte
 pub returns-clause-written : goal.returns-clause-written
 returns-clause-written g c = λ honest.
-    let body = c.write_batch.ensures.others honest in
+    let body = c.write_bytes.ensures.others honest in
     let kept = c.sync.ensures.medium.time.honest.0 body.honest in
     let at = c.args.self.now.range.first + 1 + c.args.self.now.used in
     IsWrittenAt-under c.args.self.now.range.first at c.args.batch.now c.header_sector.result _ _
     (omega arith) (c.in_ok-settle_sector.ensures.written kept)
-    (subst (IsWrittenAt at c.args.batch.now) (sym (c.sync.ensures.medium.contents body.honest)) (c.in_ok-write_batch.ensures.written honest))
+    (subst (IsWrittenAt at c.args.batch.now) (sym (c.sync.ensures.medium.contents body.honest)) (c.in_ok-write_bytes.ensures.written honest))
 
 pub returns-clause-header : goal.returns-clause-header
 returns-clause-header g c = λ honest.
-    let kept = c.sync.ensures.medium.time.honest.0 (c.write_batch.ensures.others honest).honest in
+    let kept = c.sync.ensures.medium.time.honest.0 (c.write_bytes.ensures.others honest).honest in
     let long = (g.met.D.SectorDisk.shaped c.sync.new.self _ kept.reads).count in
     ap (λ (image : Image). sector_at image c.args.self.now.range.first) (c.in_ok-settle_sector.ensures.written kept)
     ∙ sector_at-set_same _ c.args.self.now.range.first c.header_sector.result
-    (omega (arith, long, c.sync.ensures.size, c.write_batch.ensures.size, c.requires.within, c.requires.fits))
+    (omega (arith, long, c.sync.ensures.size, c.write_bytes.ensures.size, c.requires.within, c.requires.fits))
     ∙ c.header_sector.ensures.bytes
 
 pub returns-clause-counts : goal.returns-clause-counts
 returns-clause-counts g c =
-    let body = c.in_ok-write_batch.ensures.counts in
+    let body = c.in_ok-write_bytes.ensures.counts in
     let kept = c.in_ok-sync.ensures.ok in
     let made = c.in_ok-settle_sector.ensures.counts in
     counts-calls _ _ _ _ (ap (λ n. n.failures) made ∙ ap (λ n. n.failures) kept ∙ ap (λ n. n.failures) body)
@@ -117,7 +116,7 @@ returns-clause-counts g c =
 -- and then the batch is there
 pub returns-clause-acknowledged : goal.returns-clause-acknowledged
 returns-clause-acknowledged g c = λ batches at.
-    let body = c.write_batch.ensures.others at.honest in
+    let body = c.write_bytes.ensures.others at.honest in
     let kept = c.sync.ensures.medium.time.honest.0 body.honest in
     let long = (g.met.D.SectorDisk.shaped c.sync.new.self _ kept.reads).count in
     record {
@@ -127,7 +126,7 @@ returns-clause-acknowledged g c = λ batches at.
           subst (Holds c.args.self.now.range c.args.self.now.epoch (batches ++ c.args.batch.now ∷ []))
           (sym (c.in_ok-settle_sector.ensures.durable image now ∙ c.in_ok-settle_sector.ensures.written kept))
           (pushed c.args.self.now c.args.batch.now c.requires.fits batches _ at _ _ body c.sync.ensures.medium
-          c.in_ok-sync.ensures.durable c.requires.batch (c.in_ok-write_batch.ensures.written at.honest)
+          c.in_ok-sync.ensures.durable c.requires.batch (c.in_ok-write_bytes.ensures.written at.honest)
           c.header_sector.result c.header_sector.ensures.epoch (omega (arith, c.header_sector.ensures.used, c.sectors_for_len.ensures))
-          (omega (arith, long, c.sync.ensures.size, c.write_batch.ensures.size, c.requires.within, c.requires.fits)));
+          (omega (arith, long, c.sync.ensures.size, c.write_bytes.ensures.size, c.requires.within, c.requires.fits)));
     }

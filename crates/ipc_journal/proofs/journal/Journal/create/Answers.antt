@@ -3,9 +3,8 @@ use Rattle.std.proofs.Common.{◌≡◌, ◌⊎◌, [], inl, inr, ⊎_elim, subs
 use Rattle.std.specs.Prelude.{slice_set}
 use Rattle.ipc_disk.specs.Medium.{Image}
 use Rattle.ipc_disk.specs.Range.{IsOutside}
-use Rattle.ipc_disk.proofs.CallerLemmas.{EachImageSince-weaken}
+use Rattle.ipc_disk.proofs.CallerLemmas.{EachImageSince-weaken, LeavesAlone-fewer, outside-first}
 use Rattle.ipc_journal.specs.Journal.{Holds}
-use Rattle.ipc_journal.proofs.Runs.{LeavesAlone-fewer, outside-first}
 use Rattle.ipc_journal.proofs.Images.{Holds-empty}
 use Rattle.ipc_journal.proofs.journal.Journal.create.Goals as goal
 

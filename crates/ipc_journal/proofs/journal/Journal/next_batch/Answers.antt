@@ -5,7 +5,8 @@ use Rattle.std.proofs.lemmas.List.{take_at, length-take-le}
 use Rattle.std.proofs.lemmas.Option.{get_or_from_slice_get, same_Some}
 use Rattle.ipc_disk.specs.Medium.{Image, Medium}
 use Rattle.ipc_journal.specs.declared.journal.Journal.{Journal}
-use Rattle.ipc_journal.specs.Journal.{sectors_of, sector_at, length_in, StandsAt}
+use Rattle.ipc_disk.specs.Standing.{sector_at, StandsAt}
+use Rattle.ipc_journal.specs.Journal.{sectors_of, length_in}
 use Rattle.ipc_journal.specs.Matches.{JournalMatches}
 use Rattle.ipc_journal.proofs.Images.{Holds-fill, sectors_of-push}
 use Rattle.ipc_journal.proofs.CallerLemmas.{length-there}
@@ -69,13 +70,13 @@ returns-clause-stands g c = λ len is honest.
     let old = g.D.SectorDisk.medium c.args.disk.now in
     let from = c.args.self.now.range.first + 1 + c.args.place.now.sector in
     let same = c.read.ensures.medium.contents honest in
-    let stands = subst (StandsAt from c.read_batch.new.into) same
-    (c.in_ok-read_batch.ensures.stands (c.read.ensures.medium.time.honest.0 honest)
+    let stands = subst (StandsAt from c.read_bytes.new.into) same
+    (c.in_ok-read_bytes.ensures.stands (c.read.ensures.medium.time.honest.0 honest)
     (ap (λ (image : Image). slice_get image from) same ∙ c.in_ok-read.ensures.bytes honest)) in
-    let kept : length c.read_batch.new.into ≡ c.read_u32.result + 4 = omega
-    (arith, c.read_batch.auto.into, length-take-le (c.read_u32.result + 4) c.args.into.now (omega arith)) in
-    let front : take len (c.read_batch.new.into ++ drop (c.read_u32.result + 4) c.args.into.now) ≡ c.read_batch.new.into =
-    take_at c.read_batch.new.into (drop (c.read_u32.result + 4) c.args.into.now) len (kept ∙ same_Some _ _ is) in
+    let kept : length c.read_bytes.new.into ≡ c.read_u32.result + 4 = omega
+    (arith, c.read_bytes.auto.into, length-take-le (c.read_u32.result + 4) c.args.into.now (omega arith)) in
+    let front : take len (c.read_bytes.new.into ++ drop (c.read_u32.result + 4) c.args.into.now) ≡ c.read_bytes.new.into =
+    take_at c.read_bytes.new.into (drop (c.read_u32.result + 4) c.args.into.now) len (kept ∙ same_Some _ _ is) in
     subst (λ (l : List ℕ). StandsAt from l old.contents) (sym front) stands
 
 pub returns-clause-in_order : goal.returns-clause-in_order
@@ -87,14 +88,14 @@ returns-clause-in_order g c = λ before batch after at is.
     (get_or_from_slice_get old.contents from c.read.new.into [] (c.in_ok-read.ensures.bytes at.honest)) c.read_u32.ensures in
     let size : c.read_u32.result + 4 ≡ length batch = omega (arith, long, length-there from batch old.contents there.is there.stands) in
     let same = c.read.ensures.medium.contents at.honest in
-    let stands = subst (StandsAt from c.read_batch.new.into) same
-    (c.in_ok-read_batch.ensures.stands (c.read.ensures.medium.time.honest.0 at.honest)
+    let stands = subst (StandsAt from c.read_bytes.new.into) same
+    (c.in_ok-read_bytes.ensures.stands (c.read.ensures.medium.time.honest.0 at.honest)
     (ap (λ (image : Image). slice_get image from) same ∙ c.in_ok-read.ensures.bytes at.honest)) in
-    let kept : length c.read_batch.new.into ≡ c.read_u32.result + 4 = omega
-    (arith, c.read_batch.auto.into, length-take-le (c.read_u32.result + 4) c.args.into.now (omega arith)) in
-    let found : c.read_batch.new.into ≡ batch = next_is c.args.self.now.range c.args.place.now.sector c.args.self.now.used batch c.read_batch.new.into
+    let kept : length c.read_bytes.new.into ≡ c.read_u32.result + 4 = omega
+    (arith, c.read_bytes.auto.into, length-take-le (c.read_u32.result + 4) c.args.into.now (omega arith)) in
+    let found : c.read_bytes.new.into ≡ batch = next_is c.args.self.now.range c.args.place.now.sector c.args.self.now.used batch c.read_bytes.new.into
     old.contents there (omega (arith, long, kept)) stands in (
       ap (λ (n : ℕ). Some n) size,
-      take_at c.read_batch.new.into (drop (c.read_u32.result + 4) c.args.into.now) (length batch) (ap length found) ∙ found,
+      take_at c.read_bytes.new.into (drop (c.read_u32.result + 4) c.args.into.now) (length batch) (ap length found) ∙ found,
       omega (arith, is, size, c.sectors_for_len-taken.ensures, sectors_of-push before batch),
     )

@@ -3,19 +3,18 @@ use Rattle.std.proofs.Common.{◌≡◌, ℕ, List, ◌++◌, ◌-◌, replicate
 use Rattle.std.proofs.Common.{◌∙◌, subst, arith, length-take, drop, ◌*◌}
 use Rattle.std.specs.Prelude.{slice_set}
 use Rattle.ipc_disk.specs.Range.{IsOutside}
-use Rattle.ipc_disk.proofs.CallerLemmas.{LeavesAlone-writes}
-use Rattle.ipc_journal.specs.Journal.{sectors_for, batch_sector}
-use Rattle.ipc_journal.proofs.Counted.{counts-calls}
-use Rattle.ipc_journal.proofs.Runs.{WrittenBelow, written_more}
-use Rattle.ipc_journal.proofs.sectors.write_batch.Goals as goal
+use Rattle.ipc_disk.proofs.CallerLemmas.{LeavesAlone-writes, counts-calls}
+use Rattle.ipc_disk.specs.Standing.{sectors_for, padded_piece}
+use Rattle.ipc_disk.proofs.Pieces.{WrittenBelow, written_more}
+use Rattle.ipc_disk.proofs.standing.write_bytes.Goals as goal
 
 pub padded-sector-requires : goal.padded-sector-requires
 padded-sector-requires g c =
-    omega (arith, ap length c.piece_of.ensures, length-take 512 (drop (512 * c.loop-i.i) c.args.batch.now))
+    omega (arith, ap length c.piece_of.ensures, length-take 512 (drop (512 * c.loop-i.i) c.args.bytes.now))
 
 pub returns-in_err-write-clause-others : goal.returns-in_err-write-clause-others
 returns-in_err-write-clause-others g c = λ honest.
-    LeavesAlone-writes (IsOutside (record { first = c.args.first; count = sectors_for (length c.args.batch.now) })) _ _ _
+    LeavesAlone-writes (IsOutside (record { first = c.args.first; count = sectors_for (length c.args.bytes.now) })) _ _ _
     (c.args.first + c.loop-i.i) c.padded-sector.result (c.loop-i.invariant.others honest)
     (λ out. ⊎_elim (λ low. absurd (omega (arith, low))) (λ high. absurd (omega (arith, high))) out)
     c.write.ensures.medium
@@ -28,15 +27,15 @@ loop-i-preserved g c =
           let here = (so_far.others honest).honest in
           let old = g.D.SectorDisk.medium c.loop-i.disk in
           let long : length old.contents ≡ g.D.SectorDisk.size c.loop-i.disk = (g.met.D.SectorDisk.shaped c.loop-i.disk old.contents here.reads).count in
-          let bytes : c.padded-sector.result ≡ batch_sector c.loop-i.i c.args.batch.now =
+          let bytes : c.padded-sector.result ≡ padded_piece c.loop-i.i c.args.bytes.now =
           c.padded-sector.ensures ∙ ap (λ (l : List ℕ). l ++ replicate (512 - length l) 0) c.piece_of.ensures in
           let set : (g.D.SectorDisk.medium c.write.new.self).contents ≡ slice_set old.contents (c.args.first + c.loop-i.i)
-          (batch_sector c.loop-i.i c.args.batch.now) =
+          (padded_piece c.loop-i.i c.args.bytes.now) =
           c.in_ok-write.ensures.written here ∙ ap (λ (l : List ℕ). slice_set old.contents (c.args.first + c.loop-i.i) l) bytes in
-          subst (WrittenBelow (c.loop-i.i + 1) c.args.first c.args.batch.now) (sym set)
-          (written_more c.loop-i.i c.args.first c.args.batch.now old.contents (omega (arith, long, so_far.size)) (so_far.written honest));
+          subst (WrittenBelow (c.loop-i.i + 1) c.args.first c.args.bytes.now) (sym set)
+          (written_more c.loop-i.i c.args.first c.args.bytes.now old.contents (omega (arith, long, so_far.size)) (so_far.written honest));
       others = λ honest.
-          LeavesAlone-writes (IsOutside (record { first = c.args.first; count = sectors_for (length c.args.batch.now) })) _ _ _
+          LeavesAlone-writes (IsOutside (record { first = c.args.first; count = sectors_for (length c.args.bytes.now) })) _ _ _
           (c.args.first + c.loop-i.i) c.padded-sector.result (so_far.others honest)
           (λ out. ⊎_elim (λ low. absurd (omega (arith, low))) (λ high. absurd (omega (arith, high))) out)
           c.write.ensures.medium;

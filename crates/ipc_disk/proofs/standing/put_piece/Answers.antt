@@ -1,8 +1,8 @@
 -- The piece is what was put there.
 use Rattle.std.proofs.Common.{◌≡◌, ◌⊎◌, inl, inr, ◌-◌, ◌*◌, ◌+◌, ◌<◌, ◌≤◌, length, arith, ap, length-take}
-use Rattle.ipc_journal.proofs.Pieces.{piece-put}
-use Rattle.ipc_journal.proofs.sectors.put_piece.Goals as goal
-use Rattle.ipc_journal.proofs.sectors.put_piece.Goals.{then-into-start-lt512, else-into-start-lt512}
+use Rattle.ipc_disk.proofs.Pieces.{piece-put}
+use Rattle.ipc_disk.proofs.standing.put_piece.Goals as goal
+use Rattle.ipc_disk.proofs.standing.put_piece.Goals.{then-into-start-lt512, else-into-start-lt512}
 
 pub returns-clause-piece : goal.returns-clause-piece
 returns-clause-piece c =

@@ -1,4 +1,4 @@
-//! Sectors as bytes, and runs of them written to a disk.
+//! Bytes as they stand on a disk: written and read sector by sector, and a sector that is to last.
 
 ghost use Rattle.std.specs.Prelude.{◌≡◌, ◌↔◌, ◌+◌, ◌*◌, ◌-◌, ◌<◌, ◌≤◌, ◌++◌};
 ghost use Rattle.std.specs.Prelude.{length, take, replicate, Some};
@@ -7,36 +7,23 @@ ghost use Rattle.ipc_disk.specs.Counts.{counted, with_failure, with_calls};
 ghost use Rattle.ipc_disk.specs.Medium.{IsHonest, IsDurable, SetOrNot, Stays};
 ghost use Rattle.ipc_disk.specs.Range.{IsOutside};
 ghost use Rattle.ipc_disk.specs.Since.{EachImageSince, LeavesAlone};
-ghost use Rattle.ipc_journal.specs.Journal.{sectors_for, epoch_in, used_in, header_bytes, piece, IsWrittenAt, StandsAt};
+ghost use Rattle.ipc_disk.specs.Standing.{sectors_for, piece, IsWrittenAt, StandsAt};
 
-use byteorder::{BigEndian, ByteOrder};
-use ipc_disk::{DiskFault, SectorDisk};
+use crate::{DiskFault, SectorDisk};
 
-// The sectors that so many bytes take.
-pub(crate) fn sectors_for_len(len: usize) -> usize
+/// The sectors that so many bytes take.
+pub fn sectors_for_len(len: usize) -> usize
     ensures { result ≡ sectors_for len }
 {
     len.div_ceil(512)
 }
 
-// The bytes of a header: epoch, used sectors, and zeros.
-pub(crate) fn header_sector(epoch: u64, used: u32) -> [u8; 512]
-    ensures epoch { epoch_in result ≡ epoch }
-    ensures used { used_in result ≡ used }
-    ensures bytes { result ≡ header_bytes epoch used }
+// The i-th 512 of these bytes, or what is left of them there.
+fn piece_of(bytes: &[u8], i: usize) -> &[u8]
+    requires { 512 * i < length bytes.now }
+    ensures { result.now ≡ piece i bytes.now }
 {
-    let mut sector = [0; 512];
-    BigEndian::write_u64(&mut sector, epoch);
-    BigEndian::write_u32(&mut sector[8..], used);
-    sector
-}
-
-// The i-th 512 bytes of a batch, or what is left of it there.
-fn piece_of(batch: &[u8], i: usize) -> &[u8]
-    requires { 512 * i < length batch.now }
-    ensures { result.now ≡ piece i batch.now }
-{
-    let rest = &batch[512 * i..];
+    let rest = &bytes[512 * i..];
     if rest.len() < 512 { rest } else { &rest[..512] }
 }
 
@@ -50,34 +37,30 @@ fn padded(bytes: &[u8]) -> [u8; 512]
     sector
 }
 
-// Writes the sectors of a batch from the sector `first` on. No sync.
-pub(crate) fn write_batch<D: SectorDisk>(
-    disk: &mut D,
-    first: u32,
-    batch: &[u8],
-) -> Result<(), DiskFault>
-    requires { first + sectors_for (length batch.now) ≤ D.size disk.old }
+/// Writes bytes from the sector `first` on, with zeros after them to the end of their last sector. No sync.
+pub fn write_bytes<D: SectorDisk>(disk: &mut D, first: u32, bytes: &[u8]) -> Result<(), DiskFault>
+    requires { first + sectors_for (length bytes.now) ≤ D.size disk.old }
     ensures written { OnOk result (IsHonest (D.medium disk.old)
-        → IsWrittenAt first batch.now (D.medium disk.new).contents) }
+        → IsWrittenAt first bytes.now (D.medium disk.new).contents) }
     ensures others { IsHonest (D.medium disk.old)
-        → LeavesAlone (IsOutside (record { first = first; count = sectors_for (length batch.now) }))
+        → LeavesAlone (IsOutside (record { first = first; count = sectors_for (length bytes.now) }))
         (D.medium disk.old) (D.medium disk.new) }
     ensures size { D.size disk.new ≡ D.size disk.old }
     ensures failure { OnErr result ((D.counts disk.new).failures
         ≡ counted (D.counts disk.old).failures 1) }
     ensures counts { OnOk result (D.counts disk.new
-        ≡ with_calls (sectors_for (length batch.now)) 0 (D.counts disk.old)) }
+        ≡ with_calls (sectors_for (length bytes.now)) 0 (D.counts disk.old)) }
 {
-    let count = sectors_for_len(batch.len());
+    let count = sectors_for_len(bytes.len());
     for i in 0..count {
-        let sector = padded(piece_of(batch, i));
+        let sector = padded(piece_of(bytes, i));
         disk.write(first + i as u32, &sector)?;
     }
     Ok(())
 }
 
-// Writes one sector and makes it last.
-pub(crate) fn settle_sector<D: SectorDisk>(
+/// Writes one sector and makes it last.
+pub fn settle_sector<D: SectorDisk>(
     disk: &mut D,
     at: u32,
     sector: &[u8; 512],
@@ -117,8 +100,9 @@ fn put_piece(into: &mut [u8], i: usize, sector: &[u8; 512])
     into[start..end].copy_from_slice(&sector[..end - start]);
 }
 
-// Reads the batch of so many bytes that begins at the sector `at`, of which the first sector has been read.
-pub(crate) fn read_batch<D: SectorDisk>(
+/// Reads the bytes that stand from the sector `at` on, as many as `into` has. The first of their sectors has been
+/// read. After an `Err` the bytes in `into` are any.
+pub fn read_bytes<D: SectorDisk>(
     disk: &mut D,
     at: u32,
     first: &[u8; 512],

@@ -2,8 +2,8 @@
 use Rattle.std.proofs.Common.{◌≡◌}
 use Rattle.std.specs.Prelude.{Some, slice_get}
 use Rattle.ipc_disk.specs.Medium.{IsHonest, Stays}
-use Rattle.ipc_journal.proofs.Runs.{StandsBelow}
-use Rattle.ipc_journal.proofs.sectors.read_batch.Given as goal
+use Rattle.ipc_disk.proofs.Pieces.{StandsBelow}
+use Rattle.ipc_disk.proofs.standing.read_bytes.Given as goal
 
 abbrev pub invariant-loop-i : goal.invariant-loop-i
 invariant-loop-i g l = record {

@@ -4,9 +4,9 @@ use Rattle.std.specs.Prelude.{Some, slice_get}
 use Rattle.std.proofs.lemmas.Option.{get_or_from_slice_get}
 use Rattle.ipc_disk.specs.Medium.{Image}
 use Rattle.ipc_disk.proofs.CallerLemmas.{Stays-start, Stays-join}
-use Rattle.ipc_journal.specs.Journal.{sector_at}
-use Rattle.ipc_journal.proofs.Pieces.{pieces_more}
-use Rattle.ipc_journal.proofs.sectors.read_batch.Goals as goal
+use Rattle.ipc_disk.specs.Standing.{sector_at}
+use Rattle.ipc_disk.proofs.Pieces.{pieces_more}
+use Rattle.ipc_disk.proofs.standing.read_bytes.Goals as goal
 
 pub loop-i-init : goal.loop-i-init
 loop-i-init g c =

@@ -1,7 +1,7 @@
 -- What is left of the zeros.
 use Rattle.std.proofs.Common.{ℕ, List, ◌++◌, drop, length, replicate, ap, ◌∙◌}
 use Rattle.std.proofs.lemmas.List.{drop-replicate}
-use Rattle.ipc_journal.proofs.sectors.padded.Goals as goal
+use Rattle.ipc_disk.proofs.standing.padded.Goals as goal
 
 pub returns : goal.returns
 returns c =

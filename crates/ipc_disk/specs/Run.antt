@@ -1,0 +1,18 @@
+-- Neighbouring sectors that were written and are not in a file yet.
+use Rattle.std.specs.Prelude.{◌≡◌, ◌+◌, ◌≤◌, ◌<◌, ℕ, take}
+use Rattle.ipc_disk.specs.declared.range.Range.{Range}
+use Rattle.ipc_disk.specs.declared.run.Run.{Run}
+use Rattle.ipc_disk.specs.declared.run.TheConstants.{LONGEST}
+use Rattle.ipc_disk.specs.Medium.{Image}
+
+-- its sectors
+abbrev pub run_values : Run → Image
+run_values run = take run.range.count run.sectors
+
+-- the sector comes next, behind a run that is not full
+abbrev pub IsNext : Range → ℕ → Type 0
+IsNext range at = (at ≡ range.first + range.count) × (range.count < LONGEST)
+
+-- the run has the sector, or it comes next
+abbrev pub Joins : Range → ℕ → Type 0
+Joins range at = (range.first ≤ at) × (at ≤ range.first + range.count) × (at < range.first + LONGEST)

@@ -1,9 +1,0 @@
--- The last piece is shorter.
-use Rattle.std.proofs.Common.{sym, ◌∙◌, ◌*◌, drop, arith}
-use Rattle.std.proofs.lemmas.List.{take_rest, take_all, length-drop}
-use Rattle.ipc_journal.proofs.sectors.piece_of.Goals as goal
-
-pub returns-then-rest-lt512 : goal.returns-then-rest-lt512
-returns-then-rest-lt512 c =
-    let rest = drop (512 * c.args.i) c.args.batch.now in
-    take_rest c.args.batch.now (512 * c.args.i) ∙ sym (take_all 512 rest (omega (arith, length-drop (512 * c.args.i) c.args.batch.now)))
