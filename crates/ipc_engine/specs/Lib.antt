@@ -2,3 +2,4 @@ pub mod Event
 pub mod Step
 pub mod View
 pub mod Engine
+pub mod Listing

@@ -23,9 +23,12 @@ ghost use Rattle.ipc_state.specs.Sound.{IsSound, FitsBody};
 ghost use Rattle.ipc_state.specs.State.{State as PlainState, has_all_processes, is_process, start};
 ghost use Rattle.ipc_engine.specs.Engine.{kind_takes_memory, IsReadyFor, IsReadyForHello};
 ghost use Rattle.ipc_engine.specs.Step.{step as step_on, asked, connect as connect_step, replied, most_replies};
+ghost use Rattle.ipc_engine.specs.Listing.{rows_of};
 ghost use Rattle.ipc_engine.specs.View.{plain_event, plain_outcome, step_of};
 
 use crate::event::{Event, Outcome};
+use crate::fault::StateFault;
+use crate::listing::{Row, list_queues};
 use ipc_base::{Cred, Errno, Limits, Pid};
 use ipc_state::State;
 use ipc_wire::{Body, RequestKind};
@@ -81,6 +84,38 @@ impl Engine {
             state: State::new(alloc, limits),
             outcomes,
         })
+    }
+
+    /// A machine that has this state, and no replies. Refused for want of memory; a state whose parts do
+    /// not fit each other would be refused too, but today each state is sound. Kinds of objects that
+    /// refer to each other will need that refusal.
+    pub fn from_state(alloc: Global, state: State) -> Result<Engine, StateFault>
+        ensures state { IfOk result (λ engine. engine.state ≡ state.state) }
+        ensures limits { IfOk result (λ engine. engine.limits ≡ state.limits) }
+        ensures outcomes { IfOk result (λ engine. engine.outcomes ≡ []) }
+        ensures sound { IfOk result (λ engine. IsSound engine.limits engine.state) }
+        ensures unsound { result ≡ Err StateFault.Unsound → ¬ IsSound state.limits state.state }
+    {
+        // What it ensures says that the state is sound.
+        state.limits();
+        let outcomes = Vec::with_capacity(alloc, MOST_REPLIES)?;
+        Ok(Engine { state, outcomes })
+    }
+
+    /// The state. What its readers tell is of the machine's state.
+    pub fn state(&self) -> &State
+        ensures limits { result.now.limits ≡ self.now.limits }
+        ensures state { result.now.state ≡ self.now.state }
+        ensures room { result.now.room ≡ self.now.room }
+    {
+        &self.state
+    }
+
+    /// A row for each object, by rising identifier. Refused for want of memory.
+    pub fn list(&self, alloc: Global) -> Result<Vec<Row>, AllocError>
+        ensures { IfOk result (λ rows. rows.items ≡ rows_of self.now.state) }
+    {
+        list_queues(alloc, self.state.queues())
     }
 
     /// The limits that it keeps, which have passed their check; by them the state is sound.

@@ -5,6 +5,8 @@ ghost use Rattle.std.specs.Prelude.{◌≤◌};
 ghost use Rattle.ipc_engine.specs.Engine.{IsForProcess};
 ghost use Rattle.ipc_engine.specs.View.{plain_event};
 
+mod restored;
+
 use crate::{Engine, Event};
 use ipc_base::{Cred, Errno, GetFlags, Id, Limits, Moment, MsgFlags, Pid};
 use ipc_wire::{Body, Call, Request, RequestKind};

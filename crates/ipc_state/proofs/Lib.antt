@@ -1,3 +1,4 @@
 pub mod Places
 pub mod SoundObjects
 pub mod CallerLemmas
+pub mod Restoring

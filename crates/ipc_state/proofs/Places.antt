@@ -1,16 +1,18 @@
 -- The objects of a kind, found and changed at an identifier, each seen in some way.
-use Rattle.std.proofs.Common.{◌≡◌, ℕ, ℤ, Bool, true, false, cond, List, [], ◌∷◌, Option, Some, None, is_some, refl, sym, ap, ◌∙◌, MutBor}
-use Rattle.std.specs.Prelude.{nat_eq, position, option_map, IfSome, IsSome}
+use Rattle.std.proofs.Common.{◌≡◌, ℕ, ℤ, Bool, true, false, cond, List, [], ◌∷◌, Option, Some, None, is_some, map, refl, sym, ap, ◌∙◌, MutBor}
+use Rattle.std.specs.Prelude.{nat_eq, position, option_map, All, IfSome, IsSome}
 use Rattle.std.specs.Option.{option_copied_mut}
+use Rattle.std.proofs.lemmas.List.Elements.{All-nil, All-cons, All-head, All-tail}
 use Rattle.ipc_base.proofs.CallerLemmas.{at-with, at-map, own}
 use Rattle.ipc_base.specs.Table.{value_at, with_value, seen_as}
 use Rattle.ipc_state.specs.declared.objects.Entry.{Entry as Row}
 use Rattle.ipc_state.specs.declared.objects.Objects.{Objects as Tables}
 use Rattle.ipc_state.specs.declared.perm.Perm.{Perm}
 use Rattle.ipc_state.specs.Lends.{HasPut}
-use Rattle.ipc_state.specs.Objects.{Objects, Entry, holding, entry_of, with_entry, with_new, entry_map, objects_map, AreSound}
-use Rattle.ipc_state.specs.Tables.{objects_of, entry_in}
-use Rattle.ipc_state.proofs.SoundObjects.{map-with_new, entry-sound}
+use Rattle.ipc_state.specs.Objects.{Objects, Entry, holding, entry_of, with_entry, entry_map, objects_map, AreSound}
+use Rattle.ipc_state.specs.Restored.{with_last}
+use Rattle.ipc_state.specs.Tables.{objects_of, entry_in, entry_row}
+use Rattle.ipc_state.proofs.SoundObjects.{map-with_last, entry-sound}
 
 -- the place of the entry that has the identifier
 abbrev pub place_of : {T : Type 0} → Tables T → ℕ → Option ℕ
@@ -92,6 +94,23 @@ module _ {T X : Type 0} (see : T → X) where
       → option_map entry_as r ≡ entry_of (objects_map see (objects_of o)) id
   found_as o id r is = twice r ∙ (ap (option_map (entry_map see)) is ∙ sym (at-map (entry_map see) (objects_of o).entries id))
 
+  -- the rows of the tables are those of the definitions
+  pub rows_as : (rs : List (Row T)) → map {B = ℕ × Entry X} (λ (e : Row T). (e.id.0, entry_as e)) rs
+      ≡ map {B = ℕ × Entry X} (λ (e : ℕ × Entry T). (e.0, entry_map see e.1)) (map entry_row rs)
+  rows_as [] = refl
+  rows_as (r ∷ rs) = ap (λ (es : List (ℕ × Entry X)). (r.id.0, entry_as r) ∷ es) (rows_as rs)
+
+  -- and what holds of each object holds of each row
+  pub All-rows : (P : X → Type 0) (rs : List (Row T))
+      → All (λ (e : ℕ × Entry X). P e.1.object) (map {B = ℕ × Entry X} (λ (e : ℕ × Entry T). (e.0, entry_map see e.1)) (map entry_row rs))
+      → All (λ (r : Row T). P (see r.object)) rs
+  All-rows P [] each = All-nil _
+  All-rows P (r ∷ rs) each =
+      let HasP : ℕ × Entry X → Type 0 = λ (e : ℕ × Entry X). P e.1.object in
+      let rest : List (ℕ × Entry X) = map {B = ℕ × Entry X} (λ (e : ℕ × Entry T). (e.0, entry_map see e.1)) (map entry_row rs) in
+      All-cons (λ (q : Row T). P (see q.object)) r rs (All-head HasP (r.id.0, entry_as r) rest each)
+      (All-rows P rs (All-tail HasP (r.id.0, entry_as r) rest each))
+
   -- and it is sound
   pub found-sound : (most : ℕ) (IsSoundOne : X → Type 0) (o : Objects X) (id : ℕ) (r : Option (Row T)) → option_map entry_as r ≡ entry_of o id
       → AreSound most IsSoundOne o → IfSome r (λ e. IsSoundOne (see e.object))
@@ -99,13 +118,14 @@ module _ {T X : Type 0} (see : T → X) where
   found-sound most IsSoundOne o id (Some e) is h = entry-sound most IsSoundOne o id (entry_as e) (sym is) h
 
   -- an object that came, under a key that is the given one
-  pub added : (o new : Objects T) (key given : ℤ) (perm : Perm) (x : T) (y : X) → new ≡ with_new o (record { key = given; perm = perm; object = x })
-      → given ≡ key → see x ≡ y → objects_map see new ≡ with_new (objects_map see o) (record { key = key; perm = perm; object = y })
-  added o new key given perm x y is same seen-is =
+  pub added : (o new : Objects T) (id : ℕ) (key given : ℤ) (perm : Perm) (x : T) (y : X)
+      → new ≡ with_last o id (record { key = given; perm = perm; object = x }) → given ≡ key → see x ≡ y
+      → objects_map see new ≡ with_last (objects_map see o) id (record { key = key; perm = perm; object = y })
+  added o new id key given perm x y is same seen-is =
       let made : ℤ → X → Entry X = λ (n : ℤ) (z : X). record { key = n; perm = perm; object = z } in
       ap (objects_map see) is
-      ∙ (map-with_new see o (record { key = given; perm = perm; object = x })
-      ∙ (ap (λ (n : ℤ). with_new (objects_map see o) (made n (see x))) same ∙ ap (λ (z : X). with_new (objects_map see o) (made key z)) seen-is))
+      ∙ (map-with_last see o id (record { key = given; perm = perm; object = x })
+      ∙ (ap (λ (n : ℤ). with_last (objects_map see o) id (made n (see x))) same ∙ ap (λ (z : X). with_last (objects_map see o) id (made key z)) seen-is))
 
   -- what the definitions have at an identifier is found in the tables
   pub is_there : (o : Objects T) (id : ℕ) (r : Option (MutBor T)) → option_copied_mut r ≡ option_map object_in (entry_of o id)

@@ -4,5 +4,6 @@ pub mod State
 pub mod Sound
 pub mod Held
 pub mod Tables
+pub mod Restored
 pub mod Lends
 pub mod Finish

@@ -1,7 +1,7 @@
 -- The objects of one kind (sysvipc(7)): each has an identifier, counted from 1 and never given twice, a key, and who
 -- may use it. A key names one object at most; IPC_PRIVATE, which is 0, names none, and any number of objects may have
 -- it.
-use Rattle.std.specs.Prelude.{◌≡◌, ◌≢◌, ℕ, ℤ, pos, ◌+◌, ◌≤◌, Bool, ◌||◌, if◌then◌else◌, List}
+use Rattle.std.specs.Prelude.{◌≡◌, ◌≢◌, ℕ, ℤ, pos, ◌+◌, ◌<◌, ◌≤◌, Bool, ◌||◌, if◌then◌else◌, List}
 use Rattle.std.specs.Prelude.{[], ◌∷◌, ◌++◌, length, map}
 use Rattle.std.specs.Prelude.{nat_eq, nat_le, nat_lt, Option, Some, None, All}
 use Rattle.std.specs.Ordering.{int_eq}
@@ -67,10 +67,11 @@ objects_map see o = record { next = o.next; entries = map (λ e. (e.0, entry_map
 
 -- What holds of the objects of a kind, when something holds of each: there are no more than the limit says; identifiers
 -- rise from 1 to below the next, which is at most one past the last; each key but IPC_PRIVATE names the object that has
--- it, so no two have the same.
+-- it, so no two have the same; a mode has nine bits.
 pub record AreSound {X : Type 0} (most : ℕ) (IsSoundOne : X → Type 0) (o : Objects X) : Type 0 where
   pub ids : IsRising 1 (keys_of o.entries) o.next
   pub next : o.next ≤ last_number + 1
   pub count : length o.entries ≤ most
   pub keys : All (λ k. k.0 ≢ pos 0 → value_at int_eq (keys_in o) k.0 ≡ Some k.1) (keys_in o)
+  pub modes : All (λ e. e.1.perm.mode < 512) o.entries
   pub each : All (λ e. IsSoundOne e.1.object) o.entries

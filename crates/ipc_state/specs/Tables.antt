@@ -42,6 +42,10 @@ queues_of o = objects_map queue_in (objects_of o)
 abbrev pub queue_entry : Row Kept → Entry Queue
 queue_entry e = entry_map queue_in (entry_in e)
 
+-- and with its identifier
+abbrev pub queue_row : Row Kept → ℕ × Entry Queue
+queue_row e = (e.id.0, queue_entry e)
+
 abbrev pub texts_of : Tables Kept → List (ℕ × Option ℕ)
 texts_of o = map (λ e. (e.0, room_in e.1.object)) (objects_of o).entries
 

@@ -5,7 +5,13 @@ ghost use Rattle.std.specs.Prelude.{
   ◌==◌,
   ◌<◌,
   ◌^◌,
+  ◌&&◌,
   true,
+  not,
+  is_some,
+  length,
+  nat_le,
+  nat_lt,
   position,
   option_map,
   option_copied,
@@ -14,10 +20,12 @@ ghost use Rattle.std.specs.Prelude.{
   OnErr,
 };
 ghost use Rattle.std.specs.Borrow.{sem};
+ghost use Rattle.std.specs.List.{list_all};
 ghost use Rattle.std.specs.Option.{option_copied_mut};
 ghost use Rattle.std.specs.Ordering.{int_eq};
 ghost use Rattle.ipc_state.specs.Lends.{lends_object};
 ghost use Rattle.ipc_state.specs.Objects.{no_objects, entry_of, keyed, with_new, is_full as is_full_of};
+ghost use Rattle.ipc_state.specs.Restored.{with_last};
 ghost use Rattle.ipc_state.specs.Tables.{objects_of, entry_in, has_place};
 
 use crate::perm::Perm;
@@ -75,6 +83,76 @@ impl<T> Objects<T> {
         most as usize <= self.entries.len() || LAST_NUMBER < self.next
     }
 
+    /// The objects, by identifier.
+    pub(crate) fn entries(&self) -> &[Entry<T>]
+        ensures { result.now ≡ self.now.entries.items }
+    {
+        &self.entries
+    }
+
+    /// The identifier of the next object.
+    pub(crate) fn next(&self) -> u32
+        ensures { result ≡ self.now.next }
+    {
+        self.next
+    }
+
+    /// Whether each identifier is below this number.
+    fn are_below(&self, number: u32) -> bool
+        ensures { result ≡ list_all (λ e. nat_lt e.id.0 number) self.now.entries.items }
+    {
+        self.entries.iter().all(|entry| entry.id.0 < number)
+    }
+
+    /// Whether a number may be the next identifier: it is at most one past the last, and the identifiers
+    /// are below it.
+    pub(crate) fn may_be_next(&self, number: u32) -> bool
+        ensures { result ≡ (nat_lt 0 number && nat_le number 2147483648
+            && list_all (λ e. nat_lt e.id.0 number) self.now.entries.items) }
+    {
+        0 < number && number <= LAST_NUMBER + 1 && self.are_below(number)
+    }
+
+    /// Whether an object that was read may come at the end: its identifier is above the others and below
+    /// the next, there are fewer than `most`, no other has its key, and its mode has nine bits.
+    pub(crate) fn may_end_with(&self, most: u32, id: Id, key: i32, perm: Perm) -> bool
+        ensures { result ≡ (nat_lt 0 id.0 && nat_lt id.0 self.now.next
+            && nat_lt (length self.now.entries.items) most
+            && nat_lt perm.mode 512
+            && not (is_some (keyed (objects_of self.now) key))
+            && list_all (λ e. nat_lt e.id.0 id.0) self.now.entries.items) }
+    {
+        0 < id.0
+            && id.0 < self.next
+            && self.entries.len() < most as usize
+            && perm.mode < 0o1000
+            && self.of_key(key).is_none()
+            && self.are_below(id.0)
+    }
+
+    /// Replaces the identifier of the next object.
+    pub(crate) fn set_next(&mut self, next: u32)
+        ensures objects { objects_of self.new
+            ≡ record { next = next; entries = (objects_of self.old).entries } }
+        ensures place { has_place self.new ≡ has_place self.old }
+    {
+        self.next = next;
+    }
+
+    /// Adds an object under an identifier that was read. It takes no memory.
+    pub(crate) fn push(&mut self, id: Id, key: i32, perm: Perm, object: T)
+        requires { has_place self.old ≡ true }
+        ensures { objects_of self.new
+            ≡ with_last (objects_of self.old) id.0 (record { key = key; perm = perm; object = object }) }
+    {
+        self.entries.push_reserved(Entry {
+            id,
+            key,
+            perm,
+            object,
+        });
+    }
+
     /// The identifier that a key names.
     pub(crate) fn of_key(&self, key: i32) -> Option<Id>
         ensures { option_map (λ id. id.0) result ≡ keyed (objects_of self.now) key }
@@ -129,12 +207,7 @@ impl<T> Objects<T> {
     {
         let id = Id(self.next);
         self.next += 1;
-        self.entries.push_reserved(Entry {
-            id,
-            key,
-            perm,
-            object,
-        });
+        self.push(id, key, perm, object);
         id
     }
 }

@@ -1,6 +1,6 @@
 //! Who may use an object.
 
-ghost use Rattle.std.specs.Prelude.{◌≡◌};
+ghost use Rattle.std.specs.Prelude.{◌≡◌, ◌<◌};
 ghost use Rattle.ipc_state.specs.Perm.{perm_of};
 
 use ipc_base::Cred;
@@ -18,7 +18,8 @@ pub struct Perm {
 impl Perm {
     /// Of a new object, by who makes it and the flags: the mode is their low nine bits.
     pub fn new(cred: Cred, flags: u32) -> Perm
-        ensures { result ≡ perm_of cred flags }
+        ensures perm { result ≡ perm_of cred flags }
+        ensures mode { result.mode < 512 }
     {
         Perm {
             uid: cred.uid,

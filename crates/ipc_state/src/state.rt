@@ -4,16 +4,22 @@ ghost use Rattle.std.specs.Prelude.{
   ◌≡◌,
   ◌<◌,
   ◌≤◌,
+  ◌≢◌,
+  ◌↔◌,
+  ℕ,
+  List,
   true,
   false,
   pos,
   int_lt,
   length,
+  map,
   slice_get,
   None,
   Some,
   option_map,
   option_copied,
+  All,
   IsTrue,
   IsSome,
   IfSome,
@@ -39,16 +45,24 @@ ghost use Rattle.ipc_state.specs.State.{
   with_queue,
   with_new_queue,
 };
-ghost use Rattle.ipc_state.specs.Tables.{queue_entry};
+ghost use Rattle.ipc_state.specs.Restored.{
+  with_numbers,
+  with_row,
+  with_last_queue,
+  empty_entry,
+  with_text,
+};
+ghost use Rattle.ipc_state.specs.Tables.{process_row, queue_entry, queue_row};
 
+use crate::error::RestoreError;
 use crate::objects::{Entry, LAST_NUMBER, Objects};
 use crate::perm::Perm;
-use crate::processes::{Process, process_place, remove_process};
+use crate::processes::{Process, may_be_next, may_end_with, process_place, remove_process};
 use crate::queues;
 use ipc_base::{Cred, Id, Limits, Moment, Pid};
 use std::alloc::{AllocError, Global};
 use std::marker::Model;
-use sysv_msg::{Message, MsgQueue};
+use sysv_msg::{Message, MsgQueue, QueueNumbers};
 
 /// The state between two events. A contract sees its limits, the state of the definitions, and the room
 /// that is reserved. It is sound: each change asks for what keeps it so.
@@ -111,6 +125,43 @@ impl State {
         ensures { self.new ≡ record self.old { state = at_moment self.old.state moment.0 } }
     {
         self.clock = Moment(self.clock.0.max(moment.0));
+    }
+
+    /// The greatest moment so far.
+    pub fn clock(&self) -> Moment
+        ensures { result.0 ≡ self.now.state.clock }
+    {
+        self.clock
+    }
+
+    /// The number of the next process.
+    pub fn next_pid(&self) -> u32
+        ensures { result ≡ self.now.state.next_pid }
+    {
+        self.next_pid
+    }
+
+    /// The identifier of the next queue.
+    pub fn next_queue(&self) -> u32
+        ensures { result ≡ self.now.state.msg.next }
+    {
+        self.msg.next()
+    }
+
+    /// The connected processes, by pid.
+    pub fn processes(&self) -> &[Process]
+        ensures { map process_row result.now ≡ self.now.state.processes }
+    {
+        &self.processes
+    }
+
+    /// The queues, by identifier. Each is within the limits.
+    pub fn queues(&self) -> &[Entry<MsgQueue>]
+        ensures queues { map queue_row result.now ≡ self.now.state.msg.entries }
+        ensures sound { All (λ e. IsSoundQueue self.now.limits e.object.queue) result.now }
+        ensures numbers { All (λ e. HasNumbers e.object.queue) result.now }
+    {
+        self.msg.entries()
     }
 
     /// Whether a process has this number.
@@ -218,6 +269,7 @@ impl State {
         requires room { self.old.room.queue ≡ true }
         requires unused { keyed self.old.state.msg key ≡ None }
         requires more { is_full self.old.limits.msgmni self.old.state.msg ≡ false }
+        requires mode { perm.mode < 512 }
         ensures state { self.new.state ≡ with_new_queue self.old.limits self.old.state key perm }
         ensures id { result.0 ≡ self.old.state.msg.next }
         ensures limits { self.new.limits ≡ self.old.limits }
@@ -267,5 +319,132 @@ impl State {
         ensures limits { self.new.limits ≡ self.old.limits }
     {
         queues::take(&mut self.msg, id, at, pid, self.clock)
+    }
+
+    /// Replaces the clock and the next numbers by those that were read. It takes no memory. Refused if
+    /// the state would not be sound with them, and then all is as before.
+    pub fn restore_numbers(
+        &mut self,
+        clock: Moment,
+        next_pid: u32,
+        next_queue: u32,
+    ) -> Result<(), RestoreError>
+        ensures state { OnOk result (self.new.state
+            ≡ with_numbers self.old.state clock.0 next_pid next_queue) }
+        ensures limits { self.new.limits ≡ self.old.limits }
+        ensures unsound { result ≡ Err RestoreError.Unsound
+            → ¬ IsSound self.old.limits (with_numbers self.old.state clock.0 next_pid next_queue) }
+        ensures memory { result ≢ Err RestoreError.NoMemory }
+        ensures err { OnErr result (self.new ≡ self.old) }
+    {
+        if !self.may_have_numbers(next_pid, next_queue) {
+            return Err(RestoreError::Unsound);
+        }
+        self.clock = clock;
+        self.next_pid = next_pid;
+        self.msg.set_next(next_queue);
+        Ok(())
+    }
+
+    /// Adds a process that was read, at the end. Refused if the state would not be sound with it, or for
+    /// want of memory, and then all is as before.
+    pub fn restore_process(&mut self, pid: Pid, cred: Cred) -> Result<(), RestoreError>
+        ensures state { OnOk result (self.new.state ≡ with_row self.old.state pid.0 cred) }
+        ensures limits { self.new.limits ≡ self.old.limits }
+        ensures unsound { result ≡ Err RestoreError.Unsound
+            → ¬ IsSound self.old.limits (with_row self.old.state pid.0 cred) }
+        ensures err { OnErr result (self.new ≡ self.old) }
+    {
+        if !self.may_have_process(pid) {
+            return Err(RestoreError::Unsound);
+        }
+        self.processes.reserve(1)?;
+        self.processes.push_reserved(Process { pid, cred });
+        Ok(())
+    }
+
+    /// Adds a queue that was read, at the end and without messages. Refused if the state would not be
+    /// sound with it, or for want of memory, and then all is as before.
+    pub fn restore_queue(
+        &mut self,
+        id: Id,
+        key: i32,
+        perm: Perm,
+        numbers: QueueNumbers,
+    ) -> Result<(), RestoreError>
+        ensures state { OnOk result (self.new.state
+            ≡ with_last_queue self.old.state id.0 (empty_entry key perm numbers)) }
+        ensures sound { OnOk result (IsSound self.new.limits self.new.state) }
+        ensures limits { self.new.limits ≡ self.old.limits }
+        ensures unsound { result ≡ Err RestoreError.Unsound
+            → ¬ IsSound self.old.limits (with_last_queue self.old.state id.0 (empty_entry key perm numbers)) }
+        ensures err { OnErr result (self.new ≡ self.old) }
+    {
+        if !self.may_have_queue(id, key, perm, numbers) {
+            return Err(RestoreError::Unsound);
+        }
+        self.msg.reserve()?;
+        self.msg
+            .push(id, key, perm, MsgQueue::restored(self.alloc, numbers));
+        Ok(())
+    }
+
+    /// Adds a message that was read to the queue that an identifier has, as its newest; nothing else of
+    /// the queue changes. Refused if the state would not be sound with it, or for want of memory, and
+    /// then all is as before.
+    pub fn restore_message(&mut self, id: Id, mtype: i64, text: &[u8]) -> Result<(), RestoreError>
+        requires there { IsSome (queue_of self.old.state id.0) }
+        ensures state { (e : PlainEntry Queue) → queue_of self.old.state id.0 ≡ Some e
+            → OnOk result (self.new.state
+            ≡ with_text self.old.state id.0 e (record { mtype = mtype; text = text.now })) }
+        ensures limits { self.new.limits ≡ self.old.limits }
+        ensures unsound { (e : PlainEntry Queue) → queue_of self.old.state id.0 ≡ Some e
+            → result ≡ Err RestoreError.Unsound
+            → ¬ IsSound self.old.limits
+            (with_text self.old.state id.0 e (record { mtype = mtype; text = text.now })) }
+        ensures err { OnErr result (self.new ≡ self.old) }
+    {
+        if !self.may_have_message(id, mtype, text.len()) {
+            return Err(RestoreError::Unsound);
+        }
+        queues::restore(&mut self.msg, id, mtype, text)?;
+        Ok(())
+    }
+
+    /// Whether the state is sound with these next numbers.
+    fn may_have_numbers(&self, next_pid: u32, next_queue: u32) -> bool
+        ensures { (clock : ℕ) → IsTrue result
+            ↔ IsSound self.now.limits (with_numbers self.now.state clock next_pid next_queue) }
+    {
+        may_be_next(&self.processes, next_pid) && self.msg.may_be_next(next_queue)
+    }
+
+    /// Whether the state is sound with this process at the end.
+    fn may_have_process(&self, pid: Pid) -> bool
+        ensures { (cred : Cred) → IsTrue result
+            ↔ IsSound self.now.limits (with_row self.now.state pid.0 cred) }
+    {
+        may_end_with(&self.processes, self.limits.processes, self.next_pid, pid)
+    }
+
+    /// Whether the state is sound with this queue at the end.
+    fn may_have_queue(&self, id: Id, key: i32, perm: Perm, numbers: QueueNumbers) -> bool
+        ensures { IsTrue result
+            ↔ IsSound self.now.limits (with_last_queue self.now.state id.0 (empty_entry key perm numbers)) }
+    {
+        self.msg.may_end_with(self.limits.msgmni, id, key, perm)
+            && numbers.qbytes <= self.limits.msgmnb
+    }
+
+    /// Whether the state is sound with a message more in a queue that is there.
+    fn may_have_message(&self, id: Id, mtype: i64, len: usize) -> bool
+        requires { IsSome (queue_of self.now.state id.0) }
+        ensures { (e : PlainEntry Queue) (text : List ℕ) → queue_of self.now.state id.0 ≡ Some e
+            → length text ≡ len → IsTrue result
+            ↔ IsSound self.now.limits
+            (with_text self.now.state id.0 e (record { mtype = mtype; text = text })) }
+    {
+        let queue = &self.queue(id).unwrap().object;
+        queues::may_end_with(queue, self.limits(), mtype, len)
     }
 }

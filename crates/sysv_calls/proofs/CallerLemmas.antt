@@ -14,12 +14,12 @@ use Rattle.ipc_wire.specs.Request.{PlainCall}
 use Rattle.ipc_wire.specs.Request as requests
 use Rattle.ipc_wire.specs.declared.reply.Body.TheVariants.{Empty, Number, Message}
 use Rattle.sysv_msg.specs.Queue.{Queue, PlainMessage, is_allowed, sent, taken}
-use Rattle.ipc_state.specs.Objects.{Entry, holding, last_number}
+use Rattle.ipc_state.specs.Objects.{holding, last_number}
 use Rattle.ipc_state.specs.Perm.{perm_of}
 use Rattle.ipc_state.specs.Sound.{IsSound, IsSoundQueue, FitsBody}
 use Rattle.ipc_state.specs.State.{State, cred_of, with_queue, with_new_queue}
 use Rattle.ipc_state.proofs.CallerLemmas.{EndsSound, Ends, after-refuse, after-orelse, by-if_some, answered, read, ended-sound, ended-keeps}
-use Rattle.ipc_state.proofs.CallerLemmas.{with_new_queue-sound, with_queue-sound, queue-sound, sent-sound, taken-sound}
+use Rattle.ipc_state.proofs.CallerLemmas.{perm_of-mode, with_new_queue-sound, with_queue-sound, queue-sound, sent-sound, taken-sound}
 use Rattle.sysv_calls.specs.Calls.{message_at, call_of, attempt}
 use Rattle.sysv_calls.specs.Calls as defined
 
@@ -33,7 +33,7 @@ module _ (limits : Limits) (s : State) where
       by-if_some (λ id _. after-refuse EEXIST (λ _. read (Number id) (λ _. omega arith)))
       (λ unused. after-refuse ENOENT (λ _. after-refuse ENOSPC (λ room.
       answered (with_new_queue limits s key (perm_of cred flags)) (Number s.msg.next) (record {
-        state = λ h. with_new_queue-sound limits s key (perm_of cred flags) unused room h;
+        state = λ h. with_new_queue-sound limits s key (perm_of cred flags) unused room (perm_of-mode cred flags) h;
         body = λ _. omega arith;
         kept = refl;
       }))))
@@ -42,9 +42,9 @@ module _ (limits : Limits) (s : State) where
   msgsnd-ends pid id mtype text =
       let m : PlainMessage = record { mtype = mtype; text = text } in
       after-refuse EINVAL (λ above. after-refuse EINVAL (λ short. after-orelse EINVAL (λ e is. after-refuse EAGAIN (λ fits.
-      let new : Entry Queue = holding e (sent e.object m pid s.clock) in
-      answered (with_queue s id new) Empty (record {
-        state = λ h. with_queue-sound limits s id e new is refl
+      let new : Queue = sent e.object m pid s.clock in
+      answered (with_queue s id (holding e new)) Empty (record {
+        state = λ h. with_queue-sound limits s id e new is
             (sent-sound limits e.object m pid s.clock fits (not_false (int_lt (pos 0) mtype) above) (ltb-false _ _ short) (queue-sound limits s id e is h)) h;
         body = λ _. omega arith;
         kept = refl;
@@ -63,10 +63,10 @@ module _ (limits : Limits) (s : State) where
   msgrcv-ends pid id size mtype =
       after-refuse EINVAL {b = nat_lt last_number size} (λ _. after-orelse EINVAL (λ e is. after-orelse ENOMSG (λ at picked. after-refuse E2BIG (λ _.
       let q : Queue = e.object in
-      let new : Entry Queue = holding e (taken q at pid s.clock) in
+      let new : Queue = taken q at pid s.clock in
       let inside : at < length q.messages = (position-Some (is_allowed q.messages mtype false) q.messages at (record { mtype = pos 0; text = [] }) picked).0 in
-      answered (with_queue s id new) (Message (message_at q at).mtype (message_at q at).text) (record {
-        state = λ h. with_queue-sound limits s id e new is refl (taken-sound limits q at pid s.clock inside (queue-sound limits s id e is h)) h;
+      answered (with_queue s id (holding e new)) (Message (message_at q at).mtype (message_at q at).text) (record {
+        state = λ h. with_queue-sound limits s id e new is (taken-sound limits q at pid s.clock inside (queue-sound limits s id e is h)) h;
         body = λ h. message_at-fits q at inside (queue-sound limits s id e is h);
         kept = refl;
       })))))

@@ -8,6 +8,7 @@ use Rattle.std.specs.List.{list_all}
 use Rattle.std.specs.Ordering.{int_eq}
 use Rattle.sysv_msg.specs.declared.message.Message.{Message}
 use Rattle.sysv_msg.specs.declared.queue.QueueStat.{QueueStat}
+use Rattle.sysv_msg.specs.declared.queue.QueueNumbers.{QueueNumbers}
 
 -- a message as a value: its type and the bytes of its text
 pub record PlainMessage : Type 0 where
@@ -57,6 +58,23 @@ full q bytes = nat_lt q.qbytes (byte_count q.messages + bytes) || nat_lt q.qbyte
 abbrev pub new_queue : ℕ → ℕ → Queue
 new_queue qbytes ctime =
     record { messages = []; qbytes = qbytes; stime = 0; rtime = 0; ctime = ctime; lspid = 0; lrpid = 0 }
+
+-- a queue without messages that has these numbers
+abbrev pub empty_queue : QueueNumbers → Queue
+empty_queue n =
+    record {
+      messages = [];
+      qbytes = n.qbytes;
+      stime = n.stime.0;
+      rtime = n.rtime.0;
+      ctime = n.ctime.0;
+      lspid = n.lspid.0;
+      lrpid = n.lrpid.0;
+    }
+
+-- the queue with a message more, the newest; all else stays
+abbrev pub with_message : Queue → PlainMessage → Queue
+with_message q m = record q { messages = q.messages ++ m ∷ [] }
 
 -- the queue after this process sent the message at this moment
 abbrev pub sent : Queue → PlainMessage → ℕ → ℕ → Queue

@@ -28,6 +28,20 @@ pub struct QueueStat {
     pub lrpid: Pid,
 }
 
+/// What msgctl(2) tells of a queue that its messages do not tell.
+#[derive(Clone, Copy, Debug, PartialEq, Eq)]
+pub struct QueueNumbers {
+    /// The most bytes, and also the most messages.
+    pub qbytes: u32,
+    /// When the last send was, the last receive, and the last change; 0 for never.
+    pub stime: Moment,
+    pub rtime: Moment,
+    pub ctime: Moment,
+    /// Who sent last, and who received last; 0 for nobody.
+    pub lspid: Pid,
+    pub lrpid: Pid,
+}
+
 /// A message queue: its messages, the oldest first, and what msgctl(2) tells of it. A contract sees it
 /// as a queue of plain messages and the room reserved for a further one. The memory of its texts is
 /// their bytes: the buffer of each has room for these and no more.
@@ -74,23 +88,50 @@ impl Model for MsgQueue {
 }
 
 impl MsgQueue {
-    ghost use Rattle.sysv_msg.specs.Queue.{plain, new_queue, full, sent, taken, stat_of, pick, HasRoom};
+    ghost use Rattle.sysv_msg.specs.Queue.{
+      plain,
+      new_queue,
+      empty_queue,
+      with_message,
+      full,
+      sent,
+      taken,
+      stat_of,
+      pick,
+      HasRoom,
+    };
 
     /// A queue without messages that may hold `qbytes` bytes and as many messages. It takes no memory.
     pub fn new(alloc: Global, qbytes: u32, ctime: Moment) -> MsgQueue
         ensures queue { result.queue ≡ new_queue qbytes ctime.0 }
         ensures room { result.room ≡ None }
     {
-        MsgQueue {
-            messages: Vec::new(alloc),
-            spare: Vec::new(alloc),
-            bytes: 0,
+        let numbers = QueueNumbers {
             qbytes,
             stime: Moment(0),
             rtime: Moment(0),
             ctime,
             lspid: Pid(0),
             lrpid: Pid(0),
+        };
+        MsgQueue::restored(alloc, numbers)
+    }
+
+    /// A queue without messages whose numbers are known. It takes no memory.
+    pub fn restored(alloc: Global, numbers: QueueNumbers) -> MsgQueue
+        ensures queue { result.queue ≡ empty_queue numbers }
+        ensures room { result.room ≡ None }
+    {
+        MsgQueue {
+            messages: Vec::new(alloc),
+            spare: Vec::new(alloc),
+            bytes: 0,
+            qbytes: numbers.qbytes,
+            stime: numbers.stime,
+            rtime: numbers.rtime,
+            ctime: numbers.ctime,
+            lspid: numbers.lspid,
+            lrpid: numbers.lrpid,
             alloc,
         }
     }
@@ -128,12 +169,33 @@ impl MsgQueue {
         ensures { self.new.queue
             ≡ sent self.old.queue (record { mtype = mtype; text = text.now }) pid.0 now.0 }
     {
+        self.add(mtype, text);
+        self.lspid = pid;
+        self.stime = now;
+    }
+
+    /// Reserves room for a message and appends it; nobody has sent it, and no time is noted. Refused for
+    /// want of memory, and then the queue and its room are as before.
+    pub fn restore(&mut self, mtype: i64, text: &[u8]) -> Result<(), AllocError>
+        ensures queue { OnOk result (self.new.queue
+            ≡ with_message self.old.queue (record { mtype = mtype; text = text.now })) }
+        ensures err { OnErr result (self.new ≡ self.old) }
+    {
+        self.reserve(text.len())?;
+        self.add(mtype, text);
+        Ok(())
+    }
+
+    /// Appends a message whose room is reserved.
+    fn add(&mut self, mtype: i64, text: &[u8])
+        requires { HasRoom self.old (length text.now) }
+        ensures { self.new.queue
+            ≡ with_message self.old.queue (record { mtype = mtype; text = text.now }) }
+    {
         let mut kept = mem::replace(&mut self.spare, Vec::new(self.alloc));
         append(&mut kept, text);
         self.messages.push(Message { mtype, text: kept }).unwrap();
         self.bytes += text.len() as u128;
-        self.lspid = pid;
-        self.stime = now;
     }
 
     /// The position of the message that a receive of this type takes, counted from the oldest: with

@@ -1,4 +1,4 @@
-use Rattle.std.proofs.Common.{◌≡◌, ℤ, pos, ◌≤◌, Some, length, refl, sym, subst, ap, ◌∙◌}
+use Rattle.std.proofs.Common.{◌≡◌, ℤ, pos, ◌≤◌, Some, length, sym, subst, ap, ◌∙◌}
 use Rattle.std.specs.Prelude.{int_lt, IsTrue, IsSome}
 use Rattle.std.specs.Int.{w64, cast_signed as to_z, cast_unsigned as of_z}
 use Rattle.std.proofs.lemmas.Int.{to_z-of_z}
@@ -32,7 +32,7 @@ invariant_of-self c =
     let is : state_of t.clock t.next_pid t.processes c.send.new.queues ≡ with_queue s id new =
     ap (λ (o : Objects Queue). record s { msg = o }) (c.send.ensures some.0 some.1) in (
       c.self.invariant.0,
-      subst (λ (n : State). IsSound t.limits n) (sym is) (with_queue-sound t.limits s id old new some.1 refl good c.self.invariant.1),
+      subst (λ (n : State). IsSound t.limits n) (sym is) (with_queue-sound t.limits s id old new.object some.1 good c.self.invariant.1),
     )
 
 pub returns-clause-state : goal.returns-clause-state

@@ -1,4 +1,4 @@
-use Rattle.std.proofs.Common.{◌≡◌, Some, refl, sym, subst, ap, ◌∙◌}
+use Rattle.std.proofs.Common.{◌≡◌, Some, sym, subst, ap, ◌∙◌}
 use Rattle.std.specs.Prelude.{IsSome}
 use Rattle.sysv_msg.specs.Queue.{Queue, taken}
 use Rattle.ipc_state.specs.Held.{Held}
@@ -25,5 +25,5 @@ invariant_of-self c =
     let is : state_of t.clock t.next_pid t.processes c.take.new.queues ≡ with_queue s id new =
     ap (λ (o : Objects Queue). record s { msg = o }) (c.take.ensures.queues some.0 some.1) in (
       c.self.invariant.0,
-      subst (λ (n : State). IsSound t.limits n) (sym is) (with_queue-sound t.limits s id old new some.1 refl good c.self.invariant.1),
+      subst (λ (n : State). IsSound t.limits n) (sym is) (with_queue-sound t.limits s id old new.object some.1 good c.self.invariant.1),
     )

@@ -1,7 +1,7 @@
 use Rattle.std.proofs.Common.{◌+◌, ◌^◌, ◌<◌, length, rules}
 use Rattle.std.proofs.Math.Facts.{Fits-of_lt}
 use Rattle.sysv_msg.proofs.Bytes.{bytes_fit}
-use Rattle.sysv_msg.proofs.queue.MsgQueue.send.Goals as goal
+use Rattle.sysv_msg.proofs.queue.MsgQueue.add.Goals as goal
 
 pub overflow_add-self : goal.overflow_add-self
 overflow_add-self c =
