@@ -1,6 +1,6 @@
 -- What the crates above cite of fields side by side, of tables, of numbers that rise, and of limits that were checked.
 use Rattle.std.proofs.Common.{◌≡◌, ◌≢◌, ℕ, zero, suc, ◌+◌, ◌<◌, ◌≤◌, Bool, true, false, not, ◌&&◌, leb, cond, ◌⊎◌, inl, inr, List, [], ◌∷◌, ◌++◌, length}
-use Rattle.std.proofs.Common.{map, find, get_or, set, is_some, Option, Some, None, refl, sym, ap, subst, ◌∙◌, arith}
+use Rattle.std.proofs.Common.{take, drop, ◌*◌, ◌^◌, map, find, get_or, set, is_some, Option, Some, None, refl, sym, ap, subst, ◌∙◌, arith}
 use Rattle.std.specs.Prelude.{nat_eq, nat_lt, if◌then◌else◌, All, ◌||◌, option_map}
 use Rattle.std.specs.List.{list_any, remove, position, position_or_len, IsDistinct, AllByRecursion}
 use Rattle.std.specs.Cmp.{IsEquivalence}
@@ -13,6 +13,12 @@ use Rattle.std.proofs.lemmas.Map.Keys.{IsDistinct-head, IsDistinct-tail, IsDisti
 use Rattle.ipc_base.specs.declared.limits.Limits.{Limits}
 use Rattle.ipc_base.specs.Limits.{tests, is_within, ArePassed, longest_body, longest_reply}
 use Rattle.ipc_base.specs.Table.{value_at, with_value, without, with_entry, keys_of, seen_as, EachValue, ArePaired, IsRising}
+use Rattle.std.specs.Int.{Width, w32, w64, from_be_bytes, to_be_bytes}
+use Rattle.std.specs.List.{flat_map}
+use Rattle.std.proofs.lemmas.Grind.{flat_map-append}
+use Rattle.std.proofs.lemmas.List.{append_assoc, append-nil, take_at, drop_at, length-take, length-take-le, take-append-drop, get_or-drop, get_or-take, get_or_past}
+use Rattle.std.proofs.lemmas.Nat.{be_bytes_4, be_bytes_8, from_be_bytes-to_be_bytes_4, from_be_bytes-to_be_bytes_8}
+use Rattle.std.proofs.lemmas.Bool.{cases_lt}
 pub use Rattle.ipc_base.proofs.Puts.{puts_both, puts_room, puts_more, puts_next}
 
 -- ---- a table kept as a list of entries, each seen as a row of a key and a value
@@ -765,3 +771,105 @@ longest_reply-bound l passed =
 -- a message of at most msgmax bytes, its type before it, is no longer than the longest body
 pub message-is_bounded : (l : Limits) (n : ℕ) → n ≤ l.msgmax → 8 + n ≤ longest_body l
 message-is_bounded l n le = omega arith
+
+-- ---- a number at the front of some bytes
+
+-- each of them is a byte
+abbrev pub AreBytes : List ℕ → Type 0
+AreBytes bytes = (i : ℕ) → get_or bytes i 0 < 256
+
+pub bytes-take : (n : ℕ) (bytes : List ℕ) → AreBytes bytes → AreBytes (take n bytes)
+bytes-take n bytes are i =
+    elim (cases_lt i n) [
+      | inl lt ↦ rw (get_or-take n bytes i 0 lt) (are i)
+      | inr le ↦ rw (get_or_past (take n bytes) i 0 (omega (arith, length-take n bytes))) (omega arith)
+    ]
+
+pub bytes-drop : (n : ℕ) (bytes : List ℕ) → AreBytes bytes → AreBytes (drop n bytes)
+bytes-drop n bytes are i = rw get_or-drop (are (n + i))
+
+-- a number of a width was taken from the front: the bytes spell it, and these are left
+pub record Number (w : Width) (n : ℕ) (old new : List ℕ) (x : ℕ) : Type 0 where
+  pub spelled : old ≡ to_be_bytes w x ++ new
+  pub below : x < 2 ^ (8 * n)
+  pub left : AreBytes new
+
+abbrev pub Got : Width → ℕ → List ℕ → List ℕ → ℕ → Type 0
+Got w n old new x = (n ≤ length old) × (x ≡ from_be_bytes w (take n old)) × (new ≡ drop n old)
+
+module _ (w : Width) (n : ℕ)
+    (spells : (bs : List ℕ) (x : ℕ) → length bs ≡ n → AreBytes bs → x ≡ from_be_bytes w bs → to_be_bytes w x ≡ bs)
+    (fits : (bs : List ℕ) → AreBytes bs → from_be_bytes w bs < 2 ^ (8 * n))
+    (reads : (x : ℕ) → x < 2 ^ (8 * n) → from_be_bytes w (to_be_bytes w x) ≡ x)
+    (long : (x : ℕ) → length (to_be_bytes w x) ≡ n) where
+  got : (old new : List ℕ) (x : ℕ) → AreBytes old → Got w n old new x → Number w n old new x
+  got old new x are it =
+      let front = spells (take n old) x (length-take-le n old it.0) (bytes-take n old are) it.1 in
+      record {
+        spelled = sym (take-append-drop n old) ∙ ap (λ (l : List ℕ). l ++ drop n old) (sym front)
+            ∙ ap (λ (l : List ℕ). to_be_bytes w x ++ l) (sym it.2);
+        below = rw it.1 (fits (take n old) (bytes-take n old are));
+        left = rw it.2 (bytes-drop n old are);
+      }
+
+  known : (y : ℕ) (rest old new : List ℕ) (x : ℕ) → y < 2 ^ (8 * n) → old ≡ to_be_bytes w y ++ rest → Got w n old new x
+      → (x ≡ y) × (new ≡ rest)
+  known y rest old new x lt is it =
+      let front : take n old ≡ to_be_bytes w y = ap (take n) is ∙ take_at (to_be_bytes w y) rest n (long y) in
+      let back : drop n old ≡ rest = ap (drop n) is ∙ drop_at (to_be_bytes w y) rest n (long y) in
+      (it.1 ∙ ap (from_be_bytes w) front ∙ reads y lt, it.2 ∙ back)
+
+-- of four bytes, and of eight
+pub number32_got : (old new : List ℕ) (x : ℕ) → AreBytes old → Got w32 4 old new x → Number w32 4 old new x
+number32_got = got w32 4 be_bytes_4 (λ bs are. omega (arith, are 0, are 1, are 2, are 3)) from_be_bytes-to_be_bytes_4 (λ x. refl)
+
+pub number32_known : (y : ℕ) (rest old new : List ℕ) (x : ℕ) → y < 2 ^ 32 → old ≡ to_be_bytes w32 y ++ rest
+    → Got w32 4 old new x → (x ≡ y) × (new ≡ rest)
+number32_known = known w32 4 be_bytes_4 (λ bs are. omega (arith, are 0, are 1, are 2, are 3)) from_be_bytes-to_be_bytes_4 (λ x. refl)
+
+pub number64_got : (old new : List ℕ) (x : ℕ) → AreBytes old → Got w64 8 old new x → Number w64 8 old new x
+number64_got = got w64 8 be_bytes_8
+    (λ bs are. omega (arith, are 0, are 1, are 2, are 3, are 4, are 5, are 6, are 7)) from_be_bytes-to_be_bytes_8 (λ x. refl)
+
+pub number64_known : (y : ℕ) (rest old new : List ℕ) (x : ℕ) → y < 2 ^ 64 → old ≡ to_be_bytes w64 y ++ rest
+    → Got w64 8 old new x → (x ≡ y) × (new ≡ rest)
+number64_known = known w64 8 be_bytes_8
+    (λ bs are. omega (arith, are 0, are 1, are 2, are 3, are 4, are 5, are 6, are 7)) from_be_bytes-to_be_bytes_8 (λ x. refl)
+
+-- ---- things spelled one after another
+
+-- Where each thing that holds P is told by the front of its bytes, so is each of a list of them.
+module _ {X : Type 0} (bytes_of : X → List ℕ) (P : X → Type 0)
+    (one : (x y : X) (more others : List ℕ) → P x → P y → bytes_of x ++ more ≡ bytes_of y ++ others → (x ≡ y) × (more ≡ others)) where
+  -- the first ones are told apart, and the next one stands next
+  pub spelled-next : (xs ys : List X) (rest after : List ℕ) → All P xs → All P ys → length xs < length ys
+      → flat_map bytes_of xs ++ rest ≡ flat_map bytes_of ys ++ after
+      → (y : X) × (more : List X) × (ys ≡ xs ++ y ∷ more) × (rest ≡ bytes_of y ++ (flat_map bytes_of more ++ after))
+  spelled-next xs [] rest after has also less same = absurd (omega (arith, less))
+  spelled-next [] (y ∷ ys) rest after has also less same = (y, ys, refl, same ∙ append_assoc (bytes_of y) (flat_map bytes_of ys) after)
+  spelled-next (x ∷ xs) (y ∷ ys) rest after has also less same =
+      let first = one x y (flat_map bytes_of xs ++ rest) (flat_map bytes_of ys ++ after) (All-head P x xs has) (All-head P y ys also)
+      (sym (append_assoc (bytes_of x) (flat_map bytes_of xs) rest) ∙ same ∙ append_assoc (bytes_of y) (flat_map bytes_of ys) after) in
+      let next = spelled-next xs ys rest after (All-tail P x xs has) (All-tail P y ys also) (omega (arith, less)) first.1 in
+      (next.0, next.1, ap (λ (z : X). z ∷ ys) (sym first.0) ∙ ap (λ (l : List X). x ∷ l) next.2, next.3)
+
+  -- as many of them are the same, and so is what follows them
+  pub spelled-same : (xs ys : List X) (rest after : List ℕ) → All P xs → All P ys → length xs ≡ length ys
+      → flat_map bytes_of xs ++ rest ≡ flat_map bytes_of ys ++ after → (xs ≡ ys) × (rest ≡ after)
+  spelled-same [] [] rest after has also long same = (refl, same)
+  spelled-same [] (y ∷ ys) rest after has also long same = absurd (omega (arith, long))
+  spelled-same (x ∷ xs) [] rest after has also long same = absurd (omega (arith, long))
+  spelled-same (x ∷ xs) (y ∷ ys) rest after has also long same =
+      let first = one x y (flat_map bytes_of xs ++ rest) (flat_map bytes_of ys ++ after) (All-head P x xs has) (All-head P y ys also)
+      (sym (append_assoc (bytes_of x) (flat_map bytes_of xs) rest) ∙ same ∙ append_assoc (bytes_of y) (flat_map bytes_of ys) after) in
+      let next = spelled-same xs ys rest after (All-tail P x xs has) (All-tail P y ys also) (omega (arith, long)) first.1 in
+      (ap (λ (z : X). z ∷ xs) first.0 ∙ ap (λ (l : List X). y ∷ l) next.0, next.1)
+
+  -- one more of them
+  pub spelled-more : (xs : List X) (x : X) (bytes rest left : List ℕ) → bytes ≡ flat_map bytes_of xs ++ rest
+      → rest ≡ bytes_of x ++ left → bytes ≡ flat_map bytes_of (xs ++ x ∷ []) ++ left
+  spelled-more xs x bytes rest left is next =
+      is ∙ ap (λ (l : List ℕ). flat_map bytes_of xs ++ l) next
+      ∙ sym (append_assoc (flat_map bytes_of xs) (bytes_of x) left)
+      ∙ ap (λ (l : List ℕ). l ++ left) (ap (λ (l : List ℕ). flat_map bytes_of xs ++ l) (sym (append-nil (bytes_of x)))
+      ∙ sym (flat_map-append bytes_of xs (x ∷ [])))

@@ -1,2 +1,3 @@
+mod ObjectLists
 pub mod Puts
 pub mod CallerLemmas

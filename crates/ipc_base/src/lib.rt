@@ -6,6 +6,7 @@ mod errno;
 mod flags;
 mod identity;
 mod limits;
+mod objects;
 mod put;
 
 pub use cursor::Cursor;
@@ -13,6 +14,7 @@ pub use errno::Errno;
 pub use flags::{GetFlags, MsgFlags, OpenFlags, SemFlags};
 pub use identity::{Cred, Id, Moment, Pid};
 pub use limits::{BadLimits, Limits};
+pub use objects::{ObjectMap, Objects, window_of};
 pub use put::Put;
 
 #[cfg(test)]

@@ -1,0 +1,20 @@
+//! Checkpoints: objects and an epoch on a disk, which a save replaces whole or not at all.
+#![tactic(auto)]
+
+mod area;
+mod checkpoint;
+mod error;
+mod laws;
+mod layout;
+mod loading;
+mod root;
+mod saving;
+mod writer;
+
+pub use checkpoint::Checkpoint;
+pub use error::LoadError;
+pub use laws::an_image_is_one_checkpoint;
+pub use layout::Layout;
+
+#[cfg(test)]
+mod tests;
