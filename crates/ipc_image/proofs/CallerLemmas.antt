@@ -10,7 +10,8 @@ use Rattle.ipc_engine.specs.Event.{PlainEvent, Connect, Call, Tick, Exit, Restar
 use Rattle.ipc_image.specs.Records.{kind_of, details, text_of, record_bytes, HasDetails, HasRecord, BeginsWith}
 use Rattle.ipc_image.specs.RecordParts.{IsOf}
 use Rattle.ipc_image.specs.Superblock.{superblock_fields, IsFormatted, version_in, IsSuperblock}
-use Rattle.ipc_image.proofs.EventRecords.{Got, GotLong, number_known, connect_only, call_only, text_only, length_text, begun, text_cut}
+use Rattle.ipc_base.proofs.CallerLemmas.{number32_known}
+use Rattle.ipc_image.proofs.EventRecords.{Got, GotLong, connect_only, call_only, text_only, length_text, begun, text_cut}
 use Rattle.ipc_image.proofs.Numbers.{spelled}
 use Rattle.ipc_image.proofs.Reading as reading
 
@@ -60,7 +61,7 @@ one_of (Tick moment) (Call p r m) has is = absurd (omega (arith, is.kind_is))
 one_of (Tick moment) (Exit p m) has is = absurd (omega (arith, is.kind_is))
 one_of (Tick moment) Restart has is = absurd (omega (arith, is.kind_is))
 one_of (Exit pid moment) (Exit other later) has is =
-    let same = number_known other [] (to_be_bytes w32 pid) [] pid is.has is.details_are (got_spelled pid [] has) in
+    let same = number32_known other [] (to_be_bytes w32 pid) [] pid is.has is.details_are (got_spelled pid [] has) in
     ap (λ (n : ℕ). Exit n moment) same.0 ∙ ap (λ (n : ℕ). Exit other n) is.moment_is
 one_of (Exit pid moment) (Connect cred s m) has is = absurd (omega (arith, is.kind_is))
 one_of (Exit pid moment) (Call p r m) has is = absurd (omega (arith, is.kind_is))

@@ -12,46 +12,17 @@ use Rattle.ipc_wire.specs.Spelling.{HasFrame, request_bytes, frame}
 use Rattle.ipc_engine.specs.Event.{PlainEvent, Connect, Call, Tick, Exit, Restart, moment_of}
 use Rattle.ipc_image.specs.Records.{kind_of, details, text_of, record_bytes, HasDetails, BeginsWith}
 use Rattle.ipc_image.specs.RecordParts.{IsText, IsOf}
+use Rattle.ipc_base.proofs.CallerLemmas.{Got as GotOf, bytes-drop, number32_got, number32_known, number64_got}
 use Rattle.ipc_image.proofs.Numbers.{AreBelow}
 
 -- ---- a number at the front of some bytes
 
--- a number of four bytes was taken from the front
+-- a number of four bytes was taken from the front, or one of eight
 abbrev pub Got : List ℕ → List ℕ → ℕ → Type 0
-Got old new n = (4 ≤ length old) × (n ≡ from_be_bytes w32 (take 4 old)) × (new ≡ drop 4 old)
+Got old new n = GotOf w32 4 old new n
 
-drop_below : (n : ℕ) (bytes : List ℕ) → AreBelow 256 bytes → AreBelow 256 (drop n bytes)
-drop_below n bytes fits i = rw get_or-drop (fits (n + i))
-
-pub record Number (old new : List ℕ) (n : ℕ) : Type 0 where
-  pub spelled : old ≡ to_be_bytes w32 n ++ new
-  pub below : n < 2 ^ 32
-  pub left : AreBelow 256 new
-
-below_4 : (part : List ℕ) → AreBelow 256 part → from_be_bytes w32 part < 2 ^ 32
-below_4 part fits = omega (arith, fits 0, fits 1, fits 2, fits 3)
-
-pub take_below : (n : ℕ) (bytes : List ℕ) → AreBelow 256 bytes → AreBelow 256 (take n bytes)
-take_below n bytes fits i =
-    elim (cases_lt i n) [
-      | inl lt ↦ rw (get_or-take n bytes i 0 lt) (fits i)
-      | inr le ↦ rw (get_or_past (take n bytes) i 0 (omega (arith, length-take n bytes))) (omega arith)
-    ]
-
-pub number_got : (old new : List ℕ) (n : ℕ) → AreBelow 256 old → Got old new n → Number old new n
-number_got old new n fits got =
-    let part = take_below 4 old fits in
-    let front : to_be_bytes w32 n ≡ take 4 old = be_bytes_4 (take 4 old) n (length-take-le 4 old got.0) part got.1 in
-    record {
-      spelled = sym (take-append-drop 4 old) ∙ ap (λ (x : List ℕ). x ++ drop 4 old) (sym front) ∙ ap (λ (x : List ℕ). to_be_bytes w32 n ++ x) (sym got.2);
-      below = rw got.1 (below_4 (take 4 old) part);
-      left = rw got.2 (drop_below 4 old fits);
-    }
-
--- which number it is
-pub number_known : (n : ℕ) (rest old new : List ℕ) (x : ℕ) → n < 2 ^ 32 → old ≡ to_be_bytes w32 n ++ rest → Got old new x → (x ≡ n) × (new ≡ rest)
-number_known n rest old new x fits is got =
-    (got.1 ∙ ap (λ (bytes : List ℕ). from_be_bytes w32 (take 4 bytes)) is ∙ from_be_bytes-to_be_bytes_4 n fits, got.2 ∙ ap (drop 4) is)
+abbrev pub GotLong : List ℕ → List ℕ → ℕ → Type 0
+GotLong old new n = GotOf w64 8 old new n
 
 -- ---- the details of each kind
 
@@ -63,9 +34,9 @@ pub connect_found : (moment : ℕ) (bytes one two three : List ℕ) (serial uid 
     → Got bytes one serial → Got one two uid → Got two three gid
     → length three ≡ 0 → IsOf 1 moment bytes (Connect (record { uid = uid; gid = gid }) serial moment)
 connect_found moment bytes one two three serial uid gid fits a b c empty =
-    let first = number_got bytes one serial fits a in
-    let second = number_got one two uid first.left b in
-    let third = number_got two three gid second.left c in
+    let first = number32_got bytes one serial fits a in
+    let second = number32_got one two uid first.left b in
+    let third = number32_got two three gid second.left c in
     record {
       has = (first.below, second.below, third.below);
       kind_is = refl;
@@ -86,9 +57,9 @@ same_connect cred uid gid serial other moment later p q r t =
 pub connect_only : (moment : ℕ) (bytes one two three : List ℕ) (serial uid gid : ℕ) → Got bytes one serial → Got one two uid → Got two three gid
     → (e : PlainEvent) → IsOf 1 moment bytes e → Some (Connect (record { uid = uid; gid = gid }) serial moment) ≡ Some e
 connect_only moment bytes one two three serial uid gid a b c (Connect cred s m) is =
-    let first = number_known s (to_be_bytes w32 cred.uid ++ to_be_bytes w32 cred.gid) bytes one serial is.has.0 is.details_are a in
-    let second = number_known cred.uid (to_be_bytes w32 cred.gid) one two uid is.has.1 first.1 b in
-    let third = number_known cred.gid [] two three gid is.has.2 second.1 c in
+    let first = number32_known s (to_be_bytes w32 cred.uid ++ to_be_bytes w32 cred.gid) bytes one serial is.has.0 is.details_are a in
+    let second = number32_known cred.uid (to_be_bytes w32 cred.gid) one two uid is.has.1 first.1 b in
+    let third = number32_known cred.gid [] two three gid is.has.2 second.1 c in
     ap (λ (e : PlainEvent). Some e) (same_connect cred uid gid serial s moment m second.0 third.0 first.0 is.moment_is)
 connect_only moment bytes one two three serial uid gid a b c (Call pid request m) is = absurd (omega (arith, is.kind_is))
 connect_only moment bytes one two three serial uid gid a b c (Tick m) is = absurd (omega (arith, is.kind_is))
@@ -98,7 +69,7 @@ connect_only moment bytes one two three serial uid gid a b c Restart is = absurd
 pub call_found : (moment : ℕ) (bytes rest : List ℕ) (pid : ℕ) (request : PlainRequest) → AreBelow 256 bytes → Got bytes rest pid
     → HasFrame request → rest ≡ request_bytes request → IsOf 2 moment bytes (Call pid request moment)
 call_found moment bytes rest pid request fits a has is =
-    let first = number_got bytes rest pid fits a in
+    let first = number32_got bytes rest pid fits a in
     record {
       has = (first.below, has);
       kind_is = refl;
@@ -110,7 +81,7 @@ pub call_only : (moment : ℕ) (bytes rest : List ℕ) (pid : ℕ) (request : Pl
     → ((r : PlainRequest) → HasFrame r → rest ≡ request_bytes r → Some request ≡ Some r)
     → (e : PlainEvent) → IsOf 2 moment bytes e → Some (Call pid request moment) ≡ Some e
 call_only moment bytes rest pid request a only (Call p r m) is =
-    let first = number_known p (request_bytes r) bytes rest pid is.has.0 is.details_are a in
+    let first = number32_known p (request_bytes r) bytes rest pid is.has.0 is.details_are a in
     let same = only r is.has.1 first.1 in
     let one : request ≡ r = cc in
     ap (λ (n : ℕ). Some (Call n request moment)) first.0
@@ -127,34 +98,24 @@ pub if_found : {X : Type 0} (o : Option X) (P Q : X → Type 0) → ((x : X) →
 if_found None P Q more h = tt
 if_found (Some x) P Q more h = more x h
 
--- a byte, and a number of eight bytes, were taken from the front
+-- a byte was taken from the front
 abbrev pub GotByte : List ℕ → List ℕ → ℕ → Type 0
 GotByte old new n = (1 ≤ length old) × (n ≡ slice_index (take 1 old) 0) × (new ≡ drop 1 old)
-
-abbrev pub GotLong : List ℕ → List ℕ → ℕ → Type 0
-GotLong old new n = (8 ≤ length old) × (n ≡ from_be_bytes w64 (take 8 old)) × (new ≡ drop 8 old)
 
 first_byte : (old : List ℕ) → 1 ≤ length old → old ≡ slice_index (take 1 old) 0 ∷ drop 1 old
 first_byte [] some = absurd (omega (arith, some))
 first_byte (x ∷ xs) some = refl
 
-below_8 : (part : List ℕ) → AreBelow 256 part → from_be_bytes w64 part < 2 ^ 64
-below_8 part fits = omega (arith, fits 0, fits 1, fits 2, fits 3, fits 4, fits 5, fits 6, fits 7)
-
 pub text_found : (text one two : List ℕ) (kind moment : ℕ) → AreBelow 256 text → GotByte text one kind → GotLong one two moment
     → (e : PlainEvent) → IsOf kind moment two e → IsText text e
 text_found text one two kind moment fits a b e is =
-    let left : AreBelow 256 one = rw a.2 (drop_below 1 text fits) in
-    let part = take_below 8 one left in
-    let front : to_be_bytes w64 moment ≡ take 8 one = be_bytes_8 (take 8 one) moment (length-take-le 8 one b.0) part b.1 in
-    let below : moment < 2 ^ 64 = rw b.1 (below_8 (take 8 one) part) in
-    let after : one ≡ to_be_bytes w64 moment ++ two =
-    sym (take-append-drop 8 one) ∙ ap (λ (x : List ℕ). x ++ drop 8 one) (sym front) ∙ ap (λ (x : List ℕ). to_be_bytes w64 moment ++ x) (sym b.2) in
+    let number = number64_got one two moment (rw a.2 (bytes-drop 1 text fits)) b in
+    let after : one ≡ to_be_bytes w64 moment ++ two = number.spelled in
     let whole : text ≡ kind ∷ to_be_bytes w64 moment ++ two =
     first_byte text a.0 ∙ ap (λ (x : List ℕ). slice_index (take 1 text) 0 ∷ x) (sym a.2 ∙ after)
     ∙ ap (λ (n : ℕ). n ∷ to_be_bytes w64 moment ++ two) (sym a.1) in
     record {
-      has = record { moment = rw is.moment_is at below; details = is.has };
+      has = record { moment = rw is.moment_is at number.below; details = is.has };
       text_is =
           whole ∙ ap (λ (n : ℕ). n ∷ to_be_bytes w64 moment ++ two) is.kind_is ∙ ap (λ (n : ℕ). kind_of e ∷ to_be_bytes w64 n ++ two) is.moment_is
           ∙ ap (λ (x : List ℕ). kind_of e ∷ to_be_bytes w64 (moment_of e) ++ x) is.details_are;
@@ -222,7 +183,7 @@ no_length bytes short e is =
 pub no_text : (bytes one : List ℕ) (n : ℕ) → Got bytes one n → length one < n → (e : PlainEvent) → BeginsWith bytes e → ⊥
 no_text bytes one n a short e is =
     let b = begun bytes e is in
-    let known = number_known (9 + length (details e)) (text_of e ++ b.more) bytes one n b.below b.spelled a in
+    let known = number32_known (9 + length (details e)) (text_of e ++ b.more) bytes one n b.below b.spelled a in
     omega (arith, short, known.0, ap length known.1, length-append (text_of e) b.more, length_text e)
 
 -- the text that was cut is the event's
@@ -230,7 +191,7 @@ pub text_cut : (bytes one text : List ℕ) (n : ℕ) → Got bytes one n → tex
     → IsText text e × (n ≡ 9 + length (details e))
 text_cut bytes one text n a cut e is =
     let b = begun bytes e is in
-    let known = number_known (9 + length (details e)) (text_of e ++ b.more) bytes one n b.below b.spelled a in
+    let known = number32_known (9 + length (details e)) (text_of e ++ b.more) bytes one n b.below b.spelled a in
     let text_is : text ≡ text_of e =
     cut ∙ ap (λ (m : ℕ). take m one) known.0 ∙ ap (take (9 + length (details e))) known.1
     ∙ take_at (text_of e) b.more (9 + length (details e)) (length_text e) in
@@ -240,7 +201,7 @@ pub record_found : (bytes one text two : List ℕ) (n : ℕ) → AreBelow 256 by
     → (e : PlainEvent) → IsText text e → BeginsWith bytes e × (4 + n ≡ length (record_bytes e))
 unfolding record_bytes
 record_found bytes one text two n fits a enough cut e is =
-    let got = number_got bytes one n fits a in
+    let got = number32_got bytes one n fits a in
     let size : n ≡ 9 + length (details e) = sym (length-take-le n one enough) ∙ ap length (sym cut ∙ is.text_is) ∙ length_text e in
     let whole : bytes ≡ record_bytes e ++ drop n one =
     got.spelled ∙ ap (λ (x : List ℕ). to_be_bytes w32 n ++ x) (sym (take-append-drop n one))

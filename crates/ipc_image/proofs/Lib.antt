@@ -2,5 +2,12 @@
 mod Bounds
 mod Numbers
 mod Reading
+mod FieldLists
+mod RestoredParts
+mod RestoredQueues
+mod Restored
 mod EventRecords
 pub mod CallerLemmas
+mod Windows
+mod SavedLists
+mod SavedObjects

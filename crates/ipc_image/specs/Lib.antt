@@ -1,5 +1,10 @@
 -- How large a device must be, what its superblock says, and how events stand on it.
+pub mod Fields
+pub mod Saved
 pub mod Sizes
 pub mod Superblock
 pub mod Records
+pub mod Relations
 pub mod RecordParts
+pub mod Window
+pub mod SavedParts

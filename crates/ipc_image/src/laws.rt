@@ -2,10 +2,14 @@
 
 ghost use Rattle.std.specs.Prelude.{◌≡◌, ◌≤◌, ◌<◌, ◌^◌, ◌++◌, ℕ, List};
 ghost use Rattle.ipc_base.specs.Limits.{ArePassed};
+ghost use Rattle.ipc_base.specs.Objects.{Fit};
 ghost use Rattle.ipc_base.specs.declared.limits.Limits.{Limits};
 ghost use Rattle.ipc_engine.specs.Event.{PlainEvent};
+ghost use Rattle.ipc_state.specs.Sound.{IsSound};
+ghost use Rattle.ipc_state.specs.State.{State};
 ghost use Rattle.ipc_image.specs.Records.{record_bytes, HasRecord, BeginsWith};
-ghost use Rattle.ipc_image.specs.Sizes.{need_of};
+ghost use Rattle.ipc_image.specs.Saved.{saved};
+ghost use Rattle.ipc_image.specs.Sizes.{area_of, need_of};
 ghost use Rattle.ipc_image.specs.Superblock.{IsSuperblock, superblock_bytes};
 
 /// What was written is the superblock of that device with those limits, if they passed their check
@@ -31,4 +35,10 @@ pub fn record_is_read()
 /// Bytes begin with the record of one event at most; so no record is the beginning of another.
 pub fn a_record_is_of_one_event()
     ensures { (bytes : List ℕ) (e f : PlainEvent) → BeginsWith bytes e → BeginsWith bytes f → e ≡ f }
+{}
+
+/// A sound state fits, as objects, where it is kept under its limits, with the table that an image has.
+pub fn a_saved_state_fits()
+    ensures { (limits : Limits) (s : State) → ArePassed limits → IsSound limits s
+        → Fit (area_of limits) (saved s) }
 {}

@@ -1,24 +1,38 @@
-//! What the server keeps on a device: how large it must be, its superblock, and the records of
-//! events.
+//! What the server keeps on a device: how large it must be, its superblock, the records of events, and
+//! the state as objects.
 #![tactic(auto)]
 
 mod fault;
+mod fields;
 mod laws;
+mod parts;
 mod places;
 mod records;
+mod restoring;
+mod saved_parts;
 mod sizes;
+mod state_objects;
 mod superblock;
+mod widths;
+mod window;
 
 pub use fault::SuperblockFault;
 pub use laws::{
-    a_record_is_of_one_event, a_sector_is_one_superblock, record_is_read, superblock_is_read,
+    a_record_is_of_one_event, a_saved_state_fits, a_sector_is_one_superblock, record_is_read,
+    superblock_is_read,
 };
 pub use places::{JOURNAL, JOURNAL_COUNT, OBJECTS, ROOT, SUPERBLOCK};
 pub use records::{read_event, record_len, write_event};
+pub use restoring::{ImageError, engine_of};
 pub use sizes::{area, need};
+pub use state_objects::{StartObjects, StateObjects, objects_of, start_objects};
 pub use superblock::{read_superblock, write_superblock};
 
 #[cfg(test)]
 mod record_tests;
+#[cfg(test)]
+mod restoring_tests;
+#[cfg(test)]
+mod state_tests;
 #[cfg(test)]
 mod tests;

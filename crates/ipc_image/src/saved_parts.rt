@@ -1,0 +1,171 @@
+//! The parts of objects, put into a window: numbers in their fields, processes, messages and queues.
+
+ghost use Rattle.std.specs.Prelude.{◌≡◌, ◌<◌, ◌^◌, [], ◌∷◌, map, length};
+ghost use Rattle.std.specs.List.{flat_map};
+ghost use Rattle.sysv_msg.specs.Queue.{plain};
+ghost use Rattle.ipc_state.specs.Sound.{HasNumbers};
+ghost use Rattle.ipc_state.specs.Tables.{process_row, queue_entry};
+ghost use Rattle.ipc_image.specs.Fields.{fields_bytes};
+ghost use Rattle.ipc_image.specs.Saved.{
+  clock_sizes,
+  queue_sizes,
+  queue_numbers,
+  count_bytes,
+  process_bytes,
+  processes_bytes,
+  message_sizes,
+  message_numbers,
+  message_bytes,
+  queue_bytes,
+};
+ghost use Rattle.ipc_image.specs.SavedParts.{field_bytes, all_bytes};
+ghost use Rattle.ipc_image.specs.Window.{passed};
+
+use crate::window::Window;
+use ipc_base::Moment;
+use ipc_state::{Entry, Process};
+use sysv_msg::{Message, MsgQueue};
+
+/// A number in a field of four bytes or of eight.
+#[derive(Clone, Copy)]
+pub(crate) enum Field {
+    Four(u32),
+    Eight(u64),
+}
+
+/// Numbers in their fields, side by side.
+pub(crate) fn put_fields(window: &mut Window, fields: &[Field])
+    ensures { window.new ≡ passed (all_bytes fields.now) window.old }
+{
+    for field in fields {
+        put_field(window, *field);
+    }
+}
+
+fn put_field(window: &mut Window, field: Field)
+    ensures { window.new ≡ passed (field_bytes field) window.old }
+{
+    match field {
+        Field::Four(number) => window.put(&number.to_be_bytes()),
+        Field::Eight(number) => window.put(&number.to_be_bytes()),
+    }
+}
+
+/// The clock, the next pid, and the next number of each kind; kinds that are to come begin at 1.
+pub(crate) fn put_clock(window: &mut Window, clock: Moment, next_pid: u32, next_queue: u32)
+    ensures { window.new ≡ passed (fields_bytes clock_sizes
+        (clock.0 ∷ next_pid ∷ next_queue ∷ 1 ∷ 1 ∷ 1 ∷ 1 ∷ [])) window.old }
+{
+    put_fields(
+        window,
+        &[
+            Field::Eight(clock.0),
+            Field::Four(next_pid),
+            Field::Four(next_queue),
+            Field::Four(1),
+            Field::Four(1),
+            Field::Four(1),
+            Field::Four(1),
+        ],
+    );
+}
+
+/// A number of things that follow.
+pub(crate) fn put_count(window: &mut Window, count: u32)
+    ensures { window.new ≡ passed (count_bytes count) window.old }
+{
+    put_fields(window, &[Field::Four(count)]);
+}
+
+/// How many processes there are, and each of them.
+pub(crate) fn put_processes(window: &mut Window, processes: &[Process])
+    requires { length processes.now < 2 ^ 32 }
+    ensures { window.new ≡ passed (processes_bytes (map process_row processes.now)) window.old }
+{
+    put_count(window, processes.len() as u32);
+    for process in processes {
+        put_process(window, process);
+    }
+}
+
+fn put_process(window: &mut Window, process: &Process)
+    ensures { window.new ≡ passed (process_bytes (process_row process.now)) window.old }
+{
+    put_fields(
+        window,
+        &[
+            Field::Four(process.pid.0),
+            Field::Four(process.cred.uid),
+            Field::Four(process.cred.gid),
+            Field::Four(0),
+        ],
+    );
+}
+
+/// How many bytes a queue has, with its messages.
+pub(crate) fn queue_len(entry: &Entry<MsgQueue>) -> u64
+    requires { HasNumbers entry.now.object.queue }
+    ensures { result ≡ length (queue_bytes (queue_entry entry.now)) }
+{
+    let stat = entry.object.stat();
+    64 + 12 * stat.qnum as u64 + stat.bytes as u64
+}
+
+/// A queue, and each of its messages, the oldest first.
+pub(crate) fn put_queue(window: &mut Window, entry: &Entry<MsgQueue>)
+    requires { HasNumbers entry.now.object.queue }
+    ensures { window.new ≡ passed (queue_bytes (queue_entry entry.now)) window.old }
+{
+    put_queue_numbers(window, entry);
+    let count = entry.object.len();
+    for at in 0..count {
+        put_message(window, entry.object.message(at));
+    }
+}
+
+fn put_queue_numbers(window: &mut Window, entry: &Entry<MsgQueue>)
+    requires { HasNumbers entry.now.object.queue }
+    ensures { window.new ≡ passed (fields_bytes queue_sizes (queue_numbers (queue_entry entry.now))) window.old }
+{
+    let perm = entry.perm;
+    let stat = entry.object.stat();
+    put_fields(
+        window,
+        &[
+            Field::Four(entry.key.cast_unsigned()),
+            Field::Four(perm.uid),
+            Field::Four(perm.gid),
+            Field::Four(perm.cuid),
+            Field::Four(perm.cgid),
+            Field::Four(perm.mode),
+            Field::Eight(stat.stime.0),
+            Field::Eight(stat.rtime.0),
+            Field::Eight(stat.ctime.0),
+            Field::Four(stat.lspid.0),
+            Field::Four(stat.lrpid.0),
+            Field::Four(stat.qbytes),
+            Field::Four(stat.qnum as u32),
+        ],
+    );
+}
+
+fn put_message(window: &mut Window, message: &Message)
+    requires { length message.now.text.items < 2 ^ 32 }
+    ensures { window.new ≡ passed (message_bytes (plain message.now)) window.old }
+{
+    put_message_numbers(window, message);
+    window.put(&message.text);
+}
+
+fn put_message_numbers(window: &mut Window, message: &Message)
+    requires { length message.now.text.items < 2 ^ 32 }
+    ensures { window.new ≡ passed (fields_bytes message_sizes (message_numbers (plain message.now))) window.old }
+{
+    put_fields(
+        window,
+        &[
+            Field::Eight(message.mtype.cast_unsigned()),
+            Field::Four(message.text.len() as u32),
+        ],
+    );
+}
