@@ -1,6 +1,7 @@
--- Numbered objects, each some bytes: what a checkpoint saves and gives back. They are a finite map from numbers to bytes,
--- as a list by rising number.
-use Rattle.std.specs.Prelude.{ℕ, ◌+◌, ◌-◌, ◌*◌, ◌/◌, ◌<◌, ◌≤◌, ◌^◌, List, ◌++◌, length, take, drop, replicate, sum_by, All}
+-- Numbered objects, each some bytes: what a checkpoint saves and gives back. They are a finite map from numbers to
+-- bytes, as a list by rising number.
+use Rattle.std.specs.Prelude.{ℕ, ◌+◌, ◌-◌, ◌*◌, ◌/◌, ◌<◌, ◌≤◌, ◌^◌, List, ◌++◌, length, take, drop}
+use Rattle.std.specs.Prelude.{replicate, sum_by, All}
 use Rattle.ipc_base.specs.Table.{keys_of, IsRising}
 
 abbrev pub PlainObjects : Type 0

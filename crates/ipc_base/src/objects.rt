@@ -1,6 +1,7 @@
 //! Numbered objects as bytes: what a checkpoint saves, and what it gives back.
 
-ghost use Rattle.std.specs.Prelude.{◌≡◌, ◌<◌, ◌+◌, ◌^◌, ◌↔◌, IsTrue, ◌++◌, ◌∷◌, [], ℕ, Bool, true, length, map, slice_get};
+ghost use Rattle.std.specs.Prelude.{◌≡◌, ◌<◌, ◌+◌, ◌^◌, ◌↔◌, IsTrue, ◌++◌, ◌∷◌, [], ℕ, Bool, true};
+ghost use Rattle.std.specs.Prelude.{length, map, slice_get};
 ghost use Rattle.std.specs.Prelude.{Some, option_map, OnOk, OnErr, ◌≤◌, ◌-◌, take, drop, replicate};
 ghost use Rattle.ipc_base.specs.Objects.{PlainObjects, AreObjects, window};
 ghost use Rattle.ipc_base.specs.Table.{keys_of, IsRising};

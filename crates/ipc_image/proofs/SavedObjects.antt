@@ -157,7 +157,8 @@ module _ (limits : Limits) (s : State) (passed : ArePassed limits) (sound : IsSo
       (All-weaker (λ (e : ℕ × Entry Queue). length (queue_bytes e.1) ≤ 64 + 13 * limits.msgmnb) (λ e. of (queue_object e) ≤ most)
       (λ e short. omega (arith, short)) s.msg.entries queues-short) in
       let all : sum_by of queues ≤ limits.msgmni * most =
-      omega (arith, sum_by-le of most queues each, mul-le (length queues) most limits.msgmni most (omega (arith, sound.msg.count, length-map s.msg.entries queue_object)) (omega arith)) in
+      let few : length queues ≤ limits.msgmni = omega (arith, sound.msg.count, length-map s.msg.entries queue_object) in
+      omega (arith, sum_by-le of most queues each, mul-le (length queues) most limits.msgmni most few (omega arith)) in
       let processes : 16 * length s.processes ≤ limits.processes * (16 + 16 * limits.descriptors) =
       omega (arith, mul-le (length s.processes) 16 limits.processes (16 + 16 * limits.descriptors) sound.processes (omega arith)) in
       let first : ℕ = sectors 32 + sectors (length (processes_bytes s.processes)) + sectors 4 + sectors 4 in

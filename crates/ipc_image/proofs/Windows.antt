@@ -4,7 +4,8 @@ use Rattle.std.proofs.lemmas.Bool.{cases_lt}
 use Rattle.std.proofs.Math.ListN.{drop_of_length-le}
 use Rattle.std.proofs.Math.Nat.{min_comm}
 use Rattle.std.proofs.Math.Seq.{drop-append-add, take-append-add, take-nil}
-use Rattle.std.proofs.lemmas.List.{append_assoc, append-nil, length-append, drop-append-le, take-append-le, take_all, take_more, take_min, take-take, length-take, flat_map_more}
+use Rattle.std.proofs.lemmas.List.{append_assoc, append-nil, length-append, drop-append-le, flat_map_more}
+use Rattle.std.proofs.lemmas.List.{take-append-le, take_all, take_more, take_min, take-take, length-take}
 use Rattle.std.proofs.lemmas.Slice.{take-put_mid}
 use borrow.Rule.Slice.PartMut.{put_mid}
 use Rattle.std.proofs.lemmas.Option.{get_or_from_slice_get, slice_get_within}

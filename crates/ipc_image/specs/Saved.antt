@@ -1,6 +1,6 @@
--- The state as objects, each of them some bytes under a number: what a checkpoint keeps. There are four that every state
--- has, and one for each queue. Kinds that are still to come have their place: their next number is 1, and no process has
--- a descriptor, no call waits, and no semaphore is adjusted.
+-- The state as objects, each of them some bytes under a number: what a checkpoint keeps. There are four that every
+-- state has, and one for each queue. Kinds that are still to come have their place: their next number is 1, and no
+-- process has a descriptor, no call waits, and no semaphore is adjusted.
 use Rattle.std.specs.Prelude.{◌≡◌, ◌+◌, ◌<◌, ◌^◌, ℕ, List, [], ◌∷◌, ◌++◌, length, map, All, FitsSigned}
 use Rattle.std.specs.Int.{w32, w64, cast_unsigned}
 use Rattle.std.specs.List.{flat_map}

@@ -1,4 +1,4 @@
--- A number as it is put into its field.
+-- A number as it is put into its field, and what is known of numbers once they are read.
 use Rattle.std.specs.Prelude.{ℕ, ◌<◌, ◌^◌, List}
 use Rattle.std.specs.Int.{w32, w64, to_be_bytes}
 use Rattle.std.specs.List.{flat_map}
@@ -20,10 +20,13 @@ all_bytes fields = flat_map field_bytes fields
 
 -- each number of a kind has its place
 abbrev pub IsWidePerm : Perm → Type 0
-IsWidePerm p = (p.uid < 2 ^ 32) × (p.gid < 2 ^ 32) × (p.cuid < 2 ^ 32) × (p.cgid < 2 ^ 32) × (p.mode < 2 ^ 32)
+IsWidePerm p =
+    (p.uid < 2 ^ 32) × (p.gid < 2 ^ 32) × (p.cuid < 2 ^ 32) × (p.cgid < 2 ^ 32) × (p.mode < 2 ^ 32)
 
 abbrev pub IsWideStat : QueueStat → Type 0
-IsWideStat s = (s.stime.0 < 2 ^ 64) × (s.rtime.0 < 2 ^ 64) × (s.ctime.0 < 2 ^ 64) × (s.lspid.0 < 2 ^ 32) × (s.lrpid.0 < 2 ^ 32)
+IsWideStat s =
+    (s.stime.0 < 2 ^ 64) × (s.rtime.0 < 2 ^ 64) × (s.ctime.0 < 2 ^ 64)
+    × (s.lspid.0 < 2 ^ 32) × (s.lrpid.0 < 2 ^ 32)
 
 -- the identifier of a queue that is kept has its place, and so has each of its numbers
 abbrev pub IsWideQueue : Row Kept → Type 0

@@ -1,8 +1,8 @@
 -- A window of 512 bytes onto a text that passes by, piece after piece, and is nowhere as a whole.
 use Rattle.std.specs.Prelude.{ℕ, ◌-◌, List, [], ◌++◌, length, take, drop}
 
--- how many bytes are still to pass before the window begins, the bytes that it shows so far, and for how
--- many more it has room
+-- how many bytes are still to pass before the window begins, the bytes that it shows so far, and for
+-- how many more it has room
 pub record Shown : Type 0 where
   pub before : ℕ
   pub bytes : List ℕ

@@ -37,7 +37,7 @@ pub fn a_record_is_of_one_event()
     ensures { (bytes : List ℕ) (e f : PlainEvent) → BeginsWith bytes e → BeginsWith bytes f → e ≡ f }
 {}
 
-/// A sound state fits, as objects, where it is kept under its limits, with the table that an image has.
+/// A sound state fits, as objects, where it is kept under its limits, with the table of an image.
 pub fn a_saved_state_fits()
     ensures { (limits : Limits) (s : State) → ArePassed limits → IsSound limits s
         → Fit (area_of limits) (saved s) }

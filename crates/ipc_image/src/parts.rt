@@ -1,6 +1,7 @@
 //! The parts of saved objects, read from the front of some bytes.
 
-ghost use Rattle.std.specs.Prelude.{◌≡◌, ◌≢◌, ◌<◌, ◌^◌, ◌++◌, ◌∷◌, [], ℕ, List, length, IfSome, IfNone, FitsSigned};
+ghost use Rattle.std.specs.Prelude.{◌≡◌, ◌≢◌, ◌<◌, ◌^◌, ◌++◌, ◌∷◌, [], ℕ, List};
+ghost use Rattle.std.specs.Prelude.{length, IfSome, IfNone, FitsSigned};
 ghost use Rattle.std.specs.Int.{w32, w64};
 ghost use Rattle.ipc_base.specs.declared.identity.Cred.{Cred as PlainCred};
 ghost use Rattle.sysv_msg.specs.Queue.{Queue, PlainMessage};
@@ -9,7 +10,8 @@ ghost use Rattle.ipc_state.specs.State.{State as PlainState};
 ghost use Rattle.ipc_image.specs.Fields.{fields_bytes, FitFields};
 ghost use Rattle.ipc_image.specs.Saved.{clock_sizes, clock_numbers, count_bytes, process_sizes, process_numbers};
 ghost use Rattle.ipc_image.specs.Saved.{process_bytes, queue_sizes, queue_numbers, message_bytes};
-ghost use Rattle.ipc_image.specs.Relations.Parts.{FitsMessage, FitsProcess, FitsQueue, read_message, read_entry, IsClockOf};
+ghost use Rattle.ipc_image.specs.Relations.Parts.{FitsMessage, FitsProcess, FitsQueue, IsClockOf};
+ghost use Rattle.ipc_image.specs.Relations.Parts.{read_message, read_entry};
 
 use crate::fields::{Size, take_fields};
 use ipc_base::{Cred, Moment, Pid};

@@ -1,6 +1,7 @@
 //! The machine whose state some objects are.
 
-ghost use Rattle.std.specs.Prelude.{◌≡◌, ◌≢◌, ◌<◌, ◌+◌, ◌^◌, ◌++◌, ◌∷◌, [], ℕ, List, length, map, drop, All, Err};
+ghost use Rattle.std.specs.Prelude.{◌≡◌, ◌≢◌, ◌<◌, ◌+◌, ◌^◌, ◌++◌, ◌∷◌, [], ℕ, List};
+ghost use Rattle.std.specs.Prelude.{length, map, drop, All, Err};
 ghost use Rattle.std.specs.Prelude.{IfOk, OnOk, IsSome, IsTrue, ◌↔◌, Some, IfSome, IfNone, slice_get};
 ghost use Rattle.std.specs.List.{flat_map};
 ghost use Rattle.ipc_base.specs.declared.identity.Cred.{Cred as PlainCred};
@@ -13,7 +14,8 @@ ghost use Rattle.ipc_state.specs.Sound.{IsSound};
 ghost use Rattle.ipc_state.specs.State.{State as PlainState, start, queue_of, with_queue};
 ghost use Rattle.ipc_image.specs.Fields.{fields_bytes, FitFields};
 ghost use Rattle.ipc_image.specs.Saved.{clock_sizes, clock_numbers, process_bytes, processes_bytes, message_bytes};
-ghost use Rattle.ipc_image.specs.Saved.{queue_bytes, queue_number, queue_object, count_bytes, saved, HasAllPlaces, StandForState};
+ghost use Rattle.ipc_image.specs.Saved.{queue_bytes, queue_number, queue_object, count_bytes};
+ghost use Rattle.ipc_image.specs.Saved.{saved, HasAllPlaces, StandForState};
 ghost use Rattle.ipc_image.specs.Relations.Parts.{FitsMessage, FitsProcess};
 ghost use Rattle.ipc_image.specs.Relations.Restored.{AddsProcess, AddsMessage, AddsMessages, AddsQueue, HasPlace};
 ghost use Rattle.ipc_image.specs.Relations.Restored.{AddsQueues, AddsProcesses};

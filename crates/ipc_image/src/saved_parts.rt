@@ -1,4 +1,4 @@
-//! The parts of objects, put into a window: numbers in their fields, processes, messages and queues.
+//! The parts of objects, put into a window: numbers in fields, processes, messages and queues.
 
 ghost use Rattle.std.specs.Prelude.{◌≡◌, ◌<◌, ◌^◌, [], ◌∷◌, map, length};
 ghost use Rattle.std.specs.List.{flat_map};
@@ -125,7 +125,8 @@ pub(crate) fn put_queue(window: &mut Window, entry: &Entry<MsgQueue>)
 
 fn put_queue_numbers(window: &mut Window, entry: &Entry<MsgQueue>)
     requires { HasNumbers entry.now.object.queue }
-    ensures { window.new ≡ passed (fields_bytes queue_sizes (queue_numbers (queue_entry entry.now))) window.old }
+    ensures { window.new
+        ≡ passed (fields_bytes queue_sizes (queue_numbers (queue_entry entry.now))) window.old }
 {
     let perm = entry.perm;
     let stat = entry.object.stat();
@@ -159,7 +160,8 @@ fn put_message(window: &mut Window, message: &Message)
 
 fn put_message_numbers(window: &mut Window, message: &Message)
     requires { length message.now.text.items < 2 ^ 32 }
-    ensures { window.new ≡ passed (fields_bytes message_sizes (message_numbers (plain message.now))) window.old }
+    ensures { window.new
+        ≡ passed (fields_bytes message_sizes (message_numbers (plain message.now))) window.old }
 {
     put_fields(
         window,

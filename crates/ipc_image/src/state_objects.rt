@@ -20,7 +20,7 @@ use ipc_state::{Entry, State};
 use std::marker::Model;
 use sysv_msg::MsgQueue;
 
-/// How many objects every state has: the clock, the processes, the waiting calls and the adjustments.
+/// How many objects every state has: the clock, the processes, the waiting calls, the adjustments.
 const ALWAYS: u32 = 4;
 
 /// The number of a queue's object is this one and its identifier.
@@ -42,17 +42,19 @@ impl<'a> Model for StateObjects<'a> {
 
     ghost view = { λ o. o.state.now.state };
 
-    ghost invariant = { λ o. ArePassed o.state.now.limits × IsSound o.state.now.limits o.state.now.state };
+    ghost invariant = { λ o. ArePassed o.state.now.limits
+        × IsSound o.state.now.limits o.state.now.state };
 }
 
-/// The state of the machine as objects. They stand for it alone, and they fit into an area of a device
-/// that is large enough for the machine's limits.
+/// The state of the machine as objects. It takes no memory. They stand for that state, and fit where
+/// objects are kept under the machine's limits.
 pub fn objects_of<'a>(engine: &'a Engine) -> StateObjects<'a>
     ensures objects { ⟦<StateObjects<'a> as Objects>⟧.objects result ≡ saved engine.now.state }
     ensures stand { StandForState engine.now.limits engine.now.state (saved engine.now.state) }
     ensures fit { Fit (area_of engine.now.limits) (saved engine.now.state) }
 {
     let state = engine.state();
+    // What these two ensure says that the state is sound, and that each number has its place.
     state.limits();
     read_state(state);
     StateObjects { state }
@@ -108,8 +110,10 @@ fn queue_at<'a>(state: &'a State, i: u32) -> &'a Entry<MsgQueue>
 // The i-th object passes the window.
 fn put_object(window: &mut Window, state: &State, i: u32)
     requires { i < length (saved state.now.state) }
-    ensures { option_map (λ o. passed o.1 window.old) (slice_get (saved state.now.state) i) ≡ Some window.new }
+    ensures { option_map (λ o. passed o.1 window.old) (slice_get (saved state.now.state) i)
+        ≡ Some window.new }
 {
+    // What it ensures bounds the number of processes.
     state.limits();
     match i {
         0 => put_clock(window, state.clock(), state.next_pid(), state.next_queue()),

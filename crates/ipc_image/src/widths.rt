@@ -1,5 +1,5 @@
-//! That each number of a state has its place in a field. The type of a number says how large it is at
-//! most, and says so once the number is read; so each is read here, and nothing else is done.
+//! That each number of a state has its place in a field. The type of a number says how large it is
+//! at most, and says so once the number is read; so each is read here, and nothing else is done.
 
 ghost use Rattle.std.specs.Prelude.{All, FitsSigned};
 ghost use Rattle.std.specs.Int.{w32, w64};
@@ -25,6 +25,7 @@ use sysv_msg::{Message, MsgQueue, QueueStat};
 pub(crate) fn read_state(state: &State)
     ensures { HasAllPlaces state.now.state }
 {
+    // What it ensures bounds the number of processes.
     state.limits();
     read_clock(state);
     read_processes(state.processes());

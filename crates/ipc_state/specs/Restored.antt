@@ -1,6 +1,6 @@
--- The state with a part more that was read. A state is rebuilt part by part: first the clock and the next numbers, then
--- the processes, then the queues, and each queue's messages from the oldest to the newest. No part that is added changes
--- another: the next numbers and the numbers of a queue are those that were read.
+-- The state with a part more that was read. A state is rebuilt part by part: first the clock and the next numbers,
+-- then the processes, then the queues, and each queue's messages from the oldest to the newest. No part that is added
+-- changes another: the next numbers and the numbers of a queue are those that were read.
 use Rattle.std.specs.Prelude.{ℕ, ℤ, List, [], ◌∷◌, ◌++◌}
 use Rattle.ipc_base.specs.declared.identity.Cred.{Cred}
 use Rattle.sysv_msg.specs.declared.queue.QueueNumbers.{QueueNumbers}

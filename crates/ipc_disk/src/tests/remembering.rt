@@ -45,7 +45,7 @@ impl RememberingDisk {
     }
 
     /// How many images it had before that of now.
-    pub fn images(&self) -> usize {
+    pub(super) fn images(&self) -> usize {
         self.past.len()
     }
 }

@@ -14,7 +14,8 @@ use Rattle.ipc_image.specs.declared.restoring.ImageError.{ImageError}
 use Rattle.ipc_image.specs.declared.restoring.ImageError.TheVariants as image
 use Rattle.ipc_image.specs.Relations.Parts.{FitsMessage, FitsProcess, FitsQueue}
 use Rattle.ipc_base.specs.Objects.{PlainObjects}
-use Rattle.ipc_image.specs.Saved.{process_bytes, processes_bytes, message_bytes, queue_bytes, queue_number, queue_object}
+use Rattle.ipc_image.specs.Saved.{process_bytes, processes_bytes, message_bytes}
+use Rattle.ipc_image.specs.Saved.{queue_bytes, queue_number, queue_object}
 
 -- a part that would make the state unsound is damage
 abbrev pub image_error : RestoreError → ImageError
