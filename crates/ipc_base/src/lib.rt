@@ -14,7 +14,7 @@ pub use errno::Errno;
 pub use flags::{GetFlags, MsgFlags, OpenFlags, SemFlags};
 pub use identity::{Cred, Id, Moment, Pid};
 pub use limits::{BadLimits, Limits};
-pub use objects::{ObjectMap, Objects, window_of};
+pub use objects::{Mark, ObjectMap, Objects, window_of};
 pub use put::Put;
 
 #[cfg(test)]

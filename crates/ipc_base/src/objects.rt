@@ -1,13 +1,22 @@
 //! Numbered objects as bytes: what a checkpoint saves, and what it gives back.
 
-ghost use Rattle.std.specs.Prelude.{◌≡◌, ◌<◌, ◌+◌, ◌^◌, ◌↔◌, IsTrue, ◌++◌, ◌∷◌, [], ℕ, Bool, true};
+ghost use Rattle.std.specs.Prelude.{◌≡◌, ◌<◌, ◌+◌, ◌^◌, ◌↔◌, IsTrue, ◌++◌, ◌∷◌, [], ℕ, Bool, true, ⊤};
 ghost use Rattle.std.specs.Prelude.{length, map, slice_get};
 ghost use Rattle.std.specs.Prelude.{Some, option_map, OnOk, OnErr, ◌≤◌, ◌-◌, take, drop, replicate};
+ghost use Rattle.ipc_base.specs.declared.objects.Mark.{Mark};
 ghost use Rattle.ipc_base.specs.Objects.{PlainObjects, AreObjects, window};
 ghost use Rattle.ipc_base.specs.Table.{keys_of, IsRising};
 
 use std::alloc::{AllocError, Global};
 use std::marker::Model;
+
+/// How far an object was read: its first parts, and how many bytes they have. What its parts are is known to the
+/// objects alone.
+#[derive(Clone, Copy, Debug, PartialEq, Eq)]
+pub struct Mark {
+    pub parts: usize,
+    pub bytes: u64,
+}
 
 /// Objects by rising number, each some bytes. They are read piece by piece, so that whoever has them need not have
 /// their bytes in one place.
@@ -17,6 +26,9 @@ pub trait Objects {
 
     /// Whether the i-th may differ from what was saved last.
     ghost differs: { Self → ℕ → Bool };
+
+    /// Whether a mark is one of the i-th.
+    ghost marks: { Self → ℕ → Mark → Type 0 };
 
     /// How many there are. Their numbers rise, and none of them is empty.
     fn count(&self) -> u32
@@ -38,10 +50,18 @@ pub trait Objects {
         requires { i < length (objects self.now) }
         ensures { option_map (λ o. length o.1) (slice_get (objects self.now) i) ≡ Some result };
 
-    /// 512 bytes of the i-th from a place on, with zeros past its end.
-    fn bytes(&self, i: u32, place: u64, into: &mut [u8; 512])
+    /// The mark of the i-th of which nothing was read.
+    fn start(&self, i: u32) -> Mark
         requires { i < length (objects self.now) }
-        ensures { option_map (λ o. window place o.1) (slice_get (objects self.now) i) ≡ Some into.new };
+        ensures { marks self.now i result };
+
+    /// 512 bytes of the i-th from a place on, with zeros past its end. With the mark of an earlier place they are found
+    /// without going over what lies before it. The mark goes on to this place.
+    fn bytes(&self, i: u32, place: u64, mark: &mut Mark, into: &mut [u8; 512])
+        requires object { i < length (objects self.now) }
+        requires mark { marks self.now i mark.old }
+        ensures bytes { option_map (λ o. window place o.1) (slice_get (objects self.now) i) ≡ Some into.new }
+        ensures mark { marks self.now i mark.new };
 }
 
 /// An object that was read: its number, and its bytes.
@@ -120,6 +140,8 @@ impl Objects for ObjectMap {
 
     ghost differs = { λ m i. true };
 
+    ghost marks = { λ m i mark. ⊤ };
+
     fn count(&self) -> u32 {
         self.objects.len() as u32
     }
@@ -136,7 +158,11 @@ impl Objects for ObjectMap {
         self.objects[i as usize].bytes.len() as u64
     }
 
-    fn bytes(&self, i: u32, place: u64, into: &mut [u8; 512]) {
+    fn start(&self, i: u32) -> Mark {
+        Mark { parts: 0, bytes: 0 }
+    }
+
+    fn bytes(&self, i: u32, place: u64, mark: &mut Mark, into: &mut [u8; 512]) {
         *into = window_of(&self.objects[i as usize].bytes, place);
     }
 }

@@ -3,12 +3,12 @@ use Rattle.std.specs.Prelude.{◌≡◌, ◌≢◌, ◌<◌, ◌≤◌, ◌+◌,
 use Rattle.std.proofs.Common.{sym, ◌∙◌, ap, subst, arith}
 use Rattle.std.specs.Int.{w32, w64, to_be_bytes, from_be_bytes}
 use Rattle.std.specs.List.{flat_map}
-use Rattle.std.proofs.lemmas.List.{take_at, drop_at, length-append, take-append-drop, length-take-le, length-drop, append_assoc, append-nil}
+use Rattle.std.proofs.lemmas.List.{take_at, drop_at, length-append, take-append-drop, length-take-le, length-drop, append-nil}
 use Rattle.std.proofs.lemmas.List.Elements.{All-cons, All-head, All-tail, All-nil}
 use Rattle.ipc_base.specs.Objects.{PlainObjects, AreObjects}
 use Rattle.ipc_base.specs.Table.{keys_of, IsRising}
-use Rattle.std.proofs.lemmas.Grind.{flat_map-append}
-use Rattle.ipc_base.proofs.CallerLemmas.{AreBytes, Got, number32_got, number32_known, number64_known, number64_got, rising-bounds, spelled-next, spelled-same, spelled-more}
+use Rattle.ipc_base.proofs.CallerLemmas.{AreBytes, Got, number32_got, number32_known, number64_known}
+use Rattle.ipc_base.proofs.CallerLemmas.{number64_got, rising-bounds, spelled-next, spelled-same, spelled-more}
 use Rattle.ipc_checkpoint.specs.Area.{entry_bytes, area_bytes, HasFields, Adds}
 
 -- ---- one entry

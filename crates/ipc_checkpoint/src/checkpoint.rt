@@ -46,6 +46,7 @@ impl Checkpoint {
         // A crash at any moment: no other sector is touched.
         ensures others { IsHonest (D.medium disk.old)
             → LeavesAlone (IsElsewhere layout) (D.medium disk.old) (D.medium disk.new) }
+        ensures honest { IsHonest (D.medium disk.old) ↔ IsHonest (D.medium disk.new) }
         // Failures.
         ensures size { D.size disk.new ≡ D.size disk.old }
         ensures failure { OnErr result ((D.counts disk.new).failures
@@ -82,6 +83,7 @@ impl Checkpoint {
         // A crash at any moment: the call only reads.
         ensures reads { IsHonest (D.medium disk.old) → Stays (D.medium disk.old) (D.medium disk.new) }
         // Failures.
+        ensures honest { IsHonest (D.medium disk.old) ↔ IsHonest (D.medium disk.new) }
         ensures size { D.size disk.new ≡ D.size disk.old }
         ensures failure { IsErrOf result LoadError.Device
             → (D.counts disk.new).failures ≡ counted (D.counts disk.old).failures 1 }
@@ -144,6 +146,7 @@ impl Checkpoint {
             (HoldsEither (layout_of self.old) (epoch_of self.old) saved epoch (O.objects objects.now)) }
         ensures others { IsHonest (D.medium disk.old)
             → LeavesAlone (IsElsewhere (layout_of self.old)) (D.medium disk.old) (D.medium disk.new) }
+        ensures honest { IsHonest (D.medium disk.old) ↔ IsHonest (D.medium disk.new) }
         // Failures.
         ensures size { D.size disk.new ≡ D.size disk.old }
         ensures failure { OnErr result ((D.counts disk.new).failures

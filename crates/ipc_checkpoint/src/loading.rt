@@ -1,6 +1,6 @@
 //! What is read of a checkpoint before its bytes are looked into.
 
-ghost use Rattle.std.specs.Prelude.{◌≡◌, ◌⊎◌, ◌<◌, ◌+◌, ◌-◌, ◌/◌, ◌^◌, ◌≤◌, ℕ, length, min, IfOk, IsErrOf};
+ghost use Rattle.std.specs.Prelude.{◌≡◌, ◌⊎◌, ◌↔◌, ◌<◌, ◌+◌, ◌-◌, ◌/◌, ◌^◌, ◌≤◌, ℕ, length, min, IfOk, IsErrOf};
 ghost use Rattle.ipc_base.specs.Objects.{PlainObjects};
 ghost use Rattle.ipc_disk.specs.Counts.{counted};
 ghost use Rattle.ipc_disk.specs.Medium.{IsHonest, Stays};
@@ -55,6 +55,7 @@ pub(crate) fn read_area<D: SectorDisk>(
     ensures long { IfOk result (λ bytes. length bytes.items ≡ len) }
     ensures not_damaged { (sector : ℕ) → IsErrOf result (LoadError.Damaged sector) → ⊥ }
     ensures reads { IsHonest (D.medium disk.old) → Stays (D.medium disk.old) (D.medium disk.new) }
+    ensures honest { IsHonest (D.medium disk.old) ↔ IsHonest (D.medium disk.new) }
     ensures size { D.size disk.new ≡ D.size disk.old }
     ensures failure { IsErrOf result LoadError.Device
         → (D.counts disk.new).failures ≡ counted (D.counts disk.old).failures 1 }

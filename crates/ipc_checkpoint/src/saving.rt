@@ -1,6 +1,7 @@
 //! Objects as bytes on their way to a disk.
 
-ghost use Rattle.std.specs.Prelude.{◌≡◌, ◌<◌, ◌++◌, ◌+◌, ◌*◌, ◌^◌, ◌≤◌, List, ℕ, length, take, OnOk, OnErr, IfOk};
+ghost use Rattle.std.specs.Prelude.{◌≡◌, ◌↔◌, ◌<◌, ◌++◌, ◌+◌, ◌*◌, ◌^◌, ◌≤◌, List, ℕ, length, take};
+ghost use Rattle.std.specs.Prelude.{OnOk, OnErr, IfOk};
 ghost use Rattle.ipc_base.specs.Objects.{AreObjects};
 ghost use Rattle.ipc_disk.specs.Counts.{counted};
 ghost use Rattle.ipc_disk.specs.Medium.{IsHonest};
@@ -29,6 +30,7 @@ pub(crate) fn write_objects<D: SectorDisk, O: Objects>(
     ensures objects { OnOk result (AreObjects (O.objects objects.now)) }
     ensures others { IsHonest (D.medium disk.old)
         → LeavesAlone (IsOutside range) (D.medium disk.old) (D.medium disk.new) }
+    ensures honest { IsHonest (D.medium disk.old) ↔ IsHonest (D.medium disk.new) }
     ensures size { D.size disk.new ≡ D.size disk.old }
     ensures failure { OnErr result ((D.counts disk.new).failures
         ≡ counted (D.counts disk.old).failures 1) }
@@ -65,6 +67,7 @@ fn put_object<D: SectorDisk, O: Objects>(
         ≡ length_of writer.old + length (entry_bytes (object_at (O.objects objects.now) i))) }
     ensures others { IsHonest (D.medium disk.old)
         → LeavesAlone (IsOutside (range_of writer.old)) (D.medium disk.old) (D.medium disk.new) }
+    ensures honest { IsHonest (D.medium disk.old) ↔ IsHonest (D.medium disk.new) }
     ensures size { D.size disk.new ≡ D.size disk.old }
     ensures failure { OnErr result ((D.counts disk.new).failures
         ≡ counted (D.counts disk.old).failures 1) }
@@ -97,15 +100,17 @@ fn put_content<D: SectorDisk, O: Objects>(
         ≡ length_of writer.old + length (object_at (O.objects objects.now) i).1) }
     ensures others { IsHonest (D.medium disk.old)
         → LeavesAlone (IsOutside (range_of writer.old)) (D.medium disk.old) (D.medium disk.new) }
+    ensures honest { IsHonest (D.medium disk.old) ↔ IsHonest (D.medium disk.new) }
     ensures size { D.size disk.new ≡ D.size disk.old }
     ensures failure { OnErr result ((D.counts disk.new).failures
         ≡ counted (D.counts disk.old).failures 1) }
     ensures no_failure { OnOk result ((D.counts disk.new).failures ≡ (D.counts disk.old).failures) }
 {
     let len = objects.len(i);
+    let mut mark = objects.start(i);
     for k in 0..len.div_ceil(512) {
         let mut window = [0; 512];
-        objects.bytes(i, 512 * k, &mut window);
+        objects.bytes(i, 512 * k, &mut mark, &mut window);
         let count = (len - 512 * k).min(512) as usize;
         writer.put(disk, &window[..count])?;
     }

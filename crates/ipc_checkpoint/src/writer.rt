@@ -1,7 +1,7 @@
 //! Bytes on their way to a run of sectors, without memory.
 
-ghost use Rattle.std.specs.Prelude.{◌≡◌, ◌<◌, ◌++◌, ◌+◌, ◌*◌, ◌^◌, ◌≤◌, List, ℕ, length, take, drop, [], OnOk};
-ghost use Rattle.std.specs.Prelude.{OnErr, IfOk};
+ghost use Rattle.std.specs.Prelude.{◌≡◌, ◌↔◌, ◌<◌, ◌++◌, ◌+◌, ◌*◌, ◌^◌, ◌≤◌, List, ℕ, length, take, drop, []};
+ghost use Rattle.std.specs.Prelude.{OnOk, OnErr, IfOk};
 ghost use Rattle.ipc_disk.specs.Counts.{counted};
 ghost use Rattle.ipc_disk.specs.Medium.{IsHonest};
 ghost use Rattle.ipc_disk.specs.Range.{IsWithin, IsOutside};
@@ -48,6 +48,7 @@ impl Writer {
         ensures len { OnOk result (length_of self.new ≡ length_of self.old + length bytes.now) }
         ensures others { IsHonest (D.medium disk.old)
             → LeavesAlone (IsOutside (range_of self.old)) (D.medium disk.old) (D.medium disk.new) }
+        ensures honest { IsHonest (D.medium disk.old) ↔ IsHonest (D.medium disk.new) }
         ensures size { D.size disk.new ≡ D.size disk.old }
         ensures failure { OnErr result ((D.counts disk.new).failures
             ≡ counted (D.counts disk.old).failures 1) }
@@ -77,6 +78,7 @@ impl Writer {
         ensures len { IfOk result (λ len. len ≡ length_of self.now) }
         ensures others { IsHonest (D.medium disk.old)
             → LeavesAlone (IsOutside (range_of self.now)) (D.medium disk.old) (D.medium disk.new) }
+        ensures honest { IsHonest (D.medium disk.old) ↔ IsHonest (D.medium disk.new) }
         ensures size { D.size disk.new ≡ D.size disk.old }
         ensures failure { OnErr result ((D.counts disk.new).failures
             ≡ counted (D.counts disk.old).failures 1) }

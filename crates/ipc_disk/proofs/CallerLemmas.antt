@@ -1,10 +1,10 @@
 -- What the crates above cite of runs of calls: how what holds of each image since goes on over the next call, and from
 -- one run of calls to the next; and of bytes that stand on a disk.
-use Rattle.std.specs.Prelude.{◌≡◌, ◌≢◌, ℕ, zero, suc, ◌+◌, ◌-◌, ◌*◌, ◌<◌, ◌≤◌, List, [], ◌∷◌, ◌++◌, length, take, drop, replicate}
+use Rattle.std.specs.Prelude.{◌≡◌, ◌≢◌, ◌⊎◌, ◌↔◌, ℕ, zero, suc, ◌+◌, ◌-◌, ◌*◌, ◌<◌, ◌≤◌, List, [], ◌∷◌, ◌++◌, length, take, drop, replicate}
 use Rattle.std.specs.Prelude.{slice_get, slice_set, refl}
 use Rattle.std.specs.Option.{unwrap_or}
 use Rattle.std.proofs.Common.{inl, inr, ⊎_elim, sym, ◌∙◌, ap, subst, arith, take-append-drop}
-use Rattle.std.proofs.lemmas.List.{get_or-set_same, get_or-set_other, take_at, take_all, take-take, drop-take, length-take, length-drop}
+use Rattle.std.proofs.lemmas.List.{get_or-set_same, get_or-set_other, length-set, take_at, take_all, take-take, drop-take, length-take, length-drop}
 use Rattle.std.proofs.lemmas.Option.{unwrap_or-slice_get}
 use Rattle.ipc_disk.specs.declared.range.Range.{Range}
 use Rattle.ipc_disk.specs.Counts.{Counts, counted, with_calls}
@@ -36,6 +36,10 @@ Stays-join old mid new honest first next = record {
     honest = (λ h. next.time.honest.0 (first.time.honest.0 h), λ h. first.time.honest.1 (next.time.honest.1 h));
   };
 }
+
+-- honesty is kept both ways over a run of calls, and then another
+pub honest-join : (old mid new : Medium) → IsHonest old ↔ IsHonest mid → IsHonest mid ↔ IsHonest new → IsHonest old ↔ IsHonest new
+honest-join old mid new first next = (λ h. next.0 (first.0 h), λ h. first.1 (next.1 h))
 
 -- before the first call; the law is the trait's `only_now`
 pub EachImageSince-start : (old : Medium) (P : Image → Type 0)
@@ -123,16 +127,33 @@ slice_get-set_other (x ∷ xs) (suc at) (suc i) bytes other =
 -- a write elsewhere leaves these places
 pub SameAt-set : (places : ℕ → Type 0) (image : Image) (at : ℕ) (bytes : List ℕ) → (places at → ⊥)
     → SameAt places image (slice_set image at bytes)
-SameAt-set places image at bytes elsewhere i here =
-    sym (slice_get-set_other image at i bytes (λ same. elsewhere (subst places same here)))
+SameAt-set places image at bytes elsewhere = record {
+  count = sym (length-set image at bytes);
+  sectors = λ i here. sym (slice_get-set_other image at i bytes (λ same. elsewhere (subst places same here)));
+}
+
+-- the same image, and one that is the same as one that is the same
+SameAt-refl : (places : ℕ → Type 0) (image : Image) → SameAt places image image
+SameAt-refl places image = record { count = refl; sectors = λ i here. refl }
+
+SameAt-trans : (places : ℕ → Type 0) (a b c : Image) → SameAt places a b → SameAt places b c → SameAt places a c
+SameAt-trans places a b c first next =
+    record { count = first.count ∙ next.count; sectors = λ i here. first.sectors i here ∙ next.sectors i here }
+
+-- a write elsewhere, or none
+SameAt-change : (places : ℕ → Type 0) (a b c : Image) (at : ℕ) (bytes : List ℕ) → (places at → ⊥) → SameAt places a b
+    → (c ≡ b) ⊎ (c ≡ slice_set b at bytes) → SameAt places a c
+SameAt-change places a b c at bytes elsewhere so_far (inl same) = subst (SameAt places a) (sym same) so_far
+SameAt-change places a b c at bytes elsewhere so_far (inr set) =
+    subst (SameAt places a) (sym set) (SameAt-trans places a b (slice_set b at bytes) so_far (SameAt-set places b at bytes elsewhere))
 
 -- before the first call
 pub LeavesAlone-start : (places : ℕ → Type 0) (old : Medium) → IsHonest old
     → ((image : Image) → old.images_since old.moment image → old.images_now image) → LeavesAlone places old old
 LeavesAlone-start places old honest law = record {
   images = EachImageSince-start old (λ image. (before : Image) × old.images_now before × SameAt places before image) law
-      (λ image now. (image, now, λ i here. refl));
-  contents = λ i here. refl;
+      (λ image now. (image, now, SameAt-refl places image));
+  contents = SameAt-refl places old.contents;
   honest = honest;
 }
 
@@ -144,8 +165,7 @@ LeavesAlone-stays places old mid new so_far call =
     record {
       images = EachImageSince-step old mid new P so_far.images call.time
           (λ image now. EachImageSince-now old mid P so_far.images so_far.honest image (call.images image now));
-      contents = λ i here. so_far.contents i here ∙ ap (λ (image : Image). slice_get image i)
-          (sym (call.contents so_far.honest));
+      contents = subst (SameAt places old.contents) (sym (call.contents so_far.honest)) so_far.contents;
       honest = call.time.honest.0 so_far.honest;
     }
 
@@ -156,11 +176,7 @@ LeavesAlone-writes places old mid new at bytes so_far elsewhere call =
     record {
       images = EachImageSince-step old mid new P so_far.images call.time
           (λ image now. from_mid image (call.images image now));
-      contents = λ i here. so_far.contents i here ∙ ⊎_elim
-          (λ same. ap (λ (image : Image). slice_get image i) (sym same))
-          (λ set. SameAt-set places mid.contents at bytes elsewhere i here
-          ∙ ap (λ (image : Image). slice_get image i) (sym set))
-          (call.contents so_far.honest);
+      contents = SameAt-change places old.contents mid.contents new.contents at bytes elsewhere so_far.contents (call.contents so_far.honest);
       honest = call.time.honest.0 so_far.honest;
     }
   where
@@ -169,14 +185,8 @@ LeavesAlone-writes places old mid new at bytes so_far elsewhere call =
 
     from_mid : (image : Image) → SetOrNot at bytes mid image → P image
     from_mid image (before, now, change) =
-        let was = EachImageSince-now old mid P so_far.images so_far.honest before now in (
-          was.0,
-          was.1,
-          λ i here. was.2 i here ∙ ⊎_elim
-              (λ same. ap (λ (c : Image). slice_get c i) (sym same))
-              (λ set. SameAt-set places before at bytes elsewhere i here ∙ ap (λ (c : Image). slice_get c i) (sym set))
-              change,
-        )
+        let was = EachImageSince-now old mid P so_far.images so_far.honest before now in
+        (was.0, was.1, SameAt-change places was.0 before image at bytes elsewhere was.2 change)
 
 -- a run of calls, and then another
 pub LeavesAlone-join : (places : ℕ → Type 0) (old mid new : Medium) → LeavesAlone places old mid
@@ -184,7 +194,7 @@ pub LeavesAlone-join : (places : ℕ → Type 0) (old mid new : Medium) → Leav
 LeavesAlone-join places old mid new first next =
     record {
       images = EachImageSince-join old mid new P first.images (EachImageSince-weaken mid new Q P next.images back);
-      contents = λ i here. first.contents i here ∙ next.contents i here;
+      contents = SameAt-trans places old.contents mid.contents new.contents first.contents next.contents;
       honest = next.honest;
     }
   where
@@ -197,7 +207,7 @@ LeavesAlone-join places old mid new first next =
     back : (image : Image) → Q image → P image
     back image (between, now, same) =
         let was = EachImageSince-now old mid P first.images first.honest between now in
-        (was.0, was.1, λ i here. was.2 i here ∙ same i here)
+        (was.0, was.1, SameAt-trans places was.0 between image was.2 same)
 
 -- what these places alone decide, and each image of then had, each image since has
 pub LeavesAlone-keeps : (places : ℕ → Type 0) (old new : Medium) (P : Image → Type 0) → LeavesAlone places old new
@@ -214,7 +224,7 @@ LeavesAlone-keeps places old new P run here decides =
 pub sector_at-same : (places : ℕ → Type 0) (a b : Image) (i : ℕ) → SameAt places a b → places i
     → sector_at a i ≡ sector_at b i
 sector_at-same places a b i same here =
-    sym (unwrap_or-slice_get a i []) ∙ ap (λ o. unwrap_or o []) (same i here) ∙ unwrap_or-slice_get b i []
+    sym (unwrap_or-slice_get a i []) ∙ ap (λ o. unwrap_or o []) (same.sectors i here) ∙ unwrap_or-slice_get b i []
 
 -- the sector that was written
 pub sector_at-set_same : (image : Image) (at : ℕ) (bytes : List ℕ) → at < length image → sector_at (slice_set image at bytes) at ≡ bytes
@@ -224,13 +234,16 @@ sector_at-set_same image at bytes lt = get_or-set_same image at bytes [] lt
 pub sector_at-set_other : (image : Image) (at i : ℕ) (bytes : List ℕ) → i ≢ at → sector_at (slice_set image at bytes) i ≡ sector_at image i
 sector_at-set_other image at i bytes other = get_or-set_other image at i bytes [] other
 
+SameAt-fewer : (fewer places : ℕ → Type 0) (a b : Image) → ((i : ℕ) → fewer i → places i) → SameAt places a b → SameAt fewer a b
+SameAt-fewer fewer places a b sub same = record { count = same.count; sectors = λ i here. same.sectors i (sub i here) }
+
 -- fewer places are left alone too
 pub LeavesAlone-fewer : (fewer places : ℕ → Type 0) (old new : Medium) → ((i : ℕ) → fewer i → places i) → LeavesAlone places old new → LeavesAlone fewer old new
 LeavesAlone-fewer fewer places old new sub run = record {
   images = EachImageSince-weaken old new (λ image. (before : Image) × old.images_now before × SameAt places before image)
       (λ image. (before : Image) × old.images_now before × SameAt fewer before image) run.images
-      (λ image from. (from.0, from.1, λ i here. from.2 i (sub i here)));
-  contents = λ i here. run.contents i (sub i here);
+      (λ image from. (from.0, from.1, SameAt-fewer fewer places from.0 image sub from.2));
+  contents = SameAt-fewer fewer places old.contents new.contents sub run.contents;
   honest = run.honest;
 }
 

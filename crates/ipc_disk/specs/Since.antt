@@ -1,5 +1,5 @@
 -- What holds of each image that a crash may leave during a run of calls.
-use Rattle.std.specs.Prelude.{◌≡◌, ◌⊎◌, ℕ, ◌≤◌, slice_get}
+use Rattle.std.specs.Prelude.{◌≡◌, ◌⊎◌, ℕ, ◌≤◌, length, slice_get}
 use Rattle.ipc_disk.specs.Medium.{Image, Medium, IsHonest}
 
 -- a crash at any call since old leaves an image with P
@@ -10,9 +10,10 @@ pub record EachImageSince (old new : Medium) (P : Image → Type 0) : Type 0 whe
   pub earlier : (t : ℕ) (image : Image) → t ≤ old.moment → new.images_since t image
       → old.images_since t image ⊎ P image
 
--- the two have the same sectors at these places
-abbrev pub SameAt : (ℕ → Type 0) → Image → Image → Type 0
-SameAt places a b = (i : ℕ) → places i → slice_get a i ≡ slice_get b i
+-- the two have as many sectors, and the same ones at these places
+pub record SameAt (places : ℕ → Type 0) (a b : Image) : Type 0 where
+  pub count : length a ≡ length b
+  pub sectors : (i : ℕ) → places i → slice_get a i ≡ slice_get b i
 
 -- each image since old has, at these places, the sectors of an image of then, and so has what is read; the disk is
 -- honest

@@ -45,6 +45,7 @@ pub fn write_bytes<D: SectorDisk>(disk: &mut D, first: u32, bytes: &[u8]) -> Res
     ensures others { IsHonest (D.medium disk.old)
         → LeavesAlone (IsOutside (record { first = first; count = sectors_for (length bytes.now) }))
         (D.medium disk.old) (D.medium disk.new) }
+    ensures honest { IsHonest (D.medium disk.old) ↔ IsHonest (D.medium disk.new) }
     ensures size { D.size disk.new ≡ D.size disk.old }
     ensures failure { OnErr result ((D.counts disk.new).failures
         ≡ counted (D.counts disk.old).failures 1) }
@@ -114,6 +115,7 @@ pub fn read_bytes<D: SectorDisk>(
         → slice_get (D.medium disk.old).contents at ≡ Some first.now
         → StandsAt at into.new (D.medium disk.old).contents) }
     ensures reads { IsHonest (D.medium disk.old) → Stays (D.medium disk.old) (D.medium disk.new) }
+    ensures honest { IsHonest (D.medium disk.old) ↔ IsHonest (D.medium disk.new) }
     ensures size { D.size disk.new ≡ D.size disk.old }
     ensures failure { OnErr result (D.counts disk.new ≡ with_failure (D.counts disk.old)) }
     ensures no_failure { OnOk result (D.counts disk.new ≡ D.counts disk.old) }

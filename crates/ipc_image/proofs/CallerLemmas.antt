@@ -1,9 +1,20 @@
--- What the crates above cite of superblocks and of records.
-use Rattle.std.proofs.Common.{◌≡◌, ℕ, ◌+◌, ◌<◌, ◌^◌, List, [], ◌++◌, length, take, drop, Some, refl, sym, ap, subst, ◌∙◌, arith}
+-- What the crates above cite of superblocks, of records, and of states as objects.
+use Rattle.std.proofs.Common.{◌≡◌, ℕ, ◌+◌, ◌*◌, ◌≤◌, ◌<◌, ◌^◌, List, [], ◌++◌, length, take, drop, Some, refl, sym, ap, subst, ◌∙◌, arith}
 use Rattle.std.specs.Int.{w32, w64, from_be_bytes, to_be_bytes}
 use Rattle.std.proofs.lemmas.List.{take_at, take-take}
 use Rattle.std.proofs.lemmas.Nat.{from_be_bytes-to_be_bytes_4, from_be_bytes-to_be_bytes_8}
+use Rattle.std.proofs.lemmas.List.Elements.{All-nil}
 use Rattle.ipc_base.specs.declared.limits.Limits.{Limits}
+use Rattle.ipc_base.specs.Limits.{ArePassed}
+use Rattle.ipc_base.specs.Objects.{Fit, PlainObjects}
+use Rattle.ipc_base.proofs.CallerLemmas.{passed-bounds}
+use Rattle.ipc_state.specs.Sound.{IsSound}
+use Rattle.ipc_state.specs.State.{State, start}
+use Rattle.ipc_state.proofs.CallerLemmas.{start-sound}
+use Rattle.ipc_image.specs.Saved.{saved, StandForState}
+use Rattle.ipc_image.specs.Sizes.{entries, area_of}
+use Rattle.ipc_image.proofs.Bounds.{bounds}
+use Rattle.ipc_image.proofs.SavedObjects.{saved-fit}
 use Rattle.ipc_wire.specs.Spelling.{request_bytes}
 use Rattle.ipc_wire.proofs.CallerLemmas.{one_text}
 use Rattle.ipc_engine.specs.Event.{PlainEvent, Connect, Call, Tick, Exit, Restart, moment_of}
@@ -14,6 +25,7 @@ use Rattle.ipc_base.proofs.CallerLemmas.{number32_known}
 use Rattle.ipc_image.proofs.EventRecords.{Got, GotLong, connect_only, call_only, text_only, length_text, begun, text_cut}
 use Rattle.ipc_image.proofs.Numbers.{spelled}
 use Rattle.ipc_image.proofs.Reading as reading
+use Rattle.ipc_image.proofs.SavedOnce.{saved_once}
 
 -- a superblock begins as one
 pub superblock-begins : (sectors : ℕ) (limits : Limits) (sector : List ℕ) → IsSuperblock sectors limits sector → IsFormatted sector
@@ -31,6 +43,30 @@ superblock-version sectors limits sector is =
 pub one-superblock : (sectors others : ℕ) (limits more : Limits) (sector : List ℕ) → sectors < 2 ^ 32 → others < 2 ^ 32
     → IsSuperblock sectors limits sector → IsSuperblock others more sector → (sectors ≡ others) × (limits ≡ more)
 one-superblock = reading.one_superblock
+
+-- the bytes of an area can be counted in four
+pub area-counted : (limits : Limits) → ArePassed limits → 512 * area_of limits < 2 ^ 32
+area-counted limits passed =
+    let b = bounds limits passed in
+    let few : entries limits ≤ 196 = omega (arith, passed-bounds limits passed) in
+    omega (arith, b.processes, b.objects, few)
+
+-- a sound state fits where it is kept
+pub saved-fits : (limits : Limits) (s : State) → ArePassed limits → IsSound limits s → Fit (area_of limits) (saved s)
+saved-fits = saved-fit
+
+-- the state to which nothing has happened stands as its objects
+pub start-stands : (limits : Limits) → StandForState limits start (saved start)
+start-stands limits = record {
+  sound = start-sound limits;
+  places = record {
+    clock = (omega arith, (omega arith, (omega arith, (omega arith, (omega arith, (omega arith, (omega arith, tt)))))));
+    count = omega arith;
+    processes = All-nil _;
+    queues = All-nil _;
+  };
+  are = refl;
+}
 
 -- bytes begin with the record that was written to their front
 pub record-read : (e : PlainEvent) (rest : List ℕ) → HasRecord e → BeginsWith (record_bytes e ++ rest) e
@@ -83,3 +119,9 @@ one-record bytes e f is also =
     let rest : List ℕ = to_be_bytes w64 (moment_of e) ++ details e in
     let long : GotLong rest (details e) (moment_of e) = (omega arith, sym (from_be_bytes-to_be_bytes_8 (moment_of e) is.has.moment), refl) in
     one_of e f is.has.details (text_only (text_of e) rest (details e) (kind_of e) (moment_of e) (omega arith, refl, refl) long f cut.0)
+
+-- ---- objects stand for one state
+
+pub stand-one : (limits others : Limits) (s t : State) (objects : PlainObjects) → StandForState limits s objects → StandForState others t objects
+    → s ≡ t
+stand-one limits others s t objects is also = saved_once s t is.places also.places (sym is.are ∙ also.are)

@@ -1,11 +1,10 @@
 -- A record is read where it was written, and what is read was written so.
 use Rattle.std.proofs.Common.{◌≡◌, ℕ, ◌+◌, ◌≤◌, ◌<◌, ◌^◌, List, [], ◌∷◌, ◌++◌, length, take, drop, Option, Some, None}
-use Rattle.std.proofs.Common.{refl, sym, ap, ◌∙◌, append_assoc, arith, inl, inr}
-use Rattle.std.proofs.lemmas.Bool.{cases_lt}
+use Rattle.std.proofs.Common.{refl, sym, ap, ◌∙◌, append_assoc, arith}
 use Rattle.std.specs.Prelude.{IfSome, slice_index}
 use Rattle.std.specs.Int.{w32, w64, from_be_bytes, to_be_bytes}
-use Rattle.std.proofs.lemmas.List.{length-append, length-take, length-take-le, take_at, take-append-drop, get_or-drop, get_or-take, get_or_past}
-use Rattle.std.proofs.lemmas.Nat.{be_bytes_4, be_bytes_8, from_be_bytes-to_be_bytes_4, from_be_bytes-to_be_bytes_8}
+use Rattle.std.proofs.lemmas.List.{length-append, length-take-le, take_at, take-append-drop}
+use Rattle.std.proofs.lemmas.Nat.{from_be_bytes-to_be_bytes_8}
 use Rattle.ipc_base.specs.declared.identity.Cred.{Cred}
 use Rattle.ipc_wire.specs.Request.{PlainRequest}
 use Rattle.ipc_wire.specs.Spelling.{HasFrame, request_bytes, frame}

@@ -11,3 +11,5 @@ pub mod CallerLemmas
 mod Windows
 mod SavedLists
 mod SavedObjects
+mod SavedOnce
+mod Marks

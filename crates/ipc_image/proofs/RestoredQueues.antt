@@ -1,5 +1,6 @@
 -- A queue's messages, read and added one after another.
-use Rattle.std.proofs.Common.{◌≡◌, ◌≢◌, ◌<◌, ◌≤◌, ◌+◌, ◌^◌, ℕ, zero, suc, pos, get_or, drop, map, replicate, List, [], ◌∷◌, ◌++◌, length, Option, Some, None, refl, sym, ◌∙◌, ap, subst, arith}
+use Rattle.std.proofs.Common.{◌≡◌, ◌≢◌, ◌<◌, ◌≤◌, ◌+◌, ◌^◌, ℕ, zero, suc, pos, get_or, drop, map, replicate}
+use Rattle.std.proofs.Common.{List, [], ◌∷◌, ◌++◌, length, Option, Some, None, refl, sym, ◌∙◌, ap, subst, arith}
 use Rattle.std.specs.Int.{w64}
 use Rattle.std.specs.Prelude.{FitsSigned, option_map, slice_get, All, IsSome, Result, Ok, Err, OnOk}
 use Rattle.std.specs.List.{flat_map}
@@ -17,8 +18,10 @@ use Rattle.ipc_state.specs.State.{State, queue_of, with_queue}
 use Rattle.ipc_state.proofs.CallerLemmas.{last-value, with_last_value, rebuilt-sound, rebuilt-messages-sound}
 use Rattle.ipc_image.specs.Fields.{fields_bytes, FitFields}
 use Rattle.ipc_image.specs.Relations.Parts.{FitsMessage, FitsProcess, FitsQueue}
-use Rattle.ipc_image.specs.Relations.Restored.{AddsMessage, AddsMessages, AddsQueue, AddsQueues, AddsProcess, AddsProcesses, AreSoundOnTheWay, IsSoundOnTheWay, HasPlace, with_more}
-use Rattle.ipc_image.specs.Saved.{message_bytes, message_sizes, message_numbers, queue_sizes, queue_numbers, queue_bytes, queue_number, queue_object, HasPlaces, HasAllPlaces, count_bytes, process_bytes, processes_bytes}
+use Rattle.ipc_image.specs.Relations.Restored.{AddsMessage, AddsMessages, AddsQueue, AddsQueues, AddsProcess}
+use Rattle.ipc_image.specs.Relations.Restored.{AddsProcesses, AreSoundOnTheWay, IsSoundOnTheWay, HasPlace, with_more}
+use Rattle.ipc_image.specs.Saved.{message_bytes, message_sizes, message_numbers, queue_sizes, queue_numbers, queue_bytes, queue_number}
+use Rattle.ipc_image.specs.Saved.{queue_object, HasPlaces, HasAllPlaces, count_bytes, process_bytes, processes_bytes}
 use Rattle.ipc_base.specs.declared.identity.Cred.{Cred}
 use Rattle.ipc_image.specs.declared.fields.Size.TheVariants.{Four}
 use Rattle.ipc_image.proofs.FieldLists.{fields_one}
@@ -316,7 +319,8 @@ places_of s all = entries s.msg.entries all.queues
     entries [] h = All-nil IsPlaced
     entries (e ∷ es) h =
         let one = All-head (λ e. (e.0 < 2 ^ 32) × HasPlaces e.1) e es h in
-        All-cons IsPlaced e es (record { below = one.0; numbers = (one.1.key, one.1.numbers); messages = messages_of e.1.object.messages one.1.types one.1.messages })
+        All-cons IsPlaced e es
+        (record { below = one.0; numbers = (one.1.key, one.1.numbers); messages = messages_of e.1.object.messages one.1.types one.1.messages })
         (entries es (All-tail (λ e. (e.0 < 2 ^ 32) × HasPlaces e.1) e es h))
 
 -- the next queue of a sound state can be added, so a reader that refuses it is wrong

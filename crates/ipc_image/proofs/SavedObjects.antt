@@ -35,7 +35,7 @@ length-processes (p ∷ processes) =
 pub processes-long : (processes : List (ℕ × Cred)) → length (processes_bytes processes) ≡ 4 + 16 * length processes
 processes-long processes = omega (arith, length-append (count_bytes (length processes)) (flat_map process_bytes processes), length-processes processes)
 
-length-messages : (messages : List PlainMessage) → length (flat_map message_bytes messages) ≡ 12 * length messages + byte_count messages
+pub length-messages : (messages : List PlainMessage) → length (flat_map message_bytes messages) ≡ 12 * length messages + byte_count messages
 length-messages [] = refl
 length-messages (m ∷ messages) =
     ap length (flat_map-cons message_bytes m messages) ∙ length-append (message_bytes m) (flat_map message_bytes messages)
@@ -80,13 +80,17 @@ module _ (s : State) where
   saved-number (suc (suc (suc (suc i)))) few = absurd (omega arith)
 
   -- a queue as it is kept
-  pub saved-queue : (i j : ℕ) (rows : List (Row Kept)) (e : Row Kept) → map queue_row rows ≡ s.msg.entries → i ≡ 4 + j → j < length rows
-      → e ≡ get_or rows j e → slice_get (saved s) i ≡ Some (queue_object (queue_row e))
-  unfolding saved
-  saved-queue i j rows e are place within is =
+  pub entry-kept : (j : ℕ) (rows : List (Row Kept)) (e : Row Kept) → map queue_row rows ≡ s.msg.entries → j < length rows
+      → e ≡ get_or rows j e → slice_get s.msg.entries j ≡ Some (queue_row e)
+  entry-kept j rows e are within is =
       let row : slice_get rows j ≡ Some e = slice_get_read rows (length rows) j e refl within is in
-      let found : slice_get s.msg.entries j ≡ Some (queue_row e) =
-      ap (λ (l : List (ℕ × Entry Queue)). slice_get l j) (sym are) ∙ slice_get-map queue_row rows j ∙ ap (option_map queue_row) row in
+      ap (λ (l : List (ℕ × Entry Queue)). slice_get l j) (sym are) ∙ slice_get-map queue_row rows j ∙ ap (option_map queue_row) row
+
+  -- its object
+  pub saved-queue : (i j : ℕ) (e : Row Kept) → i ≡ 4 + j → slice_get s.msg.entries j ≡ Some (queue_row e)
+      → slice_get (saved s) i ≡ Some (queue_object (queue_row e))
+  unfolding saved
+  saved-queue i j e place found =
       let deep : i ≡ suc (suc (suc (suc j))) = omega arith in
       ap (slice_get (saved s)) deep ∙ slice_get-map queue_object s.msg.entries j ∙ ap (option_map queue_object) found
 

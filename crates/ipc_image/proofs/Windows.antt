@@ -6,6 +6,8 @@ use Rattle.std.proofs.Math.Nat.{min_comm}
 use Rattle.std.proofs.Math.Seq.{drop-append-add, take-append-add, take-nil}
 use Rattle.std.proofs.lemmas.List.{append_assoc, append-nil, length-append, drop-append-le, flat_map_more}
 use Rattle.std.proofs.lemmas.List.{take-append-le, take_all, take_more, take_min, take-take, length-take}
+use Rattle.std.proofs.lemmas.List.{take-append-drop}
+use Rattle.std.proofs.lemmas.Grind.{flat_map-append}
 use Rattle.std.proofs.lemmas.Slice.{take-put_mid}
 use borrow.Rule.Slice.PartMut.{put_mid}
 use Rattle.std.proofs.lemmas.Option.{get_or_from_slice_get, slice_get_within}
@@ -82,6 +84,14 @@ module _ (w : Shown) where
   passed-list bytes_of xs i front begun all first others past =
       others ∙ ap (passed (flat_map bytes_of (take i xs))) first ∙ passed-both front (flat_map bytes_of (take i xs))
       ∙ ap (λ (l : List _). passed (front ++ flat_map bytes_of l) w) (take_all i xs past)
+
+-- all of a list of them, if the window shows no more after some
+pub passed-full : {X : Type 0} (w : Shown) (bytes_of : X → List ℕ) (xs : List X) (i : ℕ) (full : Shown)
+    → full ≡ passed (flat_map bytes_of (take i xs)) w → ((piece : List ℕ) → passed piece full ≡ full) → full ≡ passed (flat_map bytes_of xs) w
+passed-full w bytes_of xs i full some more =
+    let others : List ℕ = flat_map bytes_of (drop i xs) in
+    sym (more others) ∙ ap (passed others) some ∙ passed-both w (flat_map bytes_of (take i xs)) others
+    ∙ ap (λ (l : List ℕ). passed l w) (sym (flat_map-append bytes_of (take i xs) (drop i xs)) ∙ ap (flat_map bytes_of) (take-append-drop i xs))
 
 -- what a window shows of a text that has passed
 pub window-shown : (place : ℕ) (text : List ℕ) → window 0 (passed text (at_place place)).bytes ≡ window place text

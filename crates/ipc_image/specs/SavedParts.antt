@@ -1,15 +1,18 @@
--- A number as it is put into its field, and what is known of numbers once they are read.
-use Rattle.std.specs.Prelude.{ℕ, ◌<◌, ◌^◌, List}
+-- A number as it is put into its field, what is known of numbers once they are read, and marks.
+use Rattle.std.specs.Prelude.{◌≡◌, ℕ, ◌-◌, ◌<◌, ◌^◌, List, length, take, Some, slice_get}
 use Rattle.std.specs.Int.{w32, w64, to_be_bytes}
 use Rattle.std.specs.List.{flat_map}
 use Rattle.sysv_msg.specs.declared.queue.QueueStat.{QueueStat}
-use Rattle.sysv_msg.specs.Queue.{Kept}
+use Rattle.ipc_base.specs.declared.objects.Mark.{Mark}
+use Rattle.sysv_msg.specs.Queue.{Kept, Queue, PlainMessage}
+use Rattle.ipc_state.specs.Objects.{Entry}
+use Rattle.ipc_state.specs.State.{State}
 use Rattle.ipc_state.specs.declared.perm.Perm.{Perm}
 use Rattle.ipc_state.specs.declared.objects.Entry.{Entry as Row}
 use Rattle.ipc_state.specs.Tables.{queue_entry}
 use Rattle.ipc_image.specs.declared.saved_parts.Field.{Field}
 use Rattle.ipc_image.specs.declared.saved_parts.Field.TheVariants.{Four, Eight}
-use Rattle.ipc_image.specs.Saved.{HasPlaces}
+use Rattle.ipc_image.specs.Saved.{message_bytes, HasPlaces}
 
 abbrev pub field_bytes : Field → List ℕ
 field_bytes (Four n) = to_be_bytes w32 n
@@ -31,3 +34,16 @@ IsWideStat s =
 -- the identifier of a queue that is kept has its place, and so has each of its numbers
 abbrev pub IsWideQueue : Row Kept → Type 0
 IsWideQueue e = (e.id.0 < 2 ^ 32) × HasPlaces (queue_entry e)
+
+-- the bytes of the first messages
+abbrev pub first_bytes : ℕ → List PlainMessage → List ℕ
+first_bytes n messages = flat_map message_bytes (take n messages)
+
+-- the parts of a queue's object are its messages, and the mark has the bytes of the first of them
+abbrev pub IsMarkIn : List PlainMessage → Mark → Type 0
+IsMarkIn messages m = m.bytes ≡ length (first_bytes m.parts messages)
+
+-- it is a mark of the i-th object; those of the first four are never looked at
+abbrev pub IsMarkOf : State → ℕ → Mark → Type 0
+IsMarkOf s i m =
+    (e : ℕ × Entry Queue) → slice_get s.msg.entries (i - 4) ≡ Some e → IsMarkIn e.1.object.messages m

@@ -1,14 +1,14 @@
 //! What follows from the definitions alone.
 
-ghost use Rattle.std.specs.Prelude.{◌≡◌, ◌≤◌, ◌<◌, ◌^◌, ◌++◌, ℕ, List};
+ghost use Rattle.std.specs.Prelude.{◌≡◌, ◌≤◌, ◌<◌, ◌*◌, ◌^◌, ◌++◌, ℕ, List};
 ghost use Rattle.ipc_base.specs.Limits.{ArePassed};
-ghost use Rattle.ipc_base.specs.Objects.{Fit};
+ghost use Rattle.ipc_base.specs.Objects.{Fit, PlainObjects};
 ghost use Rattle.ipc_base.specs.declared.limits.Limits.{Limits};
 ghost use Rattle.ipc_engine.specs.Event.{PlainEvent};
 ghost use Rattle.ipc_state.specs.Sound.{IsSound};
 ghost use Rattle.ipc_state.specs.State.{State};
 ghost use Rattle.ipc_image.specs.Records.{record_bytes, HasRecord, BeginsWith};
-ghost use Rattle.ipc_image.specs.Saved.{saved};
+ghost use Rattle.ipc_image.specs.Saved.{saved, StandForState};
 ghost use Rattle.ipc_image.specs.Sizes.{area_of, need_of};
 ghost use Rattle.ipc_image.specs.Superblock.{IsSuperblock, superblock_bytes};
 
@@ -41,4 +41,16 @@ pub fn a_record_is_of_one_event()
 pub fn a_saved_state_fits()
     ensures { (limits : Limits) (s : State) → ArePassed limits → IsSound limits s
         → Fit (area_of limits) (saved s) }
+{}
+
+/// Objects stand for one state, and no two.
+pub fn objects_stand_for_one_state()
+    ensures { (limits others : Limits) (s t : State) (objects : PlainObjects) → StandForState limits s objects
+        → StandForState others t objects → s ≡ t }
+{}
+
+/// An area takes at most 22785 sectors under limits that passed their check, so its bytes can be
+/// counted in four.
+pub fn an_area_can_be_counted()
+    ensures { (limits : Limits) → ArePassed limits → 512 * area_of limits < 2 ^ 32 }
 {}

@@ -18,8 +18,8 @@ mod window;
 
 pub use fault::SuperblockFault;
 pub use laws::{
-    a_record_is_of_one_event, a_saved_state_fits, a_sector_is_one_superblock, record_is_read,
-    superblock_is_read,
+    a_record_is_of_one_event, a_saved_state_fits, a_sector_is_one_superblock,
+    an_area_can_be_counted, objects_stand_for_one_state, record_is_read, superblock_is_read,
 };
 pub use places::{JOURNAL, JOURNAL_COUNT, OBJECTS, ROOT, SUPERBLOCK};
 pub use records::{read_event, record_len, write_event};

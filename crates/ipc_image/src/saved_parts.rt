@@ -18,13 +18,19 @@ ghost use Rattle.ipc_image.specs.Saved.{
   message_bytes,
   queue_bytes,
 };
-ghost use Rattle.ipc_image.specs.SavedParts.{field_bytes, all_bytes};
-ghost use Rattle.ipc_image.specs.Window.{passed};
+ghost use Rattle.ipc_image.specs.SavedParts.{field_bytes, all_bytes, first_bytes, IsMarkIn};
+ghost use Rattle.ipc_image.specs.Window.{Shown, passed};
 
 use crate::window::Window;
-use ipc_base::Moment;
+use ipc_base::{Mark, Moment};
 use ipc_state::{Entry, Process};
 use sysv_msg::{Message, MsgQueue};
+
+/// The bytes of a message before its text.
+const MESSAGE_NUMBERS: u64 = 12;
+
+/// The mark of nothing.
+pub(crate) const START: Mark = Mark { parts: 0, bytes: 0 };
 
 /// A number in a field of four bytes or of eight.
 #[derive(Clone, Copy)]
@@ -108,18 +114,55 @@ pub(crate) fn queue_len(entry: &Entry<MsgQueue>) -> u64
     ensures { result ≡ length (queue_bytes (queue_entry entry.now)) }
 {
     let stat = entry.object.stat();
-    64 + 12 * stat.qnum as u64 + stat.bytes as u64
+    64 + MESSAGE_NUMBERS * stat.qnum as u64 + stat.bytes as u64
 }
 
-/// A queue, and each of its messages, the oldest first.
-pub(crate) fn put_queue(window: &mut Window, entry: &Entry<MsgQueue>)
-    requires { HasNumbers entry.now.object.queue }
-    ensures { window.new ≡ passed (queue_bytes (queue_entry entry.now)) window.old }
+/// A queue, and each of its messages, the oldest first. The mark is of its messages.
+pub(crate) fn put_queue(window: &mut Window, entry: &Entry<MsgQueue>, mark: &mut Mark)
+    requires numbers { HasNumbers entry.now.object.queue }
+    requires mark { IsMarkIn entry.now.object.queue.messages mark.old }
+    ensures passed { window.new ≡ passed (queue_bytes (queue_entry entry.now)) window.old }
+    ensures mark { IsMarkIn entry.now.object.queue.messages mark.new }
 {
     put_queue_numbers(window, entry);
-    let count = entry.object.len();
-    for at in 0..count {
-        put_message(window, entry.object.message(at));
+    if !window.passes_over(mark.bytes) {
+        *mark = START;
+    }
+    pass_over(window, &entry.object, mark);
+    put_messages(window, &entry.object, mark.parts);
+}
+
+// The mark goes on over the messages that end before the window begins; they have passed then.
+fn pass_over(window: &mut Window, queue: &MsgQueue, mark: &mut Mark)
+    requires numbers { HasNumbers queue.now.queue }
+    requires mark { IsMarkIn queue.now.queue.messages mark.old }
+    ensures passed { (begun : Shown) → window.old ≡ passed (first_bytes mark.old.parts queue.now.queue.messages) begun
+        → window.new ≡ passed (first_bytes mark.new.parts queue.now.queue.messages) begun }
+    ensures mark { IsMarkIn queue.now.queue.messages mark.new }
+{
+    let count = queue.len();
+    while mark.parts < count {
+        let len = MESSAGE_NUMBERS + queue.message(mark.parts).text.len() as u64;
+        if !window.passes_over(len) {
+            return;
+        }
+        mark.parts += 1;
+        mark.bytes += len;
+    }
+}
+
+// The messages behind the first ones, as many as are seen.
+fn put_messages(window: &mut Window, queue: &MsgQueue, first: usize)
+    requires { HasNumbers queue.now.queue }
+    ensures { (begun : Shown) → window.old ≡ passed (first_bytes first queue.now.queue.messages) begun
+        → window.new ≡ passed (flat_map message_bytes queue.now.queue.messages) begun }
+{
+    let count = queue.len();
+    for at in first..count {
+        if window.is_full() {
+            return;
+        }
+        put_message(window, queue.message(at));
     }
 }
 

@@ -1,6 +1,6 @@
 //! The state as objects, without any memory.
 
-ghost use Rattle.std.specs.Prelude.{◌≡◌, ◌≤◌, ◌<◌, length, true, option_map, Some, slice_get};
+ghost use Rattle.std.specs.Prelude.{◌≡◌, ◌≤◌, ◌<◌, ◌-◌, length, true, option_map, Some, slice_get, ⊤};
 ghost use Rattle.ipc_base.specs.declared.limits.Limits.{Limits};
 ghost use Rattle.ipc_base.specs.Limits.{ArePassed};
 ghost use Rattle.ipc_base.specs.Objects.{Fit};
@@ -8,13 +8,14 @@ ghost use Rattle.ipc_state.specs.State.{State as PlainState, start};
 ghost use Rattle.ipc_image.specs.Saved.{saved, queue_bytes, queue_number, StandForState};
 ghost use Rattle.ipc_state.specs.Sound.{HasNumbers};
 ghost use Rattle.ipc_state.specs.Tables.{queue_entry};
+ghost use Rattle.ipc_image.specs.SavedParts.{IsMarkOf};
 ghost use Rattle.ipc_image.specs.Sizes.{area_of};
 ghost use Rattle.ipc_image.specs.Window.{passed};
 
-use crate::saved_parts::{put_clock, put_count, put_processes, put_queue, queue_len};
+use crate::saved_parts::{START, put_clock, put_count, put_processes, put_queue, queue_len};
 use crate::widths::read_state;
 use crate::window::Window;
-use ipc_base::{Moment, Objects};
+use ipc_base::{Mark, Moment, Objects};
 use ipc_engine::Engine;
 use ipc_state::{Entry, State};
 use std::marker::Model;
@@ -65,6 +66,8 @@ impl<'a> Objects for StateObjects<'a> {
 
     ghost differs = { λ s i. true };
 
+    ghost marks = { λ s i m. IsMarkOf s i m };
+
     fn count(&self) -> u32 {
         ALWAYS + self.state.queues().len() as u32
     }
@@ -89,9 +92,13 @@ impl<'a> Objects for StateObjects<'a> {
         }
     }
 
-    fn bytes(&self, i: u32, place: u64, into: &mut [u8; 512]) {
+    fn start(&self, i: u32) -> Mark {
+        START
+    }
+
+    fn bytes(&self, i: u32, place: u64, mark: &mut Mark, into: &mut [u8; 512]) {
         let mut window = Window::new(place);
-        put_object(&mut window, self.state, i);
+        put_object(&mut window, self.state, i, mark);
         *into = window.finish();
     }
 }
@@ -102,16 +109,20 @@ fn queue_at<'a>(state: &'a State, i: u32) -> &'a Entry<MsgQueue>
     requires object { i < length (saved state.now.state) }
     ensures object { slice_get (saved state.now.state) i
         ≡ Some (queue_number result.now.id.0, queue_bytes (queue_entry result.now)) }
+    ensures entry { slice_get state.now.state.msg.entries (i - 4)
+        ≡ Some (result.now.id.0, queue_entry result.now) }
     ensures numbers { HasNumbers result.now.object.queue }
 {
     &state.queues()[(i - ALWAYS) as usize]
 }
 
 // The i-th object passes the window.
-fn put_object(window: &mut Window, state: &State, i: u32)
-    requires { i < length (saved state.now.state) }
-    ensures { option_map (λ o. passed o.1 window.old) (slice_get (saved state.now.state) i)
+fn put_object(window: &mut Window, state: &State, i: u32, mark: &mut Mark)
+    requires object { i < length (saved state.now.state) }
+    requires mark { IsMarkOf state.now.state i mark.old }
+    ensures passed { option_map (λ o. passed o.1 window.old) (slice_get (saved state.now.state) i)
         ≡ Some window.new }
+    ensures mark { IsMarkOf state.now.state i mark.new }
 {
     // What it ensures bounds the number of processes.
     state.limits();
@@ -119,7 +130,7 @@ fn put_object(window: &mut Window, state: &State, i: u32)
         0 => put_clock(window, state.clock(), state.next_pid(), state.next_queue()),
         1 => put_processes(window, state.processes()),
         2 | 3 => put_count(window, 0),
-        _ => put_queue(window, queue_at(state, i)),
+        _ => put_queue(window, queue_at(state, i), mark),
     }
 }
 
@@ -140,6 +151,8 @@ impl Objects for StartObjects {
 
     ghost differs = { λ s i. true };
 
+    ghost marks = { λ s i m. ⊤ };
+
     fn count(&self) -> u32 {
         ALWAYS
     }
@@ -156,7 +169,11 @@ impl Objects for StartObjects {
         if i == 0 { 32 } else { 4 }
     }
 
-    fn bytes(&self, i: u32, place: u64, into: &mut [u8; 512]) {
+    fn start(&self, i: u32) -> Mark {
+        START
+    }
+
+    fn bytes(&self, i: u32, place: u64, mark: &mut Mark, into: &mut [u8; 512]) {
         let mut window = Window::new(place);
         if i == 0 {
             put_clock(&mut window, Moment(0), 1, 1);

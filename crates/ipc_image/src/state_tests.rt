@@ -93,7 +93,7 @@ pub(crate) fn are_objects(objects: &impl Objects, wanted: &[(u64, &[u8])]) -> bo
     for i in 0..count {
         let (number, bytes) = wanted[i as usize];
         let mut window = [0xee; 512];
-        objects.bytes(i, 0, &mut window);
+        objects.bytes(i, 0, &mut objects.start(i), &mut window);
         if objects.number(i) != number
             || objects.len(i) != bytes.len() as u64
             || window != window_of(bytes, 0)
@@ -189,9 +189,13 @@ fn an_object_of_600_bytes(rt: HostRuntime) -> Result<(), Fail> {
     assert_eq!(rt; objects.count(), 5);
     assert_eq!(rt; objects.len(4), 600);
     let mut window = [0xee; 512];
+    let mut mark = objects.start(4);
     for (place, wanted) in [0, 512, 1024].iter().zip(whole.chunks_exact(512)) {
-        objects.bytes(4, *place, &mut window);
+        objects.bytes(4, *place, &mut mark, &mut window);
         assert!(rt; window.as_slice() == wanted, "at {place}");
     }
+    // A mark of a later place.
+    objects.bytes(4, 0, &mut mark, &mut window);
+    assert!(rt; window.as_slice() == &whole[..512]);
     Ok(())
 }

@@ -1,6 +1,6 @@
 //! A window of 512 bytes onto a text that is passed piece by piece.
 
-ghost use Rattle.std.specs.Prelude.{◌≡◌};
+ghost use Rattle.std.specs.Prelude.{◌≡◌, ℕ, List, IsTrue, false, length};
 ghost use Rattle.ipc_base.specs.Objects.{window};
 ghost use Rattle.ipc_image.specs.Window.{at_place, showing, passed};
 
@@ -56,6 +56,26 @@ impl Window {
             self.before = 0;
             self.show(&piece[begin..]);
         }
+    }
+
+    /// Whether a piece of so many bytes ends before the window begins. If so it has passed, unseen.
+    pub(crate) fn passes_over(&mut self, len: u64) -> bool
+        ensures over { IsTrue result
+            → (piece : List ℕ) → length piece ≡ len → self.new ≡ passed piece self.old }
+        ensures not { result ≡ false → self.new ≡ self.old }
+    {
+        if len > self.before {
+            return false;
+        }
+        self.before -= len;
+        true
+    }
+
+    /// Whether no piece that is still to pass can be seen.
+    pub(crate) fn is_full(&self) -> bool
+        ensures { IsTrue result → (piece : List ℕ) → passed piece self.now ≡ self.now }
+    {
+        self.before == 0 && self.filled == 512
     }
 
     // The bytes that come next in the window; those past its end are left out.

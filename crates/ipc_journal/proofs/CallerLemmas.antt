@@ -1,9 +1,10 @@
 -- What the crates above cite of a journal: which batches stand on a disk, and that a journal stays what it is over a
 -- turn, over reads, and over calls that leave its sectors alone.
-use Rattle.std.specs.Prelude.{◌≡◌, ℕ, ◌+◌, ◌<◌, ◌≤◌, List, [], ◌∷◌, ◌++◌, length, take, refl}
+use Rattle.std.specs.Prelude.{◌≡◌, ℕ, ◌+◌, ◌^◌, ◌<◌, ◌≤◌, List, [], ◌∷◌, ◌++◌, length, take, replicate, refl}
 use Rattle.std.proofs.Common.{inl, inr, sym, ◌∙◌, ap, subst, arith}
-use Rattle.byteorder.specs.Endian.{big_number}
-use Rattle.byteorder.specs.Numbers.{big_from-take}
+use Rattle.std.proofs.lemmas.List.{drop_at}
+use Rattle.byteorder.specs.Endian.{big_bytes, big_number}
+use Rattle.byteorder.specs.Numbers.{big_from-take, big_number-reads_back, length-bytes_high_first}
 use Rattle.ipc_disk.specs.declared.range.Range.{Range}
 use Rattle.ipc_disk.specs.Medium.{Image, Medium, Stays}
 use Rattle.ipc_disk.specs.Range.{IsInside}
@@ -13,7 +14,7 @@ use Rattle.ipc_journal.specs.declared.journal.Journal.{Journal}
 use Rattle.ipc_disk.specs.Standing.{sectors_for, sector_at}
 use Rattle.ipc_journal.specs.Journal.{sectors_of, epoch_in, used_in, length_in}
 use Rattle.ipc_disk.specs.Standing.{piece, StandsAt}
-use Rattle.ipc_journal.specs.Journal.{header_used, IsBatch, Fill, Holds}
+use Rattle.ipc_journal.specs.Journal.{header_bytes, header_used, IsBatch, Fill, Holds}
 use Rattle.ipc_journal.specs.View.{range_of, epoch_of, used_of}
 use Rattle.ipc_journal.specs.Matches.{JournalMatches}
 
@@ -106,6 +107,29 @@ module _ (range : Range) (epoch : ℕ) (batches : List (List ℕ)) where
         within = subst (λ (s : List ℕ). used_in s < range.count) header current.within;
         filled = subst (λ (s : List ℕ). Fill range 0 (used_in s) batches b) header filled;
       })
+
+-- what stands in a header
+pub epoch_in-header : (epoch used : ℕ) → epoch < 2 ^ 64 → epoch_in (header_bytes epoch used) ≡ epoch
+unfolding epoch_in header_bytes
+epoch_in-header epoch used fits = big_number-reads_back 8 epoch (big_bytes 4 used ++ replicate 500 0) (omega arith)
+
+pub used_in-header : (epoch used : ℕ) → used < 2 ^ 32 → used_in (header_bytes epoch used) ≡ used
+unfolding used_in header_bytes
+used_in-header epoch used fits =
+    ap (λ (l : List ℕ). big_number 4 l)
+    (drop_at (big_bytes 8 epoch) (big_bytes 4 used ++ replicate 500 0) 8 (length-bytes_high_first 8 epoch))
+    ∙ big_number-reads_back 4 used (replicate 500 0) (omega arith)
+
+-- an empty journal: the header of its epoch, and no used sector
+pub Holds-header : (range : Range) (epoch : ℕ) (image : Image) → 0 < range.count → epoch < 2 ^ 64
+    → sector_at image range.first ≡ header_bytes epoch 0 → Holds range epoch [] image
+Holds-header range epoch image has fits header =
+    let unused : header_used range image ≡ 0 = ap used_in header ∙ used_in-header epoch 0 (omega arith) in
+    inr (record {
+      current = ap epoch_in header ∙ epoch_in-header epoch 0 fits;
+      within = subst (λ (n : ℕ). n < range.count) (sym unused) has;
+      filled = sym unused;
+    })
 
 -- a read or a sync of others
 pub JournalMatches-stays : (journal : Journal) (batches : List (List ℕ)) (old new : Medium) → Stays old new

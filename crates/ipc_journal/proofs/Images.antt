@@ -1,13 +1,14 @@
 -- What images hold: the batches' sectors, and what a written header adds.
-use Rattle.std.proofs.Common.{◌≡◌, inl, inr, ℕ, ◌+◌, ◌<◌, ◌≤◌, List, [], ◌∷◌, ◌++◌}
+use Rattle.std.proofs.Common.{◌≡◌, ◌⊎◌, inl, inr, ℕ, ◌+◌, ◌^◌, ◌<◌, ◌≤◌, List, [], ◌∷◌, ◌++◌}
 use Rattle.std.proofs.Common.{length, refl, sym, ◌∙◌, ap, subst, arith}
 use Rattle.std.specs.Prelude.{slice_set}
 use Rattle.ipc_disk.specs.declared.range.Range.{Range}
-use Rattle.ipc_disk.specs.Medium.{Image}
+use Rattle.ipc_disk.specs.Medium.{Image, Medium, SetOrNot}
+use Rattle.ipc_disk.specs.Since.{EachImageSince}
 use Rattle.ipc_disk.specs.Standing.{sectors_for, StandsAt}
-use Rattle.ipc_journal.specs.Journal.{sectors_of, epoch_in, used_in, header_epoch, header_used, IsBatch, Fill, Holds}
-use Rattle.ipc_journal.proofs.CallerLemmas.{Fill-end, Fill-same, Fill-push}
-use Rattle.ipc_disk.proofs.CallerLemmas.{sector_at-set_same, sector_at-set_other}
+use Rattle.ipc_journal.specs.Journal.{sectors_of, epoch_in, used_in, header_bytes, header_epoch, header_used, IsBatch, Fill, Holds}
+use Rattle.ipc_journal.proofs.CallerLemmas.{Fill-end, Fill-same, Fill-push, Holds-header}
+use Rattle.ipc_disk.proofs.CallerLemmas.{EachImageSince-set, sector_at-set_same, sector_at-set_other}
 
 -- the sectors of one batch more
 pub sectors_of-push : (batches : List (List ℕ)) (batch : List ℕ) → sectors_of (batches ++ batch ∷ []) ≡ sectors_of batches + sectors_for (length batch)
@@ -33,16 +34,16 @@ module _ (range : Range) (epoch : ℕ) (batches : List (List ℕ)) where
   used-current image (inl older) le = absurd (omega (arith, older.0.older, le))
   used-current image (inr current) le = omega (arith, Fill-end range 0 (header_used range image) batches image current.filled)
 
--- an empty journal is made
-pub Holds-empty : (range : Range) (epoch : ℕ) (sector : List ℕ) (image : Image) → range.first < length image → 0 < range.count
-    → epoch_in sector ≡ epoch → used_in sector ≡ 0 → Holds range epoch [] (slice_set image range.first sector)
-Holds-empty range epoch sector image lt has e u =
-    let header = sector_at-set_same image range.first sector lt in
-    inr (record {
-      current = ap epoch_in header ∙ e;
-      within = subst (λ (n : ℕ). n < range.count) (sym (ap used_in header ∙ u)) has;
-      filled = sym (ap used_in header ∙ u);
-    })
+-- while a header is written each image is one of before, or an empty journal
+pub moment-made : (range : Range) (epoch : ℕ) (old new : Medium) → 0 < range.count → epoch < 2 ^ 64
+    → ((image : Image) → old.images_now image → range.first < length image)
+    → EachImageSince old new (SetOrNot range.first (header_bytes epoch 0) old)
+    → EachImageSince old new (λ image. old.images_now image ⊎ Holds range epoch [] image)
+moment-made range epoch old new has fits long run =
+    EachImageSince-set old new range.first (header_bytes epoch 0) (λ image. old.images_now image ⊎ Holds range epoch [] image) run
+    (λ image now. inl now)
+    (λ image now. inr (Holds-header range epoch (slice_set image range.first (header_bytes epoch 0)) has fits
+    (sector_at-set_same image range.first (header_bytes epoch 0) (long image now))))
 
 -- a batch is there from the moment that the header says so
 pub Holds-push : (range : Range) (epoch : ℕ) (batches : List (List ℕ)) (batch sector : List ℕ) (image : Image) → range.first < length image

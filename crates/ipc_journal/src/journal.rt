@@ -39,6 +39,34 @@ impl Journal {
     ghost use Rattle.ipc_journal.specs.View.{range_of, epoch_of, used_of, Fits};
     ghost use Rattle.ipc_journal.specs.Matches.{JournalMatches, HoldsOneMoreOrNot};
 
+    /// Writes the header of an empty journal of this epoch. It does not sync.
+    pub fn put_header<D: SectorDisk>(
+        disk: &mut D,
+        range: Range,
+        epoch: u64,
+    ) -> Result<(), DiskFault>
+        requires header { 0 < range.count }
+        requires within { IsWithin range (D.size disk.old) }
+        // The disk reads as before but for the header.
+        ensures header { OnOk result (IsHonest (D.medium disk.old)
+            → (D.medium disk.new).contents
+            ≡ slice_set (D.medium disk.old).contents range.first (header_bytes epoch 0)) }
+        ensures honest { IsHonest (D.medium disk.old) ↔ IsHonest (D.medium disk.new) }
+        // A crash at any moment of the call, also of one that fails.
+        ensures header_or_not { IsHonest (D.medium disk.old)
+            → EachImageSince (D.medium disk.old) (D.medium disk.new)
+            (SetOrNot range.first (header_bytes epoch 0) (D.medium disk.old)) }
+        ensures others { IsHonest (D.medium disk.old)
+            → LeavesAlone (IsOutside range) (D.medium disk.old) (D.medium disk.new) }
+        // Failures and counts.
+        ensures size { D.size disk.new ≡ D.size disk.old }
+        ensures failure { OnErr result ((D.counts disk.new).failures
+            ≡ counted (D.counts disk.old).failures 1) }
+        ensures counts { OnOk result (D.counts disk.new ≡ with_calls 1 0 (D.counts disk.old)) }
+    {
+        disk.write(range.first, &header_sector(epoch, 0))
+    }
+
     /// Makes an empty journal of this epoch: writes its header and syncs.
     pub fn create<D: SectorDisk>(
         disk: &mut D,
@@ -73,7 +101,8 @@ impl Journal {
             ≡ counted (D.counts disk.old).failures 1) }
         ensures counts { OnOk result (D.counts disk.new ≡ with_calls 1 1 (D.counts disk.old)) }
     {
-        settle_sector(disk, range.first, &header_sector(epoch, 0))?;
+        Journal::put_header(disk, range, epoch)?;
+        disk.sync()?;
         Ok(Journal {
             range,
             epoch,
@@ -201,6 +230,7 @@ impl Journal {
             → JournalMatches self.old batches (D.medium disk.old)
             → (D.medium disk.new).images_now image
             → HoldsOneMoreOrNot self.old batches batch.now image }
+        ensures honest { IsHonest (D.medium disk.old) ↔ IsHonest (D.medium disk.new) }
         ensures others { IsHonest (D.medium disk.old)
             → LeavesAlone (IsOutside (range_of self.old)) (D.medium disk.old) (D.medium disk.new) }
         // Failures and counts.
@@ -279,6 +309,7 @@ impl Journal {
         ensures reads { IsHonest (D.medium disk.old)
             → Stays (D.medium disk.old) (D.medium disk.new) }
         // Failures and counts: `Device` is one failure more, and each other answer none.
+        ensures honest { IsHonest (D.medium disk.old) ↔ IsHonest (D.medium disk.new) }
         ensures size { D.size disk.new ≡ D.size disk.old }
         ensures failure { IsErrOf result JournalError.Device
             → D.counts disk.new ≡ with_failure (D.counts disk.old) }

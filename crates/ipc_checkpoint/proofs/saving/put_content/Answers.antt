@@ -2,6 +2,7 @@
 use Rattle.std.proofs.Common.{◌≡◌, ◌++◌, ◌+◌, ◌*◌, ◌∙◌, List, ℕ, length, take, sym, ap, subst, append_assoc, arith}
 use Rattle.std.proofs.lemmas.List.{take_all, length-take-le}
 use Rattle.ipc_base.specs.Objects.{window}
+use Rattle.ipc_disk.proofs.CallerLemmas.{honest-join}
 use Rattle.ipc_checkpoint.specs.Relations.Writer.{HasPut, object_at}
 use Rattle.ipc_checkpoint.proofs.Objects.{of_object, window_more}
 use Rattle.ipc_checkpoint.proofs.Writing.{others_more}
@@ -18,7 +19,7 @@ loop-k-preserved g c =
     let bytes : List ℕ = (object_at objects c.args.i).1 in
     let long : length bytes ≡ c.len-len.result = of_object (λ o. length o.1) objects c.args.i _ c.len-len.ensures in
     let seen : window (512 * c.loop-k.k) bytes ≡ c.bytes.new.into =
-    of_object (λ o. window (512 * c.loop-k.k) o.1) objects c.args.i _ c.bytes.ensures in
+    of_object (λ o. window (512 * c.loop-k.k) o.1) objects c.args.i _ c.bytes.ensures.bytes in
     let next : 512 * c.loop-k.k + 512 ≡ 512 * (c.loop-k.k + 1) = omega arith in
     let front : List ℕ = take (512 * c.loop-k.k) bytes in
     let more : front ++ take c.min-count.result c.bytes.new.into ≡ take (512 * (c.loop-k.k + 1)) bytes =
@@ -36,8 +37,10 @@ loop-k-preserved g c =
       range = c.put.ensures.range ∙ so_far.range;
       len = omega (arith, c.in_ok-put.ensures.len, so_far.len, count, c.min-count.ensures);
       others = others_more c.args.writer.now.range c.loop-k.writer.range _ _ _ so_far.range so_far.others c.put.ensures.others;
+      honest = honest-join _ _ _ so_far.honest c.put.ensures.honest;
       size = c.put.ensures.size ∙ so_far.size;
       failures = c.in_ok-put.ensures.no_failure ∙ so_far.failures;
+      mark = c.bytes.ensures.mark;
     }
 
 pub returns-clause-put : goal.returns-clause-put

@@ -1,5 +1,5 @@
 -- What is loaded is what was made.
-use Rattle.std.proofs.Common.{sym, subst}
+use Rattle.std.proofs.Common.{subst}
 use Rattle.ipc_base.specs.Objects.{Fit}
 use Rattle.ipc_checkpoint.proofs.CallerLemmas.{Holds-one}
 use Rattle.ipc_checkpoint.proofs.tests.fresh.Goals as goal

@@ -1,6 +1,5 @@
 -- What the checkpoint matches is the one list that is known.
 use Rattle.std.proofs.Common.{ℕ, sym, subst}
-use Rattle.ipc_base.specs.Objects.{PlainObjects}
 use Rattle.ipc_base.specs.Objects.{Fit}
 use Rattle.ipc_checkpoint.proofs.CallerLemmas.{CheckpointMatches-one}
 use Rattle.ipc_checkpoint.proofs.tests.save_over.Goals as goal

@@ -3,7 +3,7 @@ use Rattle.std.proofs.Common.{◌≡◌, ◌+◌, ℕ, [], refl, ap, sym, ◌∙
 use Rattle.std.specs.Prelude.{Some, slice_get}
 use Rattle.std.proofs.lemmas.Option.{get_or_from_slice_get}
 use Rattle.ipc_disk.specs.Medium.{Image}
-use Rattle.ipc_disk.proofs.CallerLemmas.{Stays-start, Stays-join}
+use Rattle.ipc_disk.proofs.CallerLemmas.{Stays-start, Stays-join, honest-join}
 use Rattle.ipc_disk.specs.Standing.{sector_at}
 use Rattle.ipc_disk.proofs.Pieces.{pieces_more}
 use Rattle.ipc_disk.proofs.standing.read_bytes.Goals as goal
@@ -18,6 +18,7 @@ loop-i-init g c =
           (ap (λ (n : ℕ). sector_at old.contents n) some ∙ get_or_from_slice_get old.contents c.args.at c.args.first.now [] first)
           (λ i lt. absurd (omega (arith, lt)));
       reads = λ honest. Stays-start old;
+      honest = (λ h. h, λ h. h);
       size = refl;
       counts = refl;
     }
@@ -36,6 +37,7 @@ loop-i-preserved g c =
           c.put_piece-in-loop-i.ensures.before c.put_piece-in-loop-i.ensures.piece
           (get_or_from_slice_get old.contents (c.args.at + c.loop-i.i) c.read.new.into [] read) (so_far.stands honest first);
       reads = λ honest. Stays-join old _ _ honest (so_far.reads honest) c.read.ensures.medium;
+      honest = honest-join old _ _ so_far.honest c.read.ensures.medium.time.honest;
       size = c.read.ensures.size ∙ so_far.size;
       counts = c.in_ok-read.ensures.ok ∙ so_far.counts;
     }

@@ -3,7 +3,7 @@ use Rattle.std.proofs.Common.{◌≡◌, ℕ, List, ◌++◌, ◌-◌, replicate
 use Rattle.std.proofs.Common.{◌∙◌, subst, arith, length-take, drop, ◌*◌}
 use Rattle.std.specs.Prelude.{slice_set}
 use Rattle.ipc_disk.specs.Range.{IsOutside}
-use Rattle.ipc_disk.proofs.CallerLemmas.{LeavesAlone-writes, counts-calls}
+use Rattle.ipc_disk.proofs.CallerLemmas.{honest-join, LeavesAlone-writes, counts-calls}
 use Rattle.ipc_disk.specs.Standing.{sectors_for, padded_piece}
 use Rattle.ipc_disk.proofs.Pieces.{WrittenBelow, written_more}
 use Rattle.ipc_disk.proofs.standing.write_bytes.Goals as goal
@@ -39,6 +39,7 @@ loop-i-preserved g c =
           (c.args.first + c.loop-i.i) c.padded-sector.result (so_far.others honest)
           (λ out. ⊎_elim (λ low. absurd (omega (arith, low))) (λ high. absurd (omega (arith, high))) out)
           c.write.ensures.medium;
+      honest = honest-join _ _ _ so_far.honest c.write.ensures.medium.time.honest;
       size = c.write.ensures.size ∙ so_far.size;
       failures = ap (λ n. n.failures) c.in_ok-write.ensures.ok ∙ so_far.failures;
       writes = omega (arith, ap (λ n. n.writes) c.in_ok-write.ensures.ok, so_far.writes);

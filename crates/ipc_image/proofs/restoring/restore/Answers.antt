@@ -10,7 +10,8 @@ use Rattle.ipc_image.specs.Saved.{clock_sizes, clock_numbers, count_bytes, proce
 use Rattle.ipc_image.proofs.RestoredQueues.{on_ok}
 use Rattle.ipc_image.proofs.Restored.{parts_of, clock-rebuilt, processes-rebuilt, all_restored, same_object}
 use Rattle.ipc_image.proofs.restoring.restore.Goals as goal
-use Rattle.ipc_image.proofs.restoring.restore.Goals.{then-not-is_none_counted-via-then-not-is_none_counted, then-not-is_none_counted-via-else-not-is_none_counted+then-not-is_none_counted-2}
+use Rattle.ipc_image.proofs.restoring.restore.Goals.{then-not-is_none_counted-via-then-not-is_none_counted}
+use Rattle.ipc_image.proofs.restoring.restore.Goals.{then-not-is_none_counted-via-else-not-is_none_counted+then-not-is_none_counted-2}
 
 pub returns-in_default-clause-damaged : goal.returns-in_default-clause-damaged
 returns-in_default-clause-damaged c is s stands =
@@ -33,7 +34,9 @@ returns-then-not-is_none_counted-clause-damaged c is s stands =
     let parts = parts_of s c.args.objects.now stands.are in
     elim c.then-not-is_none_counted.branch [
       | then-not-is_none_counted-via-then-not-is_none_counted w ↦
-          let none = same_object c.args.objects.now 2 c.in-Some-object_numbered-2.calls.now (count_bytes 0) c.in-Some-object_numbered-2.ensures.some parts.calls in
+          let none =
+              same_object c.args.objects.now 2 c.in-Some-object_numbered-2.calls.now (count_bytes 0)
+              c.in-Some-object_numbered-2.ensures.some parts.calls in
           let yes = c.is_none_counted.ensures.1 none in
           let no = w.if-not-is_none_counted.true in
           absurd cc

@@ -26,7 +26,8 @@ pub loop-i-preserved : goal.loop-i-preserved
 loop-i-preserved c = (
   queues-next c.args.state.now.state c.loop-i.state.state c.restore_queue.new.state.state c.args.objects.now c.loop-i.i c.number.result
       c.object.result.now c.loop-i.invariant.0
-      (both_parts (slice_get c.args.objects.now c.loop-i.i) c.number.result c.object.result.now c.number.ensures c.object.ensures) c.in_ok-restore_queue.ensures.ok,
+      (both_parts (slice_get c.args.objects.now c.loop-i.i) c.number.result c.object.result.now c.number.ensures c.object.ensures)
+      c.in_ok-restore_queue.ensures.ok,
   c.in_ok-restore_queue.ensures.limits ∙ c.loop-i.invariant.1,
 )
 

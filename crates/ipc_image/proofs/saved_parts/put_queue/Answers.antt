@@ -1,25 +1,28 @@
-use Rattle.std.proofs.Common.{◌∙◌, ap, arith}
-use Rattle.sysv_msg.specs.Queue.{plain}
+use Rattle.std.proofs.Common.{◌≡◌, ◌∙◌, ap, sym, List, ℕ}
+use Rattle.std.specs.List.{flat_map}
+use Rattle.sysv_msg.specs.Queue.{PlainMessage}
 use Rattle.ipc_state.specs.Tables.{queue_entry}
 use Rattle.ipc_image.specs.Fields.{fields_bytes}
 use Rattle.ipc_image.specs.Saved.{queue_sizes, queue_numbers, message_bytes}
-use Rattle.ipc_image.specs.Window.{passed}
-use Rattle.ipc_image.proofs.SavedLists.{text-short}
-use Rattle.ipc_image.proofs.Windows.{passed-next, passed-list}
+use Rattle.ipc_image.specs.SavedParts.{first_bytes}
+use Rattle.ipc_image.specs.Window.{Shown, passed}
+use Rattle.ipc_image.proofs.Windows.{passed-none, passed-both}
 use Rattle.ipc_image.proofs.saved_parts.put_queue.Goals as goal
+use Rattle.ipc_image.proofs.saved_parts.put_queue.Goals.{then-not-passes_over, else-not-passes_over}
 
-pub put_message-requires : goal.put_message-requires
-put_message-requires c =
-    text-short c.args.entry.now.object.queue c.loop-at.at (plain c.message.result.now) c.message.ensures c.requires
-
-pub loop-at-preserved : goal.loop-at-preserved
-loop-at-preserved c =
-    c.put_message.ensures ∙ ap (passed _) c.loop-at.invariant
-    ∙ passed-next c.put_queue_numbers.new.window message_bytes c.args.entry.now.object.queue.messages c.loop-at.at
-    (plain c.message.result.now) c.message.ensures
-
-pub returns : goal.returns
-returns c =
-    passed-list c.args.window.now message_bytes c.args.entry.now.object.queue.messages c.loop-at.at
-    (fields_bytes queue_sizes (queue_numbers (queue_entry c.args.entry.now))) c.put_queue_numbers.new.window c.loop-at.window
-    c.put_queue_numbers.ensures c.loop-at.invariant (omega (arith, c.loop-at-test.false, c.len-count.ensures))
+pub returns-clause-passed : goal.returns-clause-passed
+returns-clause-passed c =
+    let messages : List PlainMessage = c.args.entry.now.object.queue.messages in
+    let begun : Shown = c.put_queue_numbers.new.window in
+    let marked : c.passes_over.new.self ≡ passed (first_bytes c.if-not-passes_over.mark.parts messages) begun =
+    elim c.if-not-passes_over.branch [
+      | then-not-passes_over w ↦
+          c.passes_over.ensures.not w.if-not-passes_over.true ∙ sym (passed-none begun)
+          ∙ ap (λ m. passed (first_bytes m.parts messages) begun) (sym w.mark-is)
+      | else-not-passes_over w ↦
+          c.passes_over.ensures.over w.if-not-passes_over.false (first_bytes c.args.mark.now.parts messages) (sym c.requires.mark)
+          ∙ ap (λ m. passed (first_bytes m.parts messages) begun) (sym w.mark-is)
+    ] in
+    c.put_messages.ensures begun (c.pass_over.ensures.passed begun marked)
+    ∙ ap (passed (flat_map message_bytes messages)) c.put_queue_numbers.ensures
+    ∙ passed-both c.args.window.now (fields_bytes queue_sizes (queue_numbers (queue_entry c.args.entry.now))) (flat_map message_bytes messages)

@@ -5,7 +5,7 @@ use Rattle.sysv_msg.specs.Queue.{Kept}
 use Rattle.ipc_state.specs.declared.objects.Entry.{Entry as Row}
 use Rattle.ipc_state.specs.Sound.{HasNumbers}
 use Rattle.ipc_state.specs.Tables.{queue_row}
-use Rattle.ipc_image.proofs.SavedObjects.{saved-count, saved-queue}
+use Rattle.ipc_image.proofs.SavedObjects.{saved-count, saved-queue, entry-kept}
 use Rattle.ipc_image.proofs.state_objects.queue_at.Goals as goal
 
 pub bounds-queues-i : goal.bounds-queues-i
@@ -26,9 +26,10 @@ returns c =
     let e : Row Kept = c.index-queues-i.result in
     let within : place < length rows =
     omega (arith, c.requires.queue, c.requires.object, saved-count c.args.state.now.state, length-map rows queue_row, ap length c.queues.ensures.queues) in
+    let entry = entry-kept c.args.state.now.state place rows e c.queues.ensures.queues within c.index-queues-i.is in
     record {
-      object = saved-queue c.args.state.now.state c.args.i place rows e c.queues.ensures.queues (omega (arith, c.requires.queue)) within
-          c.index-queues-i.is;
+      object = saved-queue c.args.state.now.state c.args.i place e (omega (arith, c.requires.queue)) entry;
+      entry = entry;
       numbers = subst (λ (r : Row Kept). HasNumbers r.object.queue) (sym c.index-queues-i.is)
           (All-get_or (λ (r : Row Kept). HasNumbers r.object.queue) rows place e within c.queues.ensures.numbers);
     }
