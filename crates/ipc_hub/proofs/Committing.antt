@@ -1,9 +1,9 @@
 -- A commit of the store: the frames that waited are seen, or it has failed and they are dropped.
-use Rattle.std.proofs.Common.{◌≡◌, ℕ, ◌+◌, ◌-◌, ◌<◌, ◌^◌, Bool, true, false, List, [], ◌∷◌, refl, sym, ap, ◌∙◌, arith}
-use Rattle.std.specs.Prelude.{if◌then◌else◌, Vec}
+use Rattle.std.proofs.Common.{◌≡◌, ℕ, ◌+◌, ◌-◌, ◌<◌, ◌^◌, Bool, true, false, List, [], ◌∷◌, ◌⊎◌, inl, inr, Ok, Err, refl, sym, ap, subst, ◌∙◌, arith}
+use Rattle.std.specs.Prelude.{if◌then◌else◌, ⊤, Vec, Result, OnOk, OnErr, IfErr}
 use Rattle.std.specs.Vec.{with_items}
 use Rattle.ipc_base.specs.declared.limits.Limits.{Limits}
-use Rattle.ipc_base.specs.Table.{keys_of, seen_as, EachValue, IsRising}
+use Rattle.ipc_base.specs.Table.{keys_of, seen_as, EachValue}
 use Rattle.ipc_base.proofs.CallerLemmas.{keys-map}
 use Rattle.ipc_disk.specs.Counts.{Counts, counted}
 use Rattle.ipc_disk.specs.Medium.{Medium}
@@ -11,7 +11,7 @@ use Rattle.ipc_engine.specs.Engine.{Machine}
 use Rattle.ipc_store.specs.declared.fault.CommitError.{CommitError}
 use Rattle.ipc_store.specs.declared.fault.CommitError.TheVariants as commit
 use Rattle.ipc_store.specs.Histories.{Takes}
-use Rattle.ipc_store.specs.View.{StoreView, HasPlace, IsStopped}
+use Rattle.ipc_store.specs.View.{StoreView, IsAtLastEpoch, IsStopped}
 use Rattle.ipc_hub.specs.declared.connection.Connection.{Connection}
 use Rattle.ipc_hub.specs.Clients.{Clients, accepted}
 use Rattle.ipc_hub.specs.View.{ConnectionView, HubView, StoredHub, HasStopped}
@@ -54,54 +54,59 @@ pub seen-sliced : {Z : Type 0} (f : ConnectionView → ConnectionView) (v : Vec 
 seen-sliced f v xs new same seen =
     ap rows (sliced v xs new same (ap keys_of seen ∙ keys-map f (rows xs))) ∙ seen ∙ ap (λ (cs : List Connection). seen_as f (rows cs)) same
 
-module _ {D : Type 0} (old new : StoreView D) (cs ds : List Connection) (same : new.machine ≡ old.machine) where
-  -- ---- the frames that waited are seen
+-- A commit or a save of the store is done or has failed, and the connections of a vector were told of it in place.
+module _ {D Z : Type 0} (old new : StoreView D) (v : Vec Connection Z) (xs ys : List Connection) (here : xs ≡ v.items) (same : new.machine ≡ old.machine)
+    (goes : old.stopped ≡ false) where
+  -- the frames that waited are seen, or they are dropped
+  abbrev pub Told : Result ⊤ CommitError → Type 0
+  Told done = OnOk done (rows ys ≡ seen_as released (rows xs)) × OnErr done (rows ys ≡ seen_as failed (rows xs)) × OnErr done (IsStopped new)
 
-  module _ (seen : rows ds ≡ seen_as released (rows cs)) where
-    pub released-stands : HubInvariant (hub_view old.machine cs) → StoredInvariant (stored_view new ds)
-    released-stands inv =
-        let now : HubInvariant (hub_view new.machine ds) =
-        rw same (rw seen (released-invariant (hub_view old.machine cs) inv)) in
-        record { rising = now.rising; goes_on = λ _. now }
+  abbrev pub now : StoredHub D
+  now = stored_view new (with_items v ys).items
 
-    pub released-keeps : new.confirmed ≡ old.confirmed + old.waiting → new.waiting ≡ 0
-        → (limits : Limits) (h : Clients) → StoredMatches limits (stored_view old cs) h → StoredMatches limits (stored_view new ds) h
-    released-keeps confirmed waiting limits h m =
-        let all : new.confirmed ≡ accepted h = confirmed ∙ m.counts in
-        record {
-          hub = rw all (release-matches limits old.confirmed (hub_view old.machine cs) (hub_view new.machine ds) h m.hub
-              (ap (λ (s : Machine). s.limits) same) (ap (λ (s : Machine). s.state) same) seen);
-          counts = omega (arith, all, waiting);
-        }
+  pub told-spare : StoredInvariant (stored_view old v.items) → EachValue HasSpare (rows xs)
+  told-spare inv = subst (λ (cs : List Connection). EachValue HasSpare (rows cs)) (sym here) (spare (hub_view old.machine v.items) (inv.goes_on goes))
 
-  -- ---- they are dropped
+  pub told-stands : (done : Result ⊤ CommitError) → Told done → StoredInvariant (stored_view old v.items) → StoredInvariant now
+  told-stands (Ok _) told inv =
+      let still : HubInvariant (hub_view new.machine (with_items v ys).items) =
+      rw same (rw (seen-sliced released v xs ys here told.0) (released-invariant (hub_view old.machine v.items) (inv.goes_on goes))) in
+      record { rising = still.rising; goes_on = λ _. still }
+  told-stands (Err e) told inv =
+      record {
+        rising = rw (seen-sliced failed v xs ys here told.1) (rw (keys-map failed (rows v.items)) inv.rising);
+        goes_on = λ on. let never : true ≡ false = sym told.2 ∙ on in cc;
+      }
 
-  module _ (seen : rows ds ≡ seen_as failed (rows cs)) where
-    pub failed-stands : IsRising 0 (keys_of (rows cs)) (2 ^ 32) → IsStopped new → StoredInvariant (stored_view new ds)
-    failed-stands rising stopped =
-        record {
-          rising = rw seen (rw (keys-map failed (rows cs)) rising);
-          goes_on = λ goes. let never : true ≡ false = sym stopped ∙ goes in cc;
-        }
+  pub told-keeps : (done : Result ⊤ CommitError) → Told done → OnOk done (new.confirmed ≡ old.confirmed + old.waiting) → OnOk done (new.waiting ≡ 0)
+      → OnOk done ((limits : Limits) (h : Clients) → StoredMatches limits (stored_view old v.items) h → StoredMatches limits now h)
+  told-keeps (Err e) told confirmed waiting = tt
+  told-keeps (Ok _) told confirmed waiting = λ limits h m.
+      let all : new.confirmed ≡ accepted h = confirmed ∙ m.counts in
+      record {
+        hub = rw all (release-matches limits old.confirmed (hub_view old.machine v.items) (hub_view new.machine (with_items v ys).items) h m.hub
+            (ap (λ (s : Machine). s.limits) same) (ap (λ (s : Machine). s.state) same) (seen-sliced released v xs ys here told.0));
+        counts = omega (arith, all, waiting);
+      }
 
-    pub failed-keeps : (medium : D → Medium) → Takes medium old [] new → IsStopped new → Fails medium (stored_view old cs) (stored_view new ds)
-    failed-keeps medium takes stopped =
+  module _ (medium : D → Medium) (counts : D → Counts) (takes : Takes medium old [] new) where
+    told-fails : IsStopped new → rows ys ≡ seen_as failed (rows xs) → Fails medium (stored_view old v.items) now
+    told-fails stopped seen =
         record {
           takes = takes;
           stopped = stopped;
-          matches = λ limits h m. fail-matches limits old.confirmed (hub_view old.machine cs) (hub_view new.machine ds) h m.hub
-              (ap (λ (s : Machine). s.limits) same) (ap (λ (s : Machine). s.state) same) seen;
+          matches = λ limits h m. fail-matches limits old.confirmed (hub_view old.machine v.items) (hub_view new.machine (with_items v ys).items) h m.hub
+              (ap (λ (s : Machine). s.limits) same) (ap (λ (s : Machine). s.state) same) (seen-sliced failed v xs ys here seen);
         }
 
-    -- by the fault of the commit
-    pub failed-halts : (medium : D → Medium) (counts : D → Counts) (e : CommitError) → Takes medium old [] new → IsStopped new
-        → (e ≡ commit.Device → (counts new.disk).failures ≡ counted (counts old.disk).failures 1)
-        → (e ≡ commit.JournalFull → ¬ HasPlace old) → (e ≡ commit.Stopped → IsStopped old) → old.stopped ≡ false
-        → Halts medium counts (stored_view old cs) (stored_view new ds) e
-    failed-halts medium counts commit.Device takes stopped device full halted goes = (failed-keeps medium takes stopped, device refl)
-    failed-halts medium counts commit.JournalFull takes stopped device full halted goes = (failed-keeps medium takes stopped, full refl)
-    failed-halts medium counts commit.Stopped takes stopped device full halted goes =
-        let never : true ≡ false = sym (halted refl) ∙ goes in absurd (by_never never)
-      where
-        by_never : true ≡ false → ⊥
-        by_never never = cc
+    pub told-halts : (done : Result ⊤ CommitError) → Told done
+        → (done ≡ Err commit.Device → (counts new.disk).failures ≡ counted (counts old.disk).failures 1)
+        → (done ≡ Err commit.Stopped → IsStopped old ⊎ IsAtLastEpoch old)
+        → IfErr done (λ e. Halts medium counts (stored_view old v.items) now e)
+    told-halts (Ok _) told device halted = tt
+    told-halts (Err commit.Device) told device halted = (told-fails told.2 told.1, device refl)
+    told-halts (Err commit.Stopped) told device halted =
+        elim (halted refl) [
+          | inl before ↦ let never : true ≡ false = sym before ∙ goes in cc
+          | inr last ↦ inr (told-fails told.2 told.1, last)
+        ]

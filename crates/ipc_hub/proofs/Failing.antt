@@ -1,4 +1,4 @@
--- The disk has failed, or its journal is full: what the clients could see stays, and an EIO frame is the last of each.
+-- The disk has failed, or its epochs are at their end: what the clients could see stays, and an EIO frame is the last of each.
 use Rattle.std.proofs.Common.{◌≡◌, ℕ, ◌≤◌, Bool, true, false, List, [], ◌∷◌, ◌++◌, length, drop, refl, sym, ap, ◌∙◌, arith}
 use Rattle.std.proofs.Common.{append-nil}
 use Rattle.std.specs.Prelude.{nat_le, if◌then◌else◌}

@@ -262,8 +262,8 @@ abbrev pub confirmed_frames : ℕ → List Frame → List Frame
 confirmed_frames confirmed [] = []
 confirmed_frames confirmed (f ∷ fs) = if nat_le f.mark confirmed then f ∷ confirmed_frames confirmed fs else []
 
--- The disk has failed, or its journal is full. The frames that are confirmed stay, the others are dropped, and an EIO
--- frame is the last of each connection, which has ended.
+-- The disk has failed, or its epochs are at their end. The frames that are confirmed stay, the others are dropped, and
+-- an EIO frame is the last of each connection, which has ended.
 abbrev pub cut_off : ℕ → Client → Client
 cut_off confirmed c =
     with_frame (record (over c) { frames = confirmed_frames confirmed c.frames }) confirmed (refusal 0 EIO)

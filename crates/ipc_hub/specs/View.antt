@@ -8,7 +8,7 @@ use Rattle.ipc_store.specs.declared.fault.CommitError.{CommitError}
 use Rattle.ipc_store.specs.declared.fault.CommitError.TheVariants as commit
 use Rattle.ipc_store.specs.View.{StoreView, events_left}
 use Rattle.ipc_hub.specs.declared.fault.ServeError.{ServeError}
-use Rattle.ipc_hub.specs.declared.fault.ServeError.TheVariants.{Device, JournalFull, Stopped}
+use Rattle.ipc_hub.specs.declared.fault.ServeError.TheVariants.{Device, Stopped}
 
 -- the bytes of frames that a connection keeps
 pub record Outgoing : Type 0 where
@@ -49,7 +49,6 @@ HasStopped h = events_left h.store < most_events
 -- the fault of a call that commits and meets this fault
 abbrev pub of_commit_error : CommitError → ServeError
 of_commit_error commit.Device = Device
-of_commit_error commit.JournalFull = JournalFull
 of_commit_error commit.Stopped = Stopped
 
 -- the connection that has the number

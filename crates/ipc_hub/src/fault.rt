@@ -29,10 +29,7 @@ pub enum ServeError {
     /// A call on the disk has failed. The hub goes on no more.
     #[error("the disk has failed")]
     Device,
-    /// The journal has no room for what waits. The hub goes on no more.
-    #[error("the journal is full")]
-    JournalFull,
-    /// The hub goes on no more. Its store has to be opened again.
+    /// The hub goes on no more. Its store has to be opened again. It is so once the epochs are at their end, too.
     #[error("the hub has stopped")]
     Stopped,
 }
@@ -43,7 +40,6 @@ impl From<CommitError> for ServeError {
     fn from(error: CommitError) -> Self {
         match error {
             CommitError::Device => ServeError::Device,
-            CommitError::JournalFull => ServeError::JournalFull,
             CommitError::Stopped => ServeError::Stopped,
         }
     }

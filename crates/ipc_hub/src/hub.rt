@@ -4,9 +4,10 @@ ghost use Rattle.std.specs.Prelude.{◌≡◌, ◌<◌, ◌≤◌, ◌↔◌, �
 ghost use Rattle.std.specs.Prelude.{drop, take, IfOk, IfErr, IsTrue, OnErr, OnOk, Err};
 ghost use Rattle.std.specs.Bool.{OnTrue};
 ghost use Rattle.ipc_base.specs.declared.limits.Limits.{Limits};
+ghost use Rattle.ipc_disk.specs.Medium.{IsHonest};
 ghost use Rattle.ipc_engine.specs.Event.{PlainEvent};
 ghost use Rattle.ipc_store.specs.Histories.{Takes};
-ghost use Rattle.ipc_store.specs.View.{IsReadyFor};
+ghost use Rattle.ipc_store.specs.View.{HasTurned, IsReadyFor};
 ghost use Rattle.ipc_hub.specs.Clients.{Clients, no_clients, connect, hangup, tick, consume, shown_at, ended_at};
 ghost use Rattle.ipc_hub.specs.View.{HasNoFrame, HasStopped, is_connected, output_of, ended_of, of_commit_error};
 ghost use Rattle.ipc_hub.specs.Relations.Matches.{HubMatches, StoredMatches, Simulates, Serves, ServesFeed};
@@ -15,7 +16,7 @@ ghost use Rattle.ipc_hub.specs.Relations.Invariant.{SameButSeen};
 
 use crate::connection::Connection;
 use crate::fault::{ConnectError, ServeError};
-use crate::places::{fail_all, place_for, place_of, release_all};
+use crate::places::{place_for, place_of, tell};
 use crate::serving;
 use ipc_base::Moment;
 use ipc_disk::SectorDisk;
@@ -108,7 +109,8 @@ impl<D: SectorDisk> Hub<D> {
     /// Gives a connection the next bytes of its stream, at a moment. Answers how many it took: all of them if
     /// no frame of the connection is kept when it returns, or if the server has ended it. Requests are taken
     /// while the longest reply has room behind the frames that are kept, and an event has room among those that wait.
-    /// Where the first has none, the call begins with a release.
+    /// Where the first has none, the call begins with a release, which may be `Stopped` once if the epochs are at their
+    /// end.
     pub fn feed(&mut self, conn: u32, piece: &[u8], moment: Moment) -> Result<usize, ServeError>
         ensures ok { IfOk result (λ taken.
             ServesFeed D.medium self.old self.new conn (take taken piece.now) moment.0) }
@@ -120,6 +122,7 @@ impl<D: SectorDisk> Hub<D> {
         ensures stopped { HasStopped self.old → result ≡ Err ServeError.Stopped }
         ensures unknown { ¬ HasStopped self.old → is_connected self.old.hub conn ≡ false
             → result ≡ Err ServeError.Unknown }
+        ensures honest { IsHonest (D.medium self.old.store.disk) → IsHonest (D.medium self.new.store.disk) }
     {
         if self.has_stopped() {
             return Err(ServeError::Stopped);
@@ -141,6 +144,7 @@ impl<D: SectorDisk> Hub<D> {
         ensures stopped { HasStopped self.old → result ≡ Err ServeError.Stopped }
         ensures unknown { ¬ HasStopped self.old → is_connected self.old.hub conn ≡ false
             → result ≡ Err ServeError.Unknown }
+        ensures honest { IsHonest (D.medium self.old.store.disk) → IsHonest (D.medium self.new.store.disk) }
     {
         if self.has_stopped() {
             return Err(ServeError::Stopped);
@@ -166,6 +170,7 @@ impl<D: SectorDisk> Hub<D> {
         ensures ok { OnOk result (Serves D.medium self.old self.new (λ limits h. tick limits h moment.0)) }
         ensures refused { IfErr result (λ e. Halts D.medium D.counts self.old self.new e) }
         ensures stopped { HasStopped self.old → result ≡ Err CommitError.Stopped }
+        ensures honest { IsHonest (D.medium self.old.store.disk) → IsHonest (D.medium self.new.store.disk) }
     {
         if self.has_stopped() {
             return Err(CommitError::Stopped);
@@ -181,6 +186,7 @@ impl<D: SectorDisk> Hub<D> {
         ensures later { OnOk result (0 < self.new.store.waiting) }
         ensures same { OnOk result (SameButSeen self.old.hub self.new.hub) }
         ensures refused { IfErr result (λ e. Halts D.medium D.counts self.old self.new e) }
+        ensures honest { IsHonest (D.medium self.old.store.disk) → IsHonest (D.medium self.new.store.disk) }
     {
         if let Err(error) = self.make_room() {
             return Err(error);
@@ -189,9 +195,9 @@ impl<D: SectorDisk> Hub<D> {
         Ok(())
     }
 
-    /// Makes all events that wait last, and lets their frames be seen. If the disk fails, or its journal is full, the
-    /// frames that could be seen stay, the others are dropped, an EIO frame is the last of each connection, which has
-    /// ended, and the hub goes on no more.
+    /// Makes all events that wait last, and lets their frames be seen. If the disk fails, the frames that could be seen
+    /// stay, the others are dropped, an EIO frame is the last of each connection, which has ended, and the hub goes on
+    /// no more. The same comes, once and as `Stopped`, if the epochs are at their end.
     pub fn release(&mut self) -> Result<(), CommitError>
         ensures ok { OnOk result ((limits : Limits) (h : Clients) → StoredMatches limits self.old h
             → StoredMatches limits self.new h) }
@@ -204,20 +210,38 @@ impl<D: SectorDisk> Hub<D> {
         ensures nothing { self.old.store.waiting ≡ 0 → self.new.store ≡ self.old.store }
         ensures refused { IfErr result (λ e. Halts D.medium D.counts self.old self.new e) }
         ensures stopped { HasStopped self.old → result ≡ Err CommitError.Stopped }
+        ensures honest { IsHonest (D.medium self.old.store.disk) → IsHonest (D.medium self.new.store.disk) }
     {
         if self.has_stopped() {
             return Err(CommitError::Stopped);
         }
-        match self.store.commit() {
-            Ok(()) => {
-                release_all(&mut self.connections);
-                Ok(())
-            }
-            Err(error) => {
-                fail_all(&mut self.connections);
-                Err(error)
-            }
+        let done = self.store.commit();
+        tell(&mut self.connections, done);
+        done
+    }
+
+    /// Does what `release` does, by a checkpoint of the whole state. It writes also if no event waits.
+    pub fn save(&mut self) -> Result<(), CommitError>
+        ensures ok { OnOk result ((limits : Limits) (h : Clients) → StoredMatches limits self.old h
+            → StoredMatches limits self.new h) }
+        ensures takes { Takes D.medium self.old.store [] self.new.store }
+        ensures all { OnOk result (self.new.hub.connections ≡ seen_as released self.old.hub.connections) }
+        ensures confirmed { OnOk result (self.new.store.confirmed
+            ≡ self.old.store.confirmed + self.old.store.waiting) }
+        ensures waiting { OnOk result (self.new.store.waiting ≡ 0) }
+        ensures ready { OnOk result (IsReadyFor self.new.store 2) }
+        // What stands on the disk is the whole state.
+        ensures turned { OnOk result (HasTurned self.old.store self.new.store) }
+        ensures refused { IfErr result (λ e. Halts D.medium D.counts self.old self.new e) }
+        ensures stopped { HasStopped self.old → result ≡ Err CommitError.Stopped }
+        ensures honest { IsHonest (D.medium self.old.store.disk) → IsHonest (D.medium self.new.store.disk) }
+    {
+        if self.has_stopped() {
+            return Err(CommitError::Stopped);
         }
+        let done = self.store.save();
+        tell(&mut self.connections, done);
+        done
     }
 
     // Whether the hub goes on no more.
@@ -236,6 +260,7 @@ impl<D: SectorDisk> Hub<D> {
         ensures ready { OnOk result (IsReadyFor self.new.store 2) }
         ensures same { OnOk result (SameButSeen self.old.hub self.new.hub) }
         ensures refused { IfErr result (λ e. Halts D.medium D.counts self.old self.new e) }
+        ensures honest { IsHonest (D.medium self.old.store.disk) → IsHonest (D.medium self.new.store.disk) }
     {
         if self.store.is_ready_for(MOST_EVENTS) {
             return Ok(());
@@ -308,7 +333,10 @@ impl<D: SectorDisk> Hub<D> {
 
     /// The store as it is; the connections, and frames that wait, are gone.
     pub fn close(self) -> Store<D>
-        ensures { result ≡ self.store }
+        ensures store { result ≡ self.store }
+        // Its machine is the one that the connections had.
+        ensures limits { result.machine.limits ≡ self.hub.limits }
+        ensures state { result.machine.state ≡ self.hub.state }
     {
         self.store
     }

@@ -2,7 +2,7 @@
 
 use super::*;
 use crate::cuts::{NOTHING, RECEIVE, RECEIVE_AGAIN, RECEIVED, SEND, SENT, SHORT};
-use crate::tests::{BROKEN, GET, HELLO, WELCOME, device, greeted, opened, take_shown};
+use crate::tests::{BROKEN, GET, GOT, HELLO, WELCOME, device, greeted, opened, take_shown};
 use ipc_base::{Moment, Pid};
 use ipc_disk::{FuseDisk, MemoryDisk};
 use ipc_store::CommitError;
@@ -17,7 +17,7 @@ const FAILED: [u8; 10] = [0, 0, 0, 6, 0, 0, 0, 0, 0, 5];
 
 /// The calls on a new device of an open, and those of a release of events that fill one sector: a write and a sync of
 /// them, and a write and a sync of their count.
-const OPEN_CALLS: u64 = 7;
+const OPEN_CALLS: u64 = 9;
 
 const RELEASE_CALLS: u8 = 4;
 
@@ -105,17 +105,42 @@ fn a_failure_keeps_what_was_released(rt: HostRuntime) -> Result<(), Fail> {
 }
 
 #[test]
-fn a_journal_of_256_releases(rt: HostRuntime) -> Result<(), Fail> {
-    // The restart of the open was the first.
+fn a_hub_goes_on_over_a_full_journal(rt: HostRuntime) -> Result<(), Fail> {
+    // A journal has 256 sectors for batches, and each of these releases takes one.
     let mut hub = greeted(rt.alloc())?;
-    for _ in 0..254 {
-        hub.tick(Moment(0))?;
-        hub.release()?;
+    take_shown(&mut hub);
+    for _ in 0..300 {
+        assert_eq!(rt; hub.tick(Moment(0)), Ok(()));
+        assert_eq!(rt; hub.release(), Ok(()));
     }
-    assert_eq!(rt; hub.feed(1, &GET, Moment(0)), Ok(17));
-    assert_eq!(rt; hub.release(), Err(CommitError::JournalFull));
-    assert_eq!(rt; hub.output(1), FAILED.as_slice());
-    assert_eq!(rt; hub.release(), Err(CommitError::Stopped));
+    answers(&rt, &mut hub, &GET, &GOT)?;
+    come_back(&rt, rt.alloc(), hub.close().close())?;
+    Ok(())
+}
+
+#[test]
+fn a_save_makes_what_waits_last(rt: HostRuntime) -> Result<(), Fail> {
+    let mut hub = with_queue(rt.alloc())?;
+    assert_eq!(rt; hub.feed(1, SEND, Moment(0)), Ok(27));
+    assert_eq!(rt; hub.output(1).len(), 0);
+    assert_eq!(rt; hub.save(), Ok(()));
+    assert_eq!(rt; hub.output(1), SENT);
+    let mut hub = come_back(&rt, rt.alloc(), hub.close().close())?;
+    answers(&rt, &mut hub, RECEIVE, RECEIVED)?;
+    Ok(())
+}
+
+#[test]
+fn a_save_that_fails_ends_each_connection(rt: HostRuntime) -> Result<(), Fail> {
+    let mut hub = failing(rt.alloc(), 0)?;
+    hub.tick(Moment(5))?;
+    assert_eq!(rt; hub.save(), Err(CommitError::Device));
+    for conn in 1..4 {
+        assert_eq!(rt; hub.output(conn), FAILED.as_slice());
+        assert!(rt; hub.ended(conn));
+    }
+    assert_eq!(rt; hub.save(), Err(CommitError::Stopped));
+    refuses_all(&rt, &mut hub);
     Ok(())
 }
 

@@ -99,6 +99,7 @@ pub(crate) fn tick<D: SectorDisk>(
     ensures ticks { Simulates (hub_view store.old.machine connections.old) (hub_view store.new.machine connections.new)
         (λ limits h. ticks limits h moment.0) }
     ensures quiet { rows connections.new ≡ rows connections.old }
+    ensures disk { store.new.disk ≡ store.old.disk }
 {
     store.step(Event::Tick { moment }).unwrap();
     deliver(connections, store.engine().outcomes());
@@ -120,6 +121,7 @@ pub(crate) fn leave<D: SectorDisk>(
     ensures leaves { Simulates (hub_view store.old.machine connections.old) (hub_view store.new.machine connections.new)
         (λ limits h. leaves limits h (pid_of process) moment.0) }
     ensures others { LeavesOthers (rows connections.old) (rows connections.new) }
+    ensures disk { store.new.disk ≡ store.old.disk }
 {
     if let Some(pid) = process {
         store.step(Event::Exit { pid, moment }).unwrap();
@@ -135,6 +137,7 @@ fn ask<D: SectorDisk>(store: &mut Store<D>, connection: &mut Connection, moment:
         (first connection.old.input.items) moment.0 result }
     ensures number { connection.new.number ≡ connection.old.number }
     ensures view { view_of connection.new ≡ taken_off result (view_of connection.old) }
+    ensures disk { store.new.disk ≡ store.old.disk }
 {
     let asked = come_to(store, connection, moment);
     match asked {
@@ -148,8 +151,9 @@ fn ask<D: SectorDisk>(store: &mut Store<D>, connection: &mut Connection, moment:
 fn come_to<D: SectorDisk>(store: &mut Store<D>, connection: &Connection, moment: Moment) -> Asked
     requires ready { IsReadyFor store.old 1 }
     requires connected { IsConnected store.old.machine.state (pid_of connection.now.process) }
-    ensures { ComesTo D.medium store.old store.new (pid_of connection.now.process) (first connection.now.input.items)
-        moment.0 result }
+    ensures comes { ComesTo D.medium store.old store.new (pid_of connection.now.process)
+        (first connection.now.input.items) moment.0 result }
+    ensures disk { store.new.disk ≡ store.old.disk }
 {
     let request = match read_frame(&connection.input) {
         Frame::More => return Asked::More,
@@ -215,6 +219,7 @@ fn break_off<D: SectorDisk>(
         (hub_view store.new.machine connections.new)
         (λ limits h. breaks_off limits h c.number client serial moment.0) }
     ensures answers { (c : Connection) → IsThere connections.new place c → kept c.outbox ≢ [] }
+    ensures disk { store.new.disk ≡ store.old.disk }
 {
     let connection = &mut connections[place];
     let process = connection.close();
@@ -242,6 +247,7 @@ fn receive<D: SectorDisk>(
     ensures within { result.0 ≤ length piece.now }
     ensures few { length (take result.0 piece.now) ≤ missing connection.old.input.items }
     ensures some { 0 < length piece.now → 0 < result.0 }
+    ensures disk { store.new.disk ≡ store.old.disk }
 {
     let count = connection.fill(piece);
     let asked = ask(store, connection, moment);
@@ -271,6 +277,7 @@ fn take<D: SectorDisk>(
     ensures some { 0 < length piece.now → 0 < result }
     ensures answers { (c : Connection) → IsThere connections.new place c → kept c.outbox ≡ []
         → store.new ≡ store.old }
+    ensures disk { store.new.disk ≡ store.old.disk }
 {
     let connection = &mut connections[place];
     if connection.ended {
@@ -309,6 +316,7 @@ pub(crate) fn take_in<D: SectorDisk>(
         → kept c.outbox ≡ [] → 0 < length piece.now → 0 < result }
     ensures dropped { (c : Connection) → IsThere connections.old place c
         → c.ended ≡ true → result ≡ length piece.now }
+    ensures disk { store.new.disk ≡ store.old.disk }
 {
     let connection = &connections[place];
     if connection.ended {

@@ -248,7 +248,7 @@ fn are_failed<D: SectorDisk>(hub: &Hub<D>) -> bool {
 }
 
 /// The calls on a new device of an open.
-const OPEN_CALLS: u64 = 7;
+const OPEN_CALLS: u64 = 9;
 
 /// A hub with connections 1, 2 and 3 over a new device that passes so many calls after its open.
 fn started(alloc: Global, calls: u64, keep: u64) -> Result<Hub<FuseDisk>, Fail> {

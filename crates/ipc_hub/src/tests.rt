@@ -78,7 +78,7 @@ fn a_client_comes_and_goes(rt: HostRuntime) -> Result<(), Fail> {
 /// A queue of key 1234, made if there is none, and its answer.
 pub(crate) const GET: [u8; 17] = [0, 0, 0, 13, 0, 0, 0, 2, 10, 0, 0, 4, 210, 0, 0, 3, 128];
 
-const GOT: [u8; 14] = [0, 0, 0, 10, 0, 0, 0, 2, 0, 0, 0, 0, 0, 1];
+pub(crate) const GOT: [u8; 14] = [0, 0, 0, 10, 0, 0, 0, 2, 0, 0, 0, 0, 0, 1];
 
 /// The client of connection 1 takes all that it may see.
 pub(crate) fn take_shown<D: SectorDisk>(hub: &mut Hub<D>) {

@@ -1,7 +1,8 @@
 -- What holds of a fault, by whether the world failed, or the disk, or the script is wrong.
 use Rattle.std.proofs.Common.{◌≡◌, ℕ, sym, subst}
 use Rattle.ipc_script.specs.declared.fault.ScriptFault.{ScriptFault}
-use Rattle.ipc_script.specs.declared.fault.ScriptFault.TheVariants.{NoMemory, Input, Output, Device, TooLong, BadLine, InUse, Unknown}
+use Rattle.ipc_script.specs.declared.fault.ScriptFault.TheVariants.{NoMemory, Input, Output, Device, NotFormatted, Version, Damaged}
+use Rattle.ipc_script.specs.declared.fault.ScriptFault.TheVariants.{TooLong, BadLine, InUse, Unknown}
 use Rattle.ipc_script.specs.Relations.Faults.{ByFault, IfRefused, WorldFailed}
 
 -- two facts of a fault make a third
@@ -10,6 +11,9 @@ by_fault_both W V A B P Q R NoMemory f d g x q = f x
 by_fault_both W V A B P Q R Input f d g x q = x
 by_fault_both W V A B P Q R Output f d g x q = f x
 by_fault_both W V A B P Q R Device f d g x q = d x
+by_fault_both W V A B P Q R NotFormatted f d g x q = d x
+by_fault_both W V A B P Q R (Version found) f d g x q = d x
+by_fault_both W V A B P Q R (Damaged sector) f d g x q = d x
 by_fault_both W V A B P Q R TooLong f d g x q = g x q
 by_fault_both W V A B P Q R (BadLine number) f d g x q = g x q
 by_fault_both W V A B P Q R (InUse number) f d g x q = g x q
@@ -24,6 +28,9 @@ by_fault W V A B P Q e f d g x = by_fault_both W V A B P P Q e f d (λ p _. g p)
     wrong_script W A P Input x = x
     wrong_script W A P Output x = tt
     wrong_script W A P Device x = tt
+    wrong_script W A P NotFormatted x = tt
+    wrong_script W A P (Version found) x = tt
+    wrong_script W A P (Damaged sector) x = tt
     wrong_script W A P TooLong x = x
     wrong_script W A P (BadLine number) x = x
     wrong_script W A P (InUse number) x = x
@@ -36,3 +43,17 @@ refused_unknown P e number is p = subst (λ (f : ScriptFault). IfRefused f P) (s
 -- if memory or a write failed, anything holds of a failed disk and of a wrong script
 pub world_failed : (W V B P : Type 0) (e : ScriptFault) → (W → V) → WorldFailed e W → ByFault e V B P
 world_failed W V B P e f x = by_fault W V ⊥ B ⊥ P e f (λ b. absurd b) (λ b. absurd b) x
+
+-- memory or a write failed
+pub world_only : (W : Type 0) (e : ScriptFault) → WorldFailed e W → W
+world_only W NoMemory w = w
+world_only W Input w = absurd w
+world_only W Output w = w
+world_only W Device w = absurd w
+world_only W NotFormatted w = absurd w
+world_only W (Version found) w = absurd w
+world_only W (Damaged sector) w = absurd w
+world_only W TooLong w = absurd w
+world_only W (BadLine number) w = absurd w
+world_only W (InUse number) w = absurd w
+world_only W (Unknown number) w = absurd w

@@ -67,14 +67,12 @@ pub is_unknown : {D : Type 0} (medium : D → Medium) (counts : D → Counts) (h
     → (is_connected hub.hub conn ≡ false → P) → Refuses medium counts hub next conn e → IfRefused (of_serve_error e number) P
 is_unknown medium counts hub next conn P serve.Unknown number makes r = makes r.1
 is_unknown medium counts hub next conn P serve.Device number makes r = tt
-is_unknown medium counts hub next conn P serve.JournalFull number makes r = tt
 is_unknown medium counts hub next conn P serve.Stopped number makes r = tt
 
 -- so it has that fault
 pub is_its_fault : (W P : Type 0) (e : ServeError) (number : ℕ) → P → ByFault (of_serve_error e number) W P ((of_serve_error e number ≡ Unknown number) × P)
 is_its_fault W P serve.Unknown number p = (refl, p)
 is_its_fault W P serve.Device number p = p
-is_its_fault W P serve.JournalFull number p = p
 is_its_fault W P serve.Stopped number p = p
 
 -- ---- tables

@@ -16,3 +16,5 @@ pub mod FedPieces
 pub mod OpenConnections
 pub mod LineForms
 pub mod ScriptLines
+pub mod OpenedAgain
+pub mod DumpText

@@ -7,6 +7,7 @@ use Rattle.std.proofs.Math.Seq.{take-append_seam}
 use Rattle.ipc_base.specs.declared.limits.Limits.{Limits}
 use Rattle.ipc_hub.specs.View.{StoredHub}
 use Rattle.ipc_hub.specs.Clients.{hangup}
+use Rattle.ipc_hub.specs.Relations.Matches.{StoredMatches}
 use Rattle.ipc_script.specs.declared.fault.ScriptFault.{ScriptFault}
 use Rattle.ipc_script.specs.declared.fault.ScriptFault.TheVariants.{InUse, Unknown}
 use Rattle.ipc_script.specs.declared.report.Opened.{Opened}
@@ -22,6 +23,11 @@ use Rattle.ipc_script.proofs.WrittenText.{part_none, grown_none}
 pub written_back : {A : Type 0} (n : ℕ) (new old : List A) → n ≡ length old → length new ≡ length old → take n (new ++ drop (length new) old) ≡ new
 written_back n new old len same =
     ap (λ (k : ℕ). take k (new ++ drop (length new) old)) (len ∙ sym same) ∙ take-append_seam new (drop (length new) old)
+
+-- a call that changes nothing of the clients keeps the run
+pub still_matches : {D : Type 0} (limits : Limits) (old new : StoredHub D) (opened : List Opened) (r : Run)
+    → (StoredMatches limits old r.hub → StoredMatches limits new r.hub) → RunMatches limits old opened r → RunMatches limits new opened r
+still_matches limits old new opened r keeps i = record { matches = keeps i.matches; kept = i.kept; whole = i.whole; rising = i.rising }
 
 -- nothing of a line is written
 pub line_unwritten : (limits : Limits) (number : ℕ) (r : Run) (line : PlainLine) (w : Option (List ℕ)) → (cut : Cut)

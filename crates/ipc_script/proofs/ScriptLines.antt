@@ -1,22 +1,27 @@
 -- The lines of a script, run one after the other.
 use Rattle.std.proofs.Common.{◌≡◌, ℕ, ◌+◌, ◌<◌, ◌≤◌, Bool, true, false, drop, List, [], ◌∷◌, ◌++◌, length, Option, Some, None, refl, sym, ap, ◌∙◌}
-use Rattle.std.proofs.Common.{subst, append_assoc, append-nil, arith, map, take}
+use Rattle.std.proofs.Common.{inl, inr, subst, append_assoc, append-nil, arith, map, take}
 use Rattle.std.proofs.Math.Seq.{take-append_seam}
-use Rattle.std.specs.Prelude.{Ok, Err, Result, ⊤, IfSome, if◌then◌else◌}
+use Rattle.std.specs.Prelude.{◌≢◌, ◌⊎◌, Ok, Err, Result, ⊤, IfSome, All, if◌then◌else◌}
 use Rattle.std.specs.Io.KnownBytes.{Appends}
 use Rattle.std.proofs.KnownBytes.{Appends-nil, Appends-trans}
 use Rattle.std.proofs.lemmas.List.{length-append}
+use Rattle.std.proofs.lemmas.List.Elements.{All-head, All-tail}
 use Rattle.ipc_base.specs.declared.limits.Limits.{Limits}
 use Rattle.ipc_base.specs.Table.{keys_of}
+use Rattle.ipc_disk.specs.Medium.{Medium, IsHonest}
+use Rattle.ipc_state.specs.State.{restart}
+use Rattle.ipc_engine.specs.Event.{Restart}
 use Rattle.ipc_hub.specs.View.{StoredHub}
-use Rattle.ipc_hub.specs.Clients.{Client, Clients, hangup}
+use Rattle.ipc_hub.specs.Clients.{Client, Clients, no_clients, hangup}
 use Rattle.ipc_hub.specs.Relations.Matches.{StoredMatches}
 use Rattle.ipc_script.specs.declared.fault.ScriptFault.{ScriptFault}
 use Rattle.ipc_script.specs.declared.report.Opened.{Opened}
-use Rattle.ipc_script.specs.declared.fault.ScriptFault.TheVariants.{NoMemory, Input, Output, Device, TooLong, BadLine, InUse, Unknown}
-use Rattle.ipc_script.specs.Line.{longest_script, PlainLine, Open, Data, End, Tick, line_of, lines_of}
+use Rattle.ipc_script.specs.declared.fault.ScriptFault.TheVariants.{NoMemory, Input, Output, Device, NotFormatted, Version, Damaged}
+use Rattle.ipc_script.specs.declared.fault.ScriptFault.TheVariants.{TooLong, BadLine, InUse, Unknown}
+use Rattle.ipc_script.specs.Line.{longest_script, PlainLine, Open, Data, End, Tick, Save, Stop, line_of, lines_of}
 use Rattle.ipc_script.specs.Script.{Run, Cut, Progress, Outcome, start_run, text_done, first_cut, goes_on, run_lines, is_open, opened, report}
-use Rattle.ipc_script.specs.Script.{fed_in_pieces, script_run, lines_run, WritesPart, WritesMore, EndsAs, BreaksOff, Halts, Runs}
+use Rattle.ipc_script.specs.Script.{MayStop, stopped, fed_in_pieces, script_run, lines_run, WritesPart, WritesMore, EndsAs, BreaksOff, Halts, Runs}
 use Rattle.ipc_script.specs.Relations.Input.{IsReadFault, ReadsTooMuch}
 use Rattle.ipc_script.specs.Relations.Matches.{RunMatchesBetween, opened_of}
 use Rattle.ipc_script.specs.Relations.Simulation.{SimulatesScript, text_of}
@@ -45,6 +50,20 @@ goes_part : (a b : Option (List ℕ)) (result : Result Progress ScriptFault) (ne
 goes_part a b (Err e) next part = part
 goes_part a b (Ok p) next part = part_more a b p.text (next p.run).text part
 
+-- a run without connections
+starts : {D : Type 0} (limits : Limits) (h : Clients) (hub : StoredHub D) → StoredMatches limits hub h → h.clients ≡ []
+    → RunMatchesBetween limits hub [] (start_run h)
+starts limits h hub matches none =
+    record {
+      run = record {
+        matches = matches;
+        kept = ap (λ (t : List (ℕ × Client)). map (opened_of (λ _. false)) (keys_of t)) (sym none);
+        whole = λ n. rw none tt;
+        rising = rw none (omega arith);
+      };
+      quiet = λ n. rw none tt;
+    }
+
 module _ {D : Type 0} (limits : Limits) (h : Clients) (script : List ℕ) where
   pub run_begun : (hub : StoredHub D) (w : Option (List ℕ)) → StoredMatches limits hub h → h.clients ≡ [] → PartlyRun limits h script 1 hub [] script w w
   run_begun hub w matches none =
@@ -54,15 +73,7 @@ module _ {D : Type 0} (limits : Limits) (h : Clients) (script : List ℕ) where
         lines = refl;
         done = [];
         text = [];
-        at = record {
-          run = record {
-            matches = matches;
-            kept = ap (λ (t : List (ℕ × Client)). map (opened_of (λ _. false)) (keys_of t)) (sym none);
-            whole = λ n. rw none tt;
-            rising = rw none (omega arith);
-          };
-          quiet = λ n. rw none tt;
-        };
+        at = starts limits h hub matches none;
         written = Appends-nil w;
         runs = λ lines more. refl;
       }
@@ -96,6 +107,13 @@ module _ {D : Type 0} (limits : Limits) (h : Clients) (script : List ℕ) where
               ∙ (ap (λ r. later p.text (goes_on r (λ now. run_lines limits (number + 1) now others more))) is
               ∙ ap (λ (t : List ℕ). record { text = t; fault = rest_of.fault }) (sym (append_assoc p.text q.text rest_of.text)))));
         }
+
+    -- the server was dropped, and its device opened again
+    pub run_stopped : (line behind : List ℕ) → lines_of rest ≡ line ∷ lines_of behind → line_of line ≡ Some Stop → (next : StoredHub D)
+        → StoredMatches limits next (no_clients (restart p.now.hub.state) (Restart ∷ [])) → PartlyRun limits h script (number + 1) next [] behind w0 w1
+    run_stopped line behind lines is next matches =
+        run_more line behind lines [] (record { text = []; run = stopped p.now }) (ap (λ (o : Option PlainLine). text_done limits number p.now o []) is)
+        next [] w1 (starts limits (no_clients (restart p.now.hub.state) (Restart ∷ [])) next matches refl) (Appends-nil w1)
 
     -- the disk failed in a line: what was written goes on
     pub run_halted : (w2 : Option (List ℕ)) → WritesMore w1 w2 [] → Halts limits h script w0 w2
@@ -152,6 +170,28 @@ module _ {D : Type 0} (limits : Limits) (h : Clients) (script : List ℕ) where
         ∙ (ran [] ∙ ap (λ (ls : List (List ℕ)). later p.text (run_lines limits number p.now ls [])) none) in
         (p.done, (subst (Appends w0 w1) (sym (append-nil p.text) ∙ sym (ap (λ (o : Outcome). o.text) ends)) p.written, ap (λ (o : Outcome). o.fault) ends))
 
+-- ---- lines that are `stop`
+
+module _ (rest line behind : List ℕ) (lines : lines_of rest ≡ line ∷ lines_of behind) where
+  may-all : (old : Medium) → MayStop old rest → All (λ (l : List ℕ). line_of l ≢ Some Stop) (line ∷ lines_of behind) ⊎ IsHonest old
+  may-all old may = subst (λ (ls : List (List ℕ)). All (λ (l : List ℕ). line_of l ≢ Some Stop) ls ⊎ IsHonest old) lines may
+
+  -- if the first line is one, the disk is honest
+  pub may-here : (old : Medium) → MayStop old rest → line_of line ≡ Some Stop → IsHonest old
+  may-here old may is =
+      elim (may-all old may) [
+        | inl none ↦ absurd (All-head (λ (l : List ℕ). line_of l ≢ Some Stop) line (lines_of behind) none is)
+        | inr honest ↦ honest
+      ]
+
+  -- an honest disk stays so from line to line
+  pub may-behind : (old new : Medium) → MayStop old rest → (IsHonest old → IsHonest new) → MayStop new behind
+  may-behind old new may keeps =
+      elim (may-all old may) [
+        | inl none ↦ inl (All-tail (λ (l : List ℕ). line_of l ≢ Some Stop) line (lines_of behind) none)
+        | inr honest ↦ inr (keeps honest)
+      ]
+
 -- no text, no line
 pub no_lines : (text : List ℕ) → length text ≡ 0 → lines_of text ≡ []
 unfolding lines_of
@@ -172,6 +212,8 @@ never_text limits number r (Some (Data moment conn bytes)) cut is =
 never_text limits number r (Some (End moment conn)) cut is =
     never_if (is_open r conn) (Ok (report (record r { hub = hangup limits r.hub conn moment }))) (Err (Unknown number)) (λ e. cc) (λ e. cc) is
 never_text limits number r (Some (Tick moment)) cut is = cc
+never_text limits number r (Some Save) cut is = cc
+never_text limits number r (Some Stop) cut is = cc
 
 never_on : (result : Result Progress ScriptFault) (next : Run → Outcome) → (result ≡ Err TooLong → ⊥)
     → ((now : Run) → (next now).fault ≡ Some TooLong → ⊥) → (goes_on result next).fault ≡ Some TooLong → ⊥
@@ -194,6 +236,9 @@ all_lines limits h script before after (Err NoMemory) short ran = ran
 all_lines limits h script before after (Err Input) short ran = absurd ran
 all_lines limits h script before after (Err Output) short ran = ran
 all_lines limits h script before after (Err Device) short ran = ran
+all_lines limits h script before after (Err NotFormatted) short ran = ran
+all_lines limits h script before after (Err (Version found)) short ran = ran
+all_lines limits h script before after (Err (Damaged sector)) short ran = ran
 all_lines limits h script before after (Err TooLong) short ran = absurd (never_long limits 1 (start_run h) (lines_of script) ran.0 ran.1.1)
 all_lines limits h script before after (Err (BadLine number)) short ran = (short, ran)
 all_lines limits h script before after (Err (InUse number)) short ran = (short, ran)
@@ -232,6 +277,9 @@ not_read remaining left w NoMemory f long = (input_of remaining, is_input remain
 not_read remaining left w Input f long = (input_of remaining, is_input remaining, λ limits h. Appends-nil w)
 not_read remaining left w Output f long = absurd f
 not_read remaining left w Device f long = absurd f
+not_read remaining left w NotFormatted f long = absurd f
+not_read remaining left w (Version found) f long = absurd f
+not_read remaining left w (Damaged sector) f long = absurd f
 not_read remaining left w TooLong f long =
     let l = long_input remaining left (long refl) in (l.0, l.1, λ limits h. (l.2, Appends-nil w))
 not_read remaining left w (BadLine number) f long = absurd f

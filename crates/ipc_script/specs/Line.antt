@@ -1,6 +1,6 @@
 -- The lines of a script. They are parted by newlines, and the words of a line by one space each:
--- `M open C`, `M data C HEX`, `M end C` and `M tick` are the forms. M and C are digits alone, below
--- 2^64 and 2^32.
+-- `M open C`, `M data C HEX`, `M end C`, `M tick`, `save` and `stop` are the forms. M and C are
+-- digits alone, below 2^64 and 2^32.
 use Rattle.std.specs.Prelude.{ℕ, ◌+◌, ◌-◌, ◌*◌, ◌^◌, ◌==◌, ◌&&◌, nat_lt, if◌then◌else◌}
 use Rattle.std.specs.Prelude.{List, [], ◌∷◌, length, codes, Option, Some, None}
 use Rattle.std.specs.List.{slice_split, onto_first}
@@ -8,12 +8,14 @@ use Rattle.std.specs.Result.{result_ok}
 use Rattle.std.specs.Str.{all_ascii_digits, bytes_eq}
 use Rattle.hex.specs.Hex.{decode_of}
 
--- A line: `open` has no moment, and the piece of `data` is its bytes.
+-- A line: `open`, `save` and `stop` have no moment, and the piece of `data` is its bytes.
 pub data PlainLine : Type 0 where
   Open : (conn : ℕ) → PlainLine
   Data : (moment conn : ℕ) → (bytes : List ℕ) → PlainLine
   End : (moment conn : ℕ) → PlainLine
   Tick : (moment : ℕ) → PlainLine
+  Save : PlainLine
+  Stop : PlainLine
 
 -- ---- the lines of a script
 
@@ -96,8 +98,12 @@ data_of m c hex = do
   bytes ← bytes_of_hex hex
   Some (Data moment conn bytes)
 
--- the line of these words, by how many they are and by the second
+-- the line of these words, by how many they are and by the verb
 abbrev pub line_of_words : List (List ℕ) → Option PlainLine
+line_of_words (verb ∷ []) =
+    if bytes_eq verb (codes "save") then Some Save
+    else if bytes_eq verb (codes "stop") then Some Stop
+    else None
 line_of_words (m ∷ verb ∷ []) = if bytes_eq verb (codes "tick") then tick_of m else None
 line_of_words (m ∷ verb ∷ c ∷ []) =
     if bytes_eq verb (codes "open") then open_of m c

@@ -6,3 +6,4 @@ pub mod Matches
 pub mod Report
 pub mod Pieces
 pub mod Simulation
+pub mod Columns

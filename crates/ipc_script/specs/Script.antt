@@ -1,8 +1,8 @@
 -- The run of a script: what its lines do to the server and its clients, and what is written. After
 -- each line all that was accepted is confirmed, so that each frame that waits is written and taken.
 -- What is promised of a run stands last.
-use Rattle.std.specs.Prelude.{◌≡◌, ◌<◌, ◌≤◌, ⊤, ℕ, ◌+◌, Bool, false, ◌&&◌, ◌||◌, not}
-use Rattle.std.specs.Prelude.{nat_eq, nat_lt, if◌then◌else◌, List, [], ◌∷◌, ◌++◌, length}
+use Rattle.std.specs.Prelude.{◌≡◌, ◌≢◌, ◌⊎◌, ◌<◌, ◌≤◌, ⊤, ℕ, ◌+◌, Bool, false, ◌&&◌, ◌||◌}
+use Rattle.std.specs.Prelude.{not, All, nat_eq, nat_lt, if◌then◌else◌, List, [], ◌∷◌, ◌++◌, length}
 use Rattle.std.specs.Prelude.{map, take, drop, codes, Option, Some, None, is_some, Result, Ok, Err}
 use Rattle.std.specs.List.{flat_map}
 use Rattle.std.specs.Fmt.{decimal}
@@ -10,18 +10,26 @@ use Rattle.std.specs.Io.KnownBytes.{Appends}
 use Rattle.hex.specs.Hex.{encode_lower}
 use Rattle.ipc_base.specs.declared.limits.Limits.{Limits}
 use Rattle.ipc_base.specs.Table.{keys_of}
-use Rattle.ipc_hub.specs.Clients.{Client, Clients, client_at, ended_at}
+use Rattle.ipc_disk.specs.Medium.{Medium, IsHonest}
+use Rattle.ipc_state.specs.State.{restart}
+use Rattle.ipc_engine.specs.Event.{Restart}
+use Rattle.ipc_hub.specs.Clients.{Client, Clients, client_at, ended_at, no_clients}
 use Rattle.ipc_hub.specs.Clients.{connect, feed, hangup, tick}
 use Rattle.ipc_script.specs.declared.fault.ScriptFault.{ScriptFault}
 use Rattle.ipc_script.specs.declared.fault.ScriptFault.TheVariants.{NoMemory, Input, Output, Device}
+use Rattle.ipc_script.specs.declared.fault.ScriptFault.TheVariants.{NotFormatted, Version, Damaged}
 use Rattle.ipc_script.specs.declared.fault.ScriptFault.TheVariants.{TooLong, BadLine, InUse, Unknown}
-use Rattle.ipc_script.specs.Line.{PlainLine, Open, Data, End, Tick}
+use Rattle.ipc_script.specs.Line.{PlainLine, Open, Data, End, Tick, Save, Stop}
 use Rattle.ipc_script.specs.Line.{line_of, lines_of, longest_script}
 
 -- what a run has: the clients, and of which connections the end was told
 pub record Run : Type 0 where
   pub hub : Clients
   pub told : ℕ → Bool
+
+-- nothing was told of any connection yet
+abbrev pub start_run : Clients → Run
+start_run h = record { hub = h; told = λ _. false }
 
 -- a run that has written something
 pub record Progress : Type 0 where
@@ -79,6 +87,11 @@ abbrev pub opened : Run → ℕ → Run
 opened r conn =
     record { hub = connect r.hub conn; told = λ other. not (nat_eq other conn) && r.told other }
 
+-- The server and all connections are dropped without a word, and the device is opened again: the
+-- restart is the one event since then.
+abbrev pub stopped : Run → Run
+stopped r = start_run (no_clients (restart r.hub.state) (Restart ∷ []))
+
 -- some bytes, at least one, and of which of the requests in them memory was refused
 pub record Piece : Type 0 where
   -- how many bytes besides the first
@@ -118,6 +131,9 @@ line_done limits number r (End moment conn) cut =
     else Err (Unknown number)
 line_done limits number r (Tick moment) cut =
     Ok (report (record r { hub = tick limits r.hub moment }))
+-- what was accepted is confirmed already, so that a save changes nothing that a client sees
+line_done limits number r Save cut = Ok (report r)
+line_done limits number r Stop cut = Ok (record { text = []; run = stopped r })
 
 -- a text that may be a line
 abbrev pub text_done : Limits → ℕ → Run → Option PlainLine → Cut → Result Progress ScriptFault
@@ -148,10 +164,6 @@ run_lines limits number r [] cuts = record { text = []; fault = None }
 run_lines limits number r (line ∷ lines) cuts =
     goes_on (text_done limits number r (line_of line) (first_cut cuts))
     (λ now. run_lines limits (number + 1) now lines (drop 1 cuts))
-
--- nothing was told of any connection yet
-abbrev pub start_run : Clients → Run
-start_run h = record { hub = h; told = λ _. false }
 
 -- a whole script; lines count from 1
 abbrev pub script_run : Limits → Clients → List ℕ → List Cut → Outcome
@@ -194,6 +206,14 @@ pub record Halts (limits : Limits) (h : Clients) (script : List ℕ) (before aft
   pub runs : (lines_run limits h script count cuts).fault ≡ None
   pub text : WritesMore before after (lines_run limits h script count cuts).text
 
+-- no line of it is `stop`
+abbrev pub HasNoStop : List ℕ → Type 0
+HasNoStop script = All (λ line. line_of line ≢ Some Stop) (lines_of script)
+
+-- a device that is opened again is known from its disk, if that is honest
+abbrev pub MayStop : Medium → List ℕ → Type 0
+MayStop medium script = HasNoStop script ⊎ IsHonest medium
+
 -- a script that is not too long has run
 abbrev pub HasRun : Limits → Clients → List ℕ → Option (List ℕ) → Option (List ℕ)
     → Option ScriptFault → Type 0
@@ -201,7 +221,8 @@ HasRun limits h script before after fault =
     (length script ≤ longest_script) × EndsAs limits h script before after fault
 
 -- What holds of a script when its run has ended. If memory or a write failed, the run broke off. If
--- the disk failed, it halted. A script that is not read to its end, or is too long, is not begun.
+-- the disk failed, or no device was found on it, it halted. A script that is not read to its end, or
+-- is too long, is not begun.
 abbrev pub Runs : Limits → Clients → List ℕ → Option (List ℕ) → Option (List ℕ)
     → Result ⊤ ScriptFault → Type 0
 Runs limits h script before after (Ok _) = HasRun limits h script before after None
@@ -209,6 +230,9 @@ Runs limits h script before after (Err NoMemory) = BreaksOff limits h script bef
 Runs limits h script before after (Err Input) = Appends before after []
 Runs limits h script before after (Err Output) = BreaksOff limits h script before after
 Runs limits h script before after (Err Device) = Halts limits h script before after
+Runs limits h script before after (Err NotFormatted) = Halts limits h script before after
+Runs limits h script before after (Err (Version found)) = Halts limits h script before after
+Runs limits h script before after (Err (Damaged sector)) = Halts limits h script before after
 Runs limits h script before after (Err TooLong) =
     (longest_script < length script) × Appends before after []
 Runs limits h script before after (Err (BadLine number)) =

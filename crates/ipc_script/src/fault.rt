@@ -14,8 +14,15 @@ pub enum ScriptFault {
     Input,
     /// A write failed, or took nothing.
     Output,
-    /// The disk has failed, or its journal is full. What the connections had to say then is written.
+    /// The disk has failed, or its epochs are at their end. What the connections had to say then is
+    /// written.
     Device,
+    /// The disk does not begin as a device.
+    NotFormatted,
+    /// The device is of another version, which it names.
+    Version(u32),
+    /// The device stands for no state. The fault is first seen in this sector.
+    Damaged(u32),
     /// The script has more than 16777216 bytes. Nothing of it was done.
     TooLong,
     /// The line has none of the forms. Lines count from 1.
@@ -38,6 +45,9 @@ impl fmt::Display for ScriptFault {
             ScriptFault::Input => write!(f, "input fault"),
             ScriptFault::Output => write!(f, "output fault"),
             ScriptFault::Device => write!(f, "device fault"),
+            ScriptFault::NotFormatted => write!(f, "not formatted"),
+            ScriptFault::Version(found) => write!(f, "version {found}"),
+            ScriptFault::Damaged(sector) => write!(f, "damaged sector {sector}"),
             ScriptFault::TooLong => write!(f, "script too long"),
             ScriptFault::BadLine(number) => write!(f, "line {number}: bad line"),
             ScriptFault::InUse(number) => write!(f, "line {number}: connection in use"),

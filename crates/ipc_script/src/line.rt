@@ -25,15 +25,20 @@ pub enum Line<'a> {
     Tick {
         moment: u64,
     },
+    Save,
+    Stop,
 }
 
-/// The line that a text is: `M open C`, `M data C HEX`, `M end C` or `M tick`, its words parted by
-/// one space each; M and C are digits alone, within their types.
+/// The line that a text is: `M open C`, `M data C HEX`, `M end C`, `M tick`, `save` or `stop`, its
+/// words parted by one space each; M and C are digits alone, within their types.
 pub fn line_of(text: &[u8]) -> Option<Line<'_>>
     ensures { option_map plain_line result ≡ line_of text.now }
 {
     let (first, rest) = word(text);
-    let (second, rest) = word(rest?);
+    let Some(rest) = rest else {
+        return one_word(first);
+    };
+    let (second, rest) = word(rest);
     let Some(rest) = rest else {
         return two_words(first, second);
     };
@@ -45,6 +50,19 @@ pub fn line_of(text: &[u8]) -> Option<Line<'_>>
     match rest {
         None => four_words(first, second, third, fourth),
         Some(_) => None,
+    }
+}
+
+/// `save` or `stop`.
+fn one_word<'a>(verb: &[u8]) -> Option<Line<'a>>
+    ensures { option_map plain_line result ≡ line_of_words (verb.now ∷ []) }
+{
+    if verb == b"save".as_slice() {
+        Some(Line::Save)
+    } else if verb == b"stop".as_slice() {
+        Some(Line::Stop)
+    } else {
+        None
     }
 }
 

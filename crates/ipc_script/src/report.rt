@@ -5,6 +5,7 @@ ghost use Rattle.std.specs.Prelude.{◌≡◌, ⊤, ◌<◌, ◌≤◌, ℕ, Lis
 ghost use Rattle.std.specs.Prelude.{IfOk, IfErr, IfSome, OnOk};
 ghost use Rattle.std.specs.Io.KnownBytes.{Appends};
 ghost use Rattle.ipc_base.specs.declared.limits.Limits.{Limits};
+ghost use Rattle.ipc_disk.specs.Medium.{IsHonest};
 ghost use Rattle.ipc_hub.specs.Clients.{Clients, accepted, client_at};
 ghost use Rattle.ipc_hub.specs.Relations.Matches.{IsFrame, HubMatches};
 ghost use Rattle.ipc_script.specs.Script.{Run, WritesPart, WritesMore, conn_text, report as report_of};
@@ -44,6 +45,8 @@ pub fn report<D: SectorDisk, W: Write>(
         ((limits : Limits) (r : Run) → RunMatches limits hub.old opened.old r →
         WritesPart (W.contents writer.old) (W.contents writer.new) (report_of r).text)
         (Appends (W.contents writer.old) (W.contents writer.new) []) ⊥) }
+    ensures honest { IsHonest (D.medium hub.old.store.disk)
+        → IsHonest (D.medium hub.new.store.disk) }
 {
     match hub.release() {
         Ok(()) => report_all(alloc, hub, opened, writer),
@@ -66,6 +69,7 @@ pub fn report_all<D: SectorDisk, W: Write>(
         ((limits : Limits) (r : Run) → RunMatches limits hub.old opened.old r →
         hub.old.store.confirmed ≡ accepted r.hub →
         WritesPart (W.contents writer.old) (W.contents writer.new) (report_of r).text)) }
+    ensures store { hub.new.store ≡ hub.old.store }
     ensures grows { WritesMore (W.contents writer.old) (W.contents writer.new) [] }
 {
     for (place, connection) in opened.iter_mut().enumerate() {
@@ -169,7 +173,7 @@ fn end_line(alloc: Global, conn: u32) -> Result<String, ScriptFault>
 }
 
 /// A write that fails or takes nothing is a fault.
-fn write_all<W: Write>(writer: &mut W, bytes: &[u8]) -> Result<(), ScriptFault>
+pub(crate) fn write_all<W: Write>(writer: &mut W, bytes: &[u8]) -> Result<(), ScriptFault>
     ensures ok { OnOk result (Appends (W.contents writer.old) (W.contents writer.new) bytes.now) }
     ensures err { IfErr result (λ e.
         WorldFailed e (WritesPart (W.contents writer.old) (W.contents writer.new) bytes.now)) }

@@ -1,16 +1,18 @@
 //! A script: lines of what connections do and when, run on a hub.
 
-ghost use Rattle.std.specs.Prelude.{◌≡◌, ◌<◌, ◌≤◌, ◌+◌, ℕ, true, false, List, [], length, position};
+ghost use Rattle.std.specs.Prelude.{◌≡◌, ◌≢◌, ◌<◌, ◌≤◌, ◌+◌, ℕ, true, false, List, [], length, position};
 ghost use Rattle.std.specs.Prelude.{nat_eq, nat_lt, IfOk, IfErr, IfSome, OnOk};
 ghost use Rattle.std.specs.List.{prefix_len};
 ghost use Rattle.std.specs.Io.KnownBytes.{Appends};
 ghost use Rattle.ipc_base.specs.declared.limits.Limits.{Limits};
+ghost use Rattle.ipc_disk.specs.Medium.{IsHonest};
 ghost use Rattle.ipc_engine.specs.Event.{PlainEvent};
 ghost use Rattle.ipc_hub.specs.Clients.{Clients, no_clients, hangup};
 ghost use Rattle.ipc_hub.specs.Relations.Matches.{StoredMatches};
 ghost use Rattle.ipc_script.specs.Line.{longest_script};
-ghost use Rattle.ipc_script.specs.Line.PlainLine.{Data};
-ghost use Rattle.ipc_script.specs.Script.{Run, Runs, WritesMore, is_open, line_done, opened as opened_run};
+ghost use Rattle.ipc_script.specs.Line.PlainLine.{Data, Stop};
+ghost use Rattle.ipc_script.specs.Script.{Run, Runs, MayStop, WritesMore};
+ghost use Rattle.ipc_script.specs.Script.{is_open, line_done, opened as opened_run};
 ghost use Rattle.ipc_script.specs.Relations.Lines.{plain_line};
 ghost use Rattle.ipc_script.specs.Relations.Faults.{ByFault, IfRefused, of_serve_error};
 ghost use Rattle.ipc_script.specs.Relations.Matches.{RunMatches, RunMatchesBetween};
@@ -20,6 +22,7 @@ ghost use Rattle.ipc_script.specs.Relations.Simulation.{SimulatesLine, Simulates
 use crate::fault::ScriptFault;
 use crate::input::read_script;
 use crate::line::{Line, first_line, line_of};
+use crate::reopening::reopened;
 use crate::report::{Opened, report, report_all};
 use ipc_base::Moment;
 use ipc_disk::SectorDisk;
@@ -33,7 +36,8 @@ use std::io::{Read, Write};
 /// stands. If memory or a write failed, what was written is a beginning of the run's text; if the
 /// disk failed, it begins with the text of the lines before; after a read that failed nothing was
 /// written. Gives back the disk in every case. The script is all that the reader gives; of a reader
-/// that does not tell its bytes the clause says that there is one.
+/// that does not tell its bytes the clause says that there is one. Of a script with a line `stop`
+/// it says something if the disk is honest.
 pub fn run_script<D: SectorDisk, R: Read, W: Write>(
     alloc: Global,
     store: Store<D>,
@@ -42,31 +46,30 @@ pub fn run_script<D: SectorDisk, R: Read, W: Write>(
 ) -> (Result<(), ScriptFault>, D)
     ensures { (script : List ℕ) × IfSome (R.remaining reader.old) (λ input. script ≡ input)
         × ((events : List PlainEvent) → length events ≡ store.confirmed + store.waiting →
+        MayStop (D.medium store.disk) script →
         Runs store.machine.limits (no_clients store.machine.state events) script
         (W.contents writer.old) (W.contents writer.new) result.0) }
 {
     match read_script(alloc, reader) {
-        Ok(script) => {
-            let mut hub = Hub::new(alloc, store);
-            let result = run_lines(alloc, &mut hub, &script, writer);
-            (result, hub.close().close())
-        }
+        Ok(script) => run_lines(alloc, Hub::new(alloc, store), &script, writer),
         Err(fault) => (Err(fault), store.close()),
     }
 }
 
-/// Runs the lines of a script on a server without connections.
+/// Runs the lines of a script on a server without connections, and gives back its disk.
 fn run_lines<D: SectorDisk, W: Write>(
     alloc: Global,
-    hub: &mut Hub<D>,
+    hub: Hub<D>,
     script: &[u8],
     writer: &mut W,
-) -> Result<(), ScriptFault>
+) -> (Result<(), ScriptFault>, D)
     requires { length script.now ≤ longest_script }
-    ensures { (limits : Limits) (h : Clients) → StoredMatches limits hub.old h → h.clients ≡ [] →
+    ensures { (limits : Limits) (h : Clients) → StoredMatches limits hub h → h.clients ≡ [] →
+        MayStop (D.medium hub.store.disk) script.now →
         SimulatesScript limits h script.now
-        (W.contents writer.old) (W.contents writer.new) result }
+        (W.contents writer.old) (W.contents writer.new) result.0 }
 {
+    let mut hub = hub;
     let mut opened = Vec::new(alloc);
     let mut rest = script;
     let mut number: u64 = 0;
@@ -74,37 +77,24 @@ fn run_lines<D: SectorDisk, W: Write>(
         let (text, behind) = first_line(rest);
         number += 1;
         let Some(line) = line_of(text) else {
-            return Err(ScriptFault::BadLine(number));
+            return (Err(ScriptFault::BadLine(number)), hub.close().close());
         };
-        match run_line(alloc, hub, &mut opened, line, number, writer) {
-            Ok(()) => {}
-            Err(ScriptFault::Device) => {
-                last_words(alloc, hub, &mut opened, writer);
-                return Err(ScriptFault::Device);
-            }
-            Err(fault) => return Err(fault),
+        if let Line::Stop = line {
+            hub = match reopened(alloc, hub) {
+                Ok(next) => next,
+                Err((fault, disk)) => return (Err(fault), disk),
+            };
+            opened.clear();
+        } else if let Err(fault) = run_line(alloc, &mut hub, &mut opened, line, number, writer) {
+            return (Err(fault), hub.close().close());
         }
         rest = behind;
     }
-    Ok(())
+    (Ok(()), hub.close().close())
 }
 
-/// The disk has failed: writes what the connections have to say, as far as memory and the writer
-/// allow.
-fn last_words<D: SectorDisk, W: Write>(
-    alloc: Global,
-    hub: &mut Hub<D>,
-    opened: &mut [Opened],
-    writer: &mut W,
-)
-    ensures { WritesMore (W.contents writer.old) (W.contents writer.new) [] }
-{
-    match report_all(alloc, hub, opened, writer) {
-        Ok(()) | Err(_) => {}
-    }
-}
-
-/// Runs a line.
+/// Runs a line that is not `stop`. If the disk has failed, what the connections have to say is
+/// written, as far as memory and the writer allow.
 fn run_line<D: SectorDisk, W: Write>(
     alloc: Global,
     hub: &mut Hub<D>,
@@ -113,9 +103,39 @@ fn run_line<D: SectorDisk, W: Write>(
     number: u64,
     writer: &mut W,
 ) -> Result<(), ScriptFault>
-    ensures { (limits : Limits) (r : Run) → RunMatchesBetween limits hub.old opened.old.items r →
+    requires { plain_line line ≢ Stop }
+    ensures line { (limits : Limits) (r : Run) →
+        RunMatchesBetween limits hub.old opened.old.items r →
         SimulatesLine limits (line_done limits number r (plain_line line.entry))
         hub.new opened.new.items (W.contents writer.old) (W.contents writer.new) result }
+    ensures honest { OnOk result (IsHonest (D.medium hub.old.store.disk)
+        → IsHonest (D.medium hub.new.store.disk)) }
+{
+    match serve_line(alloc, hub, opened, line, number, writer) {
+        Err(ScriptFault::Device) => {
+            last_words(alloc, hub, opened, writer);
+            Err(ScriptFault::Device)
+        }
+        result => result,
+    }
+}
+
+/// What a line does, if the disk does not fail, and what is written then.
+fn serve_line<D: SectorDisk, W: Write>(
+    alloc: Global,
+    hub: &mut Hub<D>,
+    opened: &mut Vec<Opened>,
+    line: Line<'_>,
+    number: u64,
+    writer: &mut W,
+) -> Result<(), ScriptFault>
+    requires { plain_line line ≢ Stop }
+    ensures line { (limits : Limits) (r : Run) →
+        RunMatchesBetween limits hub.old opened.old.items r →
+        SimulatesLine limits (line_done limits number r (plain_line line.entry))
+        hub.new opened.new.items (W.contents writer.old) (W.contents writer.new) result }
+    ensures honest { IsHonest (D.medium hub.old.store.disk)
+        → IsHonest (D.medium hub.new.store.disk) }
 {
     match line {
         Line::Open { conn } => open(hub, opened, conn, number)?,
@@ -133,8 +153,28 @@ fn run_line<D: SectorDisk, W: Write>(
             Ok(()) => {}
             Err(_) => return Err(ScriptFault::Device),
         },
+        Line::Save => match hub.save() {
+            Ok(()) => {}
+            Err(_) => return Err(ScriptFault::Device),
+        },
+        Line::Stop => unreachable!(),
     }
     report(alloc, hub, opened, writer)
+}
+
+/// The disk has failed: writes what the connections have to say, as far as memory and the writer
+/// allow.
+fn last_words<D: SectorDisk, W: Write>(
+    alloc: Global,
+    hub: &mut Hub<D>,
+    opened: &mut [Opened],
+    writer: &mut W,
+)
+    ensures { WritesMore (W.contents writer.old) (W.contents writer.new) [] }
+{
+    match report_all(alloc, hub, opened, writer) {
+        Ok(()) | Err(_) => {}
+    }
 }
 
 /// Opens a connection, and keeps those that are open in rising order.
@@ -150,6 +190,8 @@ fn open<D: SectorDisk>(
     ensures err { IfErr result (λ e. IfRefused e (e ≡ ScriptFault.InUse number)) }
     ensures in_use { IfErr result (λ e. IfRefused e ((limits : Limits) (r : Run) →
         RunMatchesBetween limits hub.old opened.old.items r → is_open r conn ≡ true)) }
+    ensures honest { IsHonest (D.medium hub.old.store.disk)
+        → IsHonest (D.medium hub.new.store.disk) }
 {
     opened.reserve(1)?;
     match hub.connect(conn) {
@@ -186,6 +228,8 @@ fn close<D: SectorDisk>(
     ensures err { IfErr result (λ e. IfRefused e (e ≡ ScriptFault.Unknown number)) }
     ensures unknown { IfErr result (λ e. IfRefused e ((limits : Limits) (r : Run) →
         RunMatchesBetween limits hub.old opened.old.items r → is_open r conn ≡ false)) }
+    ensures honest { IsHonest (D.medium hub.old.store.disk)
+        → IsHonest (D.medium hub.new.store.disk) }
 {
     match hub.hangup(conn, moment) {
         Ok(()) => {}
@@ -223,10 +267,12 @@ fn feed<D: SectorDisk, W: Write>(
     writer: &mut W,
 ) -> Result<(), ScriptFault>
     requires { 0 < length bytes.now }
-    ensures { (limits : Limits) (r : Run) → RunMatchesBetween limits hub.old opened.old r →
+    ensures line { (limits : Limits) (r : Run) → RunMatchesBetween limits hub.old opened.old r →
         SimulatesLine limits
         (line_done limits sender.number r (Data sender.moment.0 sender.conn bytes.now))
         hub.new opened.new (W.contents writer.old) (W.contents writer.new) result }
+    ensures honest { IsHonest (D.medium hub.old.store.disk)
+        → IsHonest (D.medium hub.new.store.disk) }
 {
     let mut rest = bytes;
     // A round takes at least one byte, since no frame waits as it begins.
@@ -263,6 +309,8 @@ fn feed_some<D: SectorDisk, W: Write>(
         × Appends (W.contents writer.old) (W.contents writer.new) [])) }
     ensures unknown { IfErr result (λ e. IfRefused e ((limits : Limits) (r : Run) →
         RunMatchesBetween limits hub.old opened.old r → is_open r sender.conn ≡ false)) }
+    ensures honest { IsHonest (D.medium hub.old.store.disk)
+        → IsHonest (D.medium hub.new.store.disk) }
 {
     match hub.feed(sender.conn, bytes, sender.moment) {
         Ok(taken) => {
@@ -279,6 +327,6 @@ fn fault_of(error: ServeError, number: u64) -> ScriptFault
 {
     match error {
         ServeError::Unknown => ScriptFault::Unknown(number),
-        ServeError::Device | ServeError::JournalFull | ServeError::Stopped => ScriptFault::Device,
+        ServeError::Device | ServeError::Stopped => ScriptFault::Device,
     }
 }

@@ -75,7 +75,15 @@ fn faults_of_a_script(rt: HostRuntime) -> Result<(), Fail> {
         ("tick\n", "line 1: bad line"),
         ("1 tick\r\n", "line 1: bad line"),
         ("1 save\n", "line 1: bad line"),
-        ("save\n", "line 1: bad line"),
+        (" save\n", "line 1: bad line"),
+        ("save \n", "line 1: bad line"),
+        ("0 save\n", "line 1: bad line"),
+        ("Save\n", "line 1: bad line"),
+        ("saves\n", "line 1: bad line"),
+        ("stop 1\n", "line 1: bad line"),
+        ("1 stop\n", "line 1: bad line"),
+        ("0 open 1\nstop\n0 end 1\n", "line 3: no such connection"),
+        ("0 open 1\nsave\n0 open 1\n", "line 3: connection in use"),
     ];
     for (script, text) in faults {
         let mut output: Vec<u8> = Vec::new(rt.alloc());

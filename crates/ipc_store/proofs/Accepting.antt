@@ -12,9 +12,9 @@ use Rattle.ipc_engine.specs.Step.{step, run}
 use Rattle.ipc_engine.proofs.CallerLemmas.{run-parts}
 use Rattle.ipc_image.specs.Records.{record_bytes, HasRecord}
 use Rattle.ipc_store.specs.Batch.{records_of}
-use Rattle.ipc_store.specs.Image.{AreFor, LeadTo, IsDevice}
+use Rattle.ipc_store.specs.Image.{AreFor}
 use Rattle.ipc_store.specs.View.{StoreView}
-use Rattle.ipc_store.specs.Relations.Matches.{StoreMatches}
+use Rattle.ipc_store.specs.Relations.Matches.{DeviceMatches, StoreMatches}
 use Rattle.ipc_store.proofs.Histories.{AreFor-parts}
 
 -- the records with one more
@@ -29,7 +29,6 @@ module _ {D : Type 0} (medium : Medium) (store : StoreView D) (base : State) (pe
       → (records : List ℕ) → records ≡ store.records ++ record_bytes e → (waiting : ℕ) → waiting ≡ store.waiting + 1
       → StoreMatches medium (record store { machine = machine; records = records; waiting = waiting }) base (pending ++ e ∷ [])
   accepted at e has named machine limits state records records-are waiting waiting-is =
-      let history = at.history.1 in
       let waits = at.waits in
       let before : State = (run store.machine.limits base pending).state in
       let for : IsForProcess before e = subst (λ (s : State). IsForProcess s e) waits.state named in
@@ -38,18 +37,8 @@ module _ {D : Type 0} (medium : Medium) (store : StoreView D) (base : State) (pe
       let after : machine.state ≡ (run store.machine.limits base (pending ++ e ∷ [])).state =
       state ∙ ap (λ (s : State). (step store.machine.limits s e).state) waits.state ∙ sym (run-parts store.machine.limits base pending (e ∷ [])) in
       record {
-        honest = at.honest;
         goes_on = at.goes_on;
-        range = at.range;
-        epoch = at.epoch;
-        device = λ image now. subst (λ (l : Limits). IsDevice l image) (sym limits) (at.device image now);
-        history = (
-          at.history.0,
-          record {
-            journal = history.journal;
-            leads = subst (λ (l : Limits). LeadTo l at.history.0 base) (sym limits) history.leads;
-          },
-        );
+        device = subst (λ (l : Limits). DeviceMatches medium l store.checkpoint store.journal base) (sym limits) at.device;
         waits = record {
           records = records-are ∙ ap (λ (x : List ℕ). x ++ record_bytes e) waits.records ∙ sym (records-more pending e);
           count = omega (arith, waiting-is, waits.count, length-append pending (e ∷ []));

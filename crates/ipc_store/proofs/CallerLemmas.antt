@@ -6,19 +6,24 @@ use Rattle.std.proofs.lemmas.List.{drop_at, length-append}
 use Rattle.std.proofs.lemmas.List.Elements.{All-head, All-tail}
 use Rattle.byteorder.specs.Endian.{big_bytes}
 use Rattle.ipc_base.specs.declared.limits.Limits.{Limits}
+use Rattle.ipc_base.specs.Objects.{PlainObjects}
+use Rattle.ipc_checkpoint.proofs.CallerLemmas.{Holds-one as Objects-one}
 use Rattle.ipc_disk.specs.Medium.{Image, Medium}
 use Rattle.ipc_disk.specs.Standing.{sector_at}
 use Rattle.ipc_journal.proofs.CallerLemmas.{Holds-one}
-use Rattle.ipc_state.specs.State.{State, start}
+use Rattle.ipc_state.specs.State.{State}
 use Rattle.ipc_engine.specs.Event.{PlainEvent}
 use Rattle.ipc_engine.specs.Step.{run}
 use Rattle.ipc_image.specs.Records.{record_bytes, HasRecord, BeginsWith}
-use Rattle.ipc_image.proofs.CallerLemmas.{one-superblock, one-record, record-read}
+use Rattle.ipc_image.proofs.CallerLemmas.{one-superblock, one-record, record-read, stand-one}
+use Rattle.ipc_image.specs.Saved.{StandForState}
 use Rattle.ipc_store.specs.Batch.{records_of, batch_bytes, AreBatch}
 use Rattle.ipc_store.specs.Histories.{Takes}
-use Rattle.ipc_store.specs.Image.{journal_range, first_epoch, events_of, StandsFor}
+use Rattle.ipc_store.specs.Image.{journal_range, layout_of, events_of, HasObjects, HasBatches, HasBase, StandsFor}
 use Rattle.ipc_store.specs.View.{StoreView, HasRoom, IsReadyFor, events_left}
 use Rattle.ipc_store.proofs.Batches.{record-length, record-most}
+use Rattle.ipc_store.specs.Relations.Matches.{StoreMatches}
+use Rattle.ipc_store.proofs.Committing as committing
 use Rattle.ipc_store.proofs.Lives as lives
 
 -- if there is an event, there is a byte
@@ -61,22 +66,37 @@ batches-one (l ∷ batches) (m ∷ others) each also same =
     let rest : batches ≡ others = batches-one batches others (All-tail AreBatch l batches each) (All-tail AreBatch m others also) cc in
     ap (λ (x : List PlainEvent). x ∷ batches) first ∙ ap (λ (xs : List (List PlainEvent)). m ∷ xs) rest
 
+-- an image has one base at one epoch, under one set of limits
+pub HasBase-one : (limits others : Limits) (epoch other : ℕ) (base more : State) (image : Image) → length image < 2 ^ 32
+    → HasBase limits epoch base image → HasBase others other more image → (limits ≡ others) × (epoch ≡ other) × (base ≡ more)
+HasBase-one limits others epoch other base more image fits is also =
+    let same : limits ≡ others = (one-superblock (length image) (length image) limits others (sector_at image 0) fits fits is.device also.device).1 in
+    let there : HasObjects limits other also.objects image = subst (λ (l : Limits). HasObjects l other also.objects image) (sym same) also.there in
+    let one = Objects-one (layout_of limits (length image)) epoch other is.objects also.objects image is.there there in (
+      same,
+      one.0,
+      stand-one limits others base more is.objects is.stand (subst (λ (o : PlainObjects). StandForState others more o) (sym one.1) also.stand),
+    )
+
 -- an image stands for one state under one set of limits
 pub StandsFor-one : (limits others : Limits) (s t : State) (image : Image) → length image < 2 ^ 32 → StandsFor limits s image → StandsFor others t image
     → (limits ≡ others) × (s ≡ t)
 StandsFor-one limits others s t image fits is also =
-    let batches = is.history.0 in
-    let more = also.history.0 in
-    let leads = is.history.2 in
-    let other_leads = also.history.2 in
-    let same_limits : limits ≡ others = (one-superblock (length image) (length image) limits others (sector_at image 0) fits fits is.device also.device).1 in
-    let bytes : map batch_bytes batches ≡ map batch_bytes more =
-    Holds-one journal_range first_epoch (map batch_bytes batches) (map batch_bytes more) image is.history.1 also.history.1 in
-    let same : batches ≡ more = batches-one batches more leads.each other_leads.each bytes in (
-      same_limits,
-      leads.state ∙ ap (λ (l : Limits). (run l start (events_of batches)).state) same_limits
-          ∙ ap (λ (bs : List (List PlainEvent)). (run others start (events_of bs)).state) same ∙ sym other_leads.state,
+    let same = HasBase-one limits others is.epoch also.epoch is.base also.base image fits is.kept also.kept in
+    let its : HasBatches is.epoch also.batches image = subst (λ (n : ℕ). HasBatches n also.batches image) (sym same.1) also.journal in
+    let bytes : map batch_bytes is.batches ≡ map batch_bytes also.batches =
+    Holds-one journal_range is.epoch (map batch_bytes is.batches) (map batch_bytes also.batches) image is.journal its in
+    let batches : is.batches ≡ also.batches = batches-one is.batches also.batches is.leads.each also.leads.each bytes in (
+      same.0,
+      is.leads.state ∙ ap (λ (l : Limits). (run l is.base (events_of is.batches)).state) same.0
+          ∙ ap (λ (b : State). (run others b (events_of is.batches)).state) same.2
+          ∙ ap (λ (bs : List (List PlainEvent)). (run others also.base (events_of bs)).state) batches ∙ sym also.leads.state,
     )
+
+-- each image that a crash now may leave stands for the base of a store
+pub StoreMatches-stands : {D : Type 0} (medium : Medium) (store : StoreView D) (base : State) (pending : List PlainEvent)
+    → StoreMatches medium store base pending → (image : Image) → medium.images_now image → StandsFor store.machine.limits base image
+StoreMatches-stands = committing.stands_now
 
 -- ---- what calls accept
 

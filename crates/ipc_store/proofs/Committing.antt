@@ -1,29 +1,38 @@
--- A commit takes a store from its base to the state after what waits.
-use Rattle.std.proofs.Common.{◌≡◌, inl, inr, ℕ, ◌+◌, ◌≤◌, ◌++◌, List, [], ◌∷◌, length, refl, sym, ap, subst, ◌∙◌, arith}
+-- A commit takes a store from its base to the state after what waits, by a batch more in the journal, or by a save.
+use Rattle.std.proofs.Common.{◌≡◌, inl, inr, ⊎_elim, ℕ, ◌+◌, ◌≤◌, ◌<◌, ◌++◌, List, [], ◌∷◌, length, refl, sym, ap, subst, ◌∙◌, arith}
 use Rattle.std.specs.Prelude.{map}
 use Rattle.std.proofs.lemmas.List.{map-append, length-append}
 use Rattle.std.proofs.lemmas.List.Elements.{All-nil}
 use Rattle.byteorder.specs.Endian.{big_bytes}
 use Rattle.byteorder.specs.Numbers.{big_number-reads_back}
-use Rattle.ipc_disk.specs.declared.range.Range.{Range}
+use Rattle.ipc_base.specs.declared.limits.Limits.{Limits}
+use Rattle.ipc_base.specs.Objects.{PlainObjects}
+use Rattle.ipc_checkpoint.specs.declared.checkpoint.Checkpoint.{Checkpoint}
+use Rattle.ipc_checkpoint.specs.Checkpoint.{IsElsewhere, Holds as HoldsObjects}
+use Rattle.ipc_checkpoint.specs.Matches.{CheckpointMatches, HoldsEither}
+use Rattle.ipc_checkpoint.specs.View.{epoch_of as saved_epoch, layout_of as saved_layout}
+use Rattle.ipc_checkpoint.proofs.CallerLemmas.{Holds-since, CheckpointMatches-holds, CheckpointMatches-alone}
 use Rattle.ipc_disk.specs.Medium.{Image, Medium}
 use Rattle.ipc_disk.specs.Range.{IsOutside}
 use Rattle.ipc_disk.specs.Since.{EachImageSince, LeavesAlone}
-use Rattle.ipc_disk.proofs.CallerLemmas.{EachImageSince-start, EachImageSince-both, EachImageSince-weaken, EachImageSince-now, LeavesAlone-keeps}
+use Rattle.ipc_disk.proofs.CallerLemmas.{EachImageSince-start, EachImageSince-both, EachImageSince-weaken, EachImageSince-now}
 use Rattle.ipc_journal.specs.declared.journal.Journal.{Journal}
 use Rattle.ipc_journal.specs.Journal.{length_in, IsBatch, Holds}
-use Rattle.ipc_journal.specs.View.{range_of, epoch_of}
+use Rattle.ipc_journal.specs.View.{range_of, epoch_of, used_of}
 use Rattle.ipc_journal.specs.Matches.{JournalMatches, HoldsOneMoreOrNot}
+use Rattle.ipc_journal.proofs.CallerLemmas.{Holds-turned, EachImageSince-alone, JournalMatches-alone, JournalMatches-turned}
 use Rattle.ipc_state.specs.State.{State}
 use Rattle.ipc_engine.specs.Event.{PlainEvent}
 use Rattle.ipc_engine.specs.Step.{run}
 use Rattle.ipc_image.specs.Records.{HasRecord}
+use Rattle.ipc_image.specs.Saved.{StandForState}
 use Rattle.ipc_store.specs.Batch.{most_bytes, batch_bytes, AreBatch}
-use Rattle.ipc_store.specs.Image.{journal_range, IsDevice, HasBatches, StandsFor}
-use Rattle.ipc_store.specs.View.{StoreView}
-use Rattle.ipc_store.specs.Relations.Matches.{HasHistory, StoreMatches, StandsForEither}
-use Rattle.ipc_store.proofs.Devices.{IsDevice-same}
-use Rattle.ipc_store.proofs.Histories.{LeadTo-more}
+use Rattle.ipc_store.specs.Image.{StandsFor, LeadTo, layout_of}
+use Rattle.ipc_store.specs.View.{StoreView, store_view}
+use Rattle.ipc_store.specs.Relations.Matches.{StoreMatches, StandsForEither}
+use Rattle.ipc_store.proofs.Devices.{IsPlace, IsPlace-since, stands-with, device-stands, objects-room, objects-outside}
+use Rattle.ipc_store.proofs.Devices.{journal-outside, first-outside, first-elsewhere}
+use Rattle.ipc_store.proofs.Histories.{LeadTo-start, LeadTo-more}
 
 -- the bytes of a batch say how many they are
 pub is_batch : (records bytes : List ℕ) → bytes ≡ big_bytes 4 (length records) ++ records → 4 + length records ≤ most_bytes → IsBatch bytes
@@ -40,114 +49,202 @@ batches-more : (batches : List (List PlainEvent)) (batch : List ℕ) (pending : 
 batches-more batches batch pending is =
     ap (λ (b : List ℕ). map batch_bytes batches ++ b ∷ []) is ∙ sym (map-append batch_bytes batches (pending ∷ []))
 
-module _ {D : Type 0} (medium : Medium) (store : StoreView D) (base : State) (pending : List PlainEvent) where
-  -- what its journal holds, each image holds
-  pub has_batches : StoreMatches medium store base pending → (batches : List (List PlainEvent)) (image : Image)
-      → Holds (range_of store.journal) (epoch_of store.journal) (map batch_bytes batches) image → HasBatches batches image
-  has_batches at batches image holds =
-      subst (λ (n : ℕ). Holds journal_range n (map batch_bytes batches) image) at.epoch
-      (subst (λ (r : Range). Holds r (epoch_of store.journal) (map batch_bytes batches) image) at.range holds)
-
+module _ {D : Type 0} (medium : Medium) (store : StoreView D) (base : State) (pending : List PlainEvent)
+    (at : StoreMatches medium store base pending) where
   -- each image now stands for the base
-  pub stands_now : StoreMatches medium store base pending → (image : Image) → medium.images_now image
-      → StandsFor store.machine.limits base image
-  stands_now at image now =
-      let batches = at.history.0 in
-      let history = at.history.1 in
-      record { device = at.device image now; history = (batches, has_batches at batches image (history.journal.images image now), history.leads) }
+  pub stands_now : (image : Image) → medium.images_now image → StandsFor store.machine.limits base image
+  stands_now = device-stands medium store.machine.limits store.checkpoint store.journal base at.device
 
   -- what waits makes a batch
-  pub waits-batch : StoreMatches medium store base pending → 4 + length store.records ≤ most_bytes → AreBatch pending
-  waits-batch at size = record {
+  waits-batch : 4 + length store.records ≤ most_bytes → AreBatch pending
+  waits-batch size = record {
     each = at.waits.each;
     size = subst (λ (x : List ℕ). 4 + length x ≤ most_bytes) at.waits.records size;
   }
 
   -- the bytes of what waits
-  pub bytes-are : StoreMatches medium store base pending → big_bytes 4 (length store.records) ++ store.records ≡ batch_bytes pending
+  bytes-are : big_bytes 4 (length store.records) ++ store.records ≡ batch_bytes pending
   unfolding batch_bytes
-  bytes-are at = ap (λ (x : List ℕ). big_bytes 4 (length x) ++ x) at.waits.records
+  bytes-are = ap (λ (x : List ℕ). big_bytes 4 (length x) ++ x) at.waits.records
 
-  -- without the batch an image stands for the base, and with it for the state after what waits
-  pub stands_for_either : StoreMatches medium store base pending → (batches : List (List PlainEvent))
-      → HasHistory medium store base batches → 4 + length store.records ≤ most_bytes
-      → (batch : List ℕ) → batch ≡ big_bytes 4 (length store.records) ++ store.records → (image : Image)
-      → IsDevice store.machine.limits image × HoldsOneMoreOrNot store.journal (map batch_bytes batches) batch image
-      → StandsForEither store.machine.limits base (run store.machine.limits base pending).state image
-  stands_for_either at batches history size batch is image (device, inl holds) =
-      inl (record { device = device; history = (batches, has_batches at batches image holds, history.leads) })
-  stands_for_either at batches history size batch is image (device, inr holds) =
-      let more = batches-more batches batch pending (is ∙ bytes-are at) in
-      inr (record {
-        device = device;
-        history = (
-          batches ++ pending ∷ [],
-          has_batches at (batches ++ pending ∷ []) image
-              (subst (λ (bs : List (List ℕ)). Holds (range_of store.journal) (epoch_of store.journal) bs image) more holds),
-          LeadTo-more store.machine.limits batches pending base history.leads (waits-batch at size) at.waits.named,
-        );
-      })
+  -- one batch more leads to the state after what waits
+  leads-more : 4 + length store.records ≤ most_bytes
+      → LeadTo store.machine.limits at.device.from (at.device.batches ++ pending ∷ []) (run store.machine.limits base pending).state
+  leads-more size =
+      LeadTo-more store.machine.limits at.device.from at.device.batches pending base at.device.leads (waits-batch size) at.waits.named
 
-module _ {D : Type 0} (old new : Medium) (store : StoreView D) (base : State) (pending : List PlainEvent) where
-  -- calls on the journal leave the device one
-  pub device_since : StoreMatches old store base pending → LeavesAlone (IsOutside (range_of store.journal)) old new
-      → EachImageSince old new (IsDevice store.machine.limits)
-  device_since at alone =
-      LeavesAlone-keeps (IsOutside journal_range) old new (IsDevice store.machine.limits)
-      (subst (λ (r : Range). LeavesAlone (IsOutside r) old new) at.range alone) at.device (IsDevice-same store.machine.limits)
+-- what holds of each image of a call is one of two states
+abbrev Either : {D : Type 0} → StoreView D → State → List PlainEvent → Image → Type 0
+Either store base pending = StandsForEither store.machine.limits base (run store.machine.limits base pending).state
 
+-- a store that has committed
+abbrev after : {D : Type 0} → StoreView D → D → Checkpoint → Journal → ℕ → StoreView D
+after store disk checkpoint journal confirmed =
+    store_view disk store.machine checkpoint journal (record { records = []; count = 0 }) confirmed store.stopped
+
+module _ {D : Type 0} (old new : Medium) (store : StoreView D) (base : State) (pending : List PlainEvent)
+    (at : StoreMatches old store base pending) where
   -- no call was made
-  pub any_moment-none : StoreMatches old store base pending
-      → ((image : Image) → old.images_since old.moment image → old.images_now image)
-      → EachImageSince old old (StandsForEither store.machine.limits base (run store.machine.limits base pending).state)
-  any_moment-none at law =
-      EachImageSince-start old (StandsForEither store.machine.limits base (run store.machine.limits base pending).state) law
-      (λ image now. inl (stands_now old store base pending at image now))
+  pub any_moment-none : ((image : Image) → old.images_since old.moment image → old.images_now image)
+      → EachImageSince old old (Either store base pending)
+  any_moment-none law =
+      EachImageSince-start old (Either store base pending) law (λ image now. inl (stands_now old store base pending at image now))
 
-  -- an append was made, or begun
-  pub any_moment-append : StoreMatches old store base pending → 4 + length store.records ≤ most_bytes
-      → (batch : List ℕ) → batch ≡ big_bytes 4 (length store.records) ++ store.records
-      → LeavesAlone (IsOutside (range_of store.journal)) old new
-      → ((batches : List (List ℕ)) → JournalMatches store.journal batches old
-      → EachImageSince old new (HoldsOneMoreOrNot store.journal batches batch))
-      → EachImageSince old new (StandsForEither store.machine.limits base (run store.machine.limits base pending).state)
-  any_moment-append at size batch is alone moments =
-      let batches = at.history.0 in
-      let history = at.history.1 in
-      let one_more : Image → Type 0 = HoldsOneMoreOrNot store.journal (map batch_bytes batches) batch in
-      EachImageSince-weaken old new (λ image. IsDevice store.machine.limits image × one_more image)
-      (StandsForEither store.machine.limits base (run store.machine.limits base pending).state)
-      (EachImageSince-both old new (IsDevice store.machine.limits) one_more (device_since at alone)
-      (moments (map batch_bytes batches) history.journal))
-      (stands_for_either old store base pending at batches history size batch is)
+  -- ---- a batch is appended
 
-  -- an append is done
-  pub committed : StoreMatches old store base pending → 4 + length store.records ≤ most_bytes
-      → (batch : List ℕ) → batch ≡ big_bytes 4 (length store.records) ++ store.records
-      → (disk : D) (journal : Journal) (confirmed : ℕ)
-      → range_of journal ≡ range_of store.journal → epoch_of journal ≡ epoch_of store.journal
-      → LeavesAlone (IsOutside (range_of store.journal)) old new
-      → ((batches : List (List ℕ)) → JournalMatches store.journal batches old → JournalMatches journal (batches ++ batch ∷ []) new)
-      → StoreMatches new
-      (record { disk = disk; machine = store.machine; journal = journal; records = []; waiting = 0; confirmed = confirmed; stopped = store.stopped })
-      (run store.machine.limits base pending).state []
-  committed at size batch is disk journal confirmed range epoch alone acknowledged =
-      let batches = at.history.0 in
-      let history = at.history.1 in
-      let all = batches ++ pending ∷ [] in
-      let more = batches-more batches batch pending (is ∙ bytes-are old store base pending at) in
-      record {
+  module _ (size : 4 + length store.records ≤ most_bytes) (batch : List ℕ) (is : batch ≡ big_bytes 4 (length store.records) ++ store.records)
+      (alone : LeavesAlone (IsOutside (range_of store.journal)) old new) where
+    abbrev HasObjectsThere : Image → Type 0
+    HasObjectsThere = HoldsObjects (saved_layout store.checkpoint) (saved_epoch store.checkpoint) at.device.objects
+
+    places : EachImageSince old new (IsPlace store.machine.limits store.checkpoint)
+    places =
+        IsPlace-since (IsOutside (range_of store.journal)) store.machine.limits store.checkpoint old new
+        (first-outside old store.machine.limits store.checkpoint store.journal base at.device) alone at.device.device
+
+    objects : EachImageSince old new HasObjectsThere
+    objects =
+        Holds-since (saved_layout store.checkpoint) (IsOutside (range_of store.journal)) (saved_epoch store.checkpoint) at.device.objects old new
+        (objects-room old store.machine.limits store.checkpoint store.journal base at.device)
+        (objects-outside old store.machine.limits store.checkpoint store.journal base at.device) alone
+        (CheckpointMatches-holds store.checkpoint at.device.objects old at.device.saved)
+
+    more : map batch_bytes at.device.batches ++ batch ∷ [] ≡ map batch_bytes (at.device.batches ++ pending ∷ [])
+    more = batches-more at.device.batches batch pending (is ∙ bytes-are old store base pending at)
+
+    -- with or without it
+    either : (image : Image)
+        → (IsPlace store.machine.limits store.checkpoint image × HasObjectsThere image)
+        × HoldsOneMoreOrNot store.journal (map batch_bytes at.device.batches) batch image
+        → Either store base pending image
+    either image ((is-place, there), inl holds) =
+        inl (stands-with store.machine.limits (saved_layout store.checkpoint) (range_of store.journal) (saved_epoch store.checkpoint) image
+        is-place.0 is-place.1 at.device.range at.device.objects there at.device.from at.device.stand at.device.batches
+        (subst (λ (n : ℕ). Holds (range_of store.journal) n (map batch_bytes at.device.batches) image) at.device.epoch holds) base at.device.leads)
+    either image ((is-place, there), inr holds) =
+        inr (stands-with store.machine.limits (saved_layout store.checkpoint) (range_of store.journal) (saved_epoch store.checkpoint) image
+        is-place.0 is-place.1 at.device.range at.device.objects there at.device.from at.device.stand (at.device.batches ++ pending ∷ [])
+        (subst (λ (n : ℕ). Holds (range_of store.journal) n (map batch_bytes (at.device.batches ++ pending ∷ [])) image) at.device.epoch
+        (subst (λ (bs : List (List ℕ)). Holds (range_of store.journal) (epoch_of store.journal) bs image) more holds))
+        (run store.machine.limits base pending).state (leads-more old store base pending at size))
+
+    -- at any moment
+    pub any_moment-append : ((batches : List (List ℕ)) → JournalMatches store.journal batches old
+        → EachImageSince old new (HoldsOneMoreOrNot store.journal batches batch))
+        → EachImageSince old new (Either store base pending)
+    any_moment-append moments =
+        let one_more : Image → Type 0 = HoldsOneMoreOrNot store.journal (map batch_bytes at.device.batches) batch in
+        let both = EachImageSince-both old new (IsPlace store.machine.limits store.checkpoint) HasObjectsThere places objects in
+        EachImageSince-weaken old new (λ image. (IsPlace store.machine.limits store.checkpoint image × HasObjectsThere image) × one_more image)
+        (Either store base pending)
+        (EachImageSince-both old new (λ image. IsPlace store.machine.limits store.checkpoint image × HasObjectsThere image) one_more both
+        (moments (map batch_bytes at.device.batches) at.device.appended))
+        either
+
+    -- and then
+    pub committed : (disk : D) (journal : Journal) (confirmed : ℕ)
+        → range_of journal ≡ range_of store.journal → epoch_of journal ≡ epoch_of store.journal
+        → ((batches : List (List ℕ)) → JournalMatches store.journal batches old → JournalMatches journal (batches ++ batch ∷ []) new)
+        → StoreMatches new (after store disk store.checkpoint journal confirmed) (run store.machine.limits base pending).state []
+    committed disk journal confirmed range epoch acknowledged = record {
+      goes_on = at.goes_on;
+      device = record {
         honest = alone.honest;
-        goes_on = at.goes_on;
-        range = range ∙ at.range;
-        epoch = epoch ∙ at.epoch;
-        device = EachImageSince-now old new (IsDevice store.machine.limits) (device_since at alone) alone.honest;
-        history = (
-          all,
-          record {
-            journal = subst (λ (bs : List (List ℕ)). JournalMatches journal bs new) more (acknowledged (map batch_bytes batches) history.journal);
-            leads = LeadTo-more store.machine.limits batches pending base history.leads (waits-batch old store base pending at size) at.waits.named;
-          },
-        );
-        waits = record { records = refl; count = refl; each = All-nil HasRecord; named = tt; state = at.waits.state };
-      }
+        range = range ∙ at.device.range;
+        epoch = epoch ∙ at.device.epoch;
+        device = EachImageSince-now old new (IsPlace store.machine.limits store.checkpoint) places alone.honest;
+        from = at.device.from;
+        objects = at.device.objects;
+        stand = at.device.stand;
+        saved = CheckpointMatches-alone store.checkpoint at.device.objects (IsOutside (range_of store.journal)) old new
+            (objects-room old store.machine.limits store.checkpoint store.journal base at.device)
+            (objects-outside old store.machine.limits store.checkpoint store.journal base at.device) alone at.device.saved;
+        batches = at.device.batches ++ pending ∷ [];
+        appended = subst (λ (bs : List (List ℕ)). JournalMatches journal bs new) more
+            (acknowledged (map batch_bytes at.device.batches) at.device.appended);
+        leads = leads-more old store base pending at size;
+      };
+      waits = record { records = refl; count = refl; each = All-nil HasRecord; named = tt; state = at.waits.state };
+    }
+
+  -- ---- the state is saved
+
+  module _ (epoch : ℕ) (later : saved_epoch store.checkpoint < epoch) (next : PlainObjects)
+      (stand : StandForState store.machine.limits store.machine.state next)
+      (alone : LeavesAlone (IsElsewhere (saved_layout store.checkpoint)) old new) where
+    spots : EachImageSince old new (IsPlace store.machine.limits store.checkpoint)
+    spots =
+        IsPlace-since (IsElsewhere (saved_layout store.checkpoint)) store.machine.limits store.checkpoint old new
+        (first-elsewhere old store.machine.limits store.checkpoint store.journal base at.device) alone at.device.device
+
+    abbrev HasBatchesThere : Image → Type 0
+    HasBatchesThere = Holds (range_of store.journal) (epoch_of store.journal) (map batch_bytes at.device.batches)
+
+    batches-there : EachImageSince old new HasBatchesThere
+    batches-there =
+        EachImageSince-alone (IsElsewhere (saved_layout store.checkpoint)) store.journal (map batch_bytes at.device.batches) old new
+        (journal-outside old store.machine.limits store.checkpoint store.journal base at.device) alone at.device.appended
+
+    -- no batch leads from the new objects to the state after what waits
+    no-batch : LeadTo store.machine.limits store.machine.state [] (run store.machine.limits base pending).state
+    no-batch =
+        subst (λ (s : State). LeadTo store.machine.limits store.machine.state [] s) at.waits.state
+        (LeadTo-start store.machine.limits store.machine.state)
+
+    -- the old objects or the new
+    turned-or-not : (image : Image)
+        → (IsPlace store.machine.limits store.checkpoint image × HasBatchesThere image)
+        × HoldsEither (saved_layout store.checkpoint) (saved_epoch store.checkpoint) at.device.objects epoch next image
+        → Either store base pending image
+    turned-or-not image ((is-place, holds), inl there) =
+        inl (stands-with store.machine.limits (saved_layout store.checkpoint) (range_of store.journal) (saved_epoch store.checkpoint) image
+        is-place.0 is-place.1 at.device.range at.device.objects there at.device.from at.device.stand at.device.batches
+        (subst (λ (n : ℕ). Holds (range_of store.journal) n (map batch_bytes at.device.batches) image) at.device.epoch holds) base at.device.leads)
+    turned-or-not image ((is-place, holds), inr there) =
+        let earlier : epoch_of store.journal < epoch = omega (arith, at.device.epoch, later) in
+        inr (stands-with store.machine.limits (saved_layout store.checkpoint) (range_of store.journal) epoch image
+        is-place.0 is-place.1 at.device.range next there store.machine.state stand []
+        (Holds-turned (range_of store.journal) (epoch_of store.journal) epoch (map batch_bytes at.device.batches) image earlier holds)
+        (run store.machine.limits base pending).state no-batch)
+
+    -- at any moment
+    pub any_moment-save : ((saved : PlainObjects) → CheckpointMatches store.checkpoint saved old
+        → EachImageSince old new (HoldsEither (saved_layout store.checkpoint) (saved_epoch store.checkpoint) saved epoch next))
+        → EachImageSince old new (Either store base pending)
+    any_moment-save moments =
+        let there : Image → Type 0 =
+        HoldsEither (saved_layout store.checkpoint) (saved_epoch store.checkpoint) at.device.objects epoch next in
+        let both = EachImageSince-both old new (IsPlace store.machine.limits store.checkpoint) HasBatchesThere spots batches-there in
+        EachImageSince-weaken old new (λ image. (IsPlace store.machine.limits store.checkpoint image × HasBatchesThere image) × there image)
+        (Either store base pending)
+        (EachImageSince-both old new (λ image. IsPlace store.machine.limits store.checkpoint image × HasBatchesThere image) there both
+        (moments at.device.objects at.device.saved))
+        turned-or-not
+
+    -- and then
+    pub saved : (disk : D) (checkpoint : Checkpoint) (journal : Journal) (confirmed : ℕ)
+        → saved_layout checkpoint ≡ saved_layout store.checkpoint → saved_epoch checkpoint ≡ epoch
+        → range_of journal ≡ range_of store.journal → epoch_of journal ≡ epoch → used_of journal ≡ 0
+        → ((objects : PlainObjects) → CheckpointMatches store.checkpoint objects old → CheckpointMatches checkpoint next new)
+        → StoreMatches new (after store disk checkpoint journal confirmed) (run store.machine.limits base pending).state []
+    saved disk checkpoint journal confirmed lies is-epoch range journal-epoch used matches = record {
+      goes_on = at.goes_on;
+      device = record {
+        honest = alone.honest;
+        range = range ∙ at.device.range;
+        epoch = journal-epoch ∙ sym is-epoch;
+        device = λ image now. let is = EachImageSince-now old new (IsPlace store.machine.limits store.checkpoint) spots alone.honest image now in
+            (is.0, lies ∙ is.1);
+        from = store.machine.state;
+        objects = next;
+        stand = stand;
+        saved = matches at.device.objects at.device.saved;
+        batches = [];
+        appended = JournalMatches-turned store.journal journal (map batch_bytes at.device.batches) new range
+            (omega (arith, at.device.epoch, later, journal-epoch)) used
+            (JournalMatches-alone (IsElsewhere (saved_layout store.checkpoint)) store.journal (map batch_bytes at.device.batches) old new
+            (journal-outside old store.machine.limits store.checkpoint store.journal base at.device) alone at.device.appended);
+        leads = no-batch;
+      };
+      waits = record { records = refl; count = refl; each = All-nil HasRecord; named = tt; state = at.waits.state };
+    }

@@ -1,37 +1,133 @@
--- A device is one by its first sector and its size, which calls on the journal leave alone.
-use Rattle.std.proofs.Common.{◌≡◌, inl, inr, ⊎_elim, ℕ, ◌-◌, ◌<◌, ◌≤◌, List, [], length, get_or, sym, subst, ◌∙◌, arith}
-use Rattle.std.specs.Prelude.{slice_get, Some, None}
-use Rattle.std.proofs.lemmas.Bool.{cases_lt}
-use Rattle.std.proofs.lemmas.Option.{slice_get-get_or, slice_get_past}
+-- What a device stands for, as the values of a store know it, and what calls leave alone that touch the journal or the
+-- objects.
+use Rattle.std.proofs.Common.{◌≡◌, ◌≢◌, inl, inr, ℕ, ◌+◌, ◌-◌, ◌*◌, ◌≤◌, List, length, refl, sym, subst, ◌∙◌, ap, arith}
+use Rattle.std.specs.Prelude.{map}
 use Rattle.ipc_base.specs.declared.limits.Limits.{Limits}
-use Rattle.ipc_disk.specs.Medium.{Image}
-use Rattle.ipc_disk.specs.Range.{IsOutside}
-use Rattle.ipc_disk.specs.Since.{SameAt}
+use Rattle.ipc_base.specs.Objects.{PlainObjects, Fit}
+use Rattle.ipc_checkpoint.specs.declared.checkpoint.Checkpoint.{Checkpoint}
+use Rattle.ipc_checkpoint.specs.declared.layout.Layout.{Layout}
+use Rattle.ipc_checkpoint.specs.Checkpoint.{IsLaidOut, IsOwn, IsElsewhere, Holds as HoldsObjects}
+use Rattle.ipc_checkpoint.specs.Matches.{CheckpointMatches}
+use Rattle.ipc_checkpoint.specs.View.{epoch_of as saved_epoch, layout_of as saved_layout}
+use Rattle.ipc_checkpoint.proofs.CallerLemmas.{CheckpointMatches-holds, CheckpointMatches-one}
+use Rattle.ipc_disk.specs.declared.range.Range.{Range}
+use Rattle.ipc_disk.specs.Medium.{Image, Medium}
+use Rattle.ipc_disk.specs.Range.{IsInside, IsOutside, IsWithin}
+use Rattle.ipc_disk.specs.Since.{EachImageSince, SameAt, LeavesAlone}
 use Rattle.ipc_disk.specs.Standing.{sector_at}
-use Rattle.ipc_disk.proofs.CallerLemmas.{sector_at-same}
+use Rattle.ipc_disk.proofs.CallerLemmas.{sector_at-same, LeavesAlone-keeps}
+use Rattle.ipc_journal.specs.declared.journal.Journal.{Journal}
+use Rattle.ipc_journal.specs.Journal.{Holds}
+use Rattle.ipc_journal.specs.View.{range_of, epoch_of}
+use Rattle.ipc_state.specs.State.{State}
+use Rattle.ipc_engine.specs.Event.{PlainEvent}
+use Rattle.ipc_image.specs.Saved.{StandForState, saved as saved_objects}
+use Rattle.ipc_image.proofs.CallerLemmas.{saved-fits}
+use Rattle.ipc_image.specs.Sizes.{area_of}
 use Rattle.ipc_image.specs.Superblock.{IsSuperblock}
-use Rattle.ipc_store.specs.Image.{journal_range, IsDevice}
+use Rattle.ipc_store.specs.Batch.{batch_bytes}
+use Rattle.ipc_store.specs.Image.{journal_range, layout_of, IsDevice, LeadTo, StandsFor}
+use Rattle.ipc_store.specs.Relations.Matches.{AreOnDisk, DeviceMatches}
 
--- a sector that is there is no sector past the end
-is-there : (a b : Image) (i : ℕ) → i < length a → length b ≤ i → slice_get a i ≡ slice_get b i → ⊥
-is-there a b i within past same =
-    let both : Some (get_or a i []) ≡ None = sym (slice_get-get_or a i [] within) ∙ same ∙ slice_get_past b i past in
-    cc
+-- a device is one by its first sector and its size
+pub IsDevice-same : (places : ℕ → Type 0) (limits : Limits) (a b : Image) → places 0 → SameAt places a b → IsDevice limits a
+    → IsDevice limits b
+IsDevice-same places limits a b first same device =
+    let sector : sector_at a 0 ≡ sector_at b 0 = sector_at-same places a b 0 same first in
+    subst (λ (n : ℕ). IsSuperblock n limits (sector_at b 0)) same.count
+    (subst (λ (s : List ℕ). IsSuperblock (length a) limits s) sector device)
 
--- images that are the same from some sector on, where the first has one, have as many sectors
-same-length : (a b : Image) (from : ℕ) → from < length a → ((i : ℕ) → from ≤ i → slice_get a i ≡ slice_get b i) → length a ≡ length b
-same-length a b from has same =
-    let longer : length a < length b → ⊥ =
-    λ lt. is-there b a (length a) lt (omega arith) (sym (same (length a) (omega (arith, has)))) in
-    let shorter : length b < length a → ⊥ =
-    λ lt. is-there a b (length a - 1) (omega (arith, has)) (omega (arith, lt)) (same (length a - 1) (omega (arith, has))) in
-    ⊎_elim (λ lt. absurd (longer lt))
-    (λ le. ⊎_elim (λ lt. absurd (shorter lt)) (λ ge. omega (arith, le, ge)) (cases_lt (length b) (length a)))
-    (cases_lt (length a) (length b))
+-- the image is of a device with these limits, where the checkpoint lies
+abbrev pub IsPlace : Limits → Checkpoint → Image → Type 0
+IsPlace limits checkpoint image = IsDevice limits image × (saved_layout checkpoint ≡ layout_of limits (length image))
 
--- outside the journal, a device is a device
-pub IsDevice-same : (limits : Limits) (a b : Image) → SameAt (IsOutside journal_range) a b → IsDevice limits a → IsDevice limits b
-IsDevice-same limits a b same device =
-    let size : length a ≡ length b = same-length a b 260 (omega (arith, device.room)) (λ i le. same i (inr le)) in
-    let first : sector_at a 0 ≡ sector_at b 0 = sector_at-same (IsOutside journal_range) a b 0 same (inl (omega arith)) in
-    subst (λ (n : ℕ). IsSuperblock n limits (sector_at b 0)) size (subst (λ (s : List ℕ). IsSuperblock (length a) limits s) first device)
+-- calls that leave the first sector alone leave it one
+pub IsPlace-since : (places : ℕ → Type 0) (limits : Limits) (checkpoint : Checkpoint) (old new : Medium) → places 0
+    → LeavesAlone places old new → ((image : Image) → old.images_now image → IsPlace limits checkpoint image)
+    → EachImageSince old new (IsPlace limits checkpoint)
+IsPlace-since places limits checkpoint old new first alone here =
+    LeavesAlone-keeps places old new (IsPlace limits checkpoint) alone here
+    (λ a b same is. (
+      IsDevice-same places limits a b first same is.0,
+      is.1 ∙ ap (λ (n : ℕ). layout_of limits n) same.count,
+    ))
+
+-- objects lie outside the journal
+own-outside : (limits : Limits) (sectors i : ℕ) → IsOwn (layout_of limits sectors) i → IsOutside journal_range i
+own-outside limits sectors i (inl root) = inl (omega (arith, root))
+own-outside limits sectors i (inr inside) = inr (omega (arith, inside.0))
+
+-- the journal lies elsewhere, and so does the first sector
+journal-elsewhere : (limits : Limits) (sectors i : ℕ) → IsInside journal_range i → IsElsewhere (layout_of limits sectors) i
+journal-elsewhere limits sectors i inside = (λ root. absurd (omega (arith, root, inside.0)), inl (omega (arith, inside.1)))
+
+-- objects and batches that are there at one epoch make a state
+pub stands-with : (limits : Limits) (layout : Layout) (range : Range) (epoch : ℕ) (image : Image) → IsDevice limits image
+    → layout ≡ layout_of limits (length image) → range ≡ journal_range
+    → (objects : PlainObjects) → HoldsObjects layout epoch objects image → (base : State) → StandForState limits base objects
+    → (batches : List (List PlainEvent)) → Holds range epoch (map batch_bytes batches) image → (s : State) → LeadTo limits base batches s
+    → StandsFor limits s image
+stands-with limits layout range epoch image device lies range-is objects there base stand batches holds s leads = record {
+  epoch = epoch;
+  base = base;
+  kept = record { device = device; objects = objects; there = subst (λ (l : Layout). HoldsObjects l epoch objects image) lies there; stand = stand };
+  batches = batches;
+  journal = subst (λ (r : Range). Holds r epoch (map batch_bytes batches) image) range-is holds;
+  leads = leads;
+}
+
+module _ (medium : Medium) (limits : Limits) (checkpoint : Checkpoint) (journal : Journal) (base : State)
+    (at : DeviceMatches medium limits checkpoint journal base) where
+  -- each image now stands for the base
+  pub device-stands : (image : Image) → medium.images_now image → StandsFor limits base image
+  device-stands image now =
+      let is = at.device image now in
+      stands-with limits (saved_layout checkpoint) (range_of journal) (saved_epoch checkpoint) image is.0 is.1 at.range at.objects
+      (CheckpointMatches-holds checkpoint at.objects medium at.saved image now) at.from at.stand at.batches
+      (subst (λ (n : ℕ). Holds (range_of journal) n (map batch_bytes at.batches) image) at.epoch (at.appended.images image now)) base at.leads
+
+  -- where the checkpoint lies
+  here : IsPlace limits checkpoint medium.contents
+  here = at.device medium.contents at.honest.reads
+
+  pub objects-room : 2 * (saved_layout checkpoint).area ≤ (saved_layout checkpoint).range.count
+  objects-room =
+      subst (λ (l : Layout). 2 * l.area ≤ l.range.count) (sym here.1) (omega (arith, here.0.room))
+
+  pub objects-outside : (i : ℕ) → IsOwn (saved_layout checkpoint) i → IsOutside (range_of journal) i
+  objects-outside i own =
+      subst (λ (r : Range). IsOutside r i) (sym at.range)
+      (own-outside limits (length medium.contents) i (subst (λ (l : Layout). IsOwn l i) here.1 own))
+
+  pub journal-outside : (i : ℕ) → IsInside (range_of journal) i → IsElsewhere (saved_layout checkpoint) i
+  journal-outside i inside =
+      subst (λ (l : Layout). IsElsewhere l i) (sym here.1)
+      (journal-elsewhere limits (length medium.contents) i (subst (λ (r : Range). IsInside r i) at.range inside))
+
+  pub first-outside : IsOutside (range_of journal) 0
+  first-outside = subst (λ (r : Range). IsOutside r 0) (sym at.range) (inl (omega arith))
+
+  pub first-elsewhere : IsElsewhere (saved_layout checkpoint) 0
+  first-elsewhere =
+      subst (λ (l : Layout). IsElsewhere l 0) (sym here.1) (λ root. absurd (omega (arith, root)), inl (omega arith))
+
+-- where a checkpoint and a journal lie that have changed their epoch alone
+pub stays-on-disk : (limits : Limits) (old new : ℕ) (checkpoint next : Checkpoint) (journal more : Journal) → new ≡ old
+    → saved_layout next ≡ saved_layout checkpoint → range_of more ≡ range_of journal → epoch_of more ≡ saved_epoch next
+    → AreOnDisk old limits checkpoint journal → AreOnDisk new limits next more
+stays-on-disk limits old new checkpoint next journal more size layout range epoch on = record {
+  objects = subst (λ (l : Layout). IsLaidOut l new) (sym layout) (subst (λ (n : ℕ). IsLaidOut (saved_layout checkpoint) n) (sym size) on.objects);
+  room = ap (λ (l : Layout). l.area) layout ∙ on.room;
+  within = subst (λ (r : Range). IsWithin r new) (sym range) (subst (λ (n : ℕ). IsWithin (range_of journal) n) (sym size) on.within);
+  epoch = epoch;
+}
+
+-- what the checkpoint keeps fits, if the disk matches
+pub kept-fits : (medium : Medium) (limits : Limits) (checkpoint : Checkpoint) (journal : Journal) (base : State) (size : ℕ)
+    → DeviceMatches medium limits checkpoint journal base → AreOnDisk size limits checkpoint journal
+    → (objects : PlainObjects) → CheckpointMatches checkpoint objects medium → Fit (saved_layout checkpoint).area objects
+kept-fits medium limits checkpoint journal base size at on objects saved =
+    let one : objects ≡ at.objects = CheckpointMatches-one checkpoint objects at.objects medium saved at.saved in
+    let is = at.device medium.contents at.honest.reads in
+    let fit : Fit (area_of limits) (saved_objects at.from) = saved-fits limits at.from is.0.passed at.stand.sound in
+    subst (λ (n : ℕ). Fit n objects) (sym on.room) (subst (λ (o : PlainObjects). Fit (area_of limits) o) (sym (one ∙ at.stand.are)) fit)

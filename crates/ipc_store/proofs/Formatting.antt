@@ -1,19 +1,27 @@
 -- What each call of a format makes of the images that a crash may leave.
-use Rattle.std.specs.Prelude.{◌≡◌, ◌⊎◌, ◌<◌, ℕ, List, [], length, take, replicate, slice_set, refl}
+use Rattle.std.specs.Prelude.{◌≡◌, ◌⊎◌, ◌<◌, ◌≤◌, ◌-◌, ◌*◌, ℕ, List, [], length, take, replicate, slice_set, refl}
 use Rattle.std.proofs.Common.{inl, inr, ⊎_elim, sym, ◌∙◌, ap, subst, arith}
 use Rattle.std.proofs.lemmas.List.{get_or-set_same, get_or-set_other, length-set}
+use Rattle.std.proofs.lemmas.List.Elements.{All-nil}
 use Rattle.ipc_base.specs.declared.limits.Limits.{Limits}
-use Rattle.ipc_disk.specs.Medium.{Image, Medium, IsHonest, Writes}
-use Rattle.ipc_disk.specs.Range.{IsOutside}
-use Rattle.ipc_disk.specs.Since.{EachImageSince, LeavesAlone}
-use Rattle.ipc_disk.proofs.CallerLemmas.{EachImageSince-join, EachImageSince-weaken, EachImageSince-now, sector_at-same}
-use Rattle.ipc_disk.proofs.CallerLemmas.{EachImageSince-writes, EachImageSince-set, LeavesAlone-keeps}
+use Rattle.ipc_base.specs.Limits.{ArePassed}
+use Rattle.ipc_disk.specs.Medium.{Image, Medium, IsHonest, SetOrNot}
+use Rattle.ipc_disk.specs.Since.{EachImageSince, SameAt, LeavesAlone}
+use Rattle.ipc_disk.proofs.CallerLemmas.{EachImageSince-join, EachImageSince-weaken, EachImageSince-now, EachImageSince-set}
+use Rattle.ipc_disk.proofs.CallerLemmas.{SameAt-set, LeavesAlone-keeps, sector_at-same, sector_at-set_same}
 use Rattle.ipc_disk.specs.Standing.{sector_at}
-use Rattle.ipc_journal.proofs.CallerLemmas.{Holds-same}
+use Rattle.ipc_journal.specs.Journal.{header_bytes}
+use Rattle.ipc_journal.proofs.CallerLemmas.{Holds-header, Holds-same}
+use Rattle.ipc_checkpoint.specs.declared.layout.Layout.{Layout}
+use Rattle.ipc_checkpoint.specs.Checkpoint.{IsLaidOut, IsElsewhere, Holds as HoldsObjects}
+use Rattle.ipc_checkpoint.proofs.CallerLemmas.{Holds-alone}
 use Rattle.ipc_state.specs.State.{start}
+use Rattle.ipc_image.specs.Saved.{saved}
+use Rattle.ipc_image.specs.Sizes.{area_of, need_of}
 use Rattle.ipc_image.specs.Superblock.{magic, IsFormatted, IsSuperblock}
-use Rattle.ipc_store.specs.Image.{journal_range, first_epoch, HasBatches, StandsFor, IsNotFormatted}
-use Rattle.ipc_store.specs.Relations.Format.{EachNow, HasNoRoot, IsErased}
+use Rattle.ipc_image.proofs.CallerLemmas.{area-counted, start-stands}
+use Rattle.ipc_store.specs.Image.{journal_range, first_epoch, layout_of, HasObjects, StandsFor, IsNotFormatted}
+use Rattle.ipc_store.specs.Relations.Format.{EachNow, IsErased, IsPrepared}
 
 -- a sector of zeros
 abbrev pub zeros : List ℕ
@@ -31,48 +39,79 @@ erased-other image at bytes elsewhere erased =
     subst (λ (s : List ℕ). ¬ IsFormatted s)
     (sym (get_or-set_other image at 0 bytes [] (λ same. absurd (omega (arith, same))))) erased
 
--- the root is written, and then the journal
-pub stays-erased : (old mid new : Medium) → IsHonest old
-    → ((image : Image) → old.images_since old.moment image → old.images_now image)
-    → EachNow old IsErased → Writes 1 zeros old mid → LeavesAlone (IsOutside journal_range) mid new
-    → EachImageSince old new IsErased
-stays-erased old mid new honest law erased call journal =
-    let run = EachImageSince-set old mid 1 zeros IsErased (EachImageSince-writes old mid 1 zeros law call) erased
-    (λ image now. erased-other image 1 zeros (omega arith) (erased image now)) in
-    EachImageSince-join old mid new IsErased run
-    (LeavesAlone-keeps (IsOutside journal_range) mid new IsErased journal
-    (EachImageSince-now old mid IsErased run (call.time.honest.0 honest))
-    (λ a b same. subst (λ (s : List ℕ). ¬ IsFormatted s)
-    (sector_at-same (IsOutside journal_range) a b 0 same (inl (omega arith)))))
+-- where the objects lie there is room for them, if the device is large enough
+pub laid-out : (limits : Limits) (size : ℕ) → ArePassed limits → need_of limits ≤ size → IsLaidOut (layout_of limits size) size
+laid-out limits size passed room = record {
+  within = omega (arith, room);
+  root = omega (arith, room);
+  apart = inl (omega arith);
+  not_first = omega arith;
+  room = omega (arith, room);
+  counted = area-counted limits passed;
+}
 
--- the superblock is written
-pub becomes-device : (limits : Limits) (size : ℕ) (bytes : List ℕ) (image : Image) → IsSuperblock size limits bytes
-    → length image ≡ size → 0 < size → HasBatches [] image → StandsFor limits start (slice_set image 0 bytes)
-becomes-device limits size bytes image is count has holds =
-    let new = slice_set image 0 bytes in
-    let here : sector_at new 0 ≡ bytes = get_or-set_same image 0 bytes [] (omega arith) in
-    let long : length new ≡ size = length-set image 0 bytes ∙ count in
+-- the header of the journal is written
+pub header-erased : (old mid : Medium) → EachNow old IsErased → EachImageSince old mid (SetOrNot 3 (header_bytes first_epoch 0) old)
+    → EachImageSince old mid IsErased
+header-erased old mid erased header =
+    EachImageSince-set old mid 3 (header_bytes first_epoch 0) IsErased header erased
+    (λ image now. erased-other image 3 (header_bytes first_epoch 0) (omega arith) (erased image now))
+
+-- and then the objects
+pub stays-erased : (limits : Limits) (size : ℕ) (layout : Layout) (old mid new : Medium) → layout ≡ layout_of limits size → EachNow old IsErased
+    → EachImageSince old mid (SetOrNot 3 (header_bytes first_epoch 0) old) → IsHonest mid → LeavesAlone (IsElsewhere layout) mid new
+    → EachImageSince old new IsErased
+stays-erased limits size layout old mid new there erased header kept objects =
+    let run = header-erased old mid erased header in
+    let elsewhere : IsElsewhere layout 0 = subst (λ (l : Layout). IsElsewhere l 0) (sym there) (λ is. absurd (omega (arith, is)), inl (omega arith)) in
+    EachImageSince-join old mid new IsErased run
+    (LeavesAlone-keeps (IsElsewhere layout) mid new IsErased objects (EachImageSince-now old mid IsErased run kept)
+    (λ a b same. subst (λ (s : List ℕ). ¬ IsFormatted s) (sector_at-same (IsElsewhere layout) a b 0 same elsewhere)))
+
+-- then both are there
+pub is-prepared : (limits : Limits) (old mid new : Image) → 3 < length old → mid ≡ slice_set old 3 (header_bytes first_epoch 0)
+    → SameAt (IsElsewhere (layout_of limits (length new))) mid new → IsErased new
+    → HasObjects limits first_epoch (saved start) new → IsPrepared limits new
+is-prepared limits old mid new has header same erased objects =
+    let at : sector_at mid 3 ≡ header_bytes first_epoch 0 =
+    ap (λ (image : Image). sector_at image 3) header ∙ sector_at-set_same old 3 (header_bytes first_epoch 0) has in
     record {
-      device = subst (λ (s : List ℕ). IsSuperblock (length new) limits s) (sym here)
-          (subst (λ (n : ℕ). IsSuperblock n limits bytes) (sym long) is);
-      history = (
-        [],
-        Holds-same journal_range first_epoch [] image new
-            (λ j low high. sym (get_or-set_other image 0 j bytes [] (λ same. absurd (omega (arith, same, low))))) holds,
-        record { each = λ k d lt. absurd (omega (arith, lt)); named = tt; state = refl },
-      );
+      erased = erased;
+      objects = objects;
+      journal = Holds-header journal_range first_epoch new (omega arith) (omega arith)
+          (sym (sector_at-same (IsElsewhere (layout_of limits (length new))) mid new 3 same (λ is. absurd (omega (arith, is)), inl (omega arith)))
+          ∙ at);
     }
 
--- the root is cleared, and another sector is written then
-pub no-root-cleared : (old mid new : Image) (bytes : List ℕ) → 1 < length old → mid ≡ slice_set old 1 zeros
-    → new ≡ slice_set mid 3 bytes → HasNoRoot new
-no-root-cleared old mid new bytes has cleared set =
-    ap (λ (image : Image). sector_at image 1) set ∙ get_or-set_other mid 3 1 bytes [] (λ same. absurd (omega (arith, same)))
-    ∙ ap (λ (image : Image). sector_at image 1) cleared ∙ get_or-set_same old 1 zeros [] has
+-- a sector behind the first
+abbrev IsPast : ℕ → ℕ → Type 0
+IsPast first i = first < i
 
--- the superblock is written, and it stays so
-pub no-root-kept : (image : Image) (bytes : List ℕ) → HasNoRoot image → HasNoRoot (slice_set image 0 bytes)
-no-root-kept image bytes none = get_or-set_other image 0 1 bytes [] (λ same. absurd (omega (arith, same))) ∙ none
+-- the superblock is written
+pub becomes-device : (limits : Limits) (bytes : List ℕ) (image : Image) → IsSuperblock (length image) limits bytes
+    → IsPrepared limits image → StandsFor limits start (slice_set image 0 bytes)
+becomes-device limits bytes image is prepared =
+    let new : Image = slice_set image 0 bytes in
+    let here : sector_at new 0 ≡ bytes = sector_at-set_same image 0 bytes (omega (arith, is.room)) in
+    let long : length image ≡ length new = sym (length-set image 0 bytes) in
+    let kept : SameAt (IsPast 0) image new = SameAt-set (IsPast 0) image 0 bytes (λ past. absurd (omega (arith, past))) in
+    let room : 2 * area_of limits ≤ length image - 260 = omega (arith, is.room) in
+    record {
+      epoch = first_epoch;
+      base = start;
+      kept = record {
+        device = subst (λ (s : List ℕ). IsSuperblock (length new) limits s) (sym here) (subst (λ (n : ℕ). IsSuperblock n limits bytes) long is);
+        objects = saved start;
+        there = subst (λ (n : ℕ). HoldsObjects (layout_of limits n) first_epoch (saved start) new) long
+            (Holds-alone (layout_of limits (length image)) (IsPast 0) first_epoch (saved start) image new room
+            (λ i own. ⊎_elim (λ root. omega (arith, root)) (λ inside. omega (arith, inside.0)) own) kept prepared.objects);
+        stand = start-stands limits;
+      };
+      batches = [];
+      journal = Holds-same journal_range first_epoch [] image new
+          (λ j low high. sector_at-same (IsPast 0) image new j kept (omega (arith, low))) prepared.journal;
+      leads = record { each = All-nil _; named = tt; state = refl };
+    }
 
 module _ (limits : Limits) (old : Medium) where
   -- an image of then, or none of a device, or one of the new device

@@ -3,7 +3,7 @@ use Rattle.std.proofs.Common.{◌≡◌, List, [], ◌∷◌, ◌++◌, refl, sy
 use Rattle.std.proofs.lemmas.List.Elements.{All-nil, All-cons, All-append}
 use Rattle.std.proofs.lemmas.List.Concat.{flat_map-append}
 use Rattle.ipc_base.specs.declared.limits.Limits.{Limits}
-use Rattle.ipc_state.specs.State.{State, start}
+use Rattle.ipc_state.specs.State.{State}
 use Rattle.ipc_engine.specs.Event.{PlainEvent}
 use Rattle.ipc_engine.specs.Step.{step, run}
 use Rattle.ipc_engine.proofs.CallerLemmas.{run-parts}
@@ -22,23 +22,23 @@ pub events-more : (batches : List (List PlainEvent)) (events : List PlainEvent)
 events-more batches events =
     flat_map-append (λ (es : List PlainEvent). es) batches (events ∷ []) ∙ ap (λ (es : List PlainEvent). events_of batches ++ es) (append-nil events)
 
--- no batch leads to the first state
-pub LeadTo-start : (limits : Limits) → LeadTo limits [] start
-LeadTo-start limits = record { each = All-nil AreBatch; named = tt; state = refl }
+-- no batch leads to the same state
+pub LeadTo-start : (limits : Limits) (from : State) → LeadTo limits from [] from
+LeadTo-start limits from = record { each = All-nil AreBatch; named = tt; state = refl }
 
 -- one batch more leads on
-pub LeadTo-more : (limits : Limits) (batches : List (List PlainEvent)) (events : List PlainEvent) (s : State)
-    → LeadTo limits batches s → AreBatch events → AreFor limits s events
-    → LeadTo limits (batches ++ events ∷ []) (run limits s events).state
-LeadTo-more limits batches events s leads batch named =
+pub LeadTo-more : (limits : Limits) (from : State) (batches : List (List PlainEvent)) (events : List PlainEvent) (s : State)
+    → LeadTo limits from batches s → AreBatch events → AreFor limits s events
+    → LeadTo limits from (batches ++ events ∷ []) (run limits s events).state
+LeadTo-more limits from batches events s leads batch named =
     let all = events-more batches events in
-    let from : AreFor limits (run limits start (events_of batches)).state events =
+    let next : AreFor limits (run limits from (events_of batches)).state events =
     subst (λ (t : State). AreFor limits t events) leads.state named in
     record {
       each = All-append AreBatch batches (events ∷ []) leads.each (All-cons AreBatch events [] batch (All-nil AreBatch));
-      named = subst (λ (es : List PlainEvent). AreFor limits start es) (sym all)
-          (AreFor-parts limits start (events_of batches) events leads.named from);
+      named = subst (λ (es : List PlainEvent). AreFor limits from es) (sym all)
+          (AreFor-parts limits from (events_of batches) events leads.named next);
       state =
-          ap (λ (t : State). (run limits t events).state) leads.state ∙ sym (run-parts limits start (events_of batches) events)
-          ∙ ap (λ (es : List PlainEvent). (run limits start es).state) (sym all);
+          ap (λ (t : State). (run limits t events).state) leads.state ∙ sym (run-parts limits from (events_of batches) events)
+          ∙ ap (λ (es : List PlainEvent). (run limits from es).state) (sym all);
     }

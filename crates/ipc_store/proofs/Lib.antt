@@ -3,6 +3,8 @@ mod Batches
 pub mod CallerLemmas
 mod Committing
 mod Devices
+mod Faults
+mod Loaded
 mod Histories
 mod Lives
 mod Opened

@@ -1,5 +1,6 @@
 -- What the calls on a store do to its history.
 use Rattle.std.proofs.Common.{◌≡◌, inl, inr, ⊎_elim, ◌+◌, Bool, true, false, List, [], ◌∷◌, ◌++◌, refl, sym, ap, subst, ◌∙◌, append-nil, append_assoc, arith}
+use Rattle.std.specs.Prelude.{⊤, Result, Ok, Err, OnOk, OnErr}
 use Rattle.std.proofs.lemmas.List.{length-append, append_cancel_left}
 use Rattle.ipc_base.specs.declared.limits.Limits.{Limits}
 use Rattle.ipc_disk.specs.Medium.{Image, Medium, IsHonest}
@@ -185,14 +186,31 @@ module _ {D : Type 0} (medium : D → Medium) (law : (d : D) (image : Image) →
           keeps = record {
             stands = inr (record {
               stopped = stopped;
-              honest = honest goes.honest;
+              honest = honest goes.device.honest;
               left = λ image now. subst (λ (l : Limits). StandsForPrefix l (acknowledged before) before.waiting image) (sym limits)
                   (EachImageSince-now (medium old.disk) (medium new.disk) (StandsForPrefix old.machine.limits (acknowledged before) before.waiting)
-                  (since before goes) (honest goes.honest) image now);
+                  (since before goes) (honest goes.device.honest) image now);
             });
             count = confirmed ∙ keeps.count;
           };
         }
+
+    -- either of the two
+    pub takes-either : {E : Type 0} (result : Result ⊤ E) → OnOk result (new.confirmed ≡ old.confirmed + old.waiting)
+        → OnOk result ((base : State) (pending : List PlainEvent) → StoreMatches (medium old.disk) old base pending
+        → StoreMatches (medium new.disk) new (run old.machine.limits base pending).state [])
+        → OnErr result (new.confirmed ≡ old.confirmed) → OnErr result (IsStopped new)
+        → (IsHonest (medium old.disk) → IsHonest (medium new.disk)) → Takes medium old [] new
+    takes-either (Ok _) confirmed matches none stopped honest = takes-all confirmed matches
+    takes-either (Err _) confirmed matches none stopped honest = takes-halted none stopped honest
+
+    -- what is left after it
+    pub leaves-either : (IsHonest (medium old.disk) → IsHonest (medium new.disk)) → (base : State) (pending : List PlainEvent) (image : Image)
+        → StoreMatches (medium old.disk) old base pending → (medium new.disk).images_now image
+        → StandsForEither old.machine.limits base (run old.machine.limits base pending).state image
+    leaves-either honest base pending image at now =
+        EachImageSince-now (medium old.disk) (medium new.disk) (StandsForEither old.machine.limits base (run old.machine.limits base pending).state)
+        (moments base pending at) (honest at.device.honest) image now
 
 -- ---- two calls, one after the other
 

@@ -6,8 +6,13 @@ use Rattle.ipc_base.specs.declared.limits.Limits.{Limits}
 use Rattle.ipc_disk.specs.Medium.{Image, Medium, IsHonest, Stays}
 use Rattle.ipc_disk.specs.Since.{EachImageSince}
 use Rattle.ipc_disk.proofs.CallerLemmas.{EachImageSince-weaken, EachImageSince-join}
+use Rattle.ipc_checkpoint.specs.declared.checkpoint.Checkpoint.{Checkpoint}
+use Rattle.ipc_checkpoint.specs.declared.layout.Layout.{Layout}
+use Rattle.ipc_checkpoint.specs.Checkpoint.{epoch_in}
+use Rattle.ipc_disk.specs.declared.range.Range.{Range}
 use Rattle.ipc_journal.specs.declared.journal.Journal.{Journal}
-use Rattle.ipc_disk.specs.Standing.{sectors_for}
+use Rattle.ipc_journal.specs.Journal.{header_used}
+use Rattle.ipc_disk.specs.Standing.{sector_at, sectors_for}
 use Rattle.ipc_journal.specs.View.{range_of, used_of, Fits}
 use Rattle.ipc_state.specs.State.{State, restart}
 use Rattle.ipc_engine.specs.Engine.{Machine}
@@ -16,9 +21,9 @@ use Rattle.ipc_image.specs.Records.{record_bytes, HasRecord}
 use Rattle.ipc_store.specs.declared.fault.OpenError.{OpenError}
 use Rattle.ipc_store.specs.declared.fault.OpenError.TheVariants as errors
 use Rattle.ipc_store.proofs.Opened.{device-begins}
-use Rattle.ipc_store.specs.Image.{IsNotFormatted, HasVersion, IsDamaged, IsFirstFault, StandsFor}
-use Rattle.ipc_store.specs.View.{StoreView}
-use Rattle.ipc_store.specs.Relations.Matches.{StoreMatches, StandsForEither, IsLoaded, OpensTo}
+use Rattle.ipc_store.specs.Image.{journal_range, last_epoch, IsNotFormatted, HasVersion, IsDamaged, IsFirstFault, IsAtEnd, StandsFor}
+use Rattle.ipc_store.specs.View.{StoreView, IsAtLastEpoch, store_view}
+use Rattle.ipc_store.specs.Relations.Matches.{DeviceMatches, StoreMatches, StandsForEither, OpensTo}
 use Rattle.ipc_store.proofs.Batches.{record-length}
 use Rattle.ipc_store.proofs.Committing.{stands_now}
 
@@ -32,38 +37,33 @@ only_read old new call law = record {
 }
 
 -- the store over what was loaded
-abbrev store_over : {D : Type 0} → D → Journal → Machine → StoreView D
-store_over disk journal machine = record {
-  disk = disk;
-  machine = machine;
-  journal = journal;
-  records = [];
-  waiting = 0;
-  confirmed = 0;
-  stopped = false;
+abbrev store_over : {D : Type 0} → D → Checkpoint → Journal → Machine → StoreView D
+store_over disk checkpoint journal machine = store_view disk machine checkpoint journal (record { records = []; count = 0 }) 0 false
+
+-- it matches
+pub new-matches : {D : Type 0} (medium : Medium) (disk : D) (checkpoint : Checkpoint) (journal : Journal) (machine : Machine)
+    → DeviceMatches medium machine.limits checkpoint journal machine.state
+    → StoreMatches medium (store_over disk checkpoint journal machine) machine.state []
+new-matches medium disk checkpoint journal machine matches = record {
+  goes_on = refl;
+  device = matches;
+  waits = record { records = refl; count = refl; each = All-nil HasRecord; named = tt; state = refl };
 }
 
-module _ {D : Type 0} (m : D → Medium) (disk : D) (journal : Journal) (machine : Machine) (loaded : IsLoaded (m disk) journal machine)
-    (store : StoreView D) (over : store ≡ store_over disk journal machine) where
+module _ {D : Type 0} (m : D → Medium) (disk : D) (checkpoint : Checkpoint) (journal : Journal) (machine : Machine)
+    (matches : DeviceMatches (m disk) machine.limits checkpoint journal machine.state)
+    (store : StoreView D) (over : store ≡ store_over disk checkpoint journal machine) where
   -- it goes on from the state of the machine
   pub begins : StoreMatches (m store.disk) store machine.state []
   begins =
-      subst (λ v. StoreMatches (m v.disk) v machine.state []) (sym over) (record {
-        honest = loaded.honest;
-        goes_on = refl;
-        range = loaded.range;
-        epoch = loaded.epoch;
-        device = loaded.device;
-        history = (loaded.history.0, record { journal = loaded.history.1; leads = loaded.history.2 });
-        waits = record { records = refl; count = refl; each = All-nil HasRecord; named = tt; state = refl };
-      })
+      subst (λ v. StoreMatches (m v.disk) v machine.state []) (sym over) (new-matches (m disk) disk checkpoint journal machine matches)
 
   -- the disk stands for that state
   pub stood : (old : Medium) → (m disk).contents ≡ old.contents → StandsFor store.machine.limits machine.state old.contents
   stood old same =
       subst (StandsFor store.machine.limits machine.state) same
       (stands_now (m store.disk) store machine.state [] begins (m disk).contents
-      (subst (λ v. (m v.disk).images_now (m disk).contents) (sym over) loaded.honest.reads))
+      (subst (λ v. (m v.disk).images_now (m disk).contents) (sym over) matches.honest.reads))
 
   -- the calls of the restart leave that state, or the state after the restart
   pub restart_leaves : (old new : Medium) → IsHonest old → Stays old (m disk)
@@ -95,16 +95,30 @@ full_journal journal records are full =
     ⊎_elim (λ lt. absurd (full (subst (λ (n : ℕ). used_of journal + sectors_for (4 + n) < (range_of journal).count) (sym size) lt)))
     (λ ge. omega (arith, ge, journal.room)) (cases_lt (used_of journal + 1) (range_of journal).count)
 
+-- the image is at the end of its epochs, if the store over it is and its journal has no room for a restart
+pub at_end : {D : Type 0} (medium : Medium) (store : StoreView D) (base : State) (image : Image) → StoreMatches medium store base []
+    → medium.contents ≡ image → IsAtLastEpoch store → used_of store.journal + 1 ≡ (range_of store.journal).count
+    → (0 < used_of store.journal → used_of store.journal ≡ header_used journal_range image) → IsAtEnd image
+at_end medium store base image matches same last full used =
+    let at = matches.device in
+    let is = at.device medium.contents at.honest.reads in
+    let there = at.saved.images medium.contents at.honest.reads in
+    let count : used_of store.journal + 1 ≡ journal_range.count = full ∙ ap (λ (r : Range). r.count) at.range in
+    record {
+      epoch = subst (λ (i : Image). epoch_in (sector_at i 1) ≡ last_epoch) same
+          (ap (λ (l : Layout). epoch_in (sector_at medium.contents l.root)) (sym is.1) ∙ there.current ∙ last);
+      used = ap (λ (n : ℕ). n + 1) (sym (used (omega (arith, count)))) ∙ count;
+    }
+
 -- a disk that stands for a state has no fault of its own
 pub refused_by : (image : Image) (limits : Limits) (s : State) (error : OpenError) → StandsFor limits s image
     → (error ≡ errors.NotFormatted → IsNotFormatted image) → ((found : ℕ) → error ≡ errors.Version found → HasVersion found image)
     → ((sector : ℕ) → error ≡ errors.Damaged sector → IsDamaged image × IsFirstFault image sector)
-    → (error ≡ errors.Device) ⊎ (error ≡ errors.NoMemory) ⊎ (error ≡ errors.JournalFull)
+    → (error ≡ errors.Device) ⊎ (error ≡ errors.NoMemory) ⊎ IsAtEnd image
 refused_by image limits s errors.Device stands not version damaged = inl refl
-refused_by image limits s errors.NotFormatted stands not version damaged = absurd ((device-begins limits image stands.device).0 (not refl))
+refused_by image limits s errors.NotFormatted stands not version damaged = absurd ((device-begins limits image stands.kept.device).0 (not refl))
 refused_by image limits s (errors.Version found) stands not version damaged =
     let other = version found refl in
-    absurd (other.other (sym other.version ∙ (device-begins limits image stands.device).1))
+    absurd (other.other (sym other.version ∙ (device-begins limits image stands.kept.device).1))
 refused_by image limits s (errors.Damaged sector) stands not version damaged = absurd ((damaged sector refl).0.stands_for_none limits s stands)
 refused_by image limits s errors.NoMemory stands not version damaged = inr (inl refl)
-refused_by image limits s errors.JournalFull stands not version damaged = inr (inr refl)

@@ -19,15 +19,15 @@ use Rattle.ipc_journal.specs.Journal.{sectors_of, length_in, IsBatch, Fill}
 use Rattle.ipc_journal.specs.View.{range_of, used_of}
 use Rattle.ipc_disk.proofs.CallerLemmas.{StandsAt-front, stands-same}
 use Rattle.ipc_journal.proofs.CallerLemmas.{Fill-end, Fill-push, IsBatch-there, length-there}
-use Rattle.ipc_state.specs.State.{State, start}
+use Rattle.ipc_state.specs.State.{State}
 use Rattle.ipc_engine.specs.Engine.{IsForProcess}
 use Rattle.ipc_engine.specs.Event.{PlainEvent}
 use Rattle.ipc_engine.specs.Step.{step, run}
 use Rattle.ipc_engine.proofs.CallerLemmas.{run-parts}
 use Rattle.ipc_image.specs.Records.{record_bytes, HasRecord, BeginsWith}
 use Rattle.ipc_store.specs.Batch.{most_bytes, records_of, batch_bytes, AreBatch}
-use Rattle.ipc_store.specs.Image.{AreFor, events_of, LeadTo}
-use Rattle.ipc_store.specs.Relations.Replay.{AreRecords, Replays, HasNoBatchAt, IsGoodUpTo}
+use Rattle.ipc_store.specs.Image.{AreFor, events_of, LeadTo, HasNoBatchAt}
+use Rattle.ipc_store.specs.Relations.Replay.{AreRecords, Replays, IsGoodUpTo}
 use Rattle.ipc_store.proofs.Accepting.{records-more}
 use Rattle.ipc_store.proofs.Committing.{is_batch}
 use Rattle.ipc_store.proofs.Histories.{AreFor-parts, LeadTo-start, LeadTo-more}
@@ -202,14 +202,14 @@ record GoOn (limits : Limits) (journal : Journal) (image : Image) (place : ℕ) 
   state : to ≡ (run limits s (events_of more)).state
 
 -- the machine has gone through the batches before this place
-pub record Replayed (limits : Limits) (journal : Journal) (image : Image) (place : ℕ) (s : State) : Type 0 where
-  so_far : (batches : List (List PlainEvent)) × LeadTo limits batches s × Fill (range_of journal) 0 place (map batch_bytes batches) image
-  ahead : (batches : List (List PlainEvent)) (to : State) → Replays limits journal image batches to
+pub record Replayed (limits : Limits) (from : State) (journal : Journal) (image : Image) (place : ℕ) (s : State) : Type 0 where
+  so_far : (batches : List (List PlainEvent)) × LeadTo limits from batches s × Fill (range_of journal) 0 place (map batch_bytes batches) image
+  ahead : (batches : List (List PlainEvent)) (to : State) → Replays limits from journal image batches to
       → (more : List (List PlainEvent)) × GoOn limits journal image place s more to
 
-pub replayed_none : (limits : Limits) (journal : Journal) (image : Image) → Replayed limits journal image 0 start
-replayed_none limits journal image = record {
-  so_far = ([], LeadTo-start limits, refl);
+pub replayed_none : (limits : Limits) (from : State) (journal : Journal) (image : Image) → Replayed limits from journal image 0 from
+replayed_none limits from journal image = record {
+  so_far = ([], LeadTo-start limits from, refl);
   ahead = λ batches to is. (batches, record { filled = is.filled; each = is.leads.each; named = is.leads.named; state = is.leads.state });
 }
 
@@ -283,7 +283,8 @@ module _ (limits : Limits) (journal : Journal) (image : Image) (place : ℕ) (s 
     state = left.state ∙ run-parts limits s m (events_of ms);
   }
 
-module _ (limits : Limits) (journal : Journal) (image : Image) (place : ℕ) (s : State) (batch : List ℕ) (replayed : Replayed limits journal image place s)
+module _ (limits : Limits) (from : State) (journal : Journal) (image : Image) (place : ℕ) (s : State) (batch : List ℕ)
+    (replayed : Replayed limits from journal image place s)
     (found : Found journal image place batch) where
   -- where a batch was found, something goes on
   something : (to : State) → GoOn limits journal image place s [] to → ⊥
@@ -291,7 +292,7 @@ module _ (limits : Limits) (journal : Journal) (image : Image) (place : ℕ) (s 
 
   -- batches that are good are not refused
   pub replayed_refused : ((events : List PlainEvent) (to : State) → AreRecords limits s (drop 4 batch) events to → ⊥)
-      → (batches : List (List PlainEvent)) (to : State) → Replays limits journal image batches to → ⊥
+      → (batches : List (List PlainEvent)) (to : State) → Replays limits from journal image batches to → ⊥
   replayed_refused refuses batches to good = let rest = replayed.ahead batches to good in first rest.0 rest.1
     where
       first : (more : List (List PlainEvent)) → GoOn limits journal image place s more to → ⊥
@@ -312,14 +313,14 @@ module _ (limits : Limits) (journal : Journal) (image : Image) (place : ℕ) (s 
 
   module _ (events : List PlainEvent) (t : State) (are : AreRecords limits s (drop 4 batch) events t)
       (only : (es : List PlainEvent) (to : State) → AreRecords limits s (drop 4 batch) es to → t ≡ to) where
-    next_leads : LeadTo limits (replayed.so_far.0 ++ events ∷ []) t
+    next_leads : LeadTo limits from (replayed.so_far.0 ++ events ∷ []) t
     next_leads =
         let batch_of : AreBatch events = record {
           each = are.each;
           size = omega (arith, ap length are.spelled, length-drop 4 batch, found.is.field, found.short);
         } in
-        subst (λ (u : State). LeadTo limits (replayed.so_far.0 ++ events ∷ []) u) (sym are.state)
-        (LeadTo-more limits replayed.so_far.0 events s replayed.so_far.1 batch_of are.named)
+        subst (λ (u : State). LeadTo limits from (replayed.so_far.0 ++ events ∷ []) u) (sym are.state)
+        (LeadTo-more limits from replayed.so_far.0 events s replayed.so_far.1 batch_of are.named)
 
     next_filled : Fill (range_of journal) 0 (place + sectors_for (length batch)) (map batch_bytes (replayed.so_far.0 ++ events ∷ [])) image
     next_filled =
@@ -341,15 +342,16 @@ module _ (limits : Limits) (journal : Journal) (image : Image) (place : ℕ) (s 
         )
 
     -- one batch more
-    pub replayed_more : Replayed limits journal image (place + sectors_for (length batch)) t
+    pub replayed_more : Replayed limits from journal image (place + sectors_for (length batch)) t
     replayed_more = record {
       so_far = (replayed.so_far.0 ++ events ∷ [], next_leads, next_filled);
       ahead = λ all to good. let rest = replayed.ahead all to good in ahead_next rest.0 to rest.1;
     }
 
-module _ (limits : Limits) (journal : Journal) (image : Image) (place : ℕ) (s : State) (replayed : Replayed limits journal image place s) where
+module _ (limits : Limits) (from : State) (journal : Journal) (image : Image) (place : ℕ) (s : State)
+    (replayed : Replayed limits from journal image place s) where
   -- where no more is used, the journal is gone through
-  pub replayed_all : place ≡ used_of journal → (batches : List (List PlainEvent)) × Replays limits journal image batches s
+  pub replayed_all : place ≡ used_of journal → (batches : List (List PlainEvent)) × Replays limits from journal image batches s
   replayed_all end =
       let batches = replayed.so_far.0 in (
         batches,
@@ -359,19 +361,10 @@ module _ (limits : Limits) (journal : Journal) (image : Image) (place : ℕ) (s 
         },
       )
 
-  pub replayed_only : place ≡ used_of journal → (batches : List (List PlainEvent)) (to : State) → Replays limits journal image batches to → s ≡ to
-  replayed_only end batches to good = let rest = replayed.ahead batches to good in last rest.0 rest.1
-    where
-      last : (more : List (List PlainEvent)) → GoOn limits journal image place s more to → s ≡ to
-      last [] left = sym left.state
-      last (m ∷ ms) left =
-          let after = Fill-end (range_of journal) (place + sectors_for (length (batch_bytes m))) (used_of journal) (map batch_bytes ms) image left.filled.2 in
-          absurd (omega (arith, after, end, left.filled.0.field))
-
   -- a batch that does not fit is none
   pub replayed_damaged : (size said : ℕ) → size ≡ most_bytes → said ≡ length_in (sector_at image ((range_of journal).first + 1 + place))
       → place < used_of journal → (used_of journal < place + sectors_for (said + 4)) ⊎ (size < said + 4)
-      → (batches : List (List PlainEvent)) (to : State) → Replays limits journal image batches to → ⊥
+      → (batches : List (List PlainEvent)) (to : State) → Replays limits from journal image batches to → ⊥
   replayed_damaged size said room there more_used bad batches to good = let rest = replayed.ahead batches to good in first rest.0 rest.1
     where
       first : (more : List (List PlainEvent)) → GoOn limits journal image place s more to → ⊥
@@ -392,7 +385,7 @@ module _ (limits : Limits) (journal : Journal) (image : Image) (place : ℕ) (s 
 
   -- what is before the place is good
   pub replayed_good : (sector : ℕ) → sector ≡ (range_of journal).first + 1 + place → place < used_of journal
-      → HasNoBatchAt limits s (range_of journal) place (used_of journal) image → IsGoodUpTo limits journal image sector
+      → HasNoBatchAt limits s (range_of journal) place (used_of journal) image → IsGoodUpTo limits from journal image sector
   replayed_good sector is more_used none =
       let batches = replayed.so_far.0 in
       let end : place ≡ sectors_of (map batch_bytes batches) =

@@ -32,7 +32,7 @@ module _ (image : Image) (size : ℕ) (sector : List ℕ) (whole : length image 
     record {
       formatted = begins formatted;
       version = ap version_in read ∙ version;
-      stands_for_none = λ limits s stands. no_device none limits stands.device;
+      stands_for_none = λ limits s stands. no_device none limits stands.kept.device;
     },
     IsFirstFault.Superblock (no_device none),
   )

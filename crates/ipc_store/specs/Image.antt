@@ -1,18 +1,21 @@
--- What an image of a device stands for: the state after the events of its journal, from the first
--- state on.
-use Rattle.std.specs.Prelude.{◌≡◌, ◌≢◌, ◌⊎◌, ◌<◌, ◌≤◌, ◌+◌, ℕ, List, [], ◌∷◌, length, map, All}
+-- What an image of a device stands for. Its objects stand for a base, the state that the last save has kept, and the
+-- batches of its journal at the same epoch lead from there to the state of the image.
+use Rattle.std.specs.Prelude.{◌≡◌, ◌≢◌, ◌⊎◌, ◌<◌, ◌≤◌, ◌+◌, ◌-◌, ◌^◌, ℕ, List, [], ◌∷◌, length, map, All}
 use Rattle.std.specs.List.{flat_map}
 use Rattle.ipc_base.specs.declared.limits.Limits.{Limits}
+use Rattle.ipc_base.specs.Objects.{PlainObjects}
 use Rattle.ipc_disk.specs.declared.range.Range.{Range}
 use Rattle.ipc_disk.specs.Medium.{Image}
-use Rattle.ipc_disk.specs.Standing.{sector_at, sectors_for}
-use Rattle.ipc_journal.specs.Journal.{sectors_of}
-use Rattle.ipc_disk.specs.Standing.{StandsAt}
-use Rattle.ipc_journal.specs.Journal.{header_epoch, header_used, Fill, Holds}
-use Rattle.ipc_state.specs.State.{State, start}
+use Rattle.ipc_disk.specs.Standing.{sector_at, sectors_for, StandsAt}
+use Rattle.ipc_journal.specs.Journal.{sectors_of, header_epoch, header_used, Fill, Holds}
+use Rattle.ipc_checkpoint.specs.declared.layout.Layout.{Layout}
+use Rattle.ipc_checkpoint.specs.Checkpoint.{IsOwn, epoch_in, Holds as HoldsObjects}
+use Rattle.ipc_state.specs.State.{State}
 use Rattle.ipc_engine.specs.Event.{PlainEvent}
 use Rattle.ipc_engine.specs.Engine.{IsForProcess}
 use Rattle.ipc_engine.specs.Step.{step, run}
+use Rattle.ipc_image.specs.Saved.{StandForState}
+use Rattle.ipc_image.specs.Sizes.{area_of}
 use Rattle.ipc_image.specs.Superblock.{IsFormatted, version_in, IsSuperblock}
 use Rattle.ipc_store.specs.Batch.{batch_bytes, AreBatch}
 
@@ -20,9 +23,17 @@ use Rattle.ipc_store.specs.Batch.{batch_bytes, AreBatch}
 abbrev pub journal_range : Range
 journal_range = record { first = 3; count = 257 }
 
--- its first epoch, with which a device is made
+-- where the objects of a device of so many sectors lie: in two areas behind the journal, with the root in sector 1
+abbrev pub layout_of : Limits → ℕ → Layout
+layout_of limits sectors =
+    record { range = record { first = 260; count = sectors - 260 }; root = 1; area = area_of limits }
+
+-- the first epoch, with which a device is made, and the last
 abbrev pub first_epoch : ℕ
 first_epoch = 1
+
+abbrev pub last_epoch : ℕ
+last_epoch = 2 ^ 64 - 1
 
 -- each process that an event names is connected when the event comes
 abbrev pub AreFor : Limits → State → List PlainEvent → Type 0
@@ -33,24 +44,39 @@ AreFor limits s (e ∷ es) = IsForProcess s e × AreFor limits (step limits s e)
 abbrev pub events_of : List (List PlainEvent) → List PlainEvent
 events_of batches = flat_map (λ (events : List PlainEvent). events) batches
 
--- the batches lead from the first state to this one
-pub record LeadTo (limits : Limits) (batches : List (List PlainEvent)) (s : State) : Type 0 where
+-- the batches lead from one state to another
+pub record LeadTo (limits : Limits) (from : State) (batches : List (List PlainEvent)) (s : State) : Type 0 where
   pub each : All AreBatch batches
-  pub named : AreFor limits start (events_of batches)
-  pub state : s ≡ (run limits start (events_of batches)).state
+  pub named : AreFor limits from (events_of batches)
+  pub state : s ≡ (run limits from (events_of batches)).state
 
 -- the image is of a device with these limits: its first sector is their superblock
 abbrev pub IsDevice : Limits → Image → Type 0
 IsDevice limits image = IsSuperblock (length image) limits (sector_at image 0)
 
--- its journal has these batches
-abbrev pub HasBatches : List (List PlainEvent) → Image → Type 0
-HasBatches batches image = Holds journal_range first_epoch (map batch_bytes batches) image
+-- at this epoch it has these objects, where such a device has them
+abbrev pub HasObjects : Limits → ℕ → PlainObjects → Image → Type 0
+HasObjects limits epoch objects image = HoldsObjects (layout_of limits (length image)) epoch objects image
+
+-- at this epoch its journal has these batches
+abbrev pub HasBatches : ℕ → List (List PlainEvent) → Image → Type 0
+HasBatches epoch batches image = Holds journal_range epoch (map batch_bytes batches) image
+
+-- it is of a device with these limits, and at this epoch its objects stand for the base
+pub record HasBase (limits : Limits) (epoch : ℕ) (base : State) (image : Image) : Type 0 where
+  pub device : IsDevice limits image
+  pub objects : PlainObjects
+  pub there : HasObjects limits epoch objects image
+  pub stand : StandForState limits base objects
 
 -- the image stands for a state under these limits
 pub record StandsFor (limits : Limits) (s : State) (image : Image) : Type 0 where
-  pub device : IsDevice limits image
-  pub history : (batches : List (List PlainEvent)) × HasBatches batches image × LeadTo limits batches s
+  pub epoch : ℕ
+  pub base : State
+  pub kept : HasBase limits epoch base image
+  pub batches : List (List PlainEvent)
+  pub journal : HasBatches epoch batches image
+  pub leads : LeadTo limits base batches s
 
 -- it stands for none
 abbrev pub HasNoState : Image → Type 0
@@ -73,18 +99,38 @@ pub record IsDamaged (image : Image) : Type 0 where
   pub version : version_in (sector_at image 0) ≡ 0
   pub stands_for_none : HasNoState image
 
--- Where a damage is first seen: in sector 0, which is no superblock of this device; in the header
--- of the journal, which is of a later epoch or counts sectors past the end; or behind good batches,
--- where more is used but no batch of events that can come there stands within it.
+-- The device stands for a state, at the last epoch, and its journal has no room for one batch more.
+pub record IsAtEnd (image : Image) : Type 0 where
+  pub epoch : epoch_in (sector_at image 1) ≡ last_epoch
+  pub used : header_used journal_range image + 1 ≡ journal_range.count
+
+-- the header of the journal is of a later epoch than this, or is of this one and counts sectors past the end
+abbrev pub HasNoHeader : ℕ → Image → Type 0
+HasNoHeader epoch image = (epoch < header_epoch journal_range image)
+    ⊎ ((header_epoch journal_range image ≡ epoch) × (journal_range.count ≤ header_used journal_range image))
+
+-- no batch of events that can come stands at this place, within the sectors that are used
+abbrev pub HasNoBatchAt : Limits → State → Range → ℕ → ℕ → Image → Type 0
+HasNoBatchAt limits s range place used image =
+    (events : List PlainEvent) → AreBatch events → AreFor limits s events
+    → StandsAt (range.first + 1 + place) (batch_bytes events) image
+    → used < place + sectors_for (length (batch_bytes events))
+
+-- Where a damage is first seen: in sector 0, which is no superblock of this device; in the root or the sectors of the
+-- objects, which are none; in the root, whose objects stand for no state; in the header of the journal; or behind
+-- good batches, where more is used but no batch of events that can come there stands within it.
 pub data IsFirstFault (image : Image) : ℕ → Type 0 where
   Superblock : ((limits : Limits) → ¬ IsDevice limits image) → IsFirstFault image 0
-  Header : (first_epoch < header_epoch journal_range image) ⊎ ((header_epoch journal_range image ≡ first_epoch)
-      × (journal_range.count ≤ header_used journal_range image)) → IsFirstFault image 3
-  AtBatch : (limits : Limits) (batches : List (List PlainEvent)) (s : State) → LeadTo limits batches s
+  Objects : (limits : Limits) (sector : ℕ) → IsDevice limits image → IsOwn (layout_of limits (length image)) sector
+      → ((epoch : ℕ) (objects : PlainObjects) → ¬ HasObjects limits epoch objects image) → IsFirstFault image sector
+  NoState : (limits : Limits) (epoch : ℕ) (objects : PlainObjects) → IsDevice limits image
+      → HasObjects limits epoch objects image → ((s : State) → ¬ StandForState limits s objects) → IsFirstFault image 1
+  Header : (limits : Limits) (epoch : ℕ) (base : State) → HasBase limits epoch base image → HasNoHeader epoch image
+      → IsFirstFault image 3
+  AtBatch : (limits : Limits) (epoch : ℕ) (base : State) (batches : List (List PlainEvent)) (s : State)
+      → HasBase limits epoch base image → LeadTo limits base batches s
       → Fill journal_range 0 (sectors_of (map batch_bytes batches)) (map batch_bytes batches) image
       → sectors_of (map batch_bytes batches) < header_used journal_range image
-      → ((events : List PlainEvent) → AreBatch events → AreFor limits s events
-      → StandsAt (4 + sectors_of (map batch_bytes batches)) (batch_bytes events) image
-      → header_used journal_range image
-      < sectors_of (map batch_bytes batches) + sectors_for (length (batch_bytes events)))
+      → HasNoBatchAt limits s journal_range (sectors_of (map batch_bytes batches))
+      (header_used journal_range image) image
       → IsFirstFault image (4 + sectors_of (map batch_bytes batches))

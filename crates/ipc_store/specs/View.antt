@@ -1,25 +1,51 @@
 -- What a store shows.
 use Rattle.std.specs.Prelude.{◌≡◌, ◌≤◌, ◌+◌, ◌-◌, ◌*◌, ◌^◌, ℕ, Bool, true, if◌then◌else◌, List, length}
 use Rattle.ipc_engine.specs.Engine.{Machine}
+use Rattle.ipc_checkpoint.specs.declared.checkpoint.Checkpoint.{Checkpoint}
+use Rattle.ipc_checkpoint.specs.declared.error.LoadError.{LoadError}
+use Rattle.ipc_checkpoint.specs.declared.error.LoadError.TheVariants as load
+use Rattle.ipc_checkpoint.specs.View.{epoch_of}
+use Rattle.ipc_image.specs.declared.restoring.ImageError.{ImageError}
+use Rattle.ipc_image.specs.declared.restoring.ImageError.TheVariants as image
 use Rattle.ipc_journal.specs.declared.journal.Journal.{Journal}
-use Rattle.ipc_journal.specs.View.{Fits}
+use Rattle.ipc_journal.specs.View.{Fits, used_of}
 use Rattle.ipc_journal.specs.declared.error.JournalError.{JournalError}
 use Rattle.ipc_journal.specs.declared.error.JournalError.TheVariants as journal
 use Rattle.ipc_store.specs.Batch.{most_bytes}
+use Rattle.ipc_store.specs.Image.{last_epoch}
 use Rattle.ipc_store.specs.declared.fault.OpenError.{OpenError}
-use Rattle.ipc_store.specs.declared.fault.OpenError.TheVariants.{Device, Damaged}
+use Rattle.ipc_store.specs.declared.fault.OpenError.TheVariants.{Device, Damaged, NoMemory}
+
+-- a batch as its callers see it: the records of its events, and how many they are
+pub record BatchView : Type 0 where
+  pub records : List ℕ
+  pub count : ℕ
 
 pub record StoreView (D : Type 0) : Type 0 where
   pub disk : D
   pub machine : Machine
+  pub checkpoint : Checkpoint
   pub journal : Journal
   -- the records of the events that wait for a commit, and how many they are
   pub records : List ℕ
   pub waiting : ℕ
   -- how many events it has made last since it was opened
   pub confirmed : ℕ
-  -- a call on the disk has failed, or the journal was full
+  -- a call on the disk has failed, or the epochs are at their end
   pub stopped : Bool
+
+-- the parts of a store, as it shows them
+abbrev pub store_view : {D : Type 0} → D → Machine → Checkpoint → Journal → BatchView → ℕ → Bool → StoreView D
+store_view disk machine checkpoint journal batch confirmed stopped = record {
+  disk = disk;
+  machine = machine;
+  checkpoint = checkpoint;
+  journal = journal;
+  records = batch.records;
+  waiting = batch.count;
+  confirmed = confirmed;
+  stopped = stopped;
+}
 
 -- a record of the greatest length still fits into the batch
 abbrev pub HasRoom : {D : Type 0} → StoreView D → Type 0
@@ -40,12 +66,27 @@ IsReadyFor store n = (4 + length store.records + n * 8465 ≤ most_bytes) × (n 
 abbrev pub HasPlace : {D : Type 0} → StoreView D → Type 0
 HasPlace store = Fits store.journal (4 + length store.records)
 
+-- its epoch has no next one, which a save needs, and a commit whose batch does not fit into the journal
+abbrev pub IsAtLastEpoch : {D : Type 0} → StoreView D → Type 0
+IsAtLastEpoch store = epoch_of store.checkpoint ≡ last_epoch
+
+-- it has gone on to the next epoch, at which its journal is empty
+abbrev pub HasTurned : {D : Type 0} → StoreView D → StoreView D → Type 0
+HasTurned old new =
+    (epoch_of new.checkpoint ≡ epoch_of old.checkpoint + 1) × (used_of new.journal ≡ 0)
+
+-- the fault of an open that meets this fault of the objects' sectors
+abbrev pub of_load_error : LoadError → OpenError
+of_load_error load.Device = Device
+of_load_error (load.Damaged sector) = Damaged sector
+of_load_error load.NoMemory = NoMemory
+
+-- the fault of an open whose objects are no state: the root's
+abbrev pub of_image_error : ImageError → OpenError
+of_image_error image.Damaged = Damaged 1
+of_image_error image.NoMemory = NoMemory
+
 -- the fault of an open that meets this fault of the journal
 abbrev pub of_journal_error : JournalError → OpenError
 of_journal_error journal.Device = Device
 of_journal_error (journal.Damaged sector) = Damaged sector
-
--- a batch as its callers see it: the records of its events, and how many they are
-pub record BatchView : Type 0 where
-  pub records : List ℕ
-  pub count : ℕ

@@ -1,7 +1,7 @@
 //! What an open answers on a device that is damaged, byte by byte.
 
 use crate::tests::{
-    SMALL_DEVICE, TICK, call, commit_all, get, hello, opened, send, small_device, text,
+    SMALL_DEVICE, TICK, call, commit_all, get, hello, opened, send, small_device, take_all, text,
 };
 use crate::{OpenError, Store};
 use ipc_base::{Limits, Moment, Pid};
@@ -138,23 +138,43 @@ fn damaged(sector: u32) -> OpenError {
     OpenError::Damaged { sector }
 }
 
-// A sector, a place in it, other bytes there, and what an open answers: another beginning, other versions, and a header
-// that counts as many sectors as there are.
-const FAULTS: [(u32, usize, &[u8], OpenError); 5] = [
+// A sector, a place in it, other bytes there, and what an open answers: another beginning, and other versions.
+const FAULTS: [(u32, usize, &[u8], OpenError); 4] = [
     (0, 0, &[0x69], OpenError::NotFormatted),
     (0, 7, &[0], OpenError::NotFormatted),
     (0, 11, &[1], OpenError::Version { found: 1 }),
     (0, 8, &[1], OpenError::Version { found: 16777216 }),
-    (3, 8, &[0, 0, 1, 0], OpenError::JournalFull),
 ];
 
 // A sector, a place in it, other bytes there, and the sector that an open names as damaged.
-const DAMAGES: [(u32, usize, &[u8], u32); 36] = [
+const DAMAGES: [(u32, usize, &[u8], u32); 54] = [
     // The superblock: one sector more or fewer, a message longer than a queue, one process more than there is room for.
     (0, 15, &[0xc1], 0),
     (0, 15, &[0xbf], 0),
     (0, 47, &[129], 0),
     (0, 39, &[5], 0),
+    // The root: epoch 0, a third area, the other area, which is zeros, and lengths below 4 and past the area.
+    (1, 7, &[0], 1),
+    (1, 11, &[2], 1),
+    (1, 8, &[1], 1),
+    (1, 11, &[1], 354),
+    (1, 15, &[3], 1),
+    (1, 12, &[0, 0, 0xbc, 1], 1),
+    (1, 12, &[0xff, 0xff, 0xff, 0xff], 1),
+    // It counts all bytes of the area, one byte more than the objects have, one less, and those of their count.
+    (1, 12, &[0, 0, 0xbc, 0], 260),
+    (1, 15, &[113], 260),
+    (1, 15, &[111], 260),
+    (1, 15, &[4], 260),
+    // The objects: one fewer, one more, a number that comes twice, and a clock of 31 bytes.
+    (260, 3, &[3], 260),
+    (260, 3, &[5], 260),
+    (260, 11, &[1], 260),
+    (260, 19, &[31], 260),
+    // They stand for no state: the next pid is 0, a process that is not there, and another number for the adjustments.
+    (260, 31, &[0], 1),
+    (260, 71, &[1], 1),
+    (260, 99, &[4], 1),
     // The header: a later epoch, and more sectors than there are.
     (3, 7, &[2], 3),
     (3, 0, &[0x80], 3),
@@ -218,6 +238,147 @@ fn each_number_of_the_superblock_is_tested(rt: HostRuntime) -> Result<(), Fail> 
     Ok(())
 }
 
+// All sectors of the body count: those behind the batches are batches without records. With one byte more in the last
+// of them that one is none.
+#[test]
+fn a_journal_that_counts_all_its_sectors(rt: HostRuntime) -> Result<(), Fail> {
+    let mut disk = good_device(&rt, rt.alloc())?;
+    alter(&mut disk, 3, 8, &[0, 0, 1, 0])?;
+    alter(&mut disk, 259, 3, &[1])?;
+    let mut disk = refused(&rt, rt.alloc(), disk, damaged(259));
+    alter(&mut disk, 259, 3, &[0])?;
+    let (writes, syncs) = (disk.writes(), disk.syncs());
+    let mut disk = opened(rt.alloc(), disk)?.close();
+    // One sync at first, and a save.
+    assert_eq!(rt; disk.writes().checked_sub(writes), Some(2));
+    assert_eq!(rt; disk.syncs().checked_sub(syncs), Some(3));
+    let root = sector_of(&mut disk, 1)?;
+    let (begins, zeros) = compared(&root, &[0, 0, 0, 0, 0, 0, 0, 2, 0, 0, 0, 1, 0, 0, 0, 192]);
+    assert!(rt; begins && zeros);
+    opened(rt.alloc(), disk)?;
+    Ok(())
+}
+
+// A device whose objects are those of process 1, of its queue 1 with the message `hi`, and of epoch 2: 222 bytes in
+// area 1.
+fn saved_device(rt: &impl Abort, alloc: Global) -> Result<MemoryDisk, Fail> {
+    let mut store = opened(alloc, small_device(alloc)?)?;
+    commit_all(
+        rt,
+        &mut store,
+        &[hello(1000), call(1, get(1234)), call(1, send(1, b"hi"))],
+    )?;
+    store.save()?;
+    Ok(store.close())
+}
+
+// A sector, the first and the last of some bytes of it, and the sector that an open names as damaged if one of them is
+// turned over. With 0 it opens.
+const TURNED: [(u32, usize, usize, u32); 41] = [
+    (1, 0, 7, 0), // the epoch, which is later then
+    (1, 8, 14, 1), // the area, and the length: past the area
+    (1, 15, 15, 354), // 33 bytes of objects
+    (354, 0, 3, 354), // the count
+    (354, 4, 19, 354), // the number and the length of the clock
+    (354, 20, 27, 0), // the moment
+    (354, 28, 28, 1), // the next pid: past the last, or another one
+    (354, 29, 31, 0),
+    (354, 32, 32, 1), // the next number of a queue
+    (354, 33, 35, 0),
+    (354, 36, 51, 1), // those of other kinds
+    (354, 52, 67, 354), // the number and the length of the processes
+    (354, 68, 71, 1), // how many there are
+    (354, 72, 75, 1), // the pid: not below the next one
+    (354, 76, 83, 0), // uid and gid
+    (354, 84, 87, 1), // descriptors
+    (354, 88, 103, 354), // the number and the length of the waiting calls
+    (354, 104, 107, 1), // how many there are
+    (354, 108, 111, 354), // the number of the adjustments: above the queue's
+    (354, 112, 115, 1), // or not
+    (354, 116, 123, 354), // their length
+    (354, 124, 127, 1), // how many there are
+    (354, 128, 135, 1), // the number of the queue: past the next one
+    (354, 136, 143, 354), // its length
+    (354, 144, 147, 0), // the key
+    (354, 148, 163, 0), // uid, gid, cuid and cgid
+    (354, 164, 166, 1), // the mode: more than nine bits
+    (354, 167, 167, 0),
+    (354, 168, 191, 0), // stime, rtime and ctime
+    (354, 192, 199, 0), // lspid and lrpid
+    (354, 200, 202, 1), // qbytes: above the limit
+    (354, 203, 203, 0),
+    (354, 204, 207, 1), // how many messages there are
+    (354, 208, 208, 1), // the type: below 0
+    (354, 209, 215, 0),
+    (354, 216, 219, 1), // the length of the text
+    (354, 220, 221, 0), // the text
+    (354, 222, 231, 0), // nothing
+    (1, 16, 23, 0),
+    (3, 0, 7, 3), // the epoch of the journal: later
+    (3, 8, 11, 0), // how many sectors it counts, at an earlier epoch
+];
+
+// An open of the disk names this sector as damaged, and writes nothing, or, with 0, it opens.
+fn is_answered(rt: &impl Abort, alloc: Global, disk: MemoryDisk, wanted: u32) {
+    let writes = disk.writes();
+    match Store::open(alloc, disk) {
+        Ok(_) => assert_eq!(rt; wanted, 0),
+        Err(unopened) => {
+            assert_eq!(rt; unopened.error, damaged(wanted));
+            assert_eq!(rt; unopened.disk.writes(), writes);
+        }
+    }
+}
+
+// Each byte of the root and of the objects, and some of those after them.
+#[test]
+fn each_byte_of_the_objects(rt: HostRuntime) -> Result<(), Fail> {
+    let mut good = saved_device(&rt, rt.alloc())?;
+    for (at, first, last, wanted) in TURNED {
+        for offset in first..last.saturating_add(1) {
+            let mut disk = copied(rt.alloc(), &mut good, SMALL_DEVICE)?;
+            let sector = sector_of(&mut disk, at)?;
+            let Some(byte) = sector.get(offset) else {
+                panic!(rt; "no such byte");
+            };
+            alter(&mut disk, at, offset, &[!*byte])?;
+            is_answered(&rt, rt.alloc(), disk, wanted);
+        }
+    }
+    Ok(())
+}
+
+// Two queues of two messages of 64 bytes each: 592 bytes of objects, 80 of them in the second sector. One byte more,
+// and one object more, are missed at the end.
+#[test]
+fn objects_in_two_sectors(rt: HostRuntime) -> Result<(), Fail> {
+    let mut store = opened(rt.alloc(), small_device(rt.alloc())?)?;
+    let events = [
+        hello(1000),
+        call(1, get(1)),
+        call(1, get(2)),
+        call(1, send(1, text(64))),
+        call(1, send(1, text(64))),
+        call(1, send(2, text(64))),
+        call(1, send(2, text(64))),
+    ];
+    take_all(&rt, &mut store, &events)?;
+    store.save()?;
+    let mut disk = store.close();
+    for (at, offset, byte, sector) in [(1, 15, 0x51, 355), (354, 3, 7, 355), (355, 3, 8, 0)] {
+        let before = alter(&mut disk, at, offset, &[byte])?;
+        is_answered(
+            &rt,
+            rt.alloc(),
+            copied(rt.alloc(), &mut disk, SMALL_DEVICE)?,
+            sector,
+        );
+        alter(&mut disk, at, 0, &before)?;
+    }
+    opened(rt.alloc(), disk)?;
+    Ok(())
+}
+
 // A batch of 32769 bytes, in a journal that counts all its sectors.
 #[test]
 fn a_batch_has_at_most_32768_bytes(rt: HostRuntime) -> Result<(), Fail> {
@@ -235,6 +396,9 @@ fn faults_have_an_order(rt: HostRuntime) -> Result<(), Fail> {
         (8, 8, damaged(8)),
         (5, 8, damaged(5)),
         (3, 0, damaged(3)),
+        (260, 51, damaged(1)),
+        (260, 3, damaged(260)),
+        (1, 8, damaged(1)),
         (0, 99, damaged(0)),
         (0, 8, OpenError::Version { found: 4278190080 }),
         (0, 0, OpenError::NotFormatted),
@@ -247,9 +411,12 @@ fn faults_have_an_order(rt: HostRuntime) -> Result<(), Fail> {
     Ok(())
 }
 
-// A sector, a place in it, and other bytes there with which the device opens: an earlier epoch, whatever it counts; a
-// count without the last batch, or with a batch of no records; a batch emptied; and bytes that mean nothing.
-const FREE: [(u32, usize, &[u8]); 15] = [
+// A sector, a place in it, and other bytes there with which the device opens: a later epoch of the objects; an earlier
+// one of the journal, whatever it counts; a count without the last batch, or with a batch of no records; a batch
+// emptied; and bytes that mean nothing.
+const FREE: [(u32, usize, &[u8]); 20] = [
+    (1, 7, &[2]),
+    (1, 0, &[0xff, 0xff, 0xff, 0xff, 0xff, 0xff, 0xff, 0xff]),
     (3, 7, &[0]),
     (3, 7, &[0, 0xff, 0xff, 0xff, 0xff]),
     (3, 11, &[0]),
@@ -264,7 +431,10 @@ const FREE: [(u32, usize, &[u8]); 15] = [
     (7, 43, &[1]),
     (8, 34, &[1]),
     (9, 0, &[1]),
-    (260, 0, &[1]),
+    (1, 16, &[1]),
+    (260, 112, &[1]),
+    (261, 0, &[1]),
+    (354, 0, &[1]),
 ];
 
 #[test]

@@ -3,10 +3,12 @@
 ghost use Rattle.std.specs.Prelude.{◌≡◌};
 ghost use Rattle.ipc_store.specs.declared.fault.FormatError.TheVariants as format_errors;
 ghost use Rattle.ipc_store.specs.declared.fault.OpenError.TheVariants as open_errors;
-ghost use Rattle.ipc_store.specs.View.{of_journal_error};
+ghost use Rattle.ipc_store.specs.View.{of_image_error, of_journal_error, of_load_error};
 
 use ipc_base::BadLimits;
+use ipc_checkpoint::LoadError;
 use ipc_disk::DiskFault;
+use ipc_image::{ImageError, ROOT};
 use ipc_journal::JournalError;
 use std::alloc::AllocError;
 use thiserror::Error;
@@ -28,9 +30,6 @@ pub enum CommitError {
     /// A call on the disk has failed. The store goes on no more.
     #[error("the disk has failed")]
     Device,
-    /// The journal has no room for the batch. The store goes on no more.
-    #[error("the journal is full")]
-    JournalFull,
     /// The store goes on no more. It has to be opened again.
     #[error("the store has stopped")]
     Stopped,
@@ -68,7 +67,7 @@ pub enum OpenError {
         /// The version that it names.
         found: u32,
     },
-    /// It stands for no state.
+    /// It stands for no state, or its epochs are at their end.
     #[error("the device is damaged at sector {sector}")]
     Damaged {
         /// The first sector in which the fault is seen.
@@ -77,9 +76,6 @@ pub enum OpenError {
     /// The machine on it wants memory.
     #[error("no memory")]
     NoMemory,
-    /// Its journal has no room for a restart.
-    #[error("the journal is full")]
-    JournalFull,
 }
 
 impl From<BadLimits> for FormatError {
@@ -111,6 +107,29 @@ impl From<DiskFault> for OpenError {
 
     fn from(_: DiskFault) -> Self {
         OpenError::Device
+    }
+}
+
+impl From<LoadError> for OpenError {
+    ghost from_gives = { λ error e. e ≡ of_load_error error };
+
+    fn from(error: LoadError) -> Self {
+        match error {
+            LoadError::Device => OpenError::Device,
+            LoadError::Damaged { sector } => OpenError::Damaged { sector },
+            LoadError::NoMemory => OpenError::NoMemory,
+        }
+    }
+}
+
+impl From<ImageError> for OpenError {
+    ghost from_gives = { λ error e. e ≡ of_image_error error };
+
+    fn from(error: ImageError) -> Self {
+        match error {
+            ImageError::Damaged => OpenError::Damaged { sector: ROOT },
+            ImageError::NoMemory => OpenError::NoMemory,
+        }
     }
 }
 

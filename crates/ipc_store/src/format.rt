@@ -1,25 +1,25 @@
 //! The making of a device.
 
 ghost use Rattle.std.specs.Prelude.{◌≡◌, ◌⊎◌, ◌<◌, ◌≤◌, ◌↔◌, ℕ, Some, position, not};
-ghost use Rattle.std.specs.Prelude.{replicate, slice_set, OnOk, OnErr, IsErrOf};
+ghost use Rattle.std.specs.Prelude.{slice_set, OnOk, OnErr, IsErrOf};
 ghost use Rattle.ipc_base.specs.Limits.{ArePassed, tests};
 ghost use Rattle.ipc_base.specs.declared.limits.BadLimits.{BadLimits as BadLimit};
 ghost use Rattle.ipc_disk.specs.Counts.{counted};
 ghost use Rattle.ipc_disk.specs.Medium.{Image, IsHonest, IsDurable, SetOrNot};
 ghost use Rattle.ipc_disk.specs.Since.{EachImageSince};
-ghost use Rattle.ipc_disk.specs.Standing.{sector_at};
 ghost use Rattle.ipc_state.specs.State.{start};
 ghost use Rattle.ipc_image.specs.Sizes.{need_of};
 ghost use Rattle.ipc_image.specs.Superblock.{IsSuperblock};
 ghost use Rattle.ipc_store.specs.Image.{StandsFor, IsNotFormatted};
-ghost use Rattle.ipc_store.specs.Relations.Format.{EachNow, HasNoRoot, IsErased, IsPrepared};
+ghost use Rattle.ipc_store.specs.Relations.Format.{EachNow, IsErased, IsPrepared};
 
 use crate::fault::FormatError;
-use crate::places::{FIRST_EPOCH, JOURNAL_RANGE};
+use crate::places::{FIRST_EPOCH, JOURNAL_RANGE, layout_of};
 use crate::store::Store;
 use ipc_base::Limits;
+use ipc_checkpoint::Checkpoint;
 use ipc_disk::{DiskFault, SectorDisk, settle_sector};
-use ipc_image::{ROOT, SUPERBLOCK, need, superblock_is_read, write_superblock};
+use ipc_image::{SUPERBLOCK, need, start_objects, superblock_is_read, write_superblock};
 use ipc_journal::Journal;
 
 impl<D: SectorDisk> Store<D> {
@@ -27,11 +27,9 @@ impl<D: SectorDisk> Store<D> {
     /// Refused, in this order, for limits that `check` refuses, for a disk with fewer sectors than `need`, and by the
     /// disk. A crash leaves the disk as it was, or not formatted, or formatted.
     pub fn format(disk: &mut D, limits: &Limits) -> Result<(), FormatError>
-        // Each image that a crash may leave from then on stands for the first state, and its root is zeros.
+        // Each image that a crash may leave from then on stands for the first state.
         ensures ok { OnOk result (IsHonest (D.medium disk.old) → (image : Image)
             → (D.medium disk.new).images_now image → StandsFor limits.now start image) }
-        ensures root { OnOk result (IsHonest (D.medium disk.old) → (image : Image)
-            → (D.medium disk.new).images_now image → sector_at image 1 ≡ replicate 512 0) }
         ensures durable { OnOk result (IsDurable (D.medium disk.new)) }
         ensures honest { IsHonest (D.medium disk.old) ↔ IsHonest (D.medium disk.new) }
         // A crash at any moment of the call, also of one that fails.
@@ -63,15 +61,14 @@ impl<D: SectorDisk> Store<D> {
     }
 }
 
-// Makes a device of a disk that is large enough. The old superblock is gone before the journal is
-// written, and the new one comes once the journal lasts: no crash leaves one of them with a journal
-// that is not its own.
+// Makes a device of a disk that is large enough. The old superblock is gone before anything else is
+// written, and the new one comes once the journal and the objects last: no crash leaves a superblock
+// with what is not its own.
 fn make<D: SectorDisk>(disk: &mut D, limits: &Limits) -> Result<(), DiskFault>
     requires passed { ArePassed limits.now }
     requires room { need_of limits.now ≤ D.size disk.old }
     ensures ok { OnOk result (IsHonest (D.medium disk.old)
         → EachNow (D.medium disk.new) (StandsFor limits.now start)) }
-    ensures root { OnOk result (IsHonest (D.medium disk.old) → EachNow (D.medium disk.new) HasNoRoot) }
     ensures durable { OnOk result (IsDurable (D.medium disk.new)) }
     ensures honest { IsHonest (D.medium disk.old) ↔ IsHonest (D.medium disk.new) }
     ensures any_moment { IsHonest (D.medium disk.old)
@@ -84,7 +81,7 @@ fn make<D: SectorDisk>(disk: &mut D, limits: &Limits) -> Result<(), DiskFault>
     ensures no_failure { OnOk result ((D.counts disk.new).failures ≡ (D.counts disk.old).failures) }
 {
     erase(disk)?;
-    prepare(disk)?;
+    prepare(disk, limits)?;
     put_superblock(disk, limits)
 }
 
@@ -104,12 +101,12 @@ fn erase<D: SectorDisk>(disk: &mut D) -> Result<(), DiskFault>
     settle(disk, SUPERBLOCK, &[0; 512])
 }
 
-// Clears the root and makes the journal. The disk stays no device.
-fn prepare<D: SectorDisk>(disk: &mut D) -> Result<(), DiskFault>
-    requires room { 260 ≤ D.size disk.old }
+// Puts an empty journal and the objects of the first state where a device has them. The disk stays no device.
+fn prepare<D: SectorDisk>(disk: &mut D, limits: &Limits) -> Result<(), DiskFault>
+    requires passed { ArePassed limits.now }
+    requires room { need_of limits.now ≤ D.size disk.old }
     ensures prepared { OnOk result (IsHonest (D.medium disk.old) → EachNow (D.medium disk.old) IsErased
-        → EachNow (D.medium disk.new) IsPrepared) }
-    ensures root { OnOk result (IsHonest (D.medium disk.old) → EachNow (D.medium disk.new) HasNoRoot) }
+        → EachNow (D.medium disk.new) (IsPrepared limits.now)) }
     ensures honest { IsHonest (D.medium disk.old) ↔ IsHonest (D.medium disk.new) }
     ensures any_moment { IsHonest (D.medium disk.old) → EachNow (D.medium disk.old) IsErased
         → EachImageSince (D.medium disk.old) (D.medium disk.new) IsErased }
@@ -118,8 +115,9 @@ fn prepare<D: SectorDisk>(disk: &mut D) -> Result<(), DiskFault>
         ≡ counted (D.counts disk.old).failures 1) }
     ensures no_failure { OnOk result ((D.counts disk.new).failures ≡ (D.counts disk.old).failures) }
 {
-    disk.write(ROOT, &[0; 512])?;
-    Journal::create(disk, JOURNAL_RANGE, FIRST_EPOCH)?;
+    let layout = layout_of(limits, disk.sectors());
+    Journal::put_header(disk, JOURNAL_RANGE, FIRST_EPOCH)?;
+    Checkpoint::create(disk, layout, &start_objects())?;
     Ok(())
 }
 
@@ -127,13 +125,11 @@ fn prepare<D: SectorDisk>(disk: &mut D) -> Result<(), DiskFault>
 fn put_superblock<D: SectorDisk>(disk: &mut D, limits: &Limits) -> Result<(), DiskFault>
     requires passed { ArePassed limits.now }
     requires room { need_of limits.now ≤ D.size disk.old }
-    ensures ok { OnOk result (IsHonest (D.medium disk.old) → EachNow (D.medium disk.old) IsPrepared
+    ensures ok { OnOk result (IsHonest (D.medium disk.old) → EachNow (D.medium disk.old) (IsPrepared limits.now)
         → EachNow (D.medium disk.new) (StandsFor limits.now start)) }
-    ensures root { OnOk result (IsHonest (D.medium disk.old) → EachNow (D.medium disk.old) HasNoRoot
-        → EachNow (D.medium disk.new) HasNoRoot) }
     ensures durable { OnOk result (IsDurable (D.medium disk.new)) }
     ensures honest { IsHonest (D.medium disk.old) ↔ IsHonest (D.medium disk.new) }
-    ensures any_moment { IsHonest (D.medium disk.old) → EachNow (D.medium disk.old) IsPrepared
+    ensures any_moment { IsHonest (D.medium disk.old) → EachNow (D.medium disk.old) (IsPrepared limits.now)
         → EachImageSince (D.medium disk.old) (D.medium disk.new)
         (λ image. IsErased image ⊎ StandsFor limits.now start image) }
     ensures size { D.size disk.new ≡ D.size disk.old }

@@ -23,6 +23,8 @@ pub use store::Store;
 #[cfg(test)]
 mod damage;
 #[cfg(test)]
+mod saves;
+#[cfg(test)]
 mod stops;
 #[cfg(test)]
 mod tests;

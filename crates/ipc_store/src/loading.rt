@@ -1,24 +1,33 @@
-//! The loading of a device: its superblock, its journal, and the machine that the journal leads to.
+//! The loading of a device: its superblock, its objects, its journal, and the machine that they lead to.
 
-ghost use Rattle.std.specs.Prelude.{◌≡◌, ◌⊎◌, ◌<◌, ◌≤◌, ℕ, length, List, IfOk, IsErrOf, OnOk};
+ghost use Rattle.std.specs.Prelude.{◌≡◌, ◌⊎◌, ◌↔◌, ◌<◌, ◌≤◌, ℕ, length, map, List, IfOk, IsErrOf, OnOk};
 ghost use Rattle.ipc_base.specs.Limits.{ArePassed};
+ghost use Rattle.ipc_base.specs.Objects.{PlainObjects};
+ghost use Rattle.ipc_checkpoint.specs.Matches.{CheckpointMatches};
+ghost use Rattle.ipc_checkpoint.specs.View.{epoch_of as saved_epoch, layout_of as saved_layout};
 ghost use Rattle.ipc_disk.specs.Counts.{counted, with_failure};
 ghost use Rattle.ipc_disk.specs.Medium.{IsHonest, IsDurable, Stays};
 ghost use Rattle.ipc_disk.specs.Range.{IsWithin};
 ghost use Rattle.ipc_journal.specs.Journal.{header_used};
-ghost use Rattle.ipc_journal.specs.View.{range_of, used_of};
+ghost use Rattle.ipc_journal.specs.Matches.{JournalMatches};
+ghost use Rattle.ipc_journal.specs.View.{range_of, epoch_of, used_of};
+ghost use Rattle.ipc_state.specs.State.{State};
+ghost use Rattle.ipc_image.specs.Saved.{StandForState};
 ghost use Rattle.ipc_image.specs.Sizes.{need_of};
-ghost use Rattle.ipc_store.specs.Batch.{most_bytes};
-ghost use Rattle.ipc_store.specs.Image.{journal_range, IsDevice, IsNotFormatted, HasVersion, IsDamaged, IsFirstFault};
-ghost use Rattle.ipc_store.specs.Relations.Matches.{IsLoaded};
+ghost use Rattle.ipc_engine.specs.Event.{PlainEvent};
+ghost use Rattle.ipc_store.specs.Batch.{most_bytes, batch_bytes};
+ghost use Rattle.ipc_store.specs.Image.{journal_range, layout_of, IsDevice, HasBase, LeadTo};
+ghost use Rattle.ipc_store.specs.Image.{IsNotFormatted, HasVersion, IsDamaged, IsFirstFault};
+ghost use Rattle.ipc_store.specs.Relations.Matches.{AreOnDisk, DeviceMatches};
 
 use crate::fault::OpenError;
-use crate::places::{FIRST_EPOCH, JOURNAL_RANGE};
+use crate::places::{JOURNAL_RANGE, layout_of};
 use crate::replay::replay;
 use ipc_base::Limits;
+use ipc_checkpoint::Checkpoint;
 use ipc_disk::SectorDisk;
 use ipc_engine::Engine;
-use ipc_image::{SUPERBLOCK, SuperblockFault, read_superblock};
+use ipc_image::{SUPERBLOCK, SuperblockFault, engine_of, read_superblock};
 use ipc_journal::Journal;
 use std::alloc::Global;
 
@@ -38,9 +47,10 @@ pub(crate) fn read_limits<D: SectorDisk>(disk: &mut D) -> Result<Limits, OpenErr
         → HasVersion found (D.medium disk.old).contents }
     ensures damaged { (sector : ℕ) → IsErrOf result (OpenError.Damaged sector) → IsHonest (D.medium disk.old)
         → IsDamaged (D.medium disk.old).contents × IsFirstFault (D.medium disk.old).contents sector }
-    ensures faults { IsErrOf result OpenError.JournalFull ⊎ IsErrOf result OpenError.NoMemory → ⊥ }
+    ensures faults { IsErrOf result OpenError.NoMemory → ⊥ }
     // It only reads.
     ensures reads { IsHonest (D.medium disk.old) → Stays (D.medium disk.old) (D.medium disk.new) }
+    ensures honest { IsHonest (D.medium disk.old) ↔ IsHonest (D.medium disk.new) }
     ensures size { D.size disk.new ≡ D.size disk.old }
     ensures failure { IsErrOf result OpenError.Device → D.counts disk.new ≡ with_failure (D.counts disk.old) }
     ensures no_failure { IsErrOf result OpenError.Device ⊎ (D.counts disk.new ≡ D.counts disk.old) }
@@ -59,19 +69,93 @@ pub(crate) fn read_limits<D: SectorDisk>(disk: &mut D) -> Result<Limits, OpenErr
     }
 }
 
-/// Makes what stands on a device last, and reads it: the journal, and the machine after its events. Each batch is read
-/// into `room`.
+/// The objects of a device with these limits: where they lie, and the machine that they stand for.
+fn load_base<D: SectorDisk>(
+    alloc: Global,
+    disk: &mut D,
+    limits: Limits,
+) -> Result<(Checkpoint, Engine), OpenError>
+    requires passed { ArePassed limits }
+    requires room { need_of limits ≤ D.size disk.old }
+    ensures layout { IfOk result (λ found. saved_layout found.0 ≡ layout_of limits (D.size disk.old)) }
+    ensures limits { IfOk result (λ found. found.1.limits ≡ limits) }
+    ensures base { IfOk result (λ found. IsHonest (D.medium disk.old) → IsDurable (D.medium disk.old)
+        → (objects : PlainObjects) × StandForState limits found.1.state objects
+        × CheckpointMatches found.0 objects (D.medium disk.new)) }
+    // Refusals.
+    ensures damaged { (sector : ℕ) → IsErrOf result (OpenError.Damaged sector) → IsHonest (D.medium disk.old)
+        → IsDevice limits (D.medium disk.old).contents
+        → ((epoch : ℕ) (base : State) → ¬ HasBase limits epoch base (D.medium disk.old).contents)
+        × IsFirstFault (D.medium disk.old).contents sector }
+    ensures faults { (found : ℕ) → IsErrOf result OpenError.NotFormatted
+        ⊎ IsErrOf result (OpenError.Version found) → ⊥ }
+    // It only reads.
+    ensures reads { IsHonest (D.medium disk.old) → Stays (D.medium disk.old) (D.medium disk.new) }
+    ensures honest { IsHonest (D.medium disk.old) ↔ IsHonest (D.medium disk.new) }
+    ensures size { D.size disk.new ≡ D.size disk.old }
+    ensures failure { IsErrOf result OpenError.Device
+        → (D.counts disk.new).failures ≡ counted (D.counts disk.old).failures 1 }
+    ensures no_failure { IsErrOf result OpenError.Device
+        ⊎ ((D.counts disk.new).failures ≡ (D.counts disk.old).failures) }
+    ensures no_write { (D.counts disk.new).writes ≡ (D.counts disk.old).writes }
+{
+    let layout = layout_of(&limits, disk.sectors());
+    let (checkpoint, objects) = Checkpoint::load(alloc, disk, layout)?;
+    let engine = engine_of(alloc, &objects, limits)?;
+    Ok((checkpoint, engine))
+}
+
+/// The journal of a device at the epoch of its objects. The machine that these stand for goes through its events. Each
+/// batch is read into `room`.
+fn load_journal<D: SectorDisk>(
+    disk: &mut D,
+    checkpoint: &Checkpoint,
+    engine: &mut Engine,
+    room: &mut [u8],
+) -> Result<Journal, OpenError>
+    requires within { IsWithin journal_range (D.size disk.old) }
+    requires room { length room.old ≡ most_bytes }
+    ensures range { IfOk result (λ journal. range_of journal ≡ journal_range) }
+    ensures epoch { IfOk result (λ journal. epoch_of journal ≡ saved_epoch checkpoint.now) }
+    ensures limits { engine.new.limits ≡ engine.old.limits }
+    ensures leads { IfOk result (λ journal. IsHonest (D.medium disk.old) → IsDurable (D.medium disk.old)
+        → (batches : List (List PlainEvent)) × JournalMatches journal (map batch_bytes batches) (D.medium disk.new)
+        × LeadTo engine.old.limits engine.old.state batches engine.new.state) }
+    ensures used { IfOk result (λ journal. IsHonest (D.medium disk.old) → 0 < used_of journal
+        → used_of journal ≡ header_used journal_range (D.medium disk.old).contents) }
+    ensures room { length room.new ≡ most_bytes }
+    // Refusals.
+    ensures damaged { (sector : ℕ) → IsErrOf result (OpenError.Damaged sector) → IsHonest (D.medium disk.old)
+        → HasBase engine.old.limits (saved_epoch checkpoint.now) engine.old.state (D.medium disk.old).contents
+        → IsDamaged (D.medium disk.old).contents × IsFirstFault (D.medium disk.old).contents sector }
+    ensures faults { (found : ℕ) → IsErrOf result OpenError.NotFormatted
+        ⊎ IsErrOf result (OpenError.Version found) → ⊥ }
+    // It only reads.
+    ensures reads { IsHonest (D.medium disk.old) → Stays (D.medium disk.old) (D.medium disk.new) }
+    ensures honest { IsHonest (D.medium disk.old) ↔ IsHonest (D.medium disk.new) }
+    ensures size { D.size disk.new ≡ D.size disk.old }
+    ensures failure { IsErrOf result OpenError.Device → D.counts disk.new ≡ with_failure (D.counts disk.old) }
+    ensures no_failure { IsErrOf result OpenError.Device ⊎ (D.counts disk.new ≡ D.counts disk.old) }
+    ensures no_write { (D.counts disk.new).writes ≡ (D.counts disk.old).writes }
+{
+    let journal = Journal::open(disk, JOURNAL_RANGE, checkpoint.epoch())?;
+    replay(disk, &journal, engine, room)?;
+    Ok(journal)
+}
+
+/// Makes what stands on a device last, and reads it: its objects, its journal, and the machine after the events of the
+/// journal. Each batch is read into `room`.
 pub(crate) fn load<D: SectorDisk>(
     alloc: Global,
     disk: &mut D,
     room: &mut [u8],
-) -> Result<(Journal, Engine), OpenError>
+) -> Result<(Checkpoint, Journal, Engine), OpenError>
     requires { length room.old ≡ most_bytes }
-    ensures within { IfOk result (λ found. IsWithin (range_of found.0) (D.size disk.new)) }
-    ensures loaded { IfOk result (λ found. IsHonest (D.medium disk.old)
-        → IsLoaded (D.medium disk.new) found.0 found.1) }
-    ensures used { IfOk result (λ found. IsHonest (D.medium disk.old) → 0 < used_of found.0
-        → used_of found.0 ≡ header_used journal_range (D.medium disk.old).contents) }
+    ensures on_disk { IfOk result (λ found. AreOnDisk (D.size disk.new) found.2.limits found.0 found.1) }
+    ensures matches { IfOk result (λ found. IsHonest (D.medium disk.old)
+        → DeviceMatches (D.medium disk.new) found.2.limits found.0 found.1 found.2.state) }
+    ensures used { IfOk result (λ found. IsHonest (D.medium disk.old) → 0 < used_of found.1
+        → used_of found.1 ≡ header_used journal_range (D.medium disk.old).contents) }
     ensures room { length room.new ≡ most_bytes }
     // Refusals.
     ensures not_formatted { IsErrOf result OpenError.NotFormatted → IsHonest (D.medium disk.old)
@@ -80,9 +164,9 @@ pub(crate) fn load<D: SectorDisk>(
         → HasVersion found (D.medium disk.old).contents }
     ensures damaged { (sector : ℕ) → IsErrOf result (OpenError.Damaged sector) → IsHonest (D.medium disk.old)
         → IsDamaged (D.medium disk.old).contents × IsFirstFault (D.medium disk.old).contents sector }
-    ensures faults { IsErrOf result OpenError.JournalFull → ⊥ }
     // It only reads.
     ensures reads { IsHonest (D.medium disk.old) → Stays (D.medium disk.old) (D.medium disk.new) }
+    ensures honest { IsHonest (D.medium disk.old) ↔ IsHonest (D.medium disk.new) }
     ensures size { D.size disk.new ≡ D.size disk.old }
     ensures failure { IsErrOf result OpenError.Device
         → (D.counts disk.new).failures ≡ counted (D.counts disk.old).failures 1 }
@@ -92,7 +176,7 @@ pub(crate) fn load<D: SectorDisk>(
 {
     disk.sync()?;
     let limits = read_limits(disk)?;
-    let journal = Journal::open(disk, JOURNAL_RANGE, FIRST_EPOCH)?;
-    let engine = replay(alloc, disk, &journal, limits, room)?;
-    Ok((journal, engine))
+    let (checkpoint, mut engine) = load_base(alloc, disk, limits)?;
+    let journal = load_journal(disk, &checkpoint, &mut engine, room)?;
+    Ok((checkpoint, journal, engine))
 }

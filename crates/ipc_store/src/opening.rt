@@ -1,11 +1,10 @@
 //! The opening of a device.
 
-ghost use Rattle.std.specs.Prelude.{◌≡◌, ◌≢◌, ◌⊎◌, ◌<◌, ◌+◌, ℕ, false, [], length};
+ghost use Rattle.std.specs.Prelude.{◌≡◌, ◌⊎◌, ◌↔◌, ◌<◌, ◌+◌, ℕ, false, [], length};
 ghost use Rattle.std.specs.Prelude.{Err, IfOk, IfErr, OnOk, OnErr};
 ghost use Rattle.ipc_base.specs.declared.limits.Limits.{Limits};
 ghost use Rattle.ipc_disk.specs.Counts.{counted};
 ghost use Rattle.ipc_disk.specs.Medium.{IsHonest, Stays};
-ghost use Rattle.ipc_disk.specs.Range.{IsWithin};
 ghost use Rattle.ipc_disk.specs.Since.{EachImageSince};
 ghost use Rattle.ipc_journal.specs.Journal.{header_used};
 ghost use Rattle.ipc_journal.specs.View.{range_of, used_of};
@@ -19,17 +18,22 @@ ghost use Rattle.ipc_store.specs.Image.{
   HasVersion,
   IsDamaged,
   IsFirstFault,
+  IsAtEnd,
 };
+ghost use Rattle.ipc_store.specs.View.{IsAtLastEpoch};
 ghost use Rattle.ipc_store.specs.Histories.{OpensOn};
-ghost use Rattle.ipc_store.specs.Relations.Matches.{StoreMatches, StandsForEither, IsLoaded, OpensTo};
+ghost use Rattle.ipc_store.specs.Relations.Matches.{AreOnDisk, DeviceMatches, StoreMatches};
+ghost use Rattle.ipc_store.specs.Relations.Matches.{StandsForEither, OpensTo};
 ghost use Rattle.ipc_store.specs.declared.fault.OpenError.TheVariants as errors;
 
 use crate::batch::{Batch, MOST_BYTES};
 use crate::fault::{CommitError, OpenError};
 use crate::loading::load;
 use crate::store::Store;
+use ipc_checkpoint::Checkpoint;
 use ipc_disk::SectorDisk;
 use ipc_engine::{Engine, Event};
+use ipc_image::ROOT;
 use ipc_journal::Journal;
 use std::alloc::{AllocError, Global};
 
@@ -41,8 +45,9 @@ pub struct Unopened<D> {
 }
 
 impl<D: SectorDisk> Store<D> {
-    /// Opens a device: what stands there is made last and read, the machine goes through the events of its journal and
-    /// through a restart, and the restart is made last. All the memory of the store but the machine's is taken here.
+    /// Opens a device: what stands there is made last and read, the machine that was saved goes through the events of
+    /// the journal and through a restart, and the restart is made last. All the memory of the store but the machine's
+    /// is taken here.
     pub fn open(alloc: Global, disk: D) -> Result<Store<D>, Unopened<D>>
         // The base is the state for which the disk stood, after a restart; no event waits.
         ensures ok { IfOk result (λ store. IsHonest (D.medium disk)
@@ -53,20 +58,20 @@ impl<D: SectorDisk> Store<D> {
             → (IfOk result (λ store. EachImageSince (D.medium disk) (D.medium store.disk) (OpensTo (D.medium disk))))
             × (IfErr result (λ fault. EachImageSince (D.medium disk) (D.medium fault.disk)
             (OpensTo (D.medium disk)))) }
-        // Refusals. A disk that stands for a state is refused by the disk, for want of memory, or for a full journal.
+        // Refusals. A disk that stands for a state is refused by the disk, for want of memory, or because it would have
+        // to save and has no next epoch.
         ensures refusals { IfErr result (λ fault. (limits : Limits) (s : State) → IsHonest (D.medium disk)
             → StandsFor limits s (D.medium disk).contents
             → (fault.error ≡ errors.Device) ⊎ (fault.error ≡ errors.NoMemory)
-            ⊎ (fault.error ≡ errors.JournalFull)) }
+            ⊎ IsAtEnd (D.medium disk).contents) }
         ensures not_formatted { IfErr result (λ fault. fault.error ≡ errors.NotFormatted → IsHonest (D.medium disk)
             → IsNotFormatted (D.medium disk).contents) }
         ensures version { IfErr result (λ fault. (found : ℕ) → fault.error ≡ errors.Version found
             → IsHonest (D.medium disk) → HasVersion found (D.medium disk).contents) }
         ensures damaged { IfErr result (λ fault. (sector : ℕ) → fault.error ≡ errors.Damaged sector
             → IsHonest (D.medium disk)
-            → IsDamaged (D.medium disk).contents × IsFirstFault (D.medium disk).contents sector) }
-        ensures full { IfErr result (λ fault. fault.error ≡ errors.JournalFull → IsHonest (D.medium disk)
-            → header_used journal_range (D.medium disk).contents + 1 ≡ journal_range.count) }
+            → (IsDamaged (D.medium disk).contents × IsFirstFault (D.medium disk).contents sector)
+            ⊎ (IsAtEnd (D.medium disk).contents × (sector ≡ 1))) }
         ensures unwritten { IfErr result (λ fault. IsHonest (D.medium disk) → HasNoState (D.medium disk).contents
             → (D.counts fault.disk).writes ≡ (D.counts disk).writes) }
         // Failures and counts.
@@ -79,11 +84,11 @@ impl<D: SectorDisk> Store<D> {
             ⊎ ((D.counts fault.disk).failures ≡ (D.counts disk).failures))) }
     {
         let mut disk = disk;
-        let (journal, engine, batch) = match read_device(alloc, &mut disk) {
+        let (checkpoint, journal, engine, batch) = match read_device(alloc, &mut disk) {
             Ok(found) => found,
             Err(error) => return Err(Unopened { error, disk }),
         };
-        let mut store = Store::new(disk, journal, engine, batch);
+        let mut store = Store::new(disk, checkpoint, journal, engine, batch);
         match store.restart() {
             Ok(()) => Ok(store),
             Err(error) => Err(Unopened {
@@ -106,9 +111,9 @@ impl<D: SectorDisk> Store<D> {
         ensures any_moment { (base : State) → StoreMatches (D.medium self.old.disk) self.old base []
             → EachImageSince (D.medium self.old.disk) (D.medium self.new.disk)
             (StandsForEither self.old.machine.limits base (restart base)) }
-        ensures faults { OnErr result ((result ≡ Err OpenError.Device) ⊎ (result ≡ Err OpenError.JournalFull)) }
-        ensures full { result ≡ Err OpenError.JournalFull
-            → used_of self.old.journal + 1 ≡ (range_of self.old.journal).count }
+        ensures faults { OnErr result ((result ≡ Err OpenError.Device) ⊎ (result ≡ Err (OpenError.Damaged 1))) }
+        ensures at_end { result ≡ Err (OpenError.Damaged 1) → IsAtLastEpoch self.old
+            × (used_of self.old.journal + 1 ≡ (range_of self.old.journal).count) }
         ensures size { D.size self.new.disk ≡ D.size self.old.disk }
         ensures failure { result ≡ Err OpenError.Device → (D.counts self.new.disk).failures
             ≡ counted (D.counts self.old.disk).failures 1 }
@@ -121,8 +126,7 @@ impl<D: SectorDisk> Store<D> {
         match self.commit() {
             Ok(()) => Ok(()),
             Err(CommitError::Device) => Err(OpenError::Device),
-            Err(CommitError::JournalFull) => Err(OpenError::JournalFull),
-            Err(CommitError::Stopped) => unreachable!(),
+            Err(CommitError::Stopped) => Err(OpenError::Damaged { sector: ROOT }),
         }
     }
 }
@@ -131,21 +135,21 @@ impl<D: SectorDisk> Store<D> {
 fn read_device<D: SectorDisk>(
     alloc: Global,
     disk: &mut D,
-) -> Result<(Journal, Engine, Batch), OpenError>
-    ensures within { IfOk result (λ found. IsWithin (range_of found.0) (D.size disk.new)) }
-    ensures loaded { IfOk result (λ found. IsHonest (D.medium disk.old)
-        → IsLoaded (D.medium disk.new) found.0 found.1) }
-    ensures used { IfOk result (λ found. IsHonest (D.medium disk.old) → 0 < used_of found.0
-        → used_of found.0 ≡ header_used journal_range (D.medium disk.old).contents) }
-    ensures batch { IfOk result (λ found. found.2 ≡ record { records = []; count = 0 }) }
+) -> Result<(Checkpoint, Journal, Engine, Batch), OpenError>
+    ensures on_disk { IfOk result (λ found. AreOnDisk (D.size disk.new) found.2.limits found.0 found.1) }
+    ensures matches { IfOk result (λ found. IsHonest (D.medium disk.old)
+        → DeviceMatches (D.medium disk.new) found.2.limits found.0 found.1 found.2.state) }
+    ensures used { IfOk result (λ found. IsHonest (D.medium disk.old) → 0 < used_of found.1
+        → used_of found.1 ≡ header_used journal_range (D.medium disk.old).contents) }
+    ensures batch { IfOk result (λ found. found.3 ≡ record { records = []; count = 0 }) }
     ensures not_formatted { result ≡ Err OpenError.NotFormatted → IsHonest (D.medium disk.old)
         → IsNotFormatted (D.medium disk.old).contents }
     ensures version { (found : ℕ) → result ≡ Err (OpenError.Version found) → IsHonest (D.medium disk.old)
         → HasVersion found (D.medium disk.old).contents }
     ensures damaged { (sector : ℕ) → result ≡ Err (OpenError.Damaged sector) → IsHonest (D.medium disk.old)
         → IsDamaged (D.medium disk.old).contents × IsFirstFault (D.medium disk.old).contents sector }
-    ensures faults { result ≢ Err OpenError.JournalFull }
     ensures reads { IsHonest (D.medium disk.old) → Stays (D.medium disk.old) (D.medium disk.new) }
+    ensures honest { IsHonest (D.medium disk.old) ↔ IsHonest (D.medium disk.new) }
     ensures size { D.size disk.new ≡ D.size disk.old }
     ensures failure { result ≡ Err OpenError.Device
         → (D.counts disk.new).failures ≡ counted (D.counts disk.old).failures 1 }
@@ -158,7 +162,7 @@ fn read_device<D: SectorDisk>(
         Err(AllocError) => return Err(OpenError::NoMemory),
     };
     match load(alloc, disk, &mut room) {
-        Ok((journal, engine)) => Ok((journal, engine, Batch::new(room))),
+        Ok((checkpoint, journal, engine)) => Ok((checkpoint, journal, engine, Batch::new(room))),
         Err(error) => Err(error),
     }
 }

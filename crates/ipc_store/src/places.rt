@@ -1,7 +1,13 @@
-//! Where the journal of a device stands, and how it begins.
+//! Where the journal and the objects of a device stand, and how they begin.
 
+ghost use Rattle.std.specs.Prelude.{◌≡◌, ◌≤◌};
+ghost use Rattle.ipc_base.specs.Limits.{ArePassed};
+ghost use Rattle.ipc_store.specs.Image.{layout_of};
+
+use ipc_base::Limits;
+use ipc_checkpoint::Layout;
 use ipc_disk::Range;
-use ipc_image::{JOURNAL, JOURNAL_COUNT};
+use ipc_image::{JOURNAL, JOURNAL_COUNT, OBJECTS, ROOT, area};
 
 /// The sectors of the journal.
 pub(crate) const JOURNAL_RANGE: Range = Range {
@@ -11,3 +17,20 @@ pub(crate) const JOURNAL_RANGE: Range = Range {
 
 /// The epoch with which a device is made.
 pub(crate) const FIRST_EPOCH: u64 = 1;
+
+/// Where the objects of a device of so many sectors lie.
+pub(crate) fn layout_of(limits: &Limits, sectors: u32) -> Layout
+    requires passed { ArePassed limits.now }
+    requires least { 260 ≤ sectors }
+    ensures exact { result ≡ layout_of limits.now sectors }
+    ensures bounded { result.area ≤ 22785 }
+{
+    Layout {
+        range: Range {
+            first: OBJECTS,
+            count: sectors - OBJECTS,
+        },
+        root: ROOT,
+        area: area(limits),
+    }
+}

@@ -1,8 +1,7 @@
 //! The replay of a journal: a machine goes through the events of its batches.
 
-ghost use Rattle.std.specs.Prelude.{◌≡◌, ◌⊎◌, ◌↔◌, ℕ, true, List, length};
+ghost use Rattle.std.specs.Prelude.{◌≡◌, ◌⊎◌, ◌↔◌, ℕ, true, List, length, OnOk};
 ghost use Rattle.std.specs.Prelude.{IfOk, IsErrOf, IsTrue, Err};
-ghost use Rattle.ipc_base.specs.Limits.{ArePassed};
 ghost use Rattle.ipc_disk.specs.Counts.{with_failure};
 ghost use Rattle.ipc_disk.specs.Medium.{IsHonest, Stays};
 ghost use Rattle.ipc_disk.specs.Range.{IsWithin};
@@ -15,59 +14,52 @@ ghost use Rattle.ipc_store.specs.Batch.{most_bytes};
 ghost use Rattle.ipc_store.specs.Relations.Replay.{Replays, IsGoodUpTo, AreRecords};
 
 use crate::fault::OpenError;
-use ipc_base::Limits;
 use ipc_disk::SectorDisk;
 use ipc_engine::{Engine, Event};
 use ipc_image::read_event;
 use ipc_journal::{Journal, Place};
-use std::alloc::{AllocError, Global};
+use std::alloc::AllocError;
 
-/// The machine after the events of a journal. Each of its batches is read into `room`.
+/// Leads a machine through the events of a journal. Each of its batches is read into `room`.
 pub(crate) fn replay<D: SectorDisk>(
-    alloc: Global,
     disk: &mut D,
     journal: &Journal,
-    limits: Limits,
+    engine: &mut Engine,
     room: &mut [u8],
-) -> Result<Engine, OpenError>
-    requires passed { ArePassed limits }
+) -> Result<(), OpenError>
     requires within { IsWithin (range_of journal.now) (D.size disk.old) }
     requires room { length room.old ≡ most_bytes }
     // The batches lead to the state of the machine.
-    ensures limits { IfOk result (λ engine. engine.limits ≡ limits) }
-    ensures replays { IfOk result (λ engine. IsHonest (D.medium disk.old)
-        → (batches : List (List PlainEvent))
-        × Replays limits journal.now (D.medium disk.old).contents batches engine.state) }
-    ensures only { (batches : List (List PlainEvent)) (s : State) → IsHonest (D.medium disk.old)
-        → Replays limits journal.now (D.medium disk.old).contents batches s
-        → IfOk result (λ engine. engine.state ≡ s) }
+    ensures limits { engine.new.limits ≡ engine.old.limits }
+    ensures replays { OnOk result (IsHonest (D.medium disk.old) → (batches : List (List PlainEvent))
+        × Replays engine.old.limits engine.old.state journal.now (D.medium disk.old).contents batches
+        engine.new.state) }
     // Some bytes are no such batches; the fault is in the first batch that goes wrong.
     ensures damaged { (sector : ℕ) (batches : List (List PlainEvent)) (s : State)
         → IsErrOf result (OpenError.Damaged sector) → IsHonest (D.medium disk.old)
-        → ¬ Replays limits journal.now (D.medium disk.old).contents batches s }
+        → ¬ Replays engine.old.limits engine.old.state journal.now (D.medium disk.old).contents batches s }
     ensures named { (sector : ℕ) → IsErrOf result (OpenError.Damaged sector)
         → IsHonest (D.medium disk.old)
-        → IsGoodUpTo limits journal.now (D.medium disk.old).contents sector }
+        → IsGoodUpTo engine.old.limits engine.old.state journal.now (D.medium disk.old).contents sector }
     ensures faults { (sector : ℕ)
-        → IsErrOf result OpenError.JournalFull ⊎ IsErrOf result OpenError.NotFormatted
-        ⊎ IsErrOf result (OpenError.Version sector) → ⊥ }
+        → IsErrOf result OpenError.NotFormatted ⊎ IsErrOf result (OpenError.Version sector) → ⊥ }
     // It only reads.
     ensures reads { IsHonest (D.medium disk.old) → Stays (D.medium disk.old) (D.medium disk.new) }
     ensures room { length room.new ≡ most_bytes }
     // Failures and counts: `Device` is one failure more, and each other answer none.
+    ensures honest { IsHonest (D.medium disk.old) ↔ IsHonest (D.medium disk.new) }
     ensures size { D.size disk.new ≡ D.size disk.old }
     ensures failure { IsErrOf result OpenError.Device
         → D.counts disk.new ≡ with_failure (D.counts disk.old) }
     ensures no_failure { IsErrOf result OpenError.Device ⊎ (D.counts disk.new ≡ D.counts disk.old) }
 {
-    let mut engine = Engine::new(alloc, limits)?;
     let mut place = Place { sector: 0 };
     loop {
         let sector = journal.range().first + 1 + place.sector;
         let Some(len) = journal.next_batch(disk, &mut place, room)? else {
-            return Ok(engine);
+            return Ok(());
         };
-        if !go_through(&mut engine, &room[4..len])? {
+        if !go_through(engine, &room[4..len])? {
             return Err(OpenError::Damaged { sector });
         }
     }

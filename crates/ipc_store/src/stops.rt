@@ -4,9 +4,10 @@
 use crate::damage::copied;
 use crate::replay::is_for_process;
 use crate::tests::{
-    SMALL_DEVICE, add_replies, call, get, hello, opened, receive, small_device, take, text,
+    SMALL_DEVICE, TICK, add_replies, call, commit_all, get, hello, opened, receive, send,
+    small_device, take, text,
 };
-use crate::{OpenError, Store};
+use crate::{CommitError, OpenError, Store};
 use ipc_base::{Cred, GetFlags, Id, Limits, Moment, MsgFlags, Pid};
 use ipc_disk::{FuseDisk, MemoryDisk, SectorDisk};
 use ipc_engine::{Engine, Event};
@@ -31,12 +32,13 @@ enum Line {
     Tick,
     Exit(u32),
     Commit,
+    Save,
 }
 
-use Line::{Commit, Exit, Get, Hello, Receive, Refused, Send, Tick};
+use Line::{Commit, Exit, Get, Hello, Receive, Refused, Save, Send, Tick};
 
-// Each commit brings something that the probes see.
-const SCRIPT: [Line; 61] = [
+// Each commit, and the first save, bring something that the probes see. The second save brings nothing.
+const SCRIPT: [Line; 62] = [
     Hello(1000),
     Get(1, 7, 0x380),
     Commit, // 59 bytes, one sector
@@ -102,8 +104,14 @@ const SCRIPT: [Line; 61] = [
         1,
         b"half of a queue: a message of sixty-four bytes, and not one more",
     ),
-    Send(6, 2, 1, b"one more"),
-    Commit,
+    Send(
+        6,
+        2,
+        1,
+        b"one more, of fifty-nine bytes, with which the queue is full",
+    ),
+    Save, // 517 bytes, two sectors
+    Save,
     Receive(6, 1, 64, 0),
     Receive(4, 1, 64, 0),
     Receive(2, 2, 64, 0),
@@ -136,7 +144,7 @@ fn sent(id: u32, mtype: i64, text: &'static [u8]) -> Call<'static> {
     }
 }
 
-// The event of a line with a number; none for a commit.
+// The event of a line with a number; none for a commit and a save.
 fn event_of(number: u32, line: Line) -> Option<Event<'static>> {
     let moment = Moment(number as u64);
     let event = match line {
@@ -169,7 +177,7 @@ fn event_of(number: u32, line: Line) -> Option<Event<'static>> {
             pid: Pid(pid),
             moment,
         },
-        Commit => return None,
+        Commit | Save => return None,
     };
     Some(event)
 }
@@ -256,6 +264,14 @@ fn probe_after(rt: &impl Abort, alloc: Global, count: u64) -> Result<Vec<u8>, Fa
     probe(rt, alloc, &mut engine)
 }
 
+// What waits lasts: by a save, if the line says so, else by a commit.
+fn make_last<D: SectorDisk>(store: &mut Store<D>, line: Line) -> Result<(), CommitError> {
+    match line {
+        Save => store.save(),
+        _ => store.commit(),
+    }
+}
+
 // A store that worked on the script until its disk failed: the disk, how many events it had confirmed, how many it
 // had accepted, and whether the disk failed.
 #[derive(Drop)]
@@ -290,7 +306,7 @@ fn work(rt: &impl Abort, alloc: Global, calls: u64, keep: u64) -> Result<Stopped
                 take(rt, &mut store, event)?;
                 accepted = accepted.saturating_add(1);
             }
-            None => failed = store.commit().is_err(),
+            None => failed = make_last(&mut store, line).is_err(),
         }
         if failed {
             break;
@@ -354,10 +370,10 @@ fn work_again(rt: &impl Abort, alloc: Global, calls: u64) -> Result<u32, Fail> {
     panic!(rt; "no end of the choices");
 }
 
-// The work makes 7 calls for its open, and for each of its 11 commits 3 and one for each of its 16 sectors: 56 stops.
-// A stop leaves one device if all is synced, two if one sector is not, 4, 8 and 16 for two, three and four, and 7
-// for five: so 9 for the open, 6 for each of the nine commits of one sector, 10 for the one of two, and 41 for the one
-// of five.
+// The work makes 9 calls for its open, for each of its 10 commits 3 and one for each of its 15 sectors, and 5 for each
+// of its 2 saves, of two sectors: 64 stops. A stop leaves one device if all is synced, two if one sector is not, 4, 8
+// and 16 for two, three and four, and 7 for five: so 11 for the open, 6 for each of the eight commits of one sector, 10
+// for the one of two and for each save, and 41 for the commit of five.
 #[test]
 fn a_store_that_is_stopped_anywhere(rt: HostRuntime) -> Result<(), Fail> {
     let mut stops = 0;
@@ -371,15 +387,20 @@ fn a_store_that_is_stopped_anywhere(rt: HostRuntime) -> Result<(), Fail> {
         devices = devices.saturating_add(left);
     }
     println!(rt; "{stops} stops left {devices} devices")?;
-    assert_eq!(rt; (stops, devices), (56, 114));
+    assert_eq!(rt; (stops, devices), (64, 130));
     Ok(())
 }
 
-// Stops the opening of a device at each of its calls, and opens what a crash leaves. An open writes no second sector
-// before a sync, so to keep none and to keep all are all the choices. How many stops there were.
-fn stop_openings(rt: &impl Abort, alloc: Global, disk: &mut MemoryDisk) -> Result<u64, Fail> {
+// Stops the opening of a device at each of its calls but so many first ones, and opens what a crash leaves. An open
+// writes no second sector before a sync, so to keep none and to keep all are all the choices. How many calls it makes.
+fn stop_openings(
+    rt: &impl Abort,
+    alloc: Global,
+    disk: &mut MemoryDisk,
+    first: u64,
+) -> Result<u64, Fail> {
     let wanted = probe_disk(rt, alloc, copied(alloc, disk, SMALL_DEVICE)?)?;
-    for calls in 0..100 {
+    for calls in first..300 {
         for keep in [0, u64::MAX] {
             let fuse = FuseDisk::new(copied(alloc, disk, SMALL_DEVICE)?, calls, keep);
             let Err(unopened) = Store::open(alloc, fuse) else {
@@ -396,32 +417,52 @@ fn stop_openings(rt: &impl Abort, alloc: Global, disk: &mut MemoryDisk) -> Resul
     panic!(rt; "no end of an opening");
 }
 
-// Of each fifth stop of the work the device on which all sectors were kept. An open makes 7 calls, and one for each
-// sector of the journal that is used: 0, 0, 2, 3, 4, 5, 10, 11, 13, 14, 15 and 17.
+// Of each fifth stop of the work the device on which all sectors were kept. An open makes 9 calls, one for each sector
+// of the journal that is used, 0, 0, 1, 2, 4, 5, 5, 10, 11, 14, 15, 0 and 0, and after a save one for its second
+// sector.
 #[test]
 fn an_opening_that_is_stopped_anywhere(rt: HostRuntime) -> Result<(), Fail> {
     let mut stops: u64 = 0;
-    for calls in (0..56).step_by(5) {
+    for calls in (0..64).step_by(5) {
         let left = work(&rt, rt.alloc(), calls, u64::MAX)?;
         assert!(rt; left.failed);
-        let more = stop_openings(&rt, rt.alloc(), &mut left.disk.crash())?;
+        let more = stop_openings(&rt, rt.alloc(), &mut left.disk.crash(), 0)?;
         stops = stops.saturating_add(more);
     }
     println!(rt; "{stops} stops")?;
-    assert_eq!(rt; stops, 178);
+    assert_eq!(rt; stops, 186);
     Ok(())
 }
 
-// The probes tell the events before each commit of the script from those after it.
+// The journal is full, so the open saves: 5 calls and one for each of the 256 sectors before it writes, and then 4.
+#[test]
+fn an_opening_that_saves_and_is_stopped(rt: HostRuntime) -> Result<(), Fail> {
+    let mut store = opened(rt.alloc(), small_device(rt.alloc())?)?;
+    let events = [hello(1000), call(1, get(7)), call(1, send(1, b"hi"))];
+    commit_all(&rt, &mut store, &events)?;
+    for _ in 0..254 {
+        commit_all(&rt, &mut store, &[TICK])?;
+    }
+    let calls = stop_openings(&rt, rt.alloc(), &mut store.close(), 260)?;
+    assert_eq!(rt; calls, 265);
+    Ok(())
+}
+
+// The probes tell the events before each commit or save of the script from those after it.
 #[test]
 fn probes_see_each_commit(rt: HostRuntime) -> Result<(), Fail> {
     let mut before = probe_after(&rt, rt.alloc(), 0)?;
     let mut count: u64 = 0;
+    let mut lasting: u64 = 0;
     for (number, line) in (1..).zip(SCRIPT) {
         if event_of(number, line).is_some() {
             count = count.saturating_add(1);
             continue;
         }
+        if count == lasting {
+            continue;
+        }
+        lasting = count;
         let after = probe_after(&rt, rt.alloc(), count)?;
         assert!(rt; before != after, "line {number}");
         before = after;
@@ -439,18 +480,23 @@ enum Left {
 }
 
 // Calls of the format that pass, the choice of a crash, and what is left.
-const FORMATS: [(u64, u64, Left); 11] = [
+const FORMATS: [(u64, u64, Left); 16] = [
     (0, 1, Left::Old),
     (1, 0, Left::Old), // the superblock is overwritten with zeros, and that is lost
     (1, 1, Left::Nothing), // or kept
     (2, 1, Left::Nothing), // they last
-    (3, 1, Left::Nothing), // the root is overwritten with zeros
-    (4, 0, Left::Nothing), // the header is written
+    (3, 1, Left::Nothing), // the header is written
+    (4, 1, Left::Nothing), // the objects are
     (4, 3, Left::Nothing),
-    (5, 3, Left::Nothing), // they last
-    (6, 0, Left::Nothing), // the superblock is written, and it is lost
-    (6, 1, Left::New), // or kept
-    (7, 0, Left::New), // it lasts
+    (5, 0, Left::Nothing), // the root is
+    (5, 1, Left::Nothing),
+    (5, 2, Left::Nothing),
+    (5, 4, Left::Nothing),
+    (5, 7, Left::Nothing),
+    (6, 7, Left::Nothing), // they last
+    (7, 0, Left::Nothing), // the superblock is written, and it is lost
+    (7, 1, Left::New), // or kept
+    (8, 0, Left::New), // it lasts
 ];
 
 // What is left on a device, by what the probes find on the old one and on the new one.
@@ -485,7 +531,7 @@ fn a_format_that_is_stopped(rt: HostRuntime) -> Result<(), Fail> {
         let mut fuse = FuseDisk::new(done.disk.crash(), calls, keep);
         assert_eq!(rt;
             Store::format(&mut fuse, &Limits::small()).is_ok(),
-            calls == 7
+            calls == 8
         );
         let left = left_on(&rt, rt.alloc(), fuse.crash(), (&old, &new))?;
         assert_eq!(rt; left, wanted, "{calls} calls, choice {keep}");

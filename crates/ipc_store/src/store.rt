@@ -4,10 +4,8 @@ ghost use Rattle.std.specs.Prelude.{◌≡◌, ◌⊎◌, ◌<◌, ◌≤◌, �
 ghost use Rattle.std.specs.Prelude.{length, true, false, IsOk, IsTrue, Ok, Err, OnOk, OnErr, IsErrOf};
 ghost use Rattle.ipc_disk.specs.Counts.{counted, with_calls};
 ghost use Rattle.ipc_disk.specs.Medium.{Image, IsHonest};
-ghost use Rattle.ipc_disk.specs.Range.{IsWithin};
 ghost use Rattle.ipc_disk.specs.Since.{EachImageSince};
 ghost use Rattle.ipc_disk.specs.Standing.{sectors_for};
-ghost use Rattle.ipc_journal.specs.View.{range_of};
 ghost use Rattle.ipc_state.specs.Sound.{IsSound};
 ghost use Rattle.ipc_state.specs.State.{State};
 ghost use Rattle.ipc_engine.specs.Engine.{IsForProcess, takes_memory};
@@ -16,23 +14,28 @@ ghost use Rattle.ipc_engine.specs.Step.{step as step_on, run};
 ghost use Rattle.ipc_engine.specs.View.{plain_event};
 ghost use Rattle.ipc_image.specs.Records.{record_bytes, HasRecord};
 ghost use Rattle.ipc_store.specs.Histories.{Takes};
-ghost use Rattle.ipc_store.specs.View.{HasRoom, HasPlace, IsStopped, IsReadyFor, events_left};
-ghost use Rattle.ipc_store.specs.Relations.Matches.{StoreMatches, StandsForEither};
+ghost use Rattle.ipc_store.specs.View.{HasRoom, HasPlace, HasTurned, IsStopped, IsAtLastEpoch, IsReadyFor};
+ghost use Rattle.ipc_store.specs.View.{events_left, store_view};
+ghost use Rattle.ipc_store.specs.Relations.Matches.{AreOnDisk, DeviceMatches, StoreMatches, StandsForEither};
 
 use crate::batch::Batch;
 use crate::fault::{CommitError, StepError};
+use ipc_checkpoint::Checkpoint;
 use ipc_disk::{DiskFault, SectorDisk};
 use ipc_engine::{Engine, Event};
+use ipc_image::objects_of;
 use ipc_journal::Journal;
 use std::alloc::AllocError;
 use std::marker::Model;
 
 /// A machine whose events last. It owns its disk until it is closed. A contract sees the disk, the machine, the
-/// journal, the records that wait, how many events it has made last since it was opened, and whether it has stopped.
+/// checkpoint and the journal, the records that wait, how many events it has made last since it was opened, and whether
+/// it has stopped. A store that has not stopped, on an honest disk, matches what stands there.
 #[derive(Drop)]
 pub struct Store<D: SectorDisk> {
     disk: D,
     engine: Engine,
+    checkpoint: Checkpoint,
     journal: Journal,
     batch: Batch,
     confirmed: u64,
@@ -41,44 +44,38 @@ pub struct Store<D: SectorDisk> {
 
 impl<D: SectorDisk> Model for Store<D> {
     ghost use Rattle.std.specs.Prelude.{◌+◌, ◌<◌, ◌^◌};
-    ghost use Rattle.ipc_disk.specs.Range.{IsWithin};
-    ghost use Rattle.ipc_journal.specs.View.{range_of};
-    ghost use Rattle.ipc_store.specs.View.{StoreView};
+    ghost use Rattle.ipc_store.specs.View.{StoreView, store_view};
+    ghost use Rattle.ipc_store.specs.Relations.Matches.{AreOnDisk, MatchesIfHonest};
 
     ghost Value = { StoreView D };
 
-    ghost view = { λ s. record {
-      disk = s.disk;
-      machine = s.engine;
-      journal = s.journal;
-      records = s.batch.records;
-      waiting = s.batch.count;
-      confirmed = s.confirmed;
-      stopped = s.stopped;
-    } };
+    ghost view = { λ s. store_view s.disk s.engine s.checkpoint s.journal s.batch s.confirmed s.stopped };
 
-    ghost invariant = { λ s. IsWithin (range_of s.journal) (D.size s.disk)
-        × (s.confirmed + s.batch.count < 2 ^ 64) };
+    ghost invariant = { λ s. AreOnDisk (D.size s.disk) s.engine.limits s.checkpoint s.journal
+        × (s.confirmed + s.batch.count < 2 ^ 64)
+        × MatchesIfHonest (D.medium s.disk)
+        (store_view s.disk s.engine s.checkpoint s.journal s.batch s.confirmed s.stopped) };
 }
 
 impl<D: SectorDisk> Store<D> {
-    /// A store over a journal of its disk, to which nothing has happened since it was opened.
-    pub(crate) fn new(disk: D, journal: Journal, engine: Engine, batch: Batch) -> Store<D>
-        requires within { IsWithin (range_of journal) (D.size disk) }
+    /// A store over what was loaded, to which nothing has happened since it was opened.
+    pub(crate) fn new(
+        disk: D,
+        checkpoint: Checkpoint,
+        journal: Journal,
+        engine: Engine,
+        batch: Batch,
+    ) -> Store<D>
+        requires on_disk { AreOnDisk (D.size disk) engine.limits checkpoint journal }
+        requires matches { IsHonest (D.medium disk)
+            → DeviceMatches (D.medium disk) engine.limits checkpoint journal engine.state }
         requires empty { batch ≡ record { records = []; count = 0 } }
-        ensures { result ≡ record {
-          disk = disk;
-          machine = engine;
-          journal = journal;
-          records = [];
-          waiting = 0;
-          confirmed = 0;
-          stopped = false;
-        } }
+        ensures { result ≡ store_view disk engine checkpoint journal (record { records = []; count = 0 }) 0 false }
     {
         Store {
             disk,
             engine,
+            checkpoint,
             journal,
             batch,
             confirmed: 0,
@@ -147,6 +144,7 @@ impl<D: SectorDisk> Store<D> {
         ensures takes { (OnOk result (Takes D.medium self.old (plain_event event.entry ∷ []) self.new))
             × (OnErr result (Takes D.medium self.old [] self.new)) }
         ensures disk { self.new.disk ≡ self.old.disk }
+        ensures checkpoint { self.new.checkpoint ≡ self.old.checkpoint }
         ensures journal { self.new.journal ≡ self.old.journal }
         ensures confirmed { self.new.confirmed ≡ self.old.confirmed }
         ensures goes_on { self.new.stopped ≡ self.old.stopped }
@@ -167,9 +165,10 @@ impl<D: SectorDisk> Store<D> {
         Ok(())
     }
 
-    /// Makes all events that wait last: a batch of them joins the journal. If none waits, nothing changes, and it makes
-    /// no call on the disk. A crash at any moment leaves what was there before, with all of these events or with none.
-    /// After an `Err` the store is stopped.
+    /// Makes all events that wait last: a batch of them joins the journal, or, if it does not fit there, the state is
+    /// saved. If none waits, nothing changes, and it makes no call on the disk. A crash at any moment leaves what was
+    /// there before, with all of these events or with none. After an `Err` the store is stopped. It is `Stopped` too
+    /// if it would have to save at epoch 18446744073709551615, the last; then the disk is as it was.
     pub fn commit(&mut self) -> Result<(), CommitError>
         // The base is the state of now, and no event waits.
         ensures matches { OnOk result ((base : State) (pending : List PlainEvent)
@@ -195,17 +194,18 @@ impl<D: SectorDisk> Store<D> {
         ensures still_waits { OnErr result (self.new.waiting ≡ self.old.waiting) }
         ensures unconfirmed { OnErr result (self.new.confirmed ≡ self.old.confirmed) }
         ensures goes_on { OnOk result (self.new.stopped ≡ false) }
-        ensures stopped { (result ≡ Err CommitError.Stopped) ↔ IsStopped self.old }
-        ensures kept { result ≡ Err CommitError.Stopped → self.new ≡ self.old }
-        ensures full { result ≡ Err CommitError.JournalFull
-            → ¬ HasPlace self.old }
-        ensures full_keeps { result ≡ Err CommitError.JournalFull → self.new.disk ≡ self.old.disk }
+        ensures stopped { (result ≡ Err CommitError.Stopped) ↔ (IsStopped self.old
+            ⊎ (IsAtLastEpoch self.old × (0 < self.old.waiting) × ¬ HasPlace self.old)) }
+        ensures kept { IsStopped self.old → self.new ≡ self.old }
+        ensures unwritten { result ≡ Err CommitError.Stopped → self.new.disk ≡ self.old.disk }
         ensures nothing { self.old.waiting ≡ 0 → self.new ≡ self.old }
         ensures nothing_ok { self.old.waiting ≡ 0 → self.old.stopped ≡ false → IsOk result }
         ensures failure { result ≡ Err CommitError.Device → (D.counts self.new.disk).failures
             ≡ counted (D.counts self.old.disk).failures 1 }
-        ensures counts { OnOk result (0 < self.old.waiting → D.counts self.new.disk
+        ensures no_failure { OnOk result ((D.counts self.new.disk).failures ≡ (D.counts self.old.disk).failures) }
+        ensures counts { OnOk result (0 < self.old.waiting → HasPlace self.old → D.counts self.new.disk
             ≡ with_calls (sectors_for (4 + length self.old.records) + 1) 2 (D.counts self.old.disk)) }
+        ensures turned { OnOk result (0 < self.old.waiting → ¬ HasPlace self.old → HasTurned self.old self.new) }
         ensures honest { IsHonest (D.medium self.old.disk) → IsHonest (D.medium self.new.disk) }
         ensures size { D.size self.new.disk ≡ D.size self.old.disk }
     {
@@ -215,17 +215,63 @@ impl<D: SectorDisk> Store<D> {
         if self.batch.count() == 0 {
             return Ok(());
         }
-        match self.append() {
-            Ok(()) => Ok(()),
-            Err(error) => {
-                self.stopped = true;
-                Err(error)
-            }
+        let len = self.batch.bytes().len();
+        if self.journal.fits(len) {
+            self.append()
+        } else {
+            self.save_state()
         }
     }
 
-    // Appends what waits to the journal, if it fits.
+    /// Makes all events that wait last: the objects of the state are saved, with the next epoch, at which the journal
+    /// is empty. It saves also if no event waits. A crash at any moment leaves what was there before, with all of these
+    /// events or with none. After an `Err` the store is stopped. It is `Stopped` too at epoch 18446744073709551615, the
+    /// last; then the disk is as it was. It takes no memory.
+    pub fn save(&mut self) -> Result<(), CommitError>
+        // The base is the state of now, and no event waits.
+        ensures matches { OnOk result ((base : State) (pending : List PlainEvent)
+            → StoreMatches (D.medium self.old.disk) self.old base pending
+            → StoreMatches (D.medium self.new.disk) self.new
+            (run self.old.machine.limits base pending).state []) }
+        ensures waiting { OnOk result (self.new.waiting ≡ 0) }
+        ensures records { OnOk result (self.new.records ≡ []) }
+        ensures confirmed { OnOk result (self.new.confirmed ≡ self.old.confirmed + self.old.waiting) }
+        ensures machine { self.new.machine ≡ self.old.machine }
+        ensures takes { Takes D.medium self.old [] self.new }
+        // A crash at any moment of the call, also of one that fails.
+        ensures any_moment { (base : State) (pending : List PlainEvent)
+            → StoreMatches (D.medium self.old.disk) self.old base pending
+            → EachImageSince (D.medium self.old.disk) (D.medium self.new.disk)
+            (StandsForEither self.old.machine.limits base (run self.old.machine.limits base pending).state) }
+        ensures left { (base : State) (pending : List PlainEvent) (image : Image)
+            → StoreMatches (D.medium self.old.disk) self.old base pending
+            → (D.medium self.new.disk).images_now image
+            → StandsForEither self.old.machine.limits base (run self.old.machine.limits base pending).state image }
+        // Refusals, and counts.
+        ensures stops { OnErr result (IsStopped self.new) }
+        ensures still_waits { OnErr result (self.new.waiting ≡ self.old.waiting) }
+        ensures unconfirmed { OnErr result (self.new.confirmed ≡ self.old.confirmed) }
+        ensures goes_on { OnOk result (self.new.stopped ≡ false) }
+        ensures stopped { (result ≡ Err CommitError.Stopped) ↔ (IsStopped self.old ⊎ IsAtLastEpoch self.old) }
+        ensures kept { IsStopped self.old → self.new ≡ self.old }
+        ensures unwritten { result ≡ Err CommitError.Stopped → self.new.disk ≡ self.old.disk }
+        ensures failure { result ≡ Err CommitError.Device → (D.counts self.new.disk).failures
+            ≡ counted (D.counts self.old.disk).failures 1 }
+        ensures no_failure { OnOk result ((D.counts self.new.disk).failures ≡ (D.counts self.old.disk).failures) }
+        ensures turned { OnOk result (HasTurned self.old self.new) }
+        ensures honest { IsHonest (D.medium self.old.disk) → IsHonest (D.medium self.new.disk) }
+        ensures size { D.size self.new.disk ≡ D.size self.old.disk }
+    {
+        if self.stopped {
+            return Err(CommitError::Stopped);
+        }
+        self.save_state()
+    }
+
+    // Appends what waits to the journal.
     fn append(&mut self) -> Result<(), CommitError>
+        requires goes_on { self.old.stopped ≡ false }
+        requires place { HasPlace self.old }
         ensures matches { OnOk result ((base : State) (pending : List PlainEvent)
             → StoreMatches (D.medium self.old.disk) self.old base pending
             → StoreMatches (D.medium self.new.disk) self.new
@@ -238,13 +284,11 @@ impl<D: SectorDisk> Store<D> {
             → StoreMatches (D.medium self.old.disk) self.old base pending
             → EachImageSince (D.medium self.old.disk) (D.medium self.new.disk)
             (StandsForEither self.old.machine.limits base (run self.old.machine.limits base pending).state) }
+        ensures stops { OnErr result (IsStopped self.new) }
         ensures still_waits { OnErr result (self.new.waiting ≡ self.old.waiting) }
         ensures unconfirmed { OnErr result (self.new.confirmed ≡ self.old.confirmed) }
-        ensures goes_on { self.new.stopped ≡ self.old.stopped }
+        ensures goes_on { OnOk result (self.new.stopped ≡ false) }
         ensures stopped { result ≢ Err CommitError.Stopped }
-        ensures full { result ≡ Err CommitError.JournalFull
-            → ¬ HasPlace self.old }
-        ensures full_keeps { result ≡ Err CommitError.JournalFull → self.new.disk ≡ self.old.disk }
         ensures failure { result ≡ Err CommitError.Device → (D.counts self.new.disk).failures
             ≡ counted (D.counts self.old.disk).failures 1 }
         ensures counts { OnOk result (D.counts self.new.disk
@@ -252,11 +296,8 @@ impl<D: SectorDisk> Store<D> {
         ensures honest { IsHonest (D.medium self.old.disk) → IsHonest (D.medium self.new.disk) }
         ensures size { D.size self.new.disk ≡ D.size self.old.disk }
     {
-        let batch = self.batch.bytes();
-        if !self.journal.fits(batch.len()) {
-            return Err(CommitError::JournalFull);
-        }
-        if let Err(DiskFault) = self.journal.append(&mut self.disk, batch) {
+        if let Err(DiskFault) = self.journal.append(&mut self.disk, self.batch.bytes()) {
+            self.stopped = true;
             return Err(CommitError::Device);
         }
         self.confirmed += self.batch.count();
@@ -264,9 +305,55 @@ impl<D: SectorDisk> Store<D> {
         Ok(())
     }
 
+    // Saves the state, and empties the journal: at the next epoch what stands there counts no more.
+    fn save_state(&mut self) -> Result<(), CommitError>
+        requires goes_on { self.old.stopped ≡ false }
+        ensures matches { OnOk result ((base : State) (pending : List PlainEvent)
+            → StoreMatches (D.medium self.old.disk) self.old base pending
+            → StoreMatches (D.medium self.new.disk) self.new
+            (run self.old.machine.limits base pending).state []) }
+        ensures waiting { OnOk result (self.new.waiting ≡ 0) }
+        ensures records { OnOk result (self.new.records ≡ []) }
+        ensures confirmed { OnOk result (self.new.confirmed ≡ self.old.confirmed + self.old.waiting) }
+        ensures machine { self.new.machine ≡ self.old.machine }
+        ensures any_moment { (base : State) (pending : List PlainEvent)
+            → StoreMatches (D.medium self.old.disk) self.old base pending
+            → EachImageSince (D.medium self.old.disk) (D.medium self.new.disk)
+            (StandsForEither self.old.machine.limits base (run self.old.machine.limits base pending).state) }
+        ensures stops { OnErr result (IsStopped self.new) }
+        ensures still_waits { OnErr result (self.new.waiting ≡ self.old.waiting) }
+        ensures unconfirmed { OnErr result (self.new.confirmed ≡ self.old.confirmed) }
+        ensures goes_on { OnOk result (self.new.stopped ≡ false) }
+        ensures stopped { (result ≡ Err CommitError.Stopped) ↔ IsAtLastEpoch self.old }
+        ensures unwritten { result ≡ Err CommitError.Stopped → self.new.disk ≡ self.old.disk }
+        ensures failure { result ≡ Err CommitError.Device → (D.counts self.new.disk).failures
+            ≡ counted (D.counts self.old.disk).failures 1 }
+        ensures no_failure { OnOk result ((D.counts self.new.disk).failures ≡ (D.counts self.old.disk).failures) }
+        ensures turned { OnOk result (HasTurned self.old self.new) }
+        ensures honest { IsHonest (D.medium self.old.disk) → IsHonest (D.medium self.new.disk) }
+        ensures size { D.size self.new.disk ≡ D.size self.old.disk }
+    {
+        let Some(epoch) = self.checkpoint.epoch().checked_add(1) else {
+            self.stopped = true;
+            return Err(CommitError::Stopped);
+        };
+        let objects = objects_of(&self.engine);
+        if let Err(DiskFault) = self.checkpoint.save(&mut self.disk, &objects, epoch) {
+            self.stopped = true;
+            return Err(CommitError::Device);
+        }
+        self.journal.turn(epoch);
+        self.confirmed += self.batch.count();
+        self.batch.clear();
+        Ok(())
+    }
+
     /// The disk as it is; events that wait are gone.
     pub fn close(self) -> D
-        ensures { result ≡ self.disk }
+        ensures disk { result ≡ self.disk }
+        // What stands there, if the store has not stopped.
+        ensures matches { self.stopped ≡ false → IsHonest (D.medium self.disk) → (base : State)
+            × ((pending : List PlainEvent) × StoreMatches (D.medium self.disk) self base pending) }
     {
         self.disk
     }

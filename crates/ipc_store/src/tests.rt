@@ -138,7 +138,7 @@ pub(crate) fn receive(id: u32) -> Call<'static> {
 pub(crate) const TICK: Event<'static> = Event::Tick { moment: Moment(0) };
 
 /// What process 2 gets for a `receive`: type 5 and `hi`, or ENOMSG.
-const HI: [u8; 24] = [
+pub(crate) const HI: [u8; 24] = [
     0, 0, 0, 2, 0, 0, 0, 16, 0, 0, 0, 4, 0, 0, 0, 0, 0, 0, 0, 0, 0, 5, b'h', b'i',
 ];
 
@@ -157,8 +157,8 @@ pub(crate) fn replies_to<D: SectorDisk>(
     Ok(replies)
 }
 
-// The bytes with a meaning of the superblock of a device of 448 sectors under small limits.
-const SUPERBLOCK: [u8; 100] = [
+/// The bytes with a meaning of the superblock of a device of 448 sectors under small limits.
+pub(crate) const SUPERBLOCK: [u8; 100] = [
     0x49, 0x50, 0x43, 0x53, 0x54, 0x4f, 0x52, 0x45, // IPCSTORE
     0, 0, 0, 0, 0, 0, 1, 0xc0, // version 0, 448 sectors
     0, 0, 0, 3, 0, 0, 1, 1, // the journal: from sector 3 on, 257 of them
@@ -170,11 +170,25 @@ const SUPERBLOCK: [u8; 100] = [
     0, 0, 0, 2, 0, 0, 8, 0, 0, 0, 0, 64, 0, 0, 0, 4, // segments, descriptors
 ];
 
-// The header of an empty journal of epoch 1.
-const HEADER: [u8; 12] = [0, 0, 0, 0, 0, 0, 0, 1, 0, 0, 0, 0];
+/// The header of an empty journal of epoch 1.
+pub(crate) const HEADER: [u8; 12] = [0, 0, 0, 0, 0, 0, 0, 1, 0, 0, 0, 0];
 
-// Whether a sector is these bytes and then zeros.
-fn is_sector<D: SectorDisk>(disk: &mut D, at: u32, bytes: &[u8]) -> Result<bool, Fail> {
+/// The root: epoch 1, area 0, and the 112 bytes of the objects.
+pub(crate) const ROOT: [u8; 16] = [0, 0, 0, 0, 0, 0, 0, 1, 0, 0, 0, 0, 0, 0, 0, 112];
+
+/// The objects of the first state: how many there are, and of each its number, its length and its bytes.
+pub(crate) const OBJECTS: [u8; 112] = [
+    0, 0, 0, 4, //
+    0, 0, 0, 0, 0, 0, 0, 0, 0, 0, 0, 0, 0, 0, 0, 32, // the clock
+    0, 0, 0, 0, 0, 0, 0, 0, 0, 0, 0, 1, // at 0, and the next pid
+    0, 0, 0, 1, 0, 0, 0, 1, 0, 0, 0, 1, 0, 0, 0, 1, 0, 0, 0, 1, // the next number of each kind
+    0, 0, 0, 0, 0, 0, 0, 1, 0, 0, 0, 0, 0, 0, 0, 4, 0, 0, 0, 0, // no process
+    0, 0, 0, 0, 0, 0, 0, 2, 0, 0, 0, 0, 0, 0, 0, 4, 0, 0, 0, 0, // no waiting call
+    0, 0, 0, 0, 0, 0, 0, 3, 0, 0, 0, 0, 0, 0, 0, 4, 0, 0, 0, 0, // no adjustment
+];
+
+/// Whether a sector is these bytes and then zeros.
+pub(crate) fn is_sector<D: SectorDisk>(disk: &mut D, at: u32, bytes: &[u8]) -> Result<bool, Fail> {
     let mut sector = [9; 512];
     if at < disk.sectors() {
         disk.read(at, &mut sector)?;
@@ -185,11 +199,13 @@ fn is_sector<D: SectorDisk>(disk: &mut D, at: u32, bytes: &[u8]) -> Result<bool,
 #[test]
 fn a_device_to_the_byte(rt: HostRuntime) -> Result<(), Fail> {
     let mut disk = small_device(rt.alloc())?;
-    assert_eq!(rt; (disk.sectors(), disk.writes(), disk.syncs()), (448, 4, 3));
+    assert_eq!(rt; (disk.sectors(), disk.writes(), disk.syncs()), (448, 5, 3));
     for at in 0..448 {
         let bytes: &[u8] = match at {
             0 => &SUPERBLOCK,
+            1 => &ROOT,
             3 => &HEADER,
+            260 => &OBJECTS,
             _ => &[],
         };
         assert!(rt; is_sector(&mut disk, at, bytes)?, "sector {at}");
@@ -221,7 +237,7 @@ fn formats_that_are_refused(rt: HostRuntime) -> Result<(), Fail> {
             wanted,
             "{sectors} sectors"
         );
-        let writes = if wanted.is_ok() { 4 } else { 0 };
+        let writes = if wanted.is_ok() { 5 } else { 0 };
         assert_eq!(rt; disk.writes(), writes, "{sectors} sectors");
     }
     let mut broken = FuseDisk::new(MemoryDisk::new(rt.alloc(), 448)?, 0, 0);
@@ -233,7 +249,7 @@ fn formats_that_are_refused(rt: HostRuntime) -> Result<(), Fail> {
 }
 
 // The device calls of an open of a new device, and of a commit of one sector.
-const OPEN_CALLS: u64 = 7;
+const OPEN_CALLS: u64 = 9;
 
 const COMMIT_CALLS: u64 = 4;
 
@@ -276,11 +292,16 @@ fn crashed(
     Ok(store.close().crash())
 }
 
-// The replies to a receive on a device, by a process 2.
-fn received(rt: &impl Abort, alloc: Global, disk: MemoryDisk) -> Result<Vec<u8>, Fail> {
+/// The replies to a receive on a device, by a process that is new and has this pid.
+pub(crate) fn received_by(
+    rt: &impl Abort,
+    alloc: Global,
+    disk: MemoryDisk,
+    pid: u32,
+) -> Result<Vec<u8>, Fail> {
     let mut store = opened(alloc, disk)?;
     take(rt, &mut store, hello(1000))?;
-    replies_to(rt, alloc, &mut store, call(2, receive(1)))
+    replies_to(rt, alloc, &mut store, call(pid, receive(1)))
 }
 
 #[test]
@@ -289,7 +310,7 @@ fn a_crash_leaves_the_message_or_not(rt: HostRuntime) -> Result<(), Fail> {
         let passed = OPEN_CALLS + COMMIT_CALLS + calls as u64;
         let fuse = FuseDisk::new(small_device(rt.alloc())?, passed, keep);
         let disk = crashed(&rt, rt.alloc(), fuse, acknowledged)?;
-        let replies = received(&rt, rt.alloc(), disk)?;
+        let replies = received_by(&rt, rt.alloc(), disk, 2)?;
         let wanted = if there {
             HI.as_slice()
         } else {
@@ -300,8 +321,8 @@ fn a_crash_leaves_the_message_or_not(rt: HostRuntime) -> Result<(), Fail> {
     Ok(())
 }
 
-// A store that has stopped after so many events neither steps nor commits.
-fn is_stopped<D: SectorDisk>(rt: &impl Abort, store: &mut Store<D>, confirmed: u64) {
+/// A store that has stopped after so many events neither steps nor commits.
+pub(crate) fn is_stopped<D: SectorDisk>(rt: &impl Abort, store: &mut Store<D>, confirmed: u64) {
     for _ in 0..2 {
         assert_eq!(rt; take(rt, store, TICK), Err(StepError::Stopped));
         assert_eq!(rt; store.commit(), Err(CommitError::Stopped));
@@ -309,8 +330,8 @@ fn is_stopped<D: SectorDisk>(rt: &impl Abort, store: &mut Store<D>, confirmed: u
     }
 }
 
-// An event has this reply.
-fn is_answered<D: SectorDisk>(
+/// An event has this reply.
+pub(crate) fn is_answered<D: SectorDisk>(
     rt: &impl Abort,
     alloc: Global,
     store: &mut Store<D>,
@@ -382,46 +403,6 @@ fn an_open_syncs_before_it_reads(rt: HostRuntime) -> Result<(), Fail> {
     Ok(())
 }
 
-// An open needs one sector of the journal for its restart. The disk is handed back, and nothing is written.
-fn is_full(rt: &impl Abort, alloc: Global, disk: MemoryDisk) -> MemoryDisk {
-    let writes = disk.writes();
-    let Err(unopened) = Store::open(alloc, disk) else {
-        panic!(rt; "opened");
-    };
-    assert_eq!(rt; unopened.error, OpenError::JournalFull);
-    assert_eq!(rt; unopened.disk.writes(), writes);
-    unopened.disk
-}
-
-#[test]
-fn a_journal_of_256_commits(rt: HostRuntime) -> Result<(), Fail> {
-    let mut store = opened(rt.alloc(), small_device(rt.alloc())?)?;
-    // The restart takes one sector of the body.
-    for _ in 0..255 {
-        commit_all(&rt, &mut store, &[TICK])?;
-    }
-    assert_eq!(rt; store.confirmed(), 256);
-    assert_eq!(rt; store.commit(), Ok(()));
-    take(&rt, &mut store, TICK)?;
-    assert_eq!(rt; store.commit(), Err(CommitError::JournalFull));
-    is_stopped(&rt, &mut store, 256);
-    let disk = is_full(&rt, rt.alloc(), store.close());
-    is_full(&rt, rt.alloc(), disk);
-    Ok(())
-}
-
-#[test]
-fn a_device_of_256_opens(rt: HostRuntime) -> Result<(), Fail> {
-    let mut disk = small_device(rt.alloc())?;
-    for _ in 0..256 {
-        let store = opened(rt.alloc(), disk)?;
-        assert_eq!(rt; store.confirmed(), 1);
-        disk = store.close();
-    }
-    is_full(&rt, rt.alloc(), disk);
-    Ok(())
-}
-
 // A device on which two processes were connected, and the message was sent. What waited at its close is gone: a HELLO,
 // and the receive of the message.
 fn closed(rt: &impl Abort, alloc: Global) -> Result<MemoryDisk, Fail> {
@@ -470,8 +451,8 @@ const BATCHES: [(&[usize], usize, (u64, u64)); 7] = [
     (&[8427, 8427, 7331, 8427], 32768, (65, 2)),
 ];
 
-// Sends texts of these lengths; how many bytes their batch has.
-fn send_texts<D: SectorDisk>(
+/// Sends texts of these lengths; how many bytes their batch has.
+pub(crate) fn send_texts<D: SectorDisk>(
     rt: &impl Abort,
     store: &mut Store<D>,
     lens: &[usize],
@@ -503,8 +484,8 @@ fn sent(rt: &impl Abort, alloc: Global, lens: &[usize], bytes: usize) -> Result<
 fn a_commit_is_two_syncs(rt: HostRuntime) -> Result<(), Fail> {
     for (lens, bytes, (writes, syncs)) in BATCHES {
         let disk = sent(&rt, rt.alloc(), lens, bytes)?;
-        // The format made 4 writes and 3 syncs, the open 2 and 3, and the HELLO 2 and 2.
-        assert_eq!(rt; disk.writes().checked_sub(8), Some(writes), "{bytes} bytes");
+        // The format made 5 writes and 3 syncs, the open 2 and 3, and the HELLO 2 and 2.
+        assert_eq!(rt; disk.writes().checked_sub(9), Some(writes), "{bytes} bytes");
         assert_eq!(rt; disk.syncs().checked_sub(8), Some(syncs), "{bytes} bytes");
     }
     Ok(())

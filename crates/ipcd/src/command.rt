@@ -2,11 +2,12 @@
 
 ghost use Rattle.std.specs.Prelude.{◌≡◌, ℕ, true, false, List, [], ◌∷◌, map, codes, Some, IfOk};
 ghost use Rattle.ipc_base.specs.Limits.{ArePassed};
-ghost use Rattle.clap.specs.Words.{app_of, fault_of, subcommand_rows_of, FailsBy};
+ghost use Rattle.clap.specs.Words.{app_of, rule_of, fault_of, subcommand_rows_of, FailsBy};
 ghost use Rattle.ipcd.specs.Command.{limits_asked, refusal_status, IsTakenAs, declared, small_in};
+ghost use Rattle.ipcd.specs.Command.{small_rule, sectors_rule, device_rule};
 
 use clap::error::ErrorKind;
-use clap::{Arg, ArgAction, ArgMatches, Command, Error};
+use clap::{Arg, ArgAction, ArgMatches, Command, Error, value_parser};
 use ipc_base::Limits;
 use std::alloc::{AllocError, Global};
 use std::convert::AsStr;
@@ -14,10 +15,27 @@ use std::io;
 use std::rt::Env;
 
 /// What the command line asks for.
-#[derive(Clone, Copy, Debug)]
+#[derive(Debug, Drop)]
 pub enum Request {
-    /// Run the script on standard input, with small limits or standard ones.
-    Replay { small: bool },
+    /// Run the script on standard input on a new device in memory, with small limits or standard
+    /// ones.
+    Replay {
+        small: bool,
+    },
+    /// Make a device in a file, of so many sectors or of as many as it needs.
+    Format {
+        device: String,
+        small: bool,
+        sectors: Option<u32>,
+    },
+    /// Run the script on standard input on the device in a file.
+    Run {
+        device: String,
+    },
+    /// List the objects of the device in a file.
+    Dump {
+        device: String,
+    },
 }
 
 /// Why the command line asks for nothing.
@@ -83,39 +101,110 @@ pub(crate) fn parse<S: AsStr>(alloc: Global, words: &[S]) -> Result<Request, Err
         → IsTakenAs (Request.Replay true) result }
 {
     let matches = command_line(alloc)?.try_get_matches_from(words)?;
-    Ok(Request::Replay {
-        small: is_small(&matches),
-    })
+    Ok(request_in(alloc, &matches)?)
 }
 
 // The command line, as the parser is told of it.
 fn command_line<'a>(alloc: Global) -> Result<Command<'a>, AllocError>
     ensures { IfOk result (λ command. app_of command ≡ declared) }
 {
-    let small = Arg::new(alloc, "small")
-        .long("small")
-        .action(ArgAction::SetTrue)
-        .help("Small limits, as for trials");
     let replay = Command::new(alloc, "replay")
         .about("Runs the script on standard input, on a fresh server with a device in memory")
-        .arg(small)?;
+        .arg(small_flag(alloc))?;
+    let format = Command::new(alloc, "format")
+        .about("Makes a device in a file. All that stood there is lost")
+        .arg(device_word(alloc))?
+        .arg(small_flag(alloc))?
+        .arg(sectors_option(alloc))?;
+    let run = Command::new(alloc, "run")
+        .about("Runs the script on standard input, on the server whose device is in a file")
+        .arg(device_word(alloc))?;
+    let dump = Command::new(alloc, "dump")
+        .about("Lists the objects of the server whose device is in a file")
+        .arg(device_word(alloc))?;
     Command::new(alloc, "ipcd")
         .about("System V message queues, run from a script")
         .version("0.1.0")
         .subcommand_required(true)
-        .subcommand(replay)
+        .subcommand(replay)?
+        .subcommand(format)?
+        .subcommand(run)?
+        .subcommand(dump)
 }
 
-// Whether `replay` has the flag `--small`.
-fn is_small(matches: &ArgMatches<'_>) -> bool
-    ensures given { small_in (subcommand_rows_of matches.now) ≡ Some (codes "true") → result ≡ true }
-    ensures not_given { small_in (subcommand_rows_of matches.now) ≡ Some (codes "false")
-        → result ≡ false }
+// The flag `--small`.
+fn small_flag<'a>(alloc: Global) -> Arg<'a>
+    ensures rule { rule_of result ≡ small_rule }
+    ensures local { result.global ≡ false }
+{
+    Arg::new(alloc, "small")
+        .long("small")
+        .action(ArgAction::SetTrue)
+        .help("Small limits, as for trials")
+}
+
+// The option `--sectors N`.
+fn sectors_option<'a>(alloc: Global) -> Arg<'a>
+    ensures rule { rule_of result ≡ sectors_rule }
+    ensures local { result.global ≡ false }
+{
+    Arg::new(alloc, "sectors")
+        .long("sectors")
+        .value_name("N")
+        .value_parser(value_parser!(u32))
+        .help("How many sectors of 512 bytes it gets, in place of as many as it needs")
+}
+
+// The word that names the file of a device.
+fn device_word<'a>(alloc: Global) -> Arg<'a>
+    ensures rule { rule_of result ≡ device_rule }
+    ensures local { result.global ≡ false }
+{
+    Arg::new(alloc, "device")
+        .value_name("DEVICE")
+        .required(true)
+        .help("The file of the device")
+}
+
+// What the matches ask for.
+fn request_in(alloc: Global, matches: &ArgMatches<'_>) -> Result<Request, AllocError>
+    ensures standard { small_in (subcommand_rows_of matches.now) ≡ Some (codes "false")
+        → IfOk result (λ asked. asked ≡ Request.Replay false) }
+    ensures small { small_in (subcommand_rows_of matches.now) ≡ Some (codes "true")
+        → IfOk result (λ asked. asked ≡ Request.Replay true) }
 {
     match matches.subcommand_matches("replay") {
-        Some(replay) => replay.get_flag("small"),
-        None => false,
+        Some(replay) => Ok(Request::Replay {
+            small: replay.get_flag("small"),
+        }),
+        None => file_request_in(alloc, matches),
     }
+}
+
+// What the matches ask for of a device in a file.
+fn file_request_in(alloc: Global, matches: &ArgMatches<'_>) -> Result<Request, AllocError> {
+    if let Some(format) = matches.subcommand_matches("format") {
+        return Ok(Request::Format {
+            device: device_in(alloc, format)?,
+            small: format.get_flag("small"),
+            sectors: format.get_one("sectors"),
+        });
+    }
+    if let Some(run) = matches.subcommand_matches("run") {
+        return Ok(Request::Run {
+            device: device_in(alloc, run)?,
+        });
+    }
+    let device = match matches.subcommand_matches("dump") {
+        Some(dump) => device_in(alloc, dump)?,
+        None => String::new(alloc),
+    };
+    Ok(Request::Dump { device })
+}
+
+// The file that a command names. The parser has refused a command that names none.
+fn device_in(alloc: Global, command: &ArgMatches<'_>) -> Result<String, AllocError> {
+    command.get_str("device").unwrap_or("").to_string(alloc)
 }
 
 /// The limits of a server: small ones where they are asked for, else the standard ones.

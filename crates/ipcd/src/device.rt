@@ -1,43 +1,99 @@
-//! The device of a run, in memory.
+//! The device of a run, in memory or in a file.
 
-ghost use Rattle.std.specs.Prelude.{◌≡◌, IfOk};
+ghost use Rattle.std.specs.Prelude.{◌≡◌, ◌⊎◌, ℕ, Ok, IfOk, IfErr};
 ghost use Rattle.ipc_base.specs.Limits.{ArePassed};
+ghost use Rattle.ipc_disk.specs.Medium.{IsHonest};
+ghost use Rattle.ipc_image.specs.Sizes.{need_of};
 ghost use Rattle.ipc_state.specs.State.{start};
+ghost use Rattle.ipc_store.specs.Histories.{OpensOn};
+ghost use Rattle.ipc_store.specs.Image.{IsNotFormatted, HasVersion, IsDamaged};
+ghost use Rattle.ipc_store.specs.Image.{IsFirstFault, IsAtEnd};
+ghost use Rattle.ipc_script.specs.declared.fault.ScriptFault.TheVariants.{NotFormatted};
+ghost use Rattle.ipc_script.specs.declared.fault.ScriptFault.TheVariants.{Version, Damaged};
+ghost use Rattle.ipcd.specs.declared.ending.Fault.TheVariants.{Run};
+ghost use Rattle.ipcd.specs.Device.{sectors_given};
 
+use crate::ending::Fault;
 use ipc_base::Limits;
-use ipc_disk::MemoryDisk;
+use ipc_disk::{FileDisk, MemoryDisk, SectorDisk};
 use ipc_image::need;
 use ipc_script::ScriptFault;
-use ipc_store::{OpenError, Store};
+use ipc_store::Store;
 use std::alloc::Global;
+use std::fs::File;
+use std::rt::Files;
 
 /// A store over a new device in memory, which has as many sectors as these limits need. Its machine
 /// is in the first state.
-pub fn new_store(alloc: Global, limits: &Limits) -> Result<Store<MemoryDisk>, ScriptFault>
+pub fn new_store(alloc: Global, limits: &Limits) -> Result<Store<MemoryDisk>, Fault>
     requires { ArePassed limits.now }
     ensures limits { IfOk result (λ store. store.machine.limits ≡ limits.now) }
     ensures state { IfOk result (λ store. store.machine.state ≡ start) }
     ensures confirmed { IfOk result (λ store. store.confirmed ≡ 1) }
 {
-    let mut disk = MemoryDisk::new(alloc, need(limits))?;
-    match Store::format(&mut disk, limits) {
-        Ok(()) => {}
-        Err(_) => return Err(ScriptFault::Device),
-    }
+    let Ok(mut memory) = MemoryDisk::new(alloc, need(limits)) else {
+        return Err(Fault::Run(ScriptFault::NoMemory));
+    };
+    Store::format(&mut memory, limits)?;
+    open_store(alloc, memory)
+}
+
+/// The store of a device. It goes through a restart as it is opened.
+pub fn open_store<D: SectorDisk + Drop>(alloc: Global, disk: D) -> Result<Store<D>, Fault>
+    ensures ok { IfOk result (λ store. IsHonest (D.medium disk)
+        → OpensOn (D.medium disk).contents (D.medium store.disk) store) }
+    ensures confirmed { IfOk result (λ store. store.confirmed ≡ 1) }
+    ensures not_formatted { IfErr result (λ fault. fault ≡ Run NotFormatted → IsHonest (D.medium disk)
+        → IsNotFormatted (D.medium disk).contents) }
+    ensures version { IfErr result (λ fault. (found : ℕ) → fault ≡ Run (Version found)
+        → IsHonest (D.medium disk) → HasVersion found (D.medium disk).contents) }
+    ensures damaged { IfErr result (λ fault. (sector : ℕ) → fault ≡ Run (Damaged sector)
+        → IsHonest (D.medium disk)
+        → (IsDamaged (D.medium disk).contents × IsFirstFault (D.medium disk).contents sector)
+        ⊎ (IsAtEnd (D.medium disk).contents × (sector ≡ 1))) }
+{
     match Store::open(alloc, disk) {
         Ok(store) => Ok(store),
-        Err(unopened) => Err(fault_of(unopened.error)),
+        Err(unopened) => Err(Fault::from(unopened.error)),
     }
 }
 
-/// The fault of a script whose device was not opened.
-fn fault_of(error: OpenError) -> ScriptFault {
-    match error {
-        OpenError::NoMemory => ScriptFault::NoMemory,
-        OpenError::Device
-        | OpenError::NotFormatted
-        | OpenError::Version { .. }
-        | OpenError::Damaged { .. }
-        | OpenError::JournalFull => ScriptFault::Device,
+/// Makes a device in a file, of as many sectors as are asked for or as it needs, and answers how
+/// many. Too few are refused before the file is touched.
+pub fn format_file<R: Files<File = File>>(
+    rt: &R,
+    path: &str,
+    limits: &Limits,
+    asked: Option<u32>,
+) -> Result<u32, Fault>
+    requires { ArePassed limits.now }
+    ensures { IfOk result (λ sectors. sectors_given (need_of limits.now) asked ≡ Ok sectors) }
+{
+    let sectors = sectors_for(limits, asked)?;
+    let mut disk = FileDisk::create(rt, path, sectors)?;
+    Store::format(&mut disk, limits)?;
+    Ok(sectors)
+}
+
+/// How many sectors a new device gets.
+fn sectors_for(limits: &Limits, asked: Option<u32>) -> Result<u32, Fault>
+    requires { ArePassed limits.now }
+    ensures { result ≡ sectors_given (need_of limits.now) asked }
+{
+    let need = need(limits);
+    match asked {
+        None => Ok(need),
+        Some(sectors) if sectors < need => Err(Fault::TooSmall { need }),
+        Some(sectors) => Ok(sectors),
     }
+}
+
+/// The store of the device in a file.
+pub fn open_file<R: Files<File = File> + AllocGlobal>(
+    rt: &R,
+    path: &str,
+) -> Result<Store<FileDisk>, Fault>
+    ensures { IfOk result (λ store. store.confirmed ≡ 1) }
+{
+    open_store(rt.alloc(), FileDisk::open(rt, path)?)
 }

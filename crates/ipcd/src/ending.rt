@@ -1,38 +1,114 @@
 //! How a run ends: the exit status, and what is said of a fault.
 
 ghost use Rattle.std.specs.Prelude.{◌≡◌, Some};
-ghost use Rattle.ipcd.specs.Ending.{exit_status, complaint_text};
+ghost use Rattle.ipcd.specs.Ending.{exit_status, complaint_text, of_open_error, of_format_error};
+ghost use Rattle.ipcd.specs.Ending.{of_dump_error, device_fault};
+ghost use Rattle.ipcd.specs.declared.ending.Fault.TheVariants.{Run};
 
-use ipc_script::ScriptFault;
+use ipc_disk::DiskFault;
+use ipc_script::{DumpError, ScriptFault};
+use ipc_store::{FormatError, OpenError};
 use std::fmt;
 
-/// The exit status: 0 without a fault, 1 if the world failed, 2 if the script is wrong.
-pub fn exit_of(outcome: &Result<(), ScriptFault>) -> u8
+/// Why a command did not do all that it was asked for. Its `Display` is what standard error says: the
+/// program's name, and the fault's text.
+#[derive(Clone, Copy, Debug, PartialEq, Eq)]
+pub enum Fault {
+    /// What may end a script: a fault of memory, of a stream or of a device, or a line that is wrong.
+    Run(ScriptFault),
+    /// A device is to have at least so many sectors.
+    TooSmall { need: u32 },
+}
+
+/// The exit status: 0 without a fault, 1 if the world failed or the device is too small, 2 if the
+/// script is wrong.
+pub fn exit_of(outcome: &Result<(), Fault>) -> u8
     ensures { result ≡ exit_status outcome.now }
 {
     match outcome {
         Ok(()) => 0,
         Err(
-            ScriptFault::NoMemory | ScriptFault::Input | ScriptFault::Output | ScriptFault::Device,
+            Fault::TooSmall { .. }
+            | Fault::Run(
+                ScriptFault::NoMemory
+                | ScriptFault::Input
+                | ScriptFault::Output
+                | ScriptFault::Device
+                | ScriptFault::NotFormatted
+                | ScriptFault::Version(_)
+                | ScriptFault::Damaged(_),
+            ),
         ) => 1,
         Err(
-            ScriptFault::TooLong
-            | ScriptFault::BadLine(_)
-            | ScriptFault::InUse(_)
-            | ScriptFault::Unknown(_),
+            Fault::Run(
+                ScriptFault::TooLong
+                | ScriptFault::BadLine(_)
+                | ScriptFault::InUse(_)
+                | ScriptFault::Unknown(_),
+            ),
         ) => 2,
     }
 }
 
-/// What standard error says of a fault: the program's name, and the fault's text.
-#[derive(Clone, Copy, Debug)]
-pub struct Complaint(pub ScriptFault);
-
-impl fmt::Display for Complaint {
-    ghost output = { λ complaint. Some (complaint_text complaint) };
+impl fmt::Display for Fault {
+    ghost output = { λ fault. Some (complaint_text fault) };
 
     fn fmt<W: fmt::Write>(&self, f: &mut fmt::Formatter<W>) -> fmt::Result {
-        let fault = self.0;
-        write!(f, "ipcd: {fault}")
+        match self {
+            Fault::Run(fault) => write!(f, "ipcd: {fault}"),
+            Fault::TooSmall { need } => write!(f, "ipcd: too small, {need} sectors needed"),
+        }
+    }
+}
+
+impl From<ScriptFault> for Fault {
+    ghost from_gives = { λ fault e. e ≡ Run fault };
+
+    fn from(fault: ScriptFault) -> Self {
+        Fault::Run(fault)
+    }
+}
+
+impl From<DiskFault> for Fault {
+    ghost from_gives = { λ _ e. e ≡ device_fault };
+
+    fn from(_: DiskFault) -> Self {
+        Fault::Run(ScriptFault::Device)
+    }
+}
+
+impl From<OpenError> for Fault {
+    ghost from_gives = { λ error e. e ≡ of_open_error error };
+
+    fn from(error: OpenError) -> Self {
+        match error {
+            OpenError::NoMemory => Fault::Run(ScriptFault::NoMemory),
+            OpenError::NotFormatted => Fault::Run(ScriptFault::NotFormatted),
+            OpenError::Version { found } => Fault::Run(ScriptFault::Version(found)),
+            OpenError::Damaged { sector } => Fault::Run(ScriptFault::Damaged(sector)),
+            OpenError::Device => Fault::Run(ScriptFault::Device),
+        }
+    }
+}
+
+impl From<FormatError> for Fault {
+    ghost from_gives = { λ error e. e ≡ of_format_error error };
+
+    fn from(error: FormatError) -> Self {
+        match error {
+            FormatError::TooSmall { need } => Fault::TooSmall { need },
+            FormatError::Device | FormatError::BadLimits(_) => Fault::Run(ScriptFault::Device),
+        }
+    }
+}
+
+impl From<DumpError> for Fault {
+    ghost from_gives = { λ error e. e ≡ of_dump_error error };
+
+    fn from(error: DumpError) -> Self {
+        match error {
+            DumpError::NoMemory => Fault::Run(ScriptFault::NoMemory),
+            DumpError::Output => Fault::Run(ScriptFault::Output),
+        }
     }
 }

@@ -1,4 +1,5 @@
-//! `ipcd`, the program: it runs a script of connections on a fresh server, whose device is in memory.
+//! `ipcd`, the program: it runs scripts of connections on a server whose device is in memory or in a
+//! file, and it makes and lists such files.
 #![tactic(auto)]
 
 mod command;
@@ -6,18 +7,29 @@ mod device;
 mod ending;
 
 use command::{Request, limits_of, request_of};
-use device::new_store;
-use ending::{Complaint, exit_of};
-use ipc_script::run_script;
+use device::{format_file, new_store, open_file};
+use ending::{Fault, exit_of};
+use ipc_disk::SectorDisk;
+use ipc_script::{ScriptFault, dump, run_script};
+use ipc_store::Store;
+use std::fs::File;
 use std::io;
 use std::process::ExitCode;
+use std::rt::Files;
 
 #[cfg(test)]
 mod tests;
 
 fn main(rt: HostRuntime) -> io::Result<ExitCode> {
     let status = match request_of(&rt) {
-        Ok(Request::Replay { small }) => replay(&rt, small),
+        Ok(request) => {
+            let outcome = answer(&rt, &request);
+            if let Err(fault) = outcome {
+                // The status stands also if standard error is closed.
+                let _said = eprintln!(&rt; "{fault}");
+            }
+            exit_of(&outcome)
+        }
         Err(refusal) => {
             refusal.print(&rt)?;
             refusal.status()
@@ -26,15 +38,38 @@ fn main(rt: HostRuntime) -> io::Result<ExitCode> {
     Ok(ExitCode::from(status))
 }
 
-/// Runs the script on standard input, and answers the exit status.
-fn replay(rt: &(impl Input + Print + Eprint + AllocGlobal), small: bool) -> u8 {
-    let outcome = match new_store(rt.alloc(), &limits_of(small)) {
-        Ok(store) => run_script(rt.alloc(), store, &mut rt.reader(), &mut io::writer(rt)).0,
-        Err(fault) => Err(fault),
-    };
-    if let Err(fault) = outcome {
-        // The status stands also if standard error is closed.
-        let _said = eprintln!(rt; "{}", Complaint(fault));
+/// Does what the command line asks for.
+fn answer(
+    rt: &(impl Input + Print + AllocGlobal + Files<File = File>),
+    request: &Request,
+) -> Result<(), Fault> {
+    match request {
+        Request::Replay { small } => run(rt, new_store(rt.alloc(), &limits_of(*small))?),
+        Request::Run { device } => run(rt, open_file(rt, device)?),
+        Request::Dump { device } => {
+            let store = open_file(rt, device)?;
+            dump(rt.alloc(), &store, &mut io::writer(rt))?;
+            Ok(())
+        }
+        Request::Format {
+            device,
+            small,
+            sectors,
+        } => {
+            let made = format_file(rt, device, &limits_of(*small), *sectors)?;
+            if println!(rt; "formatted {made} sectors").is_err() {
+                return Err(Fault::Run(ScriptFault::Output));
+            }
+            Ok(())
+        }
     }
-    exit_of(&outcome)
+}
+
+/// Runs the script on standard input.
+fn run<D: SectorDisk + Drop>(
+    rt: &(impl Input + Print + AllocGlobal),
+    store: Store<D>,
+) -> Result<(), Fault> {
+    run_script(rt.alloc(), store, &mut rt.reader(), &mut io::writer(rt)).0?;
+    Ok(())
 }

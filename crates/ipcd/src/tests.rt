@@ -1,7 +1,12 @@
-//! The command line.
+//! The command line, and a device in a file.
 
 use crate::command::{Refusal, Request, limits_of, parse};
+use crate::device::{format_file, open_file};
+use crate::ending::Fault;
 use ipc_base::Limits;
+use ipc_script::ScriptFault;
+use std::test::Fail;
+use std::{env, fs, process};
 
 #[test]
 fn command_lines(rt: HostRuntime) {
@@ -15,15 +20,25 @@ fn command_lines(rt: HostRuntime) {
             Ok(Request::Replay { small }) => {
                 assert_eq!(rt; limits_of(small), wanted, "{words:?}");
             }
-            Err(_) => assert!(rt; false, "{words:?} is refused"),
+            Ok(_) | Err(_) => assert!(rt; false, "{words:?} is no replay"),
         }
     }
-    let refused: [(&[&str], u8); 6] = [
+    let refused: [(&[&str], u8); 16] = [
         (&["ipcd"], 2),
         (&["ipcd", "replay", "--big"], 2),
+        (&["ipcd", "replay", "queues"], 2),
         (&["ipcd", "serve"], 2),
+        (&["ipcd", "run"], 2),
+        (&["ipcd", "run", "queues", "--small"], 2),
+        (&["ipcd", "dump"], 2),
+        (&["ipcd", "dump", "queues", "more"], 2),
+        (&["ipcd", "format"], 2),
+        (&["ipcd", "format", "queues", "--sectors"], 2),
+        (&["ipcd", "format", "queues", "--sectors", "-1"], 2),
+        (&["ipcd", "format", "queues", "--sectors", "4294967296"], 2),
         (&["ipcd", "--help"], 0),
         (&["ipcd", "replay", "--help"], 0),
+        (&["ipcd", "format", "--help"], 0),
         (&["ipcd", "--version"], 0),
     ];
     for (words, status) in refused {
@@ -32,4 +47,78 @@ fn command_lines(rt: HostRuntime) {
             Err(error) => assert_eq!(rt; Refusal::Parser(error).status(), status, "{words:?}"),
         }
     }
+}
+
+/// What a request for a file has: its device, whether limits are small, and the sectors.
+type Asked<'a> = (&'a str, bool, Option<u32>);
+
+#[test]
+fn requests_for_files(rt: HostRuntime) {
+    let formats: [(&[&str], Asked<'_>); 5] = [
+        (&["ipcd", "format", "queues"], ("queues", false, None)),
+        (
+            &["ipcd", "format", "--small", "queues"],
+            ("queues", true, None),
+        ),
+        (
+            &["ipcd", "format", "queues", "--sectors", "0"],
+            ("queues", false, Some(0)),
+        ),
+        (
+            &["ipcd", "format", "queues", "--sectors=4294967295"],
+            ("queues", false, Some(4294967295)),
+        ),
+        (
+            &["ipcd", "format", "--sectors", "448", "a b", "--small"],
+            ("a b", true, Some(448)),
+        ),
+    ];
+    for (words, wanted) in formats {
+        match parse(rt.alloc(), words) {
+            Ok(
+                Request::Format {
+                    device,
+                    small,
+                    sectors,
+                },
+            ) => assert_eq!(rt; (device.as_str(), small, sectors), wanted, "{words:?}"),
+            Ok(_) | Err(_) => assert!(rt; false, "{words:?} is no format"),
+        }
+    }
+    match parse(rt.alloc(), &["ipcd", "run", "queues"]) {
+        Ok(Request::Run { device }) => assert_eq!(rt; device.as_str(), "queues"),
+        Ok(_) | Err(_) => assert!(rt; false, "it is no run"),
+    }
+    match parse(rt.alloc(), &["ipcd", "dump", "queues"]) {
+        Ok(Request::Dump { device }) => assert_eq!(rt; device.as_str(), "queues"),
+        Ok(_) | Err(_) => assert!(rt; false, "it is no dump"),
+    }
+}
+
+#[test]
+fn a_device_in_a_file(rt: HostRuntime) -> Result<(), Fail> {
+    let id = process::id(rt.process());
+    let name = format!(in rt.alloc(); "ipcd-{id}-device")?;
+    let path = env::temp_dir(&rt)?.join(rt.alloc(), name.as_str())?;
+    let Some(path) = path.to_str() else {
+        return Err(Fail::new("a path that is no text"));
+    };
+    let small = Limits::small();
+    let device = Fault::Run(ScriptFault::Device);
+    let need = Fault::TooSmall { need: 448 };
+    assert_eq!(rt; format_file(&rt, path, &small, Some(447)), Err(need));
+    assert_eq!(rt; open_file(&rt, path).err(), Some(device));
+    assert_eq!(rt; format_file(&rt, path, &small, Some(449)), Ok(449));
+    assert_eq!(rt; format_file(&rt, path, &small, None), Ok(448));
+    let opened = match open_file(&rt, path) {
+        Ok(store) => {
+            assert_eq!(rt; *store.engine().limits(), small);
+            assert_eq!(rt; open_file(&rt, path).err(), Some(device));
+            true
+        }
+        Err(_) => false,
+    };
+    fs::remove_file(&rt, path)?;
+    assert!(rt; opened);
+    Ok(())
 }

@@ -1,14 +1,14 @@
 -- What a call comes to that is refused.
-use Rattle.std.specs.Prelude.{◌≡◌, ℕ, false, []}
+use Rattle.std.specs.Prelude.{◌≡◌, ◌⊎◌, ℕ, false, []}
 use Rattle.ipc_base.specs.declared.limits.Limits.{Limits}
 use Rattle.ipc_disk.specs.Counts.{Counts, counted}
 use Rattle.ipc_disk.specs.Medium.{Medium}
 use Rattle.ipc_store.specs.declared.fault.CommitError.{CommitError}
 use Rattle.ipc_store.specs.declared.fault.CommitError.TheVariants as commit
 use Rattle.ipc_store.specs.Histories.{Takes}
-use Rattle.ipc_store.specs.View.{HasPlace, IsStopped}
+use Rattle.ipc_store.specs.View.{IsAtLastEpoch, IsStopped}
 use Rattle.ipc_hub.specs.declared.fault.ServeError.{ServeError}
-use Rattle.ipc_hub.specs.declared.fault.ServeError.TheVariants.{Unknown, Device, JournalFull, Stopped}
+use Rattle.ipc_hub.specs.declared.fault.ServeError.TheVariants.{Unknown, Device, Stopped}
 use Rattle.ipc_hub.specs.Clients.{Clients, fail}
 use Rattle.ipc_hub.specs.View.{StoredHub, HasStopped, is_connected}
 use Rattle.ipc_hub.specs.Relations.Matches.{HubMatches, StoredMatches}
@@ -21,18 +21,17 @@ pub record Fails {D : Type 0} (medium : D → Medium) (old new : StoredHub D) : 
   pub matches : (limits : Limits) (h : Clients) → StoredMatches limits old h
       → HubMatches limits old.store.confirmed new.hub (fail old.store.confirmed h)
 
--- a call that lets time pass or commits is refused by this fault
+-- A call that lets time pass or commits is refused by this fault. It is `Stopped` if the hub goes on no more, and once
+-- if the numbers of epochs are at their end: then the hub fails as by the disk.
 abbrev pub Halts : {D : Type 0} → (D → Medium) → (D → Counts) → StoredHub D → StoredHub D → CommitError → Type 0
 Halts medium counts old new commit.Device =
     Fails medium old new × ((counts new.store.disk).failures ≡ counted (counts old.store.disk).failures 1)
-Halts medium counts old new commit.JournalFull =
-    Fails medium old new × (¬ HasPlace old.store)
-Halts medium counts old new commit.Stopped = HasStopped old × (new ≡ old)
+Halts medium counts old new commit.Stopped =
+    (HasStopped old × (new ≡ old)) ⊎ (Fails medium old new × IsAtLastEpoch old.store)
 
 -- so is a call that names a connection, or because none has its number
 abbrev pub Refuses : {D : Type 0} → (D → Medium) → (D → Counts) → StoredHub D → StoredHub D → ℕ → ServeError → Type 0
 Refuses medium counts old new conn Unknown =
     (¬ HasStopped old) × (is_connected old.hub conn ≡ false) × (new ≡ old)
 Refuses medium counts old new conn Device = Halts medium counts old new commit.Device
-Refuses medium counts old new conn JournalFull = Halts medium counts old new commit.JournalFull
 Refuses medium counts old new conn Stopped = Halts medium counts old new commit.Stopped

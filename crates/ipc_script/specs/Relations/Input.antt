@@ -3,6 +3,7 @@ use Rattle.std.specs.Prelude.{⊤, ◌<◌, ℕ, List, length, Option}
 use Rattle.std.specs.Io.KnownBytes.{Consumes}
 use Rattle.ipc_script.specs.declared.fault.ScriptFault.{ScriptFault}
 use Rattle.ipc_script.specs.declared.fault.ScriptFault.TheVariants.{NoMemory, Input, Output, Device}
+use Rattle.ipc_script.specs.declared.fault.ScriptFault.TheVariants.{NotFormatted, Version, Damaged}
 use Rattle.ipc_script.specs.declared.fault.ScriptFault.TheVariants.{TooLong, BadLine, InUse, Unknown}
 use Rattle.ipc_script.specs.Line.{longest_script}
 
@@ -18,6 +19,9 @@ IsReadFault Input = ⊤
 IsReadFault TooLong = ⊤
 IsReadFault Output = ⊥
 IsReadFault Device = ⊥
+IsReadFault NotFormatted = ⊥
+IsReadFault (Version found) = ⊥
+IsReadFault (Damaged sector) = ⊥
 IsReadFault (BadLine number) = ⊥
 IsReadFault (InUse number) = ⊥
 IsReadFault (Unknown number) = ⊥

@@ -1,9 +1,12 @@
 -- What a disk is on its way to a device.
-use Rattle.std.specs.Prelude.{◌≡◌, [], replicate}
+use Rattle.std.specs.Prelude.{[]}
+use Rattle.ipc_base.specs.declared.limits.Limits.{Limits}
 use Rattle.ipc_disk.specs.Medium.{Image, Medium}
 use Rattle.ipc_disk.specs.Standing.{sector_at}
+use Rattle.ipc_state.specs.State.{start}
+use Rattle.ipc_image.specs.Saved.{saved}
 use Rattle.ipc_image.specs.Superblock.{IsFormatted}
-use Rattle.ipc_store.specs.Image.{HasBatches}
+use Rattle.ipc_store.specs.Image.{first_epoch, HasObjects, HasBatches}
 
 -- each image that a crash now may leave
 abbrev pub EachNow : Medium → (Image → Type 0) → Type 0
@@ -13,11 +16,8 @@ EachNow medium P = (image : Image) → medium.images_now image → P image
 abbrev pub IsErased : Image → Type 0
 IsErased image = ¬ IsFormatted (sector_at image 0)
 
--- and its journal is one without a batch
-pub record IsPrepared (image : Image) : Type 0 where
+-- and it has the objects of the first state and a journal without a batch
+pub record IsPrepared (limits : Limits) (image : Image) : Type 0 where
   pub erased : IsErased image
-  pub journal : HasBatches [] image
-
--- the sector of its root is zeros
-abbrev pub HasNoRoot : Image → Type 0
-HasNoRoot image = sector_at image 1 ≡ replicate 512 0
+  pub objects : HasObjects limits first_epoch (saved start) image
+  pub journal : HasBatches first_epoch [] image

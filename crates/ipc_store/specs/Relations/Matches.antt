@@ -1,24 +1,50 @@
 -- A store matches its disk: what stands there, and what waits.
-use Rattle.std.specs.Prelude.{◌≡◌, ◌⊎◌, false, List, length, map, All}
+use Rattle.std.specs.Prelude.{◌≡◌, ◌⊎◌, ℕ, false, List, length, map, All}
 use Rattle.ipc_base.specs.declared.limits.Limits.{Limits}
+use Rattle.ipc_base.specs.Objects.{PlainObjects}
+use Rattle.ipc_checkpoint.specs.declared.checkpoint.Checkpoint.{Checkpoint}
+use Rattle.ipc_checkpoint.specs.Checkpoint.{IsLaidOut}
+use Rattle.ipc_checkpoint.specs.Matches.{CheckpointMatches}
+use Rattle.ipc_checkpoint.specs.View.{epoch_of as saved_epoch, layout_of as saved_layout}
 use Rattle.ipc_disk.specs.Medium.{Image, Medium, IsHonest}
+use Rattle.ipc_disk.specs.Range.{IsWithin}
 use Rattle.ipc_journal.specs.declared.journal.Journal.{Journal}
 use Rattle.ipc_journal.specs.Matches.{JournalMatches}
 use Rattle.ipc_journal.specs.View.{range_of, epoch_of}
 use Rattle.ipc_state.specs.State.{State, restart}
-use Rattle.ipc_engine.specs.Engine.{Machine}
 use Rattle.ipc_engine.specs.Event.{PlainEvent}
 use Rattle.ipc_engine.specs.Step.{run}
 use Rattle.ipc_image.specs.Records.{HasRecord}
+use Rattle.ipc_image.specs.Saved.{StandForState}
+use Rattle.ipc_image.specs.Sizes.{area_of}
 use Rattle.ipc_store.specs.Batch.{records_of, batch_bytes}
-use Rattle.ipc_store.specs.Image.{journal_range, first_epoch, AreFor, LeadTo, IsDevice, StandsFor}
+use Rattle.ipc_store.specs.Image.{journal_range, layout_of, AreFor, LeadTo, IsDevice, StandsFor}
 use Rattle.ipc_store.specs.View.{StoreView}
 
--- the journal of the disk, as the store knows it, leads to the base
-pub record HasHistory {D : Type 0} (medium : Medium) (store : StoreView D) (base : State)
-    (batches : List (List PlainEvent)) : Type 0 where
-  pub journal : JournalMatches store.journal (map batch_bytes batches) medium
-  pub leads : LeadTo store.machine.limits batches base
+-- the objects and the journal lie on a disk of so many sectors, with room for a state under these limits, and are of
+-- one epoch
+pub record AreOnDisk (size : ℕ) (limits : Limits) (checkpoint : Checkpoint) (journal : Journal) : Type 0 where
+  pub objects : IsLaidOut (saved_layout checkpoint) size
+  pub room : (saved_layout checkpoint).area ≡ area_of limits
+  pub within : IsWithin (range_of journal) size
+  pub epoch : epoch_of journal ≡ saved_epoch checkpoint
+
+-- Each image that a crash now may leave is of a device with these limits. Its objects stand for a state, and the
+-- batches of its journal lead from there to the base.
+pub record DeviceMatches (medium : Medium) (limits : Limits) (checkpoint : Checkpoint) (journal : Journal)
+    (base : State) : Type 0 where
+  pub honest : IsHonest medium
+  pub range : range_of journal ≡ journal_range
+  pub epoch : epoch_of journal ≡ saved_epoch checkpoint
+  pub device : (image : Image) → medium.images_now image
+      → IsDevice limits image × (saved_layout checkpoint ≡ layout_of limits (length image))
+  pub from : State
+  pub objects : PlainObjects
+  pub stand : StandForState limits from objects
+  pub saved : CheckpointMatches checkpoint objects medium
+  pub batches : List (List PlainEvent)
+  pub appended : JournalMatches journal (map batch_bytes batches) medium
+  pub leads : LeadTo limits from batches base
 
 -- these events wait, each with a place in the batch
 pub record HasPending {D : Type 0} (store : StoreView D) (base : State) (pending : List PlainEvent) : Type 0 where
@@ -32,23 +58,14 @@ pub record HasPending {D : Type 0} (store : StoreView D) (base : State) (pending
 -- these events wait. Its engine is in the state after them.
 pub record StoreMatches {D : Type 0} (medium : Medium) (store : StoreView D) (base : State)
     (pending : List PlainEvent) : Type 0 where
-  pub honest : IsHonest medium
   pub goes_on : store.stopped ≡ false
-  pub range : range_of store.journal ≡ journal_range
-  pub epoch : epoch_of store.journal ≡ first_epoch
-  pub device : (image : Image) → medium.images_now image → IsDevice store.machine.limits image
-  pub history : (batches : List (List PlainEvent)) × HasHistory medium store base batches
+  pub device : DeviceMatches medium store.machine.limits store.checkpoint store.journal base
   pub waits : HasPending store base pending
 
--- What stands on the disk, and will still stand there after a crash, is the journal, which leads to
--- the state of the machine.
-pub record IsLoaded (medium : Medium) (journal : Journal) (machine : Machine) : Type 0 where
-  pub honest : IsHonest medium
-  pub range : range_of journal ≡ journal_range
-  pub epoch : epoch_of journal ≡ first_epoch
-  pub device : (image : Image) → medium.images_now image → IsDevice machine.limits image
-  pub history : (batches : List (List PlainEvent)) × JournalMatches journal (map batch_bytes batches) medium
-      × LeadTo machine.limits batches machine.state
+-- a store that has not stopped, on an honest disk, matches it
+abbrev pub MatchesIfHonest : {D : Type 0} → Medium → StoreView D → Type 0
+MatchesIfHonest medium store = store.stopped ≡ false → IsHonest medium
+    → (base : State) × ((pending : List PlainEvent) × StoreMatches medium store base pending)
 
 -- an image stands for one of two states
 abbrev pub StandsForEither : Limits → State → State → Image → Type 0

@@ -3,7 +3,6 @@ use Rattle.std.specs.Prelude.{◌≡◌, ◌+◌, ◌<◌, ◌≤◌, ℕ, List,
 use Rattle.ipc_base.specs.declared.limits.Limits.{Limits}
 use Rattle.ipc_disk.specs.declared.range.Range.{Range}
 use Rattle.ipc_disk.specs.Medium.{Image}
-use Rattle.ipc_disk.specs.Standing.{sectors_for, StandsAt}
 use Rattle.ipc_journal.specs.Journal.{header_epoch, header_used, sectors_of, Fill}
 use Rattle.ipc_journal.specs.View.{range_of, epoch_of, used_of}
 use Rattle.ipc_journal.specs.declared.journal.Journal.{Journal}
@@ -11,8 +10,8 @@ use Rattle.ipc_state.specs.State.{State}
 use Rattle.ipc_engine.specs.Event.{PlainEvent}
 use Rattle.ipc_engine.specs.Step.{run}
 use Rattle.ipc_image.specs.Records.{HasRecord}
-use Rattle.ipc_store.specs.Batch.{records_of, batch_bytes, AreBatch}
-use Rattle.ipc_store.specs.Image.{AreFor, LeadTo}
+use Rattle.ipc_store.specs.Batch.{records_of, batch_bytes}
+use Rattle.ipc_store.specs.Image.{AreFor, LeadTo, HasNoBatchAt}
 
 -- the bytes are the records of these events, which lead from one state to another
 pub record AreRecords (limits : Limits) (from : State) (bytes : List ℕ) (events : List PlainEvent)
@@ -22,11 +21,11 @@ pub record AreRecords (limits : Limits) (from : State) (bytes : List ℕ) (event
   pub named : AreFor limits from events
   pub state : to ≡ (run limits from events).state
 
--- the batches that the journal uses are these, and they lead to this state
-pub record Replays (limits : Limits) (journal : Journal) (image : Image) (batches : List (List PlainEvent))
-    (s : State) : Type 0 where
+-- the batches that the journal uses are these, and they lead from one state to another
+pub record Replays (limits : Limits) (from : State) (journal : Journal) (image : Image)
+    (batches : List (List PlainEvent)) (s : State) : Type 0 where
   pub filled : Fill (range_of journal) 0 (used_of journal) (map batch_bytes batches) image
-  pub leads : LeadTo limits batches s
+  pub leads : LeadTo limits from batches s
 
 -- the journal is the one whose header stands in the image
 pub record IsOpened (journal : Journal) (image : Image) : Type 0 where
@@ -35,18 +34,11 @@ pub record IsOpened (journal : Journal) (image : Image) : Type 0 where
       → used_of journal ≡ header_used (range_of journal) image
   pub not_newer : header_epoch (range_of journal) image ≤ epoch_of journal
 
--- no batch of events that can come here stands at this place, within the sectors that are used
-abbrev pub HasNoBatchAt : Limits → State → Range → ℕ → ℕ → Image → Type 0
-HasNoBatchAt limits s range place used image =
-    (events : List PlainEvent) → AreBatch events → AreFor limits s events
-    → StandsAt (range.first + 1 + place) (batch_bytes events) image
-    → used < place + sectors_for (length (batch_bytes events))
-
 -- the batches before this sector are good ones, and none follows there
-pub record IsGoodUpTo (limits : Limits) (journal : Journal) (image : Image) (sector : ℕ) : Type 0 where
+pub record IsGoodUpTo (limits : Limits) (from : State) (journal : Journal) (image : Image) (sector : ℕ) : Type 0 where
   pub batches : List (List PlainEvent)
   pub state : State
-  pub leads : LeadTo limits batches state
+  pub leads : LeadTo limits from batches state
   pub filled : Fill (range_of journal) 0 (sectors_of (map batch_bytes batches)) (map batch_bytes batches) image
   pub sector_is : sector ≡ (range_of journal).first + 1 + sectors_of (map batch_bytes batches)
   pub used : sectors_of (map batch_bytes batches) < used_of journal

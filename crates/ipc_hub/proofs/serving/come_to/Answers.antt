@@ -15,15 +15,15 @@ step-requires-clause-record g c =
     let whole : plain_frame c.read_frame.result ≡ Whole c.in-Whole.used (plain_request c.in-Whole.request) = search rules in
     c.in-Some.ensures.record (c.read_frame.ensures.has_frame c.in-Whole.used (plain_request c.in-Whole.request) whole)
 
-pub returns-in_default : goal.returns-in_default
-returns-in_default g c =
+pub returns-in_default-clause-comes : goal.returns-in_default-clause-comes
+returns-in_default-clause-comes g c =
     let whole : first c.args.connection.now.input.items ≡ Whole c.in-Whole.used (plain_request c.in-Whole.request) = search rules in
     let none : event_of (pid_of c.args.connection.now.process) (plain_request c.in-Whole.request) c.args.moment.0 ≡ None =
     sym c.event_of.ensures.event ∙ ap (option_map plain_event) c.in_default.is in
     (refl, inr (record { used = c.in-Whole.used; request = plain_request c.in-Whole.request; whole = whole; event = none }, refl))
 
-pub returns-in-Ok : goal.returns-in-Ok
-returns-in-Ok g c =
+pub returns-in-Ok-clause-comes : goal.returns-in-Ok-clause-comes
+returns-in-Ok-clause-comes g c =
     let whole : first c.args.connection.now.input.items ≡ Whole c.in-Whole.used (plain_request c.in-Whole.request) = search rules in
     let made : event_of (pid_of c.args.connection.now.process) (plain_request c.in-Whole.request) c.args.moment.0 ≡ Some (plain_event c.in-Some.event) =
     sym c.event_of.ensures.event ∙ ap (option_map plain_event) c.in-Some.is in (
@@ -40,8 +40,8 @@ returns-in-Ok g c =
       ),
     )
 
-pub returns-in-Err-NoMemory : goal.returns-in-Err-NoMemory
-returns-in-Err-NoMemory g c =
+pub returns-in-Err-NoMemory-clause-comes : goal.returns-in-Err-NoMemory-clause-comes
+returns-in-Err-NoMemory-clause-comes g c =
     let e = plain_event c.in-Some.event in
     let whole : first c.args.connection.now.input.items ≡ Whole c.in-Whole.used (plain_request c.in-Whole.request) = search rules in
     let made : event_of (pid_of c.args.connection.now.process) (plain_request c.in-Whole.request) c.args.moment.0 ≡ Some e =

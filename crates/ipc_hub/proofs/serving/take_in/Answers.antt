@@ -39,6 +39,7 @@ loop-taken-init g c =
           (at-there c.args.connections.now c.args.place d it)
           (kept c.args.store.now.machine c.args.connections.now c.args.place d c.requires.hub c.requires.place it.same).input;
       first = λ _. (refl, refl);
+      disk = refl;
       ready = λ _ _ _. c.requires.ready;
     }
 
@@ -113,6 +114,7 @@ loop-taken-preserved g c =
           (sym (take-add i n piece ∙ ap (λ (r : List ℕ). take i piece ++ take n r) (sym whole)))
           (takes-then med g.met.D.SectorDisk.only_now old mid new d.number c.args.moment.0 (take i piece) (take n rest) (held.bytes d it) next);
       first = λ none. absurd (omega (arith, none, c.take-taken.ensures.some (omega (arith, ap length whole, length-drop i piece))));
+      disk = c.take-taken.ensures.disk ∙ held.disk;
       ready = λ d it none. subst (λ (s : StoreView g.row.D.Denot). IsReadyFor s 1) (sym (c.take-taken.ensures.answers d it none))
           (c.is_ready_for.ensures.0 c.if-not-is_ready_for.false);
     }

@@ -18,6 +18,7 @@ invariant-loop-taken g l = record {
   bytes : (c : Connection) → IsThere l.fn.connections l.place c
       → TakesIn g.D.SectorDisk.medium (stored_view l.fn.store l.fn.connections) (stored_view l.store l.connections) c.number (take l.taken l.piece) l.moment.0;
   first : l.taken ≡ 0 → (l.connections ≡ l.fn.connections) × (l.store ≡ l.fn.store);
+  disk : l.store.disk ≡ l.fn.store.disk;
   ready : (c : Connection) → IsThere l.connections l.place c → kept c.outbox ≡ [] → IsReadyFor l.store 1;
 }
 

@@ -7,19 +7,22 @@ use Rattle.ipc_script.proofs.FedPieces.{fed_begun, fed_more, fed_all, fed_refuse
 use Rattle.ipc_script.proofs.script.feed.Goals as goal
 
 pub pieces-init : goal.pieces-init
-pieces-init g c = λ limits r b.
-    (omega arith, c.requires, fed_begun limits r c.args.sender c.args.bytes.now c.args.hub.now c.args.opened.now _ b)
+pieces-init g c = record {
+  honest = λ honest. honest;
+  runs = λ limits r b.
+      (omega arith, c.requires, fed_begun limits r c.args.sender c.args.bytes.now c.args.hub.now c.args.opened.now _ b);
+}
 
-pub returns-in_err-taken : goal.returns-in_err-taken
-returns-in_err-taken g c = λ limits r b.
+pub returns-in_err-taken-clause-line : goal.returns-in_err-taken-clause-line
+returns-in_err-taken-clause-line g c = λ limits r b.
     let q = err_from_is_err_and c.from_residual.result c.from_residual.ensures.1 in
-    let p = c.pieces.invariant limits r b in
+    let p = c.pieces.invariant.runs limits r b in
     rw (q.1, q.2) (fed_refused limits r c.args.sender c.args.bytes.now
     c.pieces.hub c.pieces.opened c.pieces.rest.now _ _ _ p.2 p.1 c.in_err-taken.field-0.0 c.in_err-taken.ensures.err c.in_err-taken.ensures.unknown)
 
-pub returns-then-is_empty : goal.returns-then-is_empty
-returns-then-is_empty g c = λ limits r b.
-    let p = c.pieces.invariant limits r b in
+pub returns-then-is_empty-clause-line : goal.returns-then-is_empty-clause-line
+returns-then-is_empty-clause-line g c = λ limits r b.
+    let p = c.pieces.invariant.runs limits r b in
     let s = c.in_ok-taken.ensures.ok limits p.2.now p.2.at in
     let none : length (take (length c.pieces.rest.now - c.in_ok-taken.taken) (drop c.in_ok-taken.taken c.pieces.rest.now)) ≡ 0 =
     grind (arith, nat_tests, c.if-is_empty.ensures) in
@@ -29,21 +32,24 @@ returns-then-is_empty g c = λ limits r b.
     (all.0, all.1, rw was (ap (λ (q : Progress). Ok q) all.2), all.3)
 
 pub pieces-preserved : goal.pieces-preserved
-pieces-preserved g c = λ limits r b.
-    let p = c.pieces.invariant limits r b in
-    let s = c.in_ok-taken.ensures.ok limits p.2.now p.2.at in
-    let some = s.takes_some p.1 in
-    let left = rest_length c.pieces.rest.now c.in_ok-taken.taken in
-    let more : 0 < length (take (length c.pieces.rest.now - c.in_ok-taken.taken) (drop c.in_ok-taken.taken c.pieces.rest.now)) =
-    grind (arith, nat_tests, c.if-is_empty.ensures) in (
-      omega (arith, p.0, some, left, more),
-      more,
-      fed_more limits r c.args.sender c.args.bytes.now c.pieces.hub c.pieces.opened c.pieces.rest.now _ _ p.2 c.in_ok-taken.taken
-          c.feed_some.new.hub c.feed_some.new.opened _ s
-          p.1 (omega (arith, left, more)),
-    )
+pieces-preserved g c = record {
+  honest = λ honest. c.feed_some.ensures.honest (c.pieces.invariant.honest honest);
+  runs = λ limits r b.
+      let p = c.pieces.invariant.runs limits r b in
+      let s = c.in_ok-taken.ensures.ok limits p.2.now p.2.at in
+      let some = s.takes_some p.1 in
+      let left = rest_length c.pieces.rest.now c.in_ok-taken.taken in
+      let more : 0 < length (take (length c.pieces.rest.now - c.in_ok-taken.taken) (drop c.in_ok-taken.taken c.pieces.rest.now)) =
+      grind (arith, nat_tests, c.if-is_empty.ensures) in (
+        omega (arith, p.0, some, left, more),
+        more,
+        fed_more limits r c.args.sender c.args.bytes.now c.pieces.hub c.pieces.opened c.pieces.rest.now _ _ p.2 c.in_ok-taken.taken
+            c.feed_some.new.hub c.feed_some.new.opened _ s
+            p.1 (omega (arith, left, more)),
+      );
+}
 
-pub returns : goal.returns
-returns g c = λ limits r b.
-    let p = c.pieces.invariant limits r b in
+pub returns-clause-line : goal.returns-clause-line
+returns-clause-line g c = λ limits r b.
+    let p = c.pieces.invariant.runs limits r b in
     absurd (omega (arith, p.0, p.1))

@@ -1,85 +1,14 @@
-use Rattle.std.proofs.Common.{◌≡◌, true, false, List, length, refl, ap, ◌∙◌}
-use Rattle.std.proofs.lemmas.Result.{err_from_is_err_and}
-use Rattle.ipc_hub.specs.Clients.{tick}
-use Rattle.ipc_script.specs.declared.report.Opened.{Opened}
-use Rattle.ipc_script.specs.Relations.Lines.{hex_bytes, plain_line}
-use Rattle.ipc_script.specs.Line.{Open, End, Tick}
-use Rattle.ipc_base.specs.declared.limits.Limits.{Limits}
-use Rattle.ipc_script.specs.declared.fault.ScriptFault.TheVariants.{InUse, Unknown}
-use Rattle.ipc_script.specs.Script.{Run, is_open, opened}
-use Rattle.ipc_script.specs.Relations.Matches.{RunMatches, RunMatchesBetween}
-use Rattle.ipc_script.proofs.UnchangedHeads.{heads_tick, steady}
-use Rattle.ipc_script.proofs.HexBytes.{hex_nonempty}
-use Rattle.ipc_script.proofs.LineForms.{written_back, line_unwritten, line_reported, line_refused, open_done, open_refused, end_done, end_refused}
-use Rattle.ipc_script.proofs.script.run_line.Goals.{in-Open+in_ok-open-in-Open, in-End+in_ok-close-in-End, in-Tick+in-Ok}
+use Rattle.ipc_script.specs.declared.fault.ScriptFault.TheVariants.{Device}
+use Rattle.ipc_script.specs.Relations.Lines.{plain_line}
+use Rattle.ipc_script.specs.Script.{line_done}
+use Rattle.ipc_script.specs.Relations.Simulation.{LineStops}
+use Rattle.ipc_script.proofs.WrittenText.{grown_more}
 use Rattle.ipc_script.proofs.script.run_line.Goals as goal
 
-pub returns-in_err-open-in-Open : goal.returns-in_err-open-in-Open
-returns-in_err-open-in-Open g c = λ limits r b.
-    let q = err_from_is_err_and c.from_residual.result c.from_residual.ensures.1 in
-    rw (q.1, q.2, c.in-Open.is) (line_refused limits c.args.number r (g.W.Write.contents c.args.writer.now)
-    (Open c.in-Open.conn) c.in_err-open-in-Open.field-0.0 (InUse c.args.number)
-    ((limits : Limits) (r : Run) → RunMatchesBetween limits c.args.hub.now c.args.opened.now.items r → is_open r c.in-Open.conn ≡ true)
-    c.in_err-open-in-Open.ensures.err c.in_err-open-in-Open.ensures.in_use (λ u. open_refused limits c.args.number r c.in-Open.conn (u limits r b)))
-
-pub returns-in_err-bytes-in-Data : goal.returns-in_err-bytes-in-Data
-returns-in_err-bytes-in-Data g c = λ limits r b.
-    let q = err_from_is_err_and c.from_residual-in_err-bytes-in-Data.result c.from_residual-in_err-bytes-in-Data.ensures.1 in
-    rw (q.1, q.2) (line_unwritten limits c.args.number r (plain_line c.args.line) (g.W.Write.contents c.args.writer.now))
-
-pub feed-requires : goal.feed-requires
-feed-requires g c =
-    let bytes : c.deref.result.now ≡ hex_bytes c.in-Data.hex = c.deref.ensures.value ∙ c.in_ok-bytes-in-Data.ensures in
-    rw bytes (hex_nonempty c.in-Data.hex.digits.now c.in-Data.hex.well_formed)
-
-pub returns-in-Data : goal.returns-in-Data
-returns-in-Data g c = λ limits r b.
-    let back =
-    written_back c.args.opened.now.len c.feed.new.opened c.args.opened.now.items c.args.opened.now.ok.0 (c.feed.auto.opened
-    ∙ ap (λ (xs : List Opened). length xs) c.deref_mut.ensures.value) in
-    let bytes : c.deref.result.now ≡ hex_bytes c.in-Data.hex = c.deref.ensures.value ∙ c.in_ok-bytes-in-Data.ensures in
-    let runs = c.feed.ensures limits r (rw (← c.deref_mut.ensures.value) at b) in
-    rw (back, c.in-Data.is) (rw bytes at runs)
-
-pub returns-in_err-close-in-End : goal.returns-in_err-close-in-End
-returns-in_err-close-in-End g c = λ limits r b.
-    let q = err_from_is_err_and c.from_residual-in_err-close-in-End.result c.from_residual-in_err-close-in-End.ensures.1 in
-    rw (q.1, q.2, c.in-End.is)
-    (line_refused limits c.args.number r (g.W.Write.contents c.args.writer.now)
-    (End c.in-End.moment c.in-End.conn) c.in_err-close-in-End.field-0.0 (Unknown c.args.number)
-    ((limits : Limits) (r : Run) → RunMatchesBetween limits c.args.hub.now c.args.opened.now.items r → is_open r c.in-End.conn ≡ false)
-    c.in_err-close-in-End.ensures.err c.in_err-close-in-End.ensures.unknown
-    (λ u. end_refused limits c.args.number r c.in-End.moment c.in-End.conn (u limits r b)))
-
-pub returns : goal.returns
-returns g c = λ limits r b.
-    let back =
-    written_back c.match-line.opened.len c.report.new.opened c.match-line.opened.items c.match-line.opened.ok.0 (c.report.auto.opened
-    ∙ ap (λ (xs : List Opened). length xs) c.deref_mut-2.ensures.value) in
-    let hub = c.match-line.hub in
-    let items = c.match-line.opened.items in
-    let at : (now : Run) → RunMatches limits hub items now → RunMatches limits hub c.deref_mut-2.result.now now =
-    λ now i. (rw (← c.deref_mut-2.ensures.value) at i) in
-    rw back (elim c.match-line.branch [
-      | in-Open+in_ok-open-in-Open w ↦
-          let o = w.in_ok-open-in-Open.ensures.ok limits r b in
-          rw w.in-Open.is
-          (line_reported limits c.args.number r hub c.report.new.hub _ _ (Open w.in-Open.conn) c.deref_mut-2.result.now c.report.new.opened
-          c.report.new.opened c.report.result
-          c.report.ensures.ok c.report.ensures.err refl (opened r w.in-Open.conn) (at _ (rw (← w.hub-is, ← w.opened-is) at o.1))
-          (open_done limits c.args.number r w.in-Open.conn o.0))
-      | in-End+in_ok-close-in-End w ↦
-          let o = w.in_ok-close-in-End.ensures.ok limits r b in
-          rw w.in-End.is
-          (line_reported limits c.args.number r hub c.report.new.hub _ _ (End w.in-End.moment w.in-End.conn) c.deref_mut-2.result.now
-          c.report.new.opened c.report.new.opened c.report.result
-          c.report.ensures.ok c.report.ensures.err refl _ (at _ (rw (← w.hub-is, ← w.opened-is) at o.1))
-          (end_done limits c.args.number r w.in-End.moment w.in-End.conn o.0))
-      | in-Tick+in-Ok w ↦
-          let i = steady limits c.args.hub.now w.tick.new.self c.args.opened.now.items r (tick limits r.hub w.in-Tick.moment) b.run
-          (heads_tick limits 0 w.in-Tick.moment r.hub) (w.in-Ok.ensures.ok limits r.hub b.run.matches).matches in
-          rw w.in-Tick.is
-          (line_reported limits c.args.number r hub c.report.new.hub _ _ (Tick w.in-Tick.moment) c.deref_mut-2.result.now c.report.new.opened
-          c.report.new.opened c.report.result
-          c.report.ensures.ok c.report.ensures.err refl _ (at _ (rw (← w.hub-is, ← w.opened-is) at i)) (λ cut. refl))
-    ])
+pub returns-in-Err-Device-clause-line : goal.returns-in-Err-Device-clause-line
+returns-in-Err-Device-clause-line g c = λ limits r b.
+    let before = g.W.Write.contents c.args.writer.now in
+    let then = g.W.Write.contents c.serve_line.new.writer in
+    let more : LineStops (line_done limits c.args.number r (plain_line c.args.line)) before then Device =
+    rw c.in-Err-Device.field-0-is at (c.in-Err-Device.ensures.line limits r b) in
+    grown_more before then _ more c.last_words.ensures

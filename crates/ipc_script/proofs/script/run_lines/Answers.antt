@@ -1,46 +1,48 @@
-use Rattle.std.proofs.Common.{◌≡◌, ◌+◌, length, Option, Result, sym, ap, subst, ◌∙◌, arith}
+use Rattle.std.proofs.Common.{◌≡◌, ◌+◌, [], length, Option, Some, Result, sym, ap, subst, ◌∙◌, arith}
 use Rattle.std.specs.Prelude.{option_map}
 use Rattle.std.proofs.KnownBytes.{Appends-nil}
 use Rattle.std.proofs.lemmas.Bool.Decides.{nat_tests}
 use Rattle.ipc_script.specs.declared.fault.ScriptFault.{ScriptFault}
-use Rattle.ipc_script.specs.declared.fault.ScriptFault.TheVariants.{Device, BadLine}
-use Rattle.ipc_script.specs.Line.{PlainLine, line_of}
+use Rattle.ipc_script.specs.declared.fault.ScriptFault.TheVariants.{BadLine}
+use Rattle.ipc_script.specs.Line.{PlainLine, Stop, line_of}
 use Rattle.ipc_script.specs.Relations.Lines.{plain_line}
 use Rattle.ipc_script.specs.Script.{Cut, Progress, WritesPart, line_done, text_done}
-use Rattle.ipc_script.specs.Relations.Simulation.{LineStops, text_of}
+use Rattle.ipc_script.specs.Relations.Simulation.{text_of}
 use Rattle.ipc_script.proofs.FaultCases.{by_fault}
-use Rattle.ipc_script.proofs.ScriptLines.{run_begun, run_more, run_refused, run_broken, run_halted, run_ended, no_lines}
-use Rattle.ipc_script.proofs.WrittenText.{grown_more}
+use Rattle.ipc_script.proofs.ScriptLines.{run_begun, run_more, run_stopped, run_refused, run_broken, run_halted, run_ended, no_lines, may-here, may-behind}
+use Rattle.ipc_script.proofs.WrittenText.{part_none, grown_none}
 use Rattle.ipc_script.proofs.script.run_lines.Goals as goal
 
 pub lines-init : goal.lines-init
 lines-init g c = record {
   few = omega arith;
-  runs = λ limits h matches none. rw c.new-opened.ensures.items (run_begun limits h c.args.script.now c.args.hub.now _ matches none);
+  may = λ may. may;
+  runs = λ limits h matches none may. rw c.new-opened.ensures.items (run_begun limits h c.args.script.now c.args.hub _ matches none);
 }
 
 pub returns-in_default : goal.returns-in_default
-returns-in_default g c = λ limits h matches none.
-    let p = c.lines.invariant.runs limits h matches none in
+returns-in_default g c = λ limits h matches none may.
+    let p = c.lines.invariant.runs limits h matches none may in
     run_refused limits h c.args.script.now (c.lines.number + 1) c.lines.hub c.lines.opened.items c.lines.rest.now _ _ p
     c.first_line.result.0.now c.first_line.result.1.now c.first_line.ensures.lines (BadLine (c.lines.number + 1))
     (λ cut. ap (λ (o : Option PlainLine). text_done limits (c.lines.number + 1) p.now o cut) (sym c.line_of.ensures
     ∙ ap (option_map plain_line) c.in_default.is)) _ (Appends-nil _)
 
-pub returns-in-Err-Device : goal.returns-in-Err-Device
-returns-in-Err-Device g c = λ limits h matches none.
-    let p = c.lines.invariant.runs limits h matches none in
-    let then = g.W.Write.contents c.lines.writer in
-    let after = g.W.Write.contents c.run_line.new.writer in
-    let more : LineStops (line_done limits (c.lines.number + 1) p.now (plain_line c.in-Some.line)) then after Device =
-    rw c.in-Err-Device.field-0-is at (c.in-Err-Device.ensures limits p.now p.at) in
-    run_halted limits h c.args.script.now (c.lines.number + 1) c.lines.hub c.lines.opened.items c.lines.rest.now _ then p _
-    (grown_more then after _ more c.last_words.ensures)
-
 pub returns-in-Err : goal.returns-in-Err
-returns-in-Err g c = λ limits h matches none.
-    let p = c.lines.invariant.runs limits h matches none in
-    let e = c.in-Err.fault in
+returns-in-Err g c = λ limits h matches none may.
+    let p = c.lines.invariant.runs limits h matches none may in
+    let n = c.lines.number + 1 in
+    by_fault _ _ _ _ _ _ c.in-Err.fault
+    (λ _. run_broken limits h c.args.script.now n c.lines.hub c.lines.opened.items c.lines.rest.now _ _ p
+    c.first_line.result.0.now c.first_line.result.1.now c.first_line.ensures.lines [] _
+    (part_none _ (text_of (text_done limits n p.now (line_of c.first_line.result.0.now) []))))
+    (λ _. run_halted limits h c.args.script.now n c.lines.hub c.lines.opened.items c.lines.rest.now _ _ p _ (grown_none _))
+    (λ never. absurd never) c.in-Err.ensures.err
+
+pub returns-in-Err-run_line : goal.returns-in-Err-run_line
+returns-in-Err-run_line g c = λ limits h matches none may.
+    let p = c.lines.invariant.runs limits h matches none may in
+    let e = c.in-Err-run_line.fault in
     let n = c.lines.number + 1 in
     let line = plain_line c.in-Some.line in
     let is : (cut : Cut) → text_done limits n p.now (line_of c.first_line.result.0.now) cut ≡ line_done limits n p.now line cut = λ cut.
@@ -53,15 +55,39 @@ returns-in-Err g c = λ limits h matches none.
     (run_halted limits h c.args.script.now n c.lines.hub c.lines.opened.items c.lines.rest.now _ _ p _)
     (λ a. run_refused limits h c.args.script.now n c.lines.hub c.lines.opened.items c.lines.rest.now _ _ p
     c.first_line.result.0.now c.first_line.result.1.now c.first_line.ensures.lines e (λ cut. is cut ∙ a.0 cut) _ a.1)
-    (c.in-Err.ensures limits p.now p.at)
+    (c.in-Err-run_line.ensures.line limits p.now p.at)
 
+-- the device was opened again
+pub lines-preserved-in-Ok : goal.lines-preserved-in-Ok
+lines-preserved-in-Ok g c =
+    let rest = c.lines.rest.now in
+    let text = c.first_line.result.0.now in
+    let behind = c.first_line.result.1.now in
+    let old = g.D.SectorDisk.medium c.lines.hub.store.disk in
+    let stop : line_of text ≡ Some Stop = sym c.line_of.ensures ∙ ap (option_map plain_line) (c.in-Some.is ∙ ap Some c.in-Stop.is) in
+    record {
+      few = omega (arith, c.lines.invariant.few, c.first_line.ensures.shorter);
+      may = λ may. may-behind rest text behind c.first_line.ensures.lines old (g.D.SectorDisk.medium c.in-Ok.next.store.disk)
+          (c.lines.invariant.may may) c.in-Ok.ensures.honest;
+      runs = λ limits h matches none may.
+          let p = c.lines.invariant.runs limits h matches none may in
+          let honest = may-here rest text behind c.first_line.ensures.lines old (c.lines.invariant.may may) stop in
+          rw c.clear.ensures.items
+          (run_stopped limits h c.args.script.now (c.lines.number + 1) c.lines.hub c.lines.opened.items rest _ _ p text behind c.first_line.ensures.lines stop
+          c.in-Ok.next (c.in-Ok.ensures.ok limits p.now.hub p.at.run.matches honest));
+    }
+
+-- the line was run
 pub lines-preserved : goal.lines-preserved
 lines-preserved g c = record {
   few = omega (arith, c.lines.invariant.few, c.first_line.ensures.shorter);
-  runs = λ limits h matches none.
-      let p = c.lines.invariant.runs limits h matches none in
+  may = λ may. may-behind c.lines.rest.now c.first_line.result.0.now c.first_line.result.1.now c.first_line.ensures.lines
+      (g.D.SectorDisk.medium c.lines.hub.store.disk) (g.D.SectorDisk.medium c.run_line.new.hub.store.disk)
+      (c.lines.invariant.may may) c.in_default-run_line.ensures.honest;
+  runs = λ limits h matches none may.
+      let p = c.lines.invariant.runs limits h matches none may in
       let n = c.lines.number + 1 in
-      let s = c.in-Ok.ensures limits p.now p.at in
+      let s = c.in_default-run_line.ensures.line limits p.now p.at in
       run_more limits h c.args.script.now n c.lines.hub c.lines.opened.items c.lines.rest.now _ _ p
       c.first_line.result.0.now c.first_line.result.1.now c.first_line.ensures.lines s.0 s.1
       (ap (λ (o : Option PlainLine). text_done limits n p.now o s.0) (sym c.line_of.ensures ∙ ap (option_map plain_line) c.in-Some.is) ∙ s.2)
@@ -69,7 +95,7 @@ lines-preserved g c = record {
 }
 
 pub returns : goal.returns
-returns g c = λ limits h matches nobody.
+returns g c = λ limits h matches nobody may.
     let none : length c.lines.rest.now ≡ 0 = grind (arith, nat_tests, c.lines-test.ensures) in
     run_ended limits h c.args.script.now (c.lines.number + 1) c.lines.hub c.lines.opened.items c.lines.rest.now
-    _ _ (c.lines.invariant.runs limits h matches nobody) (no_lines c.lines.rest.now none)
+    _ _ (c.lines.invariant.runs limits h matches nobody may) (no_lines c.lines.rest.now none)

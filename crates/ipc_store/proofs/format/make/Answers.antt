@@ -29,10 +29,3 @@ returns-clause-any_moment g c = λ honest.
     (c.prepare.ensures.any_moment erased none))
     (c.put_superblock.ensures.any_moment (c.prepare.ensures.honest.0 erased)
     (c.in_ok-prepare.ensures.prepared erased none))
-
-pub returns-clause-root : goal.returns-clause-root
-returns-clause-root g c =
-    on_ok_weaker c.put_superblock.result (λ root honest.
-    let erased = c.erase.ensures.honest.0 honest in
-    root (c.prepare.ensures.honest.0 erased) (c.in_ok-prepare.ensures.root erased))
-    c.put_superblock.ensures.root

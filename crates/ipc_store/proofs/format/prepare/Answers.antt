@@ -1,24 +1,55 @@
--- The first sector stays as it is.
-use Rattle.std.proofs.Common.{subst, sym, arith}
-use Rattle.ipc_store.specs.Relations.Format.{HasNoRoot}
-use Rattle.ipc_store.proofs.Formatting.{stays-erased, no-root-cleared}
+-- The header of the journal, and the objects: the first sector stays as it is.
+use Rattle.std.proofs.Common.{◌≡◌, ◌∙◌, length, ap, sym, subst, arith}
+use Rattle.ipc_disk.proofs.CallerLemmas.{EachImageSince-now}
+use Rattle.ipc_disk.specs.Since.{SameAt}
+use Rattle.ipc_checkpoint.specs.declared.layout.Layout.{Layout}
+use Rattle.ipc_checkpoint.specs.Checkpoint.{IsLaidOut, IsElsewhere, Holds}
+use Rattle.ipc_state.specs.State.{start}
+use Rattle.ipc_image.specs.Saved.{saved}
+use Rattle.ipc_store.specs.Image.{layout_of}
+use Rattle.ipc_store.specs.Relations.Format.{IsErased, IsPrepared}
+use Rattle.ipc_store.proofs.Formatting.{laid-out, header-erased, stays-erased, is-prepared}
 use Rattle.ipc_store.proofs.format.prepare.Goals as goal
+
+pub create-requires-clause-laid_out : goal.create-requires-clause-laid_out
+create-requires-clause-laid_out g c =
+    let size = g.D.SectorDisk.size c.args.disk.now in
+    let there : c.layout_of-layout.result ≡ layout_of c.args.limits.now size =
+    c.layout_of-layout.ensures.exact ∙ ap (layout_of c.args.limits.now) c.sectors.ensures in
+    subst (λ (l : Layout). IsLaidOut l (g.D.SectorDisk.size c.put_header.new.disk)) (sym there)
+    (subst (IsLaidOut (layout_of c.args.limits.now size)) (sym c.put_header.ensures.size)
+    (laid-out c.args.limits.now size c.requires.passed c.requires.room))
+
+pub returns-in_err-put_header-clause-any_moment : goal.returns-in_err-put_header-clause-any_moment
+returns-in_err-put_header-clause-any_moment g c = λ honest erased.
+    header-erased _ _ erased (c.put_header.ensures.header_or_not honest)
 
 pub returns-in_err-create-clause-any_moment : goal.returns-in_err-create-clause-any_moment
 returns-in_err-create-clause-any_moment g c = λ honest erased.
-    stays-erased _ _ _ honest (g.met.D.SectorDisk.only_now c.args.disk.now) erased c.write.ensures.medium
-    (c.create.ensures.others (c.write.ensures.medium.time.honest.0 honest))
+    let kept = c.put_header.ensures.honest.0 honest in
+    stays-erased c.args.limits.now c.sectors.result _ _ _ _ c.layout_of-layout.ensures.exact erased (c.put_header.ensures.header_or_not honest) kept
+    (c.create.ensures.others kept)
 
 pub returns-clause-any_moment : goal.returns-clause-any_moment
 returns-clause-any_moment g c = λ honest erased.
-    stays-erased _ _ _ honest (g.met.D.SectorDisk.only_now c.args.disk.now) erased c.write.ensures.medium
-    (c.create.ensures.others (c.write.ensures.medium.time.honest.0 honest))
+    let kept = c.put_header.ensures.honest.0 honest in
+    stays-erased c.args.limits.now c.sectors.result _ _ _ _ c.layout_of-layout.ensures.exact erased (c.put_header.ensures.header_or_not honest) kept
+    (c.create.ensures.others kept)
 
-pub returns-clause-root : goal.returns-clause-root
-returns-clause-root g c = λ honest image now.
-    let old = g.D.SectorDisk.medium c.args.disk.now in
-    subst HasNoRoot (sym (c.in_ok-create.ensures.durable image now))
-    (no-root-cleared old.contents _ _ _
-    (omega (arith, (g.met.D.SectorDisk.shaped c.args.disk.now old.contents honest.reads).count, c.requires.room))
-    (c.in_ok-write.ensures.written honest)
-    (c.in_ok-create.ensures.header (c.write.ensures.medium.time.honest.0 honest)))
+-- a crash leaves what is read then, which has both
+pub returns-clause-prepared : goal.returns-clause-prepared
+returns-clause-prepared g c = λ honest erased image now.
+    let old = (g.D.SectorDisk.medium c.args.disk.now).contents in
+    let new = (g.D.SectorDisk.medium c.create.new.disk).contents in
+    let kept = c.put_header.ensures.honest.0 honest in
+    let run = c.create.ensures.others kept in
+    let was = (g.met.D.SectorDisk.shaped c.args.disk.now old honest.reads).count in
+    let long = (g.met.D.SectorDisk.shaped c.create.new.disk new run.honest.reads).count in
+    let there : c.layout_of-layout.result ≡ layout_of c.args.limits.now (length new) =
+    c.layout_of-layout.ensures.exact
+    ∙ ap (layout_of c.args.limits.now) (c.sectors.ensures ∙ sym (long ∙ c.create.ensures.size ∙ c.put_header.ensures.size)) in
+    subst (IsPrepared c.args.limits.now) (sym (c.in_ok-create.ensures.durable image now))
+    (is-prepared c.args.limits.now old _ new (omega (arith, was, c.requires.room)) (c.in_ok-put_header.ensures.header honest)
+    (subst (λ (l : Layout). SameAt (IsElsewhere l) (g.D.SectorDisk.medium c.put_header.new.disk).contents new) there run.contents)
+    (EachImageSince-now _ _ IsErased (returns-clause-any_moment g c honest erased) run.honest new run.honest.reads)
+    (subst (λ (l : Layout). Holds l 1 (saved start) new) there (c.in_ok-create.ensures.holds kept)))

@@ -1,42 +1,83 @@
 -- Each exit: what was read is what stood there before.
-use Rattle.std.proofs.Common.{◌≡◌, inl, inr, ⊎_elim, ℕ, ◌<◌, ◌^◌, List, Err, length, sym, ap, subst, ◌∙◌, arith}
-use Rattle.std.specs.Prelude.{Result, IsErrOf, map}
-use Rattle.std.specs.Result.{IsErrAnd}
+use Rattle.std.proofs.Common.{◌≡◌, inl, inr, ⊎_elim, ℕ, ◌<◌, ◌^◌, Err, length, refl, sym, ap, subst, ◌∙◌, arith}
 use Rattle.std.proofs.lemmas.Result.{err_from_is_err_and}
 use Rattle.ipc_base.specs.declared.limits.Limits.{Limits}
-use Rattle.ipc_journal.specs.declared.error.JournalError.{JournalError}
-use Rattle.ipc_journal.specs.declared.error.JournalError.TheVariants as journals
+use Rattle.ipc_checkpoint.specs.View.{epoch_of as saved_epoch, layout_of as saved_layout}
+use Rattle.ipc_checkpoint.proofs.CallerLemmas.{CheckpointMatches-stays}
 use Rattle.ipc_disk.specs.Counts.{counted}
-use Rattle.ipc_disk.specs.declared.range.Range.{Range}
-use Rattle.ipc_disk.specs.Medium.{Image, Medium, IsHonest, Stays}
-use Rattle.ipc_disk.proofs.CallerLemmas.{Stays-join}
-use Rattle.ipc_store.specs.declared.fault.OpenError.{OpenError}
+use Rattle.ipc_disk.specs.Medium.{Image, Medium, IsHonest, IsDurable, Stays}
+use Rattle.ipc_journal.specs.Journal.{header_used}
+use Rattle.ipc_journal.specs.View.{used_of}
+use Rattle.ipc_image.specs.Saved.{StandForState}
 use Rattle.ipc_store.specs.declared.fault.OpenError.TheVariants as errors
-use Rattle.ipc_journal.specs.Journal.{header_used, Holds}
-use Rattle.ipc_journal.specs.View.{epoch_of, used_of}
-use Rattle.ipc_journal.proofs.CallerLemmas.{JournalMatches-stays}
-use Rattle.ipc_store.specs.Batch.{batch_bytes}
-use Rattle.ipc_store.specs.Image.{journal_range, first_epoch, IsDevice, IsDamaged, IsFirstFault}
-use Rattle.ipc_store.specs.View.{of_journal_error}
-use Rattle.ipc_store.specs.Relations.Replay.{IsOpened, Replays, IsGoodUpTo}
-use Rattle.ipc_store.proofs.Opened.{header-damaged, is_opened, batch-damaged, used-is, holds, loaded}
+use Rattle.ipc_store.specs.Image.{journal_range, layout_of, IsDevice, HasBase, IsDamaged, IsFirstFault}
+use Rattle.ipc_store.proofs.Faults.{err-same, passed_on}
+use Rattle.ipc_store.proofs.Loaded.{chain, stays-durable, Kept, Led, has-base, loaded, on-disk}
+use Rattle.ipc_store.proofs.Opened.{base-damaged}
+use Rattle.ipc_store.proofs.loading.load.Given.{Over}
 use Rattle.ipc_store.proofs.loading.load.Goals as goal
+use Rattle.ipc_store.proofs.loading.load.Goals.{In_ok-limits, In_ok-checkpoint}
 
-err-same : {T : Type 0} (r : Result T OpenError) (a b : OpenError) → r ≡ Err a → r ≡ Err b → a ≡ b
-err-same r a b one other = cc
+-- ---- after the superblock
 
--- an error that is passed on is the one that came
-passed_on : {T : Type 0} (r : Result T OpenError) (came went : OpenError) → IsErrAnd r (λ y. y ≡ came) → IsErrOf r went → came ≡ went
-passed_on r came went is went-is = let q = err_from_is_err_and r is in sym q.2 ∙ err-same r q.0 went q.1 went-is
+reads-limits : (g : Over) (c : In_ok-limits g) → IsHonest (g.D.SectorDisk.medium c.args.disk.now)
+    → Stays (g.D.SectorDisk.medium c.args.disk.now) (g.D.SectorDisk.medium c.read_limits.new.disk)
+reads-limits g c honest = chain _ _ _ honest c.sync.ensures.medium c.read_limits.ensures.reads
 
--- calls that only read, one after another
-chain : (m0 m1 m2 : Medium) → IsHonest m0 → Stays m0 m1 → (IsHonest m1 → Stays m1 m2) → Stays m0 m2
-chain m0 m1 m2 honest first next = Stays-join m0 m1 m2 honest first (next (first.time.honest.0 honest))
+-- the device
+device : (g : Over) (c : In_ok-limits g) → IsHonest (g.D.SectorDisk.medium c.args.disk.now)
+    → IsDevice c.in_ok-limits.limits (g.D.SectorDisk.medium c.args.disk.now).contents
+device g c honest =
+    subst (IsDevice c.in_ok-limits.limits) (c.sync.ensures.medium.contents honest)
+    (c.in_ok-limits.ensures.device (c.sync.ensures.medium.time.honest.0 honest))
 
--- which fault of the journal it was
-journal-fault : (fault : JournalError) (sector : ℕ) → of_journal_error fault ≡ errors.Damaged sector → fault ≡ journals.Damaged sector
-journal-fault journals.Device sector is = cc
-journal-fault (journals.Damaged n) sector is = cc
+-- nothing is left to be made last
+durable : (g : Over) (c : In_ok-limits g) → IsHonest (g.D.SectorDisk.medium c.args.disk.now)
+    → IsDurable (g.D.SectorDisk.medium c.read_limits.new.disk)
+durable g c honest =
+    let h1 = c.sync.ensures.medium.time.honest.0 honest in
+    stays-durable _ _ h1 (c.read_limits.ensures.reads h1) c.in_ok-sync.ensures.durable
+
+-- ---- after the objects
+
+reads-base : (g : Over) (c : In_ok-checkpoint g) → IsHonest (g.D.SectorDisk.medium c.args.disk.now)
+    → Stays (g.D.SectorDisk.medium c.args.disk.now) (g.D.SectorDisk.medium c.load_base.new.disk)
+reads-base g c honest =
+    chain _ _ _ honest (chain _ _ _ honest c.sync.ensures.medium c.read_limits.ensures.reads) c.load_base.ensures.reads
+
+-- the device again
+device-base : (g : Over) (c : In_ok-checkpoint g) → IsHonest (g.D.SectorDisk.medium c.args.disk.now)
+    → IsDevice c.in_ok-limits.limits (g.D.SectorDisk.medium c.load_base.new.disk).contents
+device-base g c honest =
+    let h1 = c.sync.ensures.medium.time.honest.0 honest in
+    subst (IsDevice c.in_ok-limits.limits) (sym ((reads-base g c honest).contents honest))
+    (subst (IsDevice c.in_ok-limits.limits) (c.sync.ensures.medium.contents honest) (c.in_ok-limits.ensures.device h1))
+
+-- nothing is left to be made last
+durable-base : (g : Over) (c : In_ok-checkpoint g) → IsHonest (g.D.SectorDisk.medium c.args.disk.now)
+    → IsDurable (g.D.SectorDisk.medium c.read_limits.new.disk) × IsDurable (g.D.SectorDisk.medium c.load_base.new.disk)
+durable-base g c honest =
+    let h1 = c.sync.ensures.medium.time.honest.0 honest in
+    let s12 = c.read_limits.ensures.reads h1 in
+    let h2 = s12.time.honest.0 h1 in
+    let d2 = stays-durable _ _ h1 s12 c.in_ok-sync.ensures.durable in
+    (d2, stays-durable _ _ h2 (c.load_base.ensures.reads h2) d2)
+
+-- the objects
+kept : (g : Over) (c : In_ok-checkpoint g) → IsHonest (g.D.SectorDisk.medium c.args.disk.now)
+    → Kept c.in_ok-limits.limits c.in_ok-checkpoint.engine.state c.in_ok-checkpoint.checkpoint (g.D.SectorDisk.medium c.load_base.new.disk)
+kept g c honest =
+    let h2 = (chain _ _ _ honest c.sync.ensures.medium c.read_limits.ensures.reads).time.honest.0 honest in
+    c.in_ok-checkpoint.ensures.base h2 (durable-base g c honest).0
+
+-- how many sectors there are
+count : (g : Over) (c : In_ok-checkpoint g) → IsHonest (g.D.SectorDisk.medium c.args.disk.now)
+    → length (g.D.SectorDisk.medium c.load_base.new.disk).contents ≡ g.D.SectorDisk.size c.read_limits.new.disk
+count g c honest =
+    let h3 = (reads-base g c honest).time.honest.0 honest in
+    (g.met.D.SectorDisk.shaped c.load_base.new.disk _ h3.reads).count ∙ c.load_base.ensures.size
+
+-- ---- the exits
 
 pub returns-in_err-limits-clause-damaged : goal.returns-in_err-limits-clause-damaged
 returns-in_err-limits-clause-damaged g c = λ sector is honest.
@@ -45,125 +86,145 @@ returns-in_err-limits-clause-damaged g c = λ sector is honest.
     subst (λ (image : Image). IsDamaged image × IsFirstFault image sector) (c.sync.ensures.medium.contents honest)
     (c.read_limits.ensures.damaged sector (c.in_err-limits.was ∙ ap Err e) (c.sync.ensures.medium.time.honest.0 honest))
 
+pub returns-in_err-checkpoint-clause-not_formatted : goal.returns-in_err-checkpoint-clause-not_formatted
+returns-in_err-checkpoint-clause-not_formatted g c = λ is honest.
+    let e = passed_on c.from_residual-in_err-checkpoint.result c.in_err-checkpoint.field-0.0 errors.NotFormatted
+    c.from_residual-in_err-checkpoint.ensures.1 is in
+    absurd (c.in_err-checkpoint.ensures.faults 0 (inl (ap Err e)))
+
+pub returns-in_err-checkpoint-clause-version : goal.returns-in_err-checkpoint-clause-version
+returns-in_err-checkpoint-clause-version g c = λ found is honest.
+    let e = passed_on c.from_residual-in_err-checkpoint.result c.in_err-checkpoint.field-0.0 (errors.Version found)
+    c.from_residual-in_err-checkpoint.ensures.1 is in
+    absurd (c.in_err-checkpoint.ensures.faults found (inr (ap Err e)))
+
+pub returns-in_err-checkpoint-clause-damaged : goal.returns-in_err-checkpoint-clause-damaged
+returns-in_err-checkpoint-clause-damaged g c = λ sector is honest.
+    let here = (goal.at.returns-in_err-checkpoint-clause-damaged g c).In_ok-limits in
+    let image : Image = (g.D.SectorDisk.medium c.read_limits.new.disk).contents in
+    let s02 = reads-limits g here honest in
+    let h2 = s02.time.honest.0 honest in
+    let is-device = subst (IsDevice c.in_ok-limits.limits) (sym (s02.contents honest)) (device g here honest) in
+    let few : length image < 2 ^ 32 =
+    omega (arith, (g.met.D.SectorDisk.shaped c.read_limits.new.disk image h2.reads).count, g.met.D.SectorDisk.fits c.read_limits.new.disk) in
+    let e = ap Err (passed_on c.from_residual-in_err-checkpoint.result c.in_err-checkpoint.field-0.0 (errors.Damaged sector)
+    c.from_residual-in_err-checkpoint.ensures.1 is) in
+    let both = c.in_err-checkpoint.ensures.damaged sector e h2 is-device in
+    subst (λ (i : Image). IsDamaged i × IsFirstFault i sector) (s02.contents honest)
+    (base-damaged c.in_ok-limits.limits image few is-device both.0, both.1)
+
+pub returns-in_err-checkpoint-clause-reads : goal.returns-in_err-checkpoint-clause-reads
+returns-in_err-checkpoint-clause-reads g c = λ honest.
+    chain _ _ _ honest (reads-limits g (goal.at.returns-in_err-checkpoint-clause-reads g c).In_ok-limits honest) c.load_base.ensures.reads
+
+pub returns-in_err-journal-clause-not_formatted : goal.returns-in_err-journal-clause-not_formatted
+returns-in_err-journal-clause-not_formatted g c = λ is honest.
+    let e = passed_on c.from_residual-in_err-journal.result c.in_err-journal.field-0.0 errors.NotFormatted c.from_residual-in_err-journal.ensures.1 is in
+    absurd (c.in_err-journal.ensures.faults 0 (inl (ap Err e)))
+
+pub returns-in_err-journal-clause-version : goal.returns-in_err-journal-clause-version
+returns-in_err-journal-clause-version g c = λ found is honest.
+    let e = passed_on c.from_residual-in_err-journal.result c.in_err-journal.field-0.0 (errors.Version found) c.from_residual-in_err-journal.ensures.1 is in
+    absurd (c.in_err-journal.ensures.faults found (inr (ap Err e)))
+
 pub returns-in_err-journal-clause-damaged : goal.returns-in_err-journal-clause-damaged
 returns-in_err-journal-clause-damaged g c = λ sector is honest.
-    let m : g.row.D.Denot → Medium = g.D.SectorDisk.medium in
+    let here = (goal.at.returns-in_err-journal-clause-damaged g c).In_ok-checkpoint in
+    let m3 : Medium = g.D.SectorDisk.medium c.load_base.new.disk in
+    let s03 = reads-base g here honest in
+    let h3 = s03.time.honest.0 honest in
     let limits : Limits = c.in_ok-limits.limits in
-    let h1 : IsHonest (m c.sync.new.self) = c.sync.ensures.medium.time.honest.0 honest in
-    let s12 = c.read_limits.ensures.reads h1 in
-    let s02 = chain _ _ _ honest c.sync.ensures.medium c.read_limits.ensures.reads in
-    let h2 = s12.time.honest.0 h1 in
-    let e = journal-fault c.in_err-journal.field-0.0 sector
-    (passed_on c.from_residual-in_err-journal.result (of_journal_error c.in_err-journal.field-0.0) (errors.Damaged sector)
+    let checkpoint = c.in_ok-checkpoint.checkpoint in
+    let from = c.in_ok-checkpoint.engine.state in
+    let has : HasBase limits (saved_epoch checkpoint) from m3.contents =
+    has-base limits (g.D.SectorDisk.size c.read_limits.new.disk) checkpoint c.in_ok-checkpoint.ensures.layout m3 from h3
+    (device-base g here honest) (count g here honest) (kept g here honest) in
+    let e = ap Err (passed_on c.from_residual-in_err-journal.result c.in_err-journal.field-0.0 (errors.Damaged sector)
     c.from_residual-in_err-journal.ensures.1 is) in
-    let err = c.in_err-journal.was ∙ ap Err e in
-    let device : IsDevice limits (m c.read_limits.new.disk).contents = subst (IsDevice limits) (sym (s12.contents h1)) (c.in_ok-limits.ensures.device h1) in
-    subst (λ (image : Image). IsDamaged image × IsFirstFault image sector) (s02.contents honest)
-    (header-damaged limits (m c.read_limits.new.disk).contents device sector (c.open.ensures.named sector err) (c.open.ensures.damaged sector err h2))
+    subst (λ (i : Image). IsDamaged i × IsFirstFault i sector) (s03.contents honest)
+    (c.in_err-journal.ensures.damaged sector e h3
+    (subst (λ (l : Limits). HasBase l (saved_epoch checkpoint) from m3.contents) (sym c.in_ok-checkpoint.ensures.limits) has))
 
-pub returns-in_err-engine-clause-not_formatted : goal.returns-in_err-engine-clause-not_formatted
-returns-in_err-engine-clause-not_formatted g c = λ is honest.
-    let e = passed_on c.from_residual-in_err-engine.result c.in_err-engine.field-0.0 errors.NotFormatted c.from_residual-in_err-engine.ensures.1 is in
-    absurd (c.replay.ensures.faults 0 (inr (inl (c.in_err-engine.was ∙ ap Err e))))
-
-pub returns-in_err-engine-clause-version : goal.returns-in_err-engine-clause-version
-returns-in_err-engine-clause-version g c = λ found is honest.
-    let e = passed_on c.from_residual-in_err-engine.result c.in_err-engine.field-0.0 (errors.Version found) c.from_residual-in_err-engine.ensures.1 is in
-    absurd (c.replay.ensures.faults found (inr (inr (c.in_err-engine.was ∙ ap Err e))))
-
-pub returns-in_err-engine-clause-faults : goal.returns-in_err-engine-clause-faults
-returns-in_err-engine-clause-faults g c = λ is.
-    let e = passed_on c.from_residual-in_err-engine.result c.in_err-engine.field-0.0 errors.JournalFull c.from_residual-in_err-engine.ensures.1 is in
-    c.replay.ensures.faults 0 (inl (c.in_err-engine.was ∙ ap Err e))
-
-pub returns-in_err-engine-clause-reads : goal.returns-in_err-engine-clause-reads
-returns-in_err-engine-clause-reads g c = λ honest.
-    let s02 = chain _ _ _ honest c.sync.ensures.medium c.read_limits.ensures.reads in
-    let s03 = chain _ _ _ honest s02 (λ _. c.open.ensures.reads) in
-    chain _ _ _ honest s03 c.replay.ensures.reads
+pub returns-in_err-journal-clause-reads : goal.returns-in_err-journal-clause-reads
+returns-in_err-journal-clause-reads g c = λ honest.
+    chain _ _ _ honest (reads-base g (goal.at.returns-in_err-journal-clause-reads g c).In_ok-checkpoint honest) c.load_journal.ensures.reads
 
 pub returns-clause-reads : goal.returns-clause-reads
 returns-clause-reads g c = λ honest.
-    let s02 = chain _ _ _ honest c.sync.ensures.medium c.read_limits.ensures.reads in
-    let s03 = chain _ _ _ honest s02 (λ _. c.open.ensures.reads) in
-    chain _ _ _ honest s03 c.replay.ensures.reads
-
-pub returns-in_err-engine-clause-failure : goal.returns-in_err-engine-clause-failure
-returns-in_err-engine-clause-failure g c = λ is.
-    let e = passed_on c.from_residual-in_err-engine.result c.in_err-engine.field-0.0 errors.Device c.from_residual-in_err-engine.ensures.1 is in
-    let last = c.replay.ensures.failure (c.in_err-engine.was ∙ ap Err e) in
-    let limits = ⊎_elim (λ bad. cc) (λ same. same) c.in_ok-limits.ensures.no_failure in
-    ap (λ n. n.failures) last ∙ ap (λ n. counted n.failures 1) (c.in_ok-journal.ensures.no_failure ∙ limits ∙ c.in_ok-sync.ensures.ok)
-
-pub returns-in_err-engine-clause-no_failure : goal.returns-in_err-engine-clause-no_failure
-returns-in_err-engine-clause-no_failure g c =
-    let went = err_from_is_err_and c.from_residual-in_err-engine.result c.from_residual-in_err-engine.ensures.1 in
-    let limits = ⊎_elim (λ bad. cc) (λ same. same) c.in_ok-limits.ensures.no_failure in
-    ⊎_elim (λ device. inl (went.1 ∙ ap Err (went.2 ∙ err-same c.replay.result c.in_err-engine.field-0.0 errors.Device c.in_err-engine.was device)))
-    (λ same. inr (ap (λ n. n.failures) (same ∙ c.in_ok-journal.ensures.no_failure ∙ limits ∙ c.in_ok-sync.ensures.ok)))
-    c.replay.ensures.no_failure
-
-pub returns-in_err-engine-clause-damaged : goal.returns-in_err-engine-clause-damaged
-returns-in_err-engine-clause-damaged g c = λ sector is honest.
-    let m : g.row.D.Denot → Medium = g.D.SectorDisk.medium in
-    let limits : Limits = c.in_ok-limits.limits in
-    let s02 = chain _ _ _ honest c.sync.ensures.medium c.read_limits.ensures.reads in
-    let s03 = chain _ _ _ honest s02 (λ _. c.open.ensures.reads) in
-    let h1 : IsHonest (m c.sync.new.self) = c.sync.ensures.medium.time.honest.0 honest in
-    let h2 = s02.time.honest.0 honest in
-    let h3 = s03.time.honest.0 honest in
-    let e = passed_on c.from_residual-in_err-engine.result c.in_err-engine.field-0.0 (errors.Damaged sector) c.from_residual-in_err-engine.ensures.1 is in
-    let err = c.in_err-engine.was ∙ ap Err e in
-    let image : Image = (m c.args.disk.now).contents in
-    let device : IsDevice limits image = subst (IsDevice limits) (c.sync.ensures.medium.contents honest) (c.in_ok-limits.ensures.device h1) in
-    let opened : IsOpened c.in_ok-journal.journal image =
-    is_opened c.in_ok-journal.journal (m c.read_limits.new.disk).contents image (s02.contents honest) c.in_ok-journal.ensures.range
-    c.in_ok-journal.ensures.epoch (c.in_ok-journal.ensures.older h2) (c.in_ok-journal.ensures.current h2) (c.in_ok-journal.ensures.not_newer h2) in
-    let fits : length image < 2 ^ 32 =
-    omega (arith, (g.met.D.SectorDisk.shaped c.args.disk.now image honest.reads).count, g.met.D.SectorDisk.fits c.args.disk.now) in
-    batch-damaged limits c.in_ok-journal.journal image c.in_ok-journal.ensures.range c.in_ok-journal.ensures.epoch device opened fits
-    (λ batches s found. c.replay.ensures.damaged sector batches s err h3
-    (subst (λ (x : Image). Replays limits c.in_ok-journal.journal x batches s) (sym (s03.contents honest)) found))
-    sector (subst (λ (x : Image). IsGoodUpTo limits c.in_ok-journal.journal x sector) (s03.contents honest) (c.replay.ensures.named sector err h3))
-
-pub returns-clause-loaded : goal.returns-clause-loaded
-returns-clause-loaded g c = λ honest.
-    let m : g.row.D.Denot → Medium = g.D.SectorDisk.medium in
-    let limits : Limits = c.in_ok-limits.limits in
-    let s02 = chain _ _ _ honest c.sync.ensures.medium c.read_limits.ensures.reads in
-    let s03 = chain _ _ _ honest s02 (λ _. c.open.ensures.reads) in
-    let s04 = chain _ _ _ honest s03 c.replay.ensures.reads in
-    let h1 : IsHonest (m c.sync.new.self) = c.sync.ensures.medium.time.honest.0 honest in
-    let h2 = s02.time.honest.0 honest in
-    let h3 = s03.time.honest.0 honest in
-    let s12 = c.read_limits.ensures.reads h1 in
-    let image : Image = (m c.args.disk.now).contents in
-    let device : IsDevice limits image = subst (IsDevice limits) (c.sync.ensures.medium.contents honest) (c.in_ok-limits.ensures.device h1) in
-    let opened : IsOpened c.in_ok-journal.journal image =
-    is_opened c.in_ok-journal.journal (m c.read_limits.new.disk).contents image (s02.contents honest) c.in_ok-journal.ensures.range
-    c.in_ok-journal.ensures.epoch (c.in_ok-journal.ensures.older h2) (c.in_ok-journal.ensures.current h2) (c.in_ok-journal.ensures.not_newer h2) in
-    let found = c.in_ok-engine.ensures.replays h3 in
-    let replays : Replays limits c.in_ok-journal.journal image found.0 c.in_ok-engine.engine.state =
-    subst (λ (x : Image). Replays limits c.in_ok-journal.journal x found.0 c.in_ok-engine.engine.state) (s03.contents honest) found.1 in
-    let batches : List (List ℕ) = map batch_bytes found.0 in
-    let only : (now : Image) → (m c.read_limits.new.disk).images_now now → now ≡ image =
-    λ now left. c.in_ok-sync.ensures.durable now (s12.images now left) ∙ c.sync.ensures.medium.contents honest in
-    let stands : Holds journal_range first_epoch batches image =
-    subst (λ (n : ℕ). Holds journal_range n batches image) c.in_ok-journal.ensures.epoch
-    (subst (λ (r : Range). Holds r (epoch_of c.in_ok-journal.journal) batches image) c.in_ok-journal.ensures.range
-    (holds c.in_ok-journal.journal image opened batches c.in_ok-journal.journal.room replays.filled)) in
-    loaded limits c.in_ok-journal.journal image c.in_ok-journal.ensures.range c.in_ok-journal.ensures.epoch device opened
-    (m c.replay.new.disk) c.in_ok-engine.engine found.0 (s04.time.honest.0 honest)
-    (λ now left. only now (c.open.ensures.reads.images now ((c.replay.ensures.reads h3).images now left)))
-    c.in_ok-engine.ensures.limits replays
-    (JournalMatches-stays c.in_ok-journal.journal batches (m c.open.new.disk) (m c.replay.new.disk) (c.replay.ensures.reads h3)
-    (c.in_ok-journal.ensures.stands h2 batches (λ now left. subst (Holds journal_range first_epoch batches) (sym (only now left)) stands)))
+    chain _ _ _ honest (reads-base g (goal.at.returns-clause-reads g c).In_ok-checkpoint honest) c.load_journal.ensures.reads
 
 pub returns-clause-used : goal.returns-clause-used
 returns-clause-used g c = λ honest some.
-    let m : g.row.D.Denot → Medium = g.D.SectorDisk.medium in
-    let s02 = chain _ _ _ honest c.sync.ensures.medium c.read_limits.ensures.reads in
-    let h2 = s02.time.honest.0 honest in
-    subst (λ (x : Image). used_of c.in_ok-journal.journal ≡ header_used journal_range x) (s02.contents honest)
-    (used-is (m c.read_limits.new.disk).contents (used_of c.in_ok-journal.journal)
-    (c.in_ok-journal.ensures.older h2) (c.in_ok-journal.ensures.current h2) (c.in_ok-journal.ensures.not_newer h2) some)
+    let s03 = reads-base g (goal.at.returns-clause-used g c).In_ok-checkpoint honest in
+    subst (λ (i : Image). used_of c.in_ok-journal.journal ≡ header_used journal_range i) (s03.contents honest)
+    (c.in_ok-journal.ensures.used (s03.time.honest.0 honest) some)
+
+pub returns-clause-on_disk : goal.returns-clause-on_disk
+returns-clause-on_disk g c =
+    on-disk c.in_ok-limits.limits (g.D.SectorDisk.size c.read_limits.new.disk) c.in_ok-checkpoint.checkpoint c.in_ok-checkpoint.ensures.layout
+    c.in_ok-journal.journal c.in_ok-journal.ensures.range c.in_ok-journal.ensures.epoch c.load_journal.new.engine.limits
+    (c.load_journal.ensures.limits ∙ c.in_ok-checkpoint.ensures.limits) (g.D.SectorDisk.size c.load_journal.new.disk)
+    (c.load_journal.ensures.size ∙ c.load_base.ensures.size) c.in_ok-limits.ensures.passed
+    (omega (arith, c.in_ok-limits.ensures.room, c.read_limits.ensures.size))
+
+pub returns-clause-matches : goal.returns-clause-matches
+returns-clause-matches g c = λ honest.
+    let here = (goal.at.returns-clause-matches g c).In_ok-checkpoint in
+    let m3 : Medium = g.D.SectorDisk.medium c.load_base.new.disk in
+    let m4 : Medium = g.D.SectorDisk.medium c.load_journal.new.disk in
+    let limits : Limits = c.in_ok-limits.limits in
+    let h3 = (reads-base g here honest).time.honest.0 honest in
+    let s34 = c.load_journal.ensures.reads h3 in
+    let h4 = s34.time.honest.0 h3 in
+    let d3 = (durable-base g here honest).1 in
+    let from = c.in_ok-checkpoint.engine.state in
+    let was = kept g here honest in
+    let led : Led limits from c.load_journal.new.engine.state c.in_ok-journal.journal m4 =
+    subst (λ (l : Limits). Led l from c.load_journal.new.engine.state c.in_ok-journal.journal m4) c.in_ok-checkpoint.ensures.limits
+    (c.in_ok-journal.ensures.leads h3 d3) in
+    loaded limits (g.D.SectorDisk.size c.read_limits.new.disk) c.in_ok-checkpoint.checkpoint c.in_ok-checkpoint.ensures.layout
+    c.in_ok-journal.journal c.in_ok-journal.ensures.range c.in_ok-journal.ensures.epoch c.load_journal.new.engine.limits
+    (c.load_journal.ensures.limits ∙ c.in_ok-checkpoint.ensures.limits) m4 from c.load_journal.new.engine.state h4
+    (stays-durable m3 m4 h3 s34 d3) (subst (IsDevice limits) (sym (s34.contents h3)) (device-base g here honest))
+    (ap length (s34.contents h3) ∙ count g here honest)
+    (was.0, was.1, CheckpointMatches-stays c.in_ok-checkpoint.checkpoint was.0 m3 m4 s34 was.2) led
+
+-- ---- counts
+
+-- what the calls until then have counted
+until-base : (g : Over) (c : In_ok-checkpoint g)
+    → ((g.D.SectorDisk.counts c.load_base.new.disk).failures ≡ (g.D.SectorDisk.counts c.args.disk.now).failures)
+    × ((g.D.SectorDisk.counts c.load_base.new.disk).writes ≡ (g.D.SectorDisk.counts c.args.disk.now).writes)
+until-base g c =
+    let limits = ⊎_elim (λ bad. cc) (λ same. same) c.in_ok-limits.ensures.no_failure ∙ c.in_ok-sync.ensures.ok in (
+      ⊎_elim (λ bad. cc) (λ same. same) c.in_ok-checkpoint.ensures.no_failure ∙ ap (λ n. n.failures) limits,
+      c.load_base.ensures.no_write ∙ ap (λ n. n.writes) limits,
+    )
+
+pub returns-in_err-journal-clause-failure : goal.returns-in_err-journal-clause-failure
+returns-in_err-journal-clause-failure g c = λ is.
+    let before = until-base g (goal.at.returns-in_err-journal-clause-failure g c).In_ok-checkpoint in
+    let e = passed_on c.from_residual-in_err-journal.result c.in_err-journal.field-0.0 errors.Device c.from_residual-in_err-journal.ensures.1 is in
+    ap (λ n. n.failures) (c.in_err-journal.ensures.failure (ap Err e)) ∙ ap (λ n. counted n 1) before.0
+
+pub returns-in_err-journal-clause-no_failure : goal.returns-in_err-journal-clause-no_failure
+returns-in_err-journal-clause-no_failure g c =
+    let before = until-base g (goal.at.returns-in_err-journal-clause-no_failure g c).In_ok-checkpoint in
+    let went = err_from_is_err_and c.from_residual-in_err-journal.result c.from_residual-in_err-journal.ensures.1 in
+    ⊎_elim (λ device. inl (went.1 ∙ ap Err (went.2 ∙ err-same c.load_journal.result c.in_err-journal.field-0.0 errors.Device c.in_err-journal.was device)))
+    (λ same. inr (ap (λ n. n.failures) same ∙ before.0)) c.load_journal.ensures.no_failure
+
+pub returns-in_err-journal-clause-no_write : goal.returns-in_err-journal-clause-no_write
+returns-in_err-journal-clause-no_write g c =
+    let before = until-base g (goal.at.returns-in_err-journal-clause-no_write g c).In_ok-checkpoint in
+    c.load_journal.ensures.no_write ∙ before.1
+
+pub returns-clause-no_failure : goal.returns-clause-no_failure
+returns-clause-no_failure g c =
+    let before = until-base g (goal.at.returns-clause-no_failure g c).In_ok-checkpoint in
+    inr (⊎_elim (λ bad. cc) (λ same. ap (λ n. n.failures) same) c.in_ok-journal.ensures.no_failure ∙ before.0)
+
+pub returns-clause-no_write : goal.returns-clause-no_write
+returns-clause-no_write g c =
+    let before = until-base g (goal.at.returns-clause-no_write g c).In_ok-checkpoint in
+    c.load_journal.ensures.no_write ∙ before.1

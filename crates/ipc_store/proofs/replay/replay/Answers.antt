@@ -1,6 +1,7 @@
 -- One batch more is replayed, or what stands there is no batch that goes on from here.
 use Rattle.std.proofs.Common.{◌≡◌, inl, inr, ◌+◌, ◌<◌, ◌≤◌, ℕ, List, Result, Option, Ok, Err, None, Some, true, length, take, drop}
 use Rattle.std.proofs.Common.{refl, sym, ap, ◌∙◌, subst, arith}
+use Rattle.std.specs.Prelude.{⊤}
 use Rattle.std.specs.Option.{IsSome}
 use Rattle.std.specs.Result.{IsErrOf, IsErrAnd}
 use Rattle.std.proofs.lemmas.Bool.{false≢true, cases_lt}
@@ -8,31 +9,30 @@ use Rattle.std.proofs.lemmas.Result.{err_from_is_err_and}
 use Rattle.std.proofs.lemmas.List.{length-take-le}
 use Rattle.ipc_disk.specs.declared.range.Range.{Range}
 use Rattle.ipc_disk.specs.Medium.{Image, IsHonest, Stays}
-use Rattle.ipc_disk.proofs.CallerLemmas.{Stays-start, Stays-join}
+use Rattle.ipc_disk.proofs.CallerLemmas.{Stays-start, Stays-join, honest-join}
 use Rattle.ipc_journal.specs.declared.error.JournalError.{JournalError}
 use Rattle.ipc_journal.specs.declared.error.JournalError.TheVariants as journal
 use Rattle.ipc_disk.specs.Standing.{sectors_for, sector_at}
 use Rattle.ipc_journal.specs.Journal.{length_in}
 use Rattle.ipc_journal.specs.View.{range_of, used_of}
 use Rattle.ipc_state.specs.State.{State}
-use Rattle.ipc_engine.specs.declared.engine.Engine.{Engine}
 use Rattle.ipc_engine.specs.Event.{PlainEvent}
 use Rattle.ipc_store.specs.View.{of_journal_error}
 use Rattle.ipc_store.specs.declared.fault.OpenError.{OpenError}
 use Rattle.ipc_store.specs.declared.fault.OpenError.TheVariants.{Damaged}
 use Rattle.ipc_store.specs.Relations.Replay.{AreRecords}
-use Rattle.ipc_store.proofs.Replaying.{Replayed, Found, replayed_none, replayed_more, replayed_refused, replayed_all, replayed_only}
+use Rattle.ipc_store.proofs.Replaying.{Replayed, Found, replayed_none, replayed_more, replayed_refused, replayed_all}
 use Rattle.ipc_store.proofs.Replaying.{replayed_damaged, replayed_good, none_damaged, none_refused, found_batch, records_slice, AreRecords-same}
 use Rattle.ipc_store.proofs.replay.replay.Given.{Over}
 use Rattle.ipc_store.proofs.replay.replay.Goals as goal
 use Rattle.ipc_store.proofs.replay.replay.Goals.{After-next_batch, In_ok-go_through}
 
 -- the store's fault is the journal's
-from_damaged : (r : Result Engine OpenError) (error : JournalError) (sector : ℕ) → IsErrOf r (Damaged sector)
+from_damaged : (r : Result ⊤ OpenError) (error : JournalError) (sector : ℕ) → IsErrOf r (Damaged sector)
     → IsErrAnd r (λ e. e ≡ of_journal_error error) → error ≡ journal.Damaged sector
 from_damaged r error sector is and = let e = err_from_is_err_and r and in which error (sym e.2 ∙ same_err e.0 (sym e.1 ∙ is))
   where
-    same_err : (x : OpenError) → ◌≡◌ {A = Result Engine OpenError} (Err x) (Err (Damaged sector)) → x ≡ Damaged sector
+    same_err : (x : OpenError) → ◌≡◌ {A = Result ⊤ OpenError} (Err x) (Err (Damaged sector)) → x ≡ Damaged sector
     same_err x is = cc
 
     which : (error : JournalError) → of_journal_error error ≡ Damaged sector → error ≡ journal.Damaged sector
@@ -40,7 +40,7 @@ from_damaged r error sector is and = let e = err_from_is_err_and r and in which 
     which (journal.Damaged other) is = let same : other ≡ sector = cc in ap journal.Damaged same
 
 -- the sector of the batch that is refused
-named_sector : (at sector : ℕ) → ◌≡◌ {A = Result Engine OpenError} (Err (Damaged at)) (Err (Damaged sector)) → at ≡ sector
+named_sector : (at sector : ℕ) → ◌≡◌ {A = Result ⊤ OpenError} (Err (Damaged at)) (Err (Damaged sector)) → at ≡ sector
 named_sector at sector is = cc
 
 not_some : (found : Option ℕ) → found ≡ None → IsSome found → ⊥
@@ -59,53 +59,51 @@ not_none error is = cc
 reads_on : (g : Over) (c : After-next_batch g) → IsHonest (g.D.SectorDisk.medium c.args.disk.now)
     → Stays (g.D.SectorDisk.medium c.args.disk.now) (g.D.SectorDisk.medium c.next_batch.new.disk)
 reads_on g c honest =
-    let stays = c.loop-engine.invariant.reads honest in
+    let stays = c.loop-len.invariant.reads honest in
     Stays-join _ _ _ honest stays (c.next_batch.ensures.reads (stays.time.honest.0 honest))
 
 -- it is the batch that stands there
 found_there : (g : Over) (c : In_ok-go_through g) → IsHonest (g.D.SectorDisk.medium c.args.disk.now)
-    → Found c.args.journal.now (g.D.SectorDisk.medium c.args.disk.now).contents c.loop-engine.place.sector (take c.in-Some.len c.next_batch.new.into)
+    → Found c.args.journal.now (g.D.SectorDisk.medium c.args.disk.now).contents c.loop-len.place.sector (take c.in-Some.len c.next_batch.new.into)
 found_there g c honest =
-    let inv = c.loop-engine.invariant in
+    let inv = c.loop-len.invariant in
     let e = c.in_ok-len.ensures in
     let len = c.in-Some.len in
     let is = c.in-Some.is in
-    found_batch c.args.journal.now (g.D.SectorDisk.medium c.args.disk.now) (g.D.SectorDisk.medium c.loop-engine.disk) c.loop-engine.place.sector
-    c.next_batch.new.place.sector len (g.D.SectorDisk.size c.loop-engine.disk) c.next_batch.new.into honest (inv.reads honest)
-    (g.met.D.SectorDisk.shaped c.loop-engine.disk) (omega (arith, c.next_batch.auto.into, inv.room, c.requires.room)) (e.least len is)
+    found_batch c.args.journal.now (g.D.SectorDisk.medium c.args.disk.now) (g.D.SectorDisk.medium c.loop-len.disk) c.loop-len.place.sector
+    c.next_batch.new.place.sector len (g.D.SectorDisk.size c.loop-len.disk) c.next_batch.new.into honest (inv.reads honest)
+    (g.met.D.SectorDisk.shaped c.loop-len.disk) (omega (arith, c.next_batch.auto.into, inv.room, c.requires.room)) (e.least len is)
     (omega (arith, e.fits len is, inv.room, c.requires.room)) (e.stands len is) (e.batch len is) (e.passes len is) (e.inside len is)
 
 -- whatever events its records are of, the machine has gone through them
 only_there : (g : Over) (c : In_ok-go_through g) (events : List PlainEvent) (to : State)
-    → AreRecords c.args.limits c.loop-engine.engine.state (drop 4 (take c.in-Some.len c.next_batch.new.into)) events to
+    → AreRecords c.args.engine.now.limits c.loop-len.engine.state (drop 4 (take c.in-Some.len c.next_batch.new.into)) events to
     → (c.in_ok-go_through.field-0 ≡ true) × (c.go_through.new.engine.state ≡ to)
 only_there g c events to are =
     c.in_ok-go_through.ensures.only events to
-    (AreRecords-same _ _ c.loop-engine.engine.state to _ _ events (sym c.loop-engine.invariant.limits)
+    (AreRecords-same _ _ c.loop-len.engine.state to _ _ events (sym c.loop-len.invariant.limits)
     (sym (records_slice c.in-Some.len c.next_batch.new.into (c.in_ok-len.ensures.least c.in-Some.len c.in-Some.is))) are)
 
-pub loop-engine-init : goal.loop-engine-init
-loop-engine-init g c =
-    let state = c.in_ok-engine.ensures.state in
-    record {
-      room = refl;
-      within = omega arith;
-      limits = c.in_ok-engine.ensures.limits;
-      replayed = λ honest. let image = (g.D.SectorDisk.medium c.args.disk.now).contents in
-          subst (λ (s : State). Replayed c.args.limits c.args.journal.now image 0 s) (sym state) (replayed_none c.args.limits c.args.journal.now image);
-      reads = λ honest. Stays-start (g.D.SectorDisk.medium c.args.disk.now);
-      size = refl;
-      counts = refl;
-    }
+pub loop-len-init : goal.loop-len-init
+loop-len-init g c = record {
+  room = refl;
+  within = omega arith;
+  limits = refl;
+  replayed = λ honest. replayed_none c.args.engine.now.limits c.args.engine.now.state c.args.journal.now (g.D.SectorDisk.medium c.args.disk.now).contents;
+  reads = λ honest. Stays-start (g.D.SectorDisk.medium c.args.disk.now);
+  honest = (λ h. h, λ h. h);
+  size = refl;
+  counts = refl;
+}
 
 pub returns-in_err-len-clause-damaged : goal.returns-in_err-len-clause-damaged
 returns-in_err-len-clause-damaged g c = λ sector batches s is honest good.
-    let inv = c.loop-engine.invariant in
+    let inv = c.loop-len.invariant in
     let image = (g.D.SectorDisk.medium c.args.disk.now).contents in
     let journal = c.args.journal.now in
-    let place = c.loop-engine.place.sector in
+    let place = c.loop-len.place.sector in
     let stays = inv.reads honest in
-    let error = from_damaged c.from_residual-in_err-len.result c.in_err-len.field-0.0 sector is c.from_residual-in_err-len.ensures.1 in
+    let error = from_damaged c.from_residual.result c.in_err-len.field-0.0 sector is c.from_residual.ensures.1 in
     let was = ap (λ (x : JournalError). Err x) error in
     let at : sector ≡ (range_of c.args.journal.now).first + 1 + place = c.in_err-len.ensures.named sector was in
     let bad = c.in_err-len.ensures.damaged sector was (stays.time.honest.0 honest) in
@@ -114,17 +112,18 @@ returns-in_err-len-clause-damaged g c = λ sector batches s is honest good.
       | inl lt ↦ lt
       | inr le ↦ absurd (not_none c.in_err-len.field-0.0 (c.in_err-len.ensures.end le))
     ] in
-    replayed_damaged c.args.limits journal image place c.loop-engine.engine.state (inv.replayed honest) (length c.loop-engine.room) _
+    replayed_damaged c.args.engine.now.limits c.args.engine.now.state journal image place c.loop-len.engine.state (inv.replayed honest)
+    (length c.loop-len.room) _
     (omega (arith, inv.room, c.requires.room)) said more bad batches s good
 
 pub returns-in_err-len-clause-named : goal.returns-in_err-len-clause-named
 returns-in_err-len-clause-named g c = λ sector is honest.
-    let inv = c.loop-engine.invariant in
+    let inv = c.loop-len.invariant in
     let image = (g.D.SectorDisk.medium c.args.disk.now).contents in
     let journal = c.args.journal.now in
-    let place = c.loop-engine.place.sector in
+    let place = c.loop-len.place.sector in
     let stays = inv.reads honest in
-    let error = from_damaged c.from_residual-in_err-len.result c.in_err-len.field-0.0 sector is c.from_residual-in_err-len.ensures.1 in
+    let error = from_damaged c.from_residual.result c.in_err-len.field-0.0 sector is c.from_residual.ensures.1 in
     let was = ap (λ (x : JournalError). Err x) error in
     let at : sector ≡ (range_of c.args.journal.now).first + 1 + place = c.in_err-len.ensures.named sector was in
     let said = ap (λ (i : Image). length_in (sector_at i sector)) (stays.contents honest) ∙ ap (λ (n : ℕ). length_in (sector_at image n)) at in
@@ -133,8 +132,8 @@ returns-in_err-len-clause-named g c = λ sector is honest.
       | inr le ↦ absurd (not_none c.in_err-len.field-0.0 (c.in_err-len.ensures.end le))
     ] in
     let replayed = inv.replayed honest in
-    replayed_good _ _ _ _ _ replayed sector at more
-    (none_damaged _ _ _ _ _ replayed (length c.loop-engine.room) _ (omega (arith, inv.room, c.requires.room)) said
+    replayed_good _ _ _ _ _ _ replayed sector at more
+    (none_damaged _ _ _ _ _ _ replayed (length c.loop-len.room) _ (omega (arith, inv.room, c.requires.room)) said
     (c.in_err-len.ensures.damaged sector was (stays.time.honest.0 honest)))
 
 pub returns-in_err-len-clause-reads : goal.returns-in_err-len-clause-reads
@@ -142,13 +141,8 @@ returns-in_err-len-clause-reads g c = reads_on g (goal.at.returns-in_err-len-cla
 
 pub returns-in_default-clause-replays : goal.returns-in_default-clause-replays
 returns-in_default-clause-replays g c = λ honest.
-    let inv = c.loop-engine.invariant in
-    replayed_all _ _ _ _ _ (inv.replayed honest) (at_end _ _ c.in_ok-len.field-0 inv.within c.in_default.is c.in_ok-len.ensures.more)
-
-pub returns-in_default-clause-only : goal.returns-in_default-clause-only
-returns-in_default-clause-only g c = λ batches s honest good.
-    let inv = c.loop-engine.invariant in
-    replayed_only _ _ _ _ _ (inv.replayed honest) (at_end _ _ c.in_ok-len.field-0 inv.within c.in_default.is c.in_ok-len.ensures.more) batches s good
+    let inv = c.loop-len.invariant in
+    replayed_all _ _ _ _ _ _ (inv.replayed honest) (at_end _ _ c.in_ok-len.field-0 inv.within c.in_default.is c.in_ok-len.ensures.more)
 
 pub returns-in_default-clause-reads : goal.returns-in_default-clause-reads
 returns-in_default-clause-reads g c = reads_on g (goal.at.returns-in_default-clause-reads g c).After-next_batch
@@ -159,42 +153,42 @@ returns-in_err-go_through-clause-reads g c = reads_on g (goal.at.returns-in_err-
 pub returns-then-not-branch-clause-damaged : goal.returns-then-not-branch-clause-damaged
 returns-then-not-branch-clause-damaged g c = λ sector batches to is honest good.
     let here = (goal.at.returns-then-not-branch-clause-damaged g c).In_ok-go_through in
-    replayed_refused _ _ _ _ _ _ (c.loop-engine.invariant.replayed honest) (found_there g here honest)
+    replayed_refused _ _ _ _ _ _ _ (c.loop-len.invariant.replayed honest) (found_there g here honest)
     (λ es t are. false≢true (sym c.if-not-branch.true ∙ (only_there g here es t are).0)) batches to good
 
 pub returns-then-not-branch-clause-named : goal.returns-then-not-branch-clause-named
 returns-then-not-branch-clause-named g c = λ sector is honest.
     let here = (goal.at.returns-then-not-branch-clause-named g c).In_ok-go_through in
-    let replayed = c.loop-engine.invariant.replayed honest in
+    let replayed = c.loop-len.invariant.replayed honest in
     let found = found_there g here honest in
-    replayed_good _ _ _ _ _ replayed sector
-    (sym (named_sector _ sector is) ∙ ap (λ (range : Range). range.first + 1 + c.loop-engine.place.sector) c.range.ensures)
+    replayed_good _ _ _ _ _ _ replayed sector
+    (sym (named_sector _ sector is) ∙ ap (λ (range : Range). range.first + 1 + c.loop-len.place.sector) c.range.ensures)
     (omega (arith, found.inside, found.is.field))
-    (none_refused _ _ _ _ _ _ replayed found (λ es t are. false≢true (sym c.if-not-branch.true ∙ (only_there g here es t are).0)))
+    (none_refused _ _ _ _ _ _ _ replayed found (λ es t are. false≢true (sym c.if-not-branch.true ∙ (only_there g here es t are).0)))
 
 pub returns-then-not-branch-clause-reads : goal.returns-then-not-branch-clause-reads
 returns-then-not-branch-clause-reads g c = reads_on g (goal.at.returns-then-not-branch-clause-reads g c).After-next_batch
 
-pub loop-engine-smaller : goal.loop-engine-smaller
-loop-engine-smaller g c =
+pub loop-len-smaller : goal.loop-len-smaller
+loop-len-smaller g c =
     let e = c.in_ok-len.ensures in
     let len = c.in-Some.len in
     let is = c.in-Some.is in
-    omega (arith, c.loop-engine.invariant.within, e.least len is, e.passes len is, e.inside len is)
+    omega (arith, c.loop-len.invariant.within, e.least len is, e.passes len is, e.inside len is)
 
-pub loop-engine-preserved : goal.loop-engine-preserved
-loop-engine-preserved g c =
-    let here = (goal.at.loop-engine-preserved g c).In_ok-go_through in
-    let inv = c.loop-engine.invariant in
+pub loop-len-preserved : goal.loop-len-preserved
+loop-len-preserved g c =
+    let here = (goal.at.loop-len-preserved g c).In_ok-go_through in
+    let inv = c.loop-len.invariant in
     let e = c.in_ok-len.ensures in
     let len = c.in-Some.len in
     let room = c.next_batch.new.into in
-    let s = c.loop-engine.engine.state in
+    let s = c.loop-len.engine.state in
     let t = c.go_through.new.engine.state in
     let events = c.in_ok-go_through.ensures.all c.if-not-branch.false in
     let are = AreRecords-same _ _ s t _ _ events.0 inv.limits (records_slice len room (e.least len c.in-Some.is)) events.1 in
-    let next : c.loop-engine.place.sector + sectors_for (length (take len room)) ≡ c.next_batch.new.place.sector =
-    ap (λ (n : ℕ). c.loop-engine.place.sector + sectors_for n)
+    let next : c.loop-len.place.sector + sectors_for (length (take len room)) ≡ c.next_batch.new.place.sector =
+    ap (λ (n : ℕ). c.loop-len.place.sector + sectors_for n)
     (length-take-le len room (omega (arith, e.fits len c.in-Some.is, c.next_batch.auto.into)))
     ∙ sym (e.passes len c.in-Some.is) in
     record {
@@ -202,9 +196,12 @@ loop-engine-preserved g c =
       within = omega (arith, e.inside len c.in-Some.is);
       limits = c.in_ok-go_through.ensures.limits ∙ inv.limits;
       replayed = λ honest.
-          subst (λ (n : ℕ). Replayed c.args.limits c.args.journal.now (g.D.SectorDisk.medium c.args.disk.now).contents n t) next
-          (replayed_more _ _ _ _ s _ (inv.replayed honest) (found_there g here honest) events.0 t are (λ es to good. (only_there g here es to good).1));
-      reads = reads_on g (goal.at.loop-engine-preserved g c).After-next_batch;
+          subst
+          (λ (n : ℕ). Replayed c.args.engine.now.limits c.args.engine.now.state c.args.journal.now (g.D.SectorDisk.medium c.args.disk.now).contents n t)
+          next
+          (replayed_more _ _ _ _ _ s _ (inv.replayed honest) (found_there g here honest) events.0 t are (λ es to good. (only_there g here es to good).1));
+      reads = reads_on g (goal.at.loop-len-preserved g c).After-next_batch;
+      honest = honest-join _ _ _ inv.honest c.next_batch.ensures.honest;
       size = c.next_batch.ensures.size ∙ inv.size;
       counts = e.no_failure ∙ inv.counts;
     }

@@ -1,22 +1,24 @@
 -- The batches before the place are replayed, and the disk is as it was.
-use Rattle.std.proofs.Common.{◌≡◌, ◌-◌, ◌≤◌, length}
+use Rattle.std.proofs.Common.{◌≡◌, ◌↔◌, ◌-◌, ◌≤◌, length}
 use Rattle.ipc_disk.specs.Medium.{IsHonest, Stays}
 use Rattle.ipc_journal.specs.View.{used_of}
 use Rattle.ipc_store.proofs.Replaying.{Replayed}
 use Rattle.ipc_store.proofs.replay.replay.Given as goal
 
-abbrev pub invariant-loop-engine : goal.invariant-loop-engine
-invariant-loop-engine g l =
+abbrev pub invariant-loop-len : goal.invariant-loop-len
+invariant-loop-len g l =
     let medium = g.D.SectorDisk.medium in
     record {
       room : length l.room ≡ length l.fn.room;
       within : l.place.sector ≤ used_of l.journal;
-      limits : l.engine.limits ≡ l.fn.limits;
-      replayed : IsHonest (medium l.fn.disk) → Replayed l.fn.limits l.journal (medium l.fn.disk).contents l.place.sector l.engine.state;
+      limits : l.engine.limits ≡ l.fn.engine.limits;
+      replayed : IsHonest (medium l.fn.disk)
+          → Replayed l.fn.engine.limits l.fn.engine.state l.journal (medium l.fn.disk).contents l.place.sector l.engine.state;
       reads : IsHonest (medium l.fn.disk) → Stays (medium l.fn.disk) (medium l.disk);
+      honest : IsHonest (medium l.fn.disk) ↔ IsHonest (medium l.disk);
       size : g.D.SectorDisk.size l.disk ≡ g.D.SectorDisk.size l.fn.disk;
       counts : g.D.SectorDisk.counts l.disk ≡ g.D.SectorDisk.counts l.fn.disk;
     }
 
-abbrev pub decreases-loop-engine : goal.decreases-loop-engine
-decreases-loop-engine g l = used_of l.journal - l.place.sector
+abbrev pub decreases-loop-len : goal.decreases-loop-len
+decreases-loop-len g l = used_of l.journal - l.place.sector

@@ -1,4 +1,4 @@
-use Rattle.std.proofs.Common.{◌≡◌, ◌∙◌, ap, ap₂, refl, subst, ℕ, Bool, true, List, [], ◌∷◌, codes, Some, Result, Ok, Err}
+use Rattle.std.proofs.Common.{◌≡◌, ◌∙◌, ap, ap₂, refl, subst, ℕ, true, List, [], ◌∷◌, codes, Some, Result, Ok, Err}
 use Rattle.std.specs.Result.{IsErrAnd}
 use Rattle.clap.specs.Values.{kind_of}
 use Rattle.clap.specs.Faults.{fault_of, is_simple_and_free}
@@ -10,7 +10,6 @@ use Rattle.clap.specs.declared.builder.command.Command.{Command}
 use Rattle.clap.specs.declared.parser.matches.ArgMatches.{ArgMatches}
 use Rattle.clap.specs.Simple.{HasMatchesOf}
 use Rattle.clap.proofs.OnLiterals.{clap_on_literals}
-use Rattle.ipcd.specs.declared.command.Request.TheVariants.{Replay}
 use Rattle.ipcd.specs.Command.{declared, small_in, IsTakenAs}
 use Rattle.ipcd.proofs.command.parse.Goals as goal
 
@@ -70,14 +69,14 @@ returns-in_err-matches-clause-small g c = λ name words.
 
 pub returns-clause-standard : goal.returns-clause-standard
 returns-clause-standard g c = λ name words. record {
-  ok = ap (λ (b : Bool). Replay b) (c.is_small.ensures.not_given (flag-in _ _ _ _ c.in_ok-command_line.ensures words
-      c.in_ok-matches.ensures.matches ∙ standard-read name));
+  ok = c.in_ok-request_in.ensures.standard (flag-in _ _ _ _ c.in_ok-command_line.ensures words
+      c.in_ok-matches.ensures.matches ∙ standard-read name);
   err = tt;
 }
 
 pub returns-clause-small : goal.returns-clause-small
 returns-clause-small g c = λ name words. record {
-  ok = ap (λ (b : Bool). Replay b) (c.is_small.ensures.given (flag-in _ _ _ _ c.in_ok-command_line.ensures words
-      c.in_ok-matches.ensures.matches ∙ small-read name));
+  ok = c.in_ok-request_in.ensures.small (flag-in _ _ _ _ c.in_ok-command_line.ensures words
+      c.in_ok-matches.ensures.matches ∙ small-read name);
   err = tt;
 }

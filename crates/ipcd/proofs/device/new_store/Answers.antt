@@ -3,6 +3,7 @@ use Rattle.ipc_base.specs.declared.limits.Limits.{Limits}
 use Rattle.ipc_disk.specs.declared.memory.MemoryDisk.{MemoryDisk}
 use Rattle.ipc_disk.specs.Medium.{Medium, IsHonest, Image}
 use Rattle.std.proofs.lemmas.List.{length-map}
+use Rattle.std.proofs.lemmas.Result.{IfOk-weaker}
 use Rattle.ipc_disk.specs.Memory.{memory_medium, memory_size}
 use Rattle.ipc_disk.specs.declared.memory.Slot.{Slot}
 use Rattle.ipc_state.specs.State.{start, restart}
@@ -25,20 +26,22 @@ module _ {D : Type 0} (limits : Limits) (image : Image) (medium : Medium) (store
 contents-fit : (disk : MemoryDisk) (sectors : ℕ) → sectors < 2 ^ 32 → memory_size disk ≡ sectors → length (memory_medium disk).contents < 2 ^ 32
 contents-fit disk sectors few size = omega (arith, few, size, length-map disk.slots.items (λ (slot : Slot). slot.last))
 
-pub returns-in-Ok-open-clause-limits : goal.returns-in-Ok-open-clause-limits
-returns-in-Ok-open-clause-limits c =
+pub returns-clause-limits : goal.returns-clause-limits
+returns-clause-limits c =
     let disk = c.format.new.disk in
-    let honest : IsHonest (memory_medium disk) = c.format.ensures.honest.0 c.in_ok-disk.ensures.honest in
+    let honest : IsHonest (memory_medium disk) = c.format.ensures.honest.0 c.in-Ok.ensures.honest in
     let image = (memory_medium disk).contents in
-    let few = contents-fit disk c.need.result (omega (arith, c.need.ensures.bounded)) (c.format.ensures.size ∙ c.in_ok-disk.ensures.size) in
-    (same c.args.limits.now image _ c.in-Ok-open.store few (c.in-Ok.ensures.ok c.in_ok-disk.ensures.honest image honest.reads)
-    (c.in-Ok-open.ensures.ok honest)).0
+    let few = contents-fit disk c.need.result (omega (arith, c.need.ensures.bounded)) (c.format.ensures.size ∙ c.in-Ok.ensures.size) in
+    IfOk-weaker c.open_store.result _ _
+    (λ store opens. (same c.args.limits.now image _ store few (c.in_ok-format.ensures.ok c.in-Ok.ensures.honest image honest.reads)
+    (opens honest)).0) c.open_store.ensures.ok
 
-pub returns-in-Ok-open-clause-state : goal.returns-in-Ok-open-clause-state
-returns-in-Ok-open-clause-state c =
+pub returns-clause-state : goal.returns-clause-state
+returns-clause-state c =
     let disk = c.format.new.disk in
-    let honest : IsHonest (memory_medium disk) = c.format.ensures.honest.0 c.in_ok-disk.ensures.honest in
+    let honest : IsHonest (memory_medium disk) = c.format.ensures.honest.0 c.in-Ok.ensures.honest in
     let image = (memory_medium disk).contents in
-    let few = contents-fit disk c.need.result (omega (arith, c.need.ensures.bounded)) (c.format.ensures.size ∙ c.in_ok-disk.ensures.size) in
-    state c.args.limits.now image _ c.in-Ok-open.store few (c.in-Ok.ensures.ok c.in_ok-disk.ensures.honest image honest.reads)
-    (c.in-Ok-open.ensures.ok honest)
+    let few = contents-fit disk c.need.result (omega (arith, c.need.ensures.bounded)) (c.format.ensures.size ∙ c.in-Ok.ensures.size) in
+    IfOk-weaker c.open_store.result _ _
+    (λ store opens. state c.args.limits.now image _ store few (c.in_ok-format.ensures.ok c.in-Ok.ensures.honest image honest.reads)
+    (opens honest)) c.open_store.ensures.ok

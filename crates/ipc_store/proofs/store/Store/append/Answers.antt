@@ -1,27 +1,40 @@
 -- Each exit: the images since the start, and the store after it.
-use Rattle.std.proofs.Common.{sym}
-use Rattle.ipc_store.proofs.Committing.{is_batch, any_moment-none, any_moment-append, committed}
+use Rattle.std.proofs.Common.{[], refl, sym, ap, ◌∙◌, arith}
+use Rattle.ipc_engine.specs.Step.{run}
+use Rattle.ipc_store.proofs.Committing.{is_batch, any_moment-append, committed}
+use Rattle.ipc_store.proofs.Devices.{stays-on-disk}
 use Rattle.ipc_store.proofs.store.Store.append.Goals as goal
 
 pub append-requires-clause-batch : goal.append-requires-clause-batch
-append-requires-clause-batch g c = is_batch c.self.inside.batch.records _ c.bytes-batch.ensures.bytes c.bytes-batch.ensures.size
-
-pub returns-then-not-fits-clause-any_moment : goal.returns-then-not-fits-clause-any_moment
-returns-then-not-fits-clause-any_moment g c = λ base pending at.
-    any_moment-none (g.D.SectorDisk.medium c.args.self.now.disk) (g.D.SectorDisk.medium c.args.self.now.disk) c.args.self.now base pending at
-    (g.met.D.SectorDisk.only_now _)
+append-requires-clause-batch g c = is_batch c.self.inside.batch.records _ c.bytes.ensures.bytes c.bytes.ensures.size
 
 pub returns-in-Err-clause-any_moment : goal.returns-in-Err-clause-any_moment
 returns-in-Err-clause-any_moment g c = rw (sym c.self.view_is) (λ base pending at.
-    any_moment-append _ _ _ base pending at c.bytes-batch.ensures.size _ c.bytes-batch.ensures.bytes
-    (c.append.ensures.others at.honest) c.append.ensures.any_moment)
+    any_moment-append _ _ _ base pending at c.bytes.ensures.size _ c.bytes.ensures.bytes
+    (c.append.ensures.others at.device.honest) c.append.ensures.any_moment)
 
 pub returns-clause-any_moment : goal.returns-clause-any_moment
 returns-clause-any_moment g c = rw (sym c.self.view_is) (λ base pending at.
-    any_moment-append _ _ _ base pending at c.bytes-batch.ensures.size _ c.bytes-batch.ensures.bytes
-    (c.append.ensures.others at.honest) c.append.ensures.any_moment)
+    any_moment-append _ _ _ base pending at c.bytes.ensures.size _ c.bytes.ensures.bytes
+    (c.append.ensures.others at.device.honest) c.append.ensures.any_moment)
 
 pub returns-clause-matches : goal.returns-clause-matches
 returns-clause-matches g c = rw (sym c.self.view_is, c.clear.ensures) (λ base pending at.
-    committed _ _ _ base pending at c.bytes-batch.ensures.size _ c.bytes-batch.ensures.bytes _ _ _ c.append.ensures.range c.append.ensures.epoch
-    (c.append.ensures.others at.honest) c.in_default.ensures.acknowledged)
+    committed _ _ _ base pending at c.bytes.ensures.size _ c.bytes.ensures.bytes (c.append.ensures.others at.device.honest) _ _ _
+    c.append.ensures.range c.append.ensures.epoch c.in_default.ensures.acknowledged)
+
+pub invariant_of-self-2 : goal.invariant_of-self-2
+invariant_of-self-2 g c = (
+  stays-on-disk _ _ _ _ _ _ _ c.append.ensures.size refl c.append.ensures.range (c.append.ensures.epoch ∙ c.self.invariant.0.epoch) c.self.invariant.0,
+  omega (arith, c.self.invariant.1, c.count.ensures.count, ap (λ b. b.count) c.clear.ensures),
+  λ goes honest. let found = c.self.invariant.2 goes (c.append.ensures.honest.1 honest) in
+      let at = found.1.1 in
+      rw c.clear.ensures (
+        (run c.self.inside.engine.limits found.0 found.1.0).state,
+        (
+          [],
+          committed _ _ _ found.0 found.1.0 at c.bytes.ensures.size _ c.bytes.ensures.bytes (c.append.ensures.others at.device.honest) _ _ _
+              c.append.ensures.range c.append.ensures.epoch c.in_default.ensures.acknowledged,
+        ),
+      ),
+)

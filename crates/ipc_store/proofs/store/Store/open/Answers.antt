@@ -1,11 +1,37 @@
 -- Each exit: what a crash leaves, and what was read.
-use Rattle.std.proofs.Common.{inl, inr, ⊎_elim, Err, sym, ap, subst, ◌∙◌}
+use Rattle.std.proofs.Common.{◌≡◌, ◌<◌, inl, inr, ⊎_elim, Err, sym, ap, subst, ◌∙◌}
+use Rattle.ipc_disk.specs.Medium.{IsHonest}
+use Rattle.ipc_journal.specs.View.{used_of}
+use Rattle.std.specs.Prelude.{⊤, Result}
+use Rattle.ipc_store.specs.declared.fault.OpenError.{OpenError}
+use Rattle.ipc_store.specs.declared.fault.OpenError.TheVariants as errors
 use Rattle.ipc_base.specs.declared.limits.Limits.{Limits}
 use Rattle.ipc_disk.specs.Since.{EachImageSince}
-use Rattle.ipc_store.specs.Image.{StandsFor}
+use Rattle.ipc_store.specs.Image.{StandsFor, IsAtEnd}
 use Rattle.ipc_store.specs.Relations.Matches.{OpensTo}
-use Rattle.ipc_store.proofs.Openings.{refused_by, only_read, begins, stood, restart_leaves}
+use Rattle.ipc_store.proofs.Openings.{refused_by, only_read, begins, stood, restart_leaves, at_end}
+use Rattle.ipc_store.proofs.store.Store.open.Given.{Over}
 use Rattle.ipc_store.proofs.store.Store.open.Goals as goal
+use Rattle.ipc_store.proofs.store.Store.open.Goals.{In-Err-restart}
+
+-- the answer of the restart
+abbrev restarted : OpenError → Result ⊤ OpenError
+restarted e = Err e
+
+-- the epochs are at their end
+ended : (g : Over) (c : In-Err-restart g) → IsHonest (g.D.SectorDisk.medium c.args.disk) → restarted c.in-Err-restart.error ≡ restarted (errors.Damaged 1)
+    → IsAtEnd (g.D.SectorDisk.medium c.args.disk).contents
+ended g c honest is =
+    let m = g.D.SectorDisk.medium in
+    let old = c.in-Err-restart.ensures.at_end is in
+    let stays = c.read_device.ensures.reads honest in
+    let store = c.new-store.result in
+    let over = c.new-store.ensures in
+    at_end (m store.disk) store c.in-Ok.found.2.state (m c.args.disk).contents
+    (begins m c.read_device.new.disk c.in-Ok.found.0 c.in-Ok.found.1 c.in-Ok.found.2 (c.in-Ok.ensures.matches honest) store over)
+    (ap (λ v. (m v.disk).contents) over ∙ stays.contents honest) old.0 old.1
+    (λ some. ap (λ v. used_of v.journal) over
+    ∙ c.in-Ok.ensures.used honest (subst (λ v. 0 < used_of v.journal) over some))
 
 pub returns-in-Err-clause-any_moment : goal.returns-in-Err-clause-any_moment
 returns-in-Err-clause-any_moment g c = λ honest. (tt, only_read _ _ (c.read_device.ensures.reads honest) (g.met.D.SectorDisk.only_now c.args.disk))
@@ -19,24 +45,30 @@ returns-in-Err-clause-refusals g c = λ limits s honest stands.
 
 pub returns-in-Err-restart-clause-refusals : goal.returns-in-Err-restart-clause-refusals
 returns-in-Err-restart-clause-refusals g c = λ limits s honest stands.
-    ⊎_elim (λ device. inl cc) (λ full. inr (inr cc)) c.in-Err-restart.ensures.faults
+    ⊎_elim (λ device. inl cc) (λ end. inr (inr (ended g (goal.at.returns-in-Err-restart-clause-refusals g c).In-Err-restart honest end)))
+    c.in-Err-restart.ensures.faults
 
 pub returns-in-Err-clause-damaged : goal.returns-in-Err-clause-damaged
-returns-in-Err-clause-damaged g c = λ sector e honest. c.read_device.ensures.damaged sector (c.in-Err.is ∙ ap Err e) honest
+returns-in-Err-clause-damaged g c = λ sector e honest. inl (c.read_device.ensures.damaged sector (c.in-Err.is ∙ ap Err e) honest)
+
+pub returns-in-Err-restart-clause-damaged : goal.returns-in-Err-restart-clause-damaged
+returns-in-Err-restart-clause-damaged g c = λ sector e honest.
+    ⊎_elim (λ device. absurd cc)
+    (λ end. inr (ended g (goal.at.returns-in-Err-restart-clause-damaged g c).In-Err-restart honest end, cc)) c.in-Err-restart.ensures.faults
 
 pub returns-in-Ok-restart-clause-ok : goal.returns-in-Ok-restart-clause-ok
 returns-in-Ok-restart-clause-ok g c = λ honest.
     let m = g.D.SectorDisk.medium in
-    let machine = c.in-Ok.found.1 in
-    let loaded = c.in-Ok.ensures.loaded honest in
+    let machine = c.in-Ok.found.2 in
+    let loaded = c.in-Ok.ensures.matches honest in
     record {
       found = (
         machine.state,
         subst (λ (l : Limits). StandsFor l machine.state (m c.args.disk).contents) (sym c.restart.ensures.limits)
-            (stood m c.read_device.new.disk c.in-Ok.found.0 machine loaded c.new-store.result c.new-store.ensures (m c.args.disk)
+            (stood m c.read_device.new.disk c.in-Ok.found.0 c.in-Ok.found.1 machine loaded c.new-store.result c.new-store.ensures (m c.args.disk)
             ((c.read_device.ensures.reads honest).contents honest)),
         c.in-Ok-restart.ensures.matches machine.state
-            (begins m c.read_device.new.disk c.in-Ok.found.0 machine loaded c.new-store.result c.new-store.ensures),
+            (begins m c.read_device.new.disk c.in-Ok.found.0 c.in-Ok.found.1 machine loaded c.new-store.result c.new-store.ensures),
       );
       confirmed = c.in-Ok-restart.ensures.confirmed;
     }
@@ -44,9 +76,10 @@ returns-in-Ok-restart-clause-ok g c = λ honest.
 pub returns-in-Ok-restart-clause-any_moment : goal.returns-in-Ok-restart-clause-any_moment
 returns-in-Ok-restart-clause-any_moment g c = λ honest.
     let m = g.D.SectorDisk.medium in (
-      restart_leaves m c.read_device.new.disk c.in-Ok.found.0 c.in-Ok.found.1 (c.in-Ok.ensures.loaded honest) c.new-store.result c.new-store.ensures
+      restart_leaves m c.read_device.new.disk c.in-Ok.found.0 c.in-Ok.found.1 c.in-Ok.found.2 (c.in-Ok.ensures.matches honest)
+          c.new-store.result c.new-store.ensures
           (m c.args.disk) (m c.restart.new.self.disk) honest (c.read_device.ensures.reads honest)
-          (g.met.D.SectorDisk.only_now c.args.disk) (c.restart.ensures.any_moment c.in-Ok.found.1.state),
+          (g.met.D.SectorDisk.only_now c.args.disk) (c.restart.ensures.any_moment c.in-Ok.found.2.state),
       tt,
     )
 
@@ -54,15 +87,20 @@ pub returns-in-Err-restart-clause-any_moment : goal.returns-in-Err-restart-claus
 returns-in-Err-restart-clause-any_moment g c = λ honest.
     let m = g.D.SectorDisk.medium in (
       tt,
-      subst (λ d. EachImageSince (m c.args.disk) (m d) (OpensTo (m c.args.disk))) (sym c.close.ensures)
-          (restart_leaves m c.read_device.new.disk c.in-Ok.found.0 c.in-Ok.found.1 (c.in-Ok.ensures.loaded honest) c.new-store.result c.new-store.ensures
+      subst (λ d. EachImageSince (m c.args.disk) (m d) (OpensTo (m c.args.disk))) (sym c.close.ensures.disk)
+          (restart_leaves m c.read_device.new.disk c.in-Ok.found.0 c.in-Ok.found.1 c.in-Ok.found.2 (c.in-Ok.ensures.matches honest)
+          c.new-store.result c.new-store.ensures
           (m c.args.disk) (m c.restart.new.self.disk) honest (c.read_device.ensures.reads honest)
-          (g.met.D.SectorDisk.only_now c.args.disk) (c.restart.ensures.any_moment c.in-Ok.found.1.state)),
+          (g.met.D.SectorDisk.only_now c.args.disk) (c.restart.ensures.any_moment c.in-Ok.found.2.state)),
     )
 
 pub returns-in-Err-restart-clause-unwritten : goal.returns-in-Err-restart-clause-unwritten
 returns-in-Err-restart-clause-unwritten g c = λ honest none.
     let m = g.D.SectorDisk.medium in
-    absurd (none c.new-store.result.machine.limits c.in-Ok.found.1.state
-    (stood m c.read_device.new.disk c.in-Ok.found.0 c.in-Ok.found.1 (c.in-Ok.ensures.loaded honest) c.new-store.result c.new-store.ensures
+    absurd (none c.new-store.result.machine.limits c.in-Ok.found.2.state
+    (stood m c.read_device.new.disk c.in-Ok.found.0 c.in-Ok.found.1 c.in-Ok.found.2 (c.in-Ok.ensures.matches honest)
+    c.new-store.result c.new-store.ensures
     (m c.args.disk) ((c.read_device.ensures.reads honest).contents honest)))
+
+pub new-store-requires-clause-matches : goal.new-store-requires-clause-matches
+new-store-requires-clause-matches g c = λ honest. c.in-Ok.ensures.matches (c.read_device.ensures.honest.1 honest)

@@ -1,5 +1,8 @@
 -- The restart is the one event that waits.
-use Rattle.std.proofs.Common.{◌≡◌, ℕ, ◌+◌, List, [], ◌∷◌, ◌++◌, Err, ap, subst, ◌∙◌}
+use Rattle.std.proofs.Common.{◌≡◌, ⊎_elim, ℕ, ◌+◌, List, [], ◌∷◌, ◌++◌, Err, true, false, sym, ap, subst, ◌∙◌}
+use Rattle.ipc_checkpoint.specs.declared.checkpoint.Checkpoint.{Checkpoint}
+use Rattle.ipc_checkpoint.specs.View.{epoch_of}
+use Rattle.ipc_store.specs.Image.{last_epoch}
 use Rattle.ipc_journal.specs.declared.journal.Journal.{Journal}
 use Rattle.ipc_journal.specs.View.{range_of, used_of}
 use Rattle.ipc_engine.specs.Event.{Restart}
@@ -22,15 +25,25 @@ returns-in-Err-Device-clause-any_moment g c = λ base at.
     c.step.ensures.disk c.step.ensures.limits
     (c.commit.ensures.any_moment base (Restart ∷ []) (c.in_default.ensures.matches base [] at))
 
-pub returns-in-Err-JournalFull-clause-any_moment : goal.returns-in-Err-JournalFull-clause-any_moment
-returns-in-Err-JournalFull-clause-any_moment g c = λ base at.
+pub returns-in-Err-Stopped-clause-any_moment : goal.returns-in-Err-Stopped-clause-any_moment
+returns-in-Err-Stopped-clause-any_moment g c = λ base at.
     taken g.D.SectorDisk.medium c.args.self.now c.step.new.self (g.D.SectorDisk.medium c.commit.new.self.disk) base
     c.step.ensures.disk c.step.ensures.limits
     (c.commit.ensures.any_moment base (Restart ∷ []) (c.in_default.ensures.matches base [] at))
 
-pub returns-in-Err-JournalFull-clause-full : goal.returns-in-Err-JournalFull-clause-full
-returns-in-Err-JournalFull-clause-full g c = λ is.
+pub returns-in-Err-Stopped-clause-at_end : goal.returns-in-Err-Stopped-clause-at_end
+returns-in-Err-Stopped-clause-at_end g c = λ is.
     let all = c.in_default.ensures.records ∙ ap (λ (x : List ℕ). x ++ record_bytes Restart) c.requires.empty in
-    subst (λ (j : Journal). used_of j + 1 ≡ (range_of j).count) c.step.ensures.journal
-    (full_journal c.step.new.self.journal c.step.new.self.records all
-    (c.commit.ensures.full (c.in-Err-JournalFull.is ∙ ap Err c.in-Err-JournalFull.field-0-is)))
+    let goes : c.step.new.self.stopped ≡ false = c.step.ensures.goes_on ∙ c.requires.goes_on in
+    let why = ⊎_elim (λ stopped. absurd (never (sym stopped ∙ goes))) (λ end. end)
+    (c.commit.ensures.stopped.0 (c.in-Err-Stopped.is ∙ ap Err c.in-Err-Stopped.field-0-is)) in (
+      subst IsLast c.step.ensures.checkpoint why.0,
+      subst (λ (j : Journal). used_of j + 1 ≡ (range_of j).count) c.step.ensures.journal
+          (full_journal c.step.new.self.journal c.step.new.self.records all why.2),
+    )
+  where
+    IsLast : Checkpoint → Type 0
+    IsLast checkpoint = epoch_of checkpoint ≡ last_epoch
+
+    never : true ≡ false → ⊥
+    never is = cc

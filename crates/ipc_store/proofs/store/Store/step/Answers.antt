@@ -1,4 +1,6 @@
-use Rattle.std.proofs.Common.{◌≡◌, [], sym, ap, subst, ◌∙◌}
+use Rattle.std.proofs.Common.{◌≡◌, [], ◌∷◌, ◌++◌, sym, ap, subst, ◌∙◌, arith}
+use Rattle.ipc_base.specs.declared.limits.Limits.{Limits}
+use Rattle.ipc_store.specs.Relations.Matches.{AreOnDisk}
 use Rattle.ipc_engine.specs.Engine.{Machine, IsForProcess}
 use Rattle.ipc_engine.specs.View.{plain_event}
 use Rattle.ipc_store.specs.Histories.{Takes}
@@ -23,6 +25,7 @@ returns-in-Err-clause-takes g c =
     let view : Machine → StoreView g.row.D.Denot = λ machine. record {
       disk = c.self.inside.disk;
       machine = machine;
+      checkpoint = c.self.inside.checkpoint;
       journal = c.self.inside.journal;
       records = c.self.inside.batch.records;
       waiting = c.self.inside.batch.count;
@@ -43,3 +46,20 @@ returns-clause-takes g c = (
       (returns-clause-matches g c),
   tt,
 )
+
+pub invariant_of-self-2 : goal.invariant_of-self-2
+invariant_of-self-2 g c =
+    let for : IsForProcess c.self.inside.engine.state (plain_event c.args.event) =
+    subst (λ v. IsForProcess v.machine.state (plain_event c.args.event)) (sym c.self.view_is) c.requires.process in (
+      subst (λ (l : Limits). AreOnDisk (g.D.SectorDisk.size c.self.inside.disk) l c.self.inside.checkpoint c.self.inside.journal)
+          (sym c.step.ensures.limits) c.self.invariant.0,
+      omega (arith, c.self.invariant.1, c.push.ensures.count, c.if-self.false),
+      λ goes honest. let found = c.self.invariant.2 goes honest in (
+        found.0,
+        (
+          found.1.0 ++ plain_event c.args.event ∷ [],
+          accepted _ _ found.0 found.1.0 found.1.1 (plain_event c.args.event) c.requires.record for c.step.new.self c.step.ensures.limits
+              c.in_default.ensures.state c.push.new.self.records c.push.ensures.records c.push.new.self.count c.push.ensures.count,
+        ),
+      ),
+    )

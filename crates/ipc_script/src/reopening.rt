@@ -1,0 +1,53 @@
+//! A server that is stopped, and its device opened again.
+
+ghost use Rattle.std.specs.Prelude.{⊤, [], ◌∷◌, IfOk, IfErr};
+ghost use Rattle.ipc_base.specs.declared.limits.Limits.{Limits};
+ghost use Rattle.ipc_disk.specs.Medium.{IsHonest};
+ghost use Rattle.ipc_state.specs.State.{restart};
+ghost use Rattle.ipc_engine.specs.Event.{Restart};
+ghost use Rattle.ipc_hub.specs.Clients.{Clients, no_clients};
+ghost use Rattle.ipc_hub.specs.Relations.Matches.{StoredMatches};
+ghost use Rattle.ipc_script.specs.Relations.Faults.{ByFault};
+
+use crate::fault::ScriptFault;
+use ipc_disk::SectorDisk;
+use ipc_hub::Hub;
+use ipc_store::{OpenError, Store, Unopened};
+use std::alloc::Global;
+
+/// Drops a server and all its connections without a word, and opens its device again. If it is not
+/// opened, gives back the disk, and why.
+pub(crate) fn reopened<D: SectorDisk>(
+    alloc: Global,
+    hub: Hub<D>,
+) -> Result<Hub<D>, (ScriptFault, D)>
+    ensures ok { IfOk result (λ next. (limits : Limits) (h : Clients) → StoredMatches limits hub h →
+        IsHonest (D.medium hub.store.disk) →
+        StoredMatches limits next (no_clients (restart h.state) (Restart ∷ []))) }
+    ensures honest { IfOk result (λ next.
+        IsHonest (D.medium hub.store.disk) → IsHonest (D.medium next.store.disk)) }
+    ensures err { IfErr result (λ e. ByFault e.0 ⊤ ⊤ ⊥) }
+{
+    let mut hub = hub;
+    // After a line no event waits, and this does nothing. What came before the first may wait.
+    if let Err(_) = hub.release() {
+        return Err((ScriptFault::Device, hub.close().close()));
+    }
+    match Store::open(alloc, hub.close().close()) {
+        Ok(store) => Ok(Hub::new(alloc, store)),
+        Err(Unopened { error, disk }) => Err((fault_of(error), disk)),
+    }
+}
+
+/// The fault of a script whose device was not opened again.
+fn fault_of(error: OpenError) -> ScriptFault
+    ensures { ByFault result ⊤ ⊤ ⊥ }
+{
+    match error {
+        OpenError::NoMemory => ScriptFault::NoMemory,
+        OpenError::Device => ScriptFault::Device,
+        OpenError::NotFormatted => ScriptFault::NotFormatted,
+        OpenError::Version { found } => ScriptFault::Version(found),
+        OpenError::Damaged { sector } => ScriptFault::Damaged(sector),
+    }
+}

@@ -1,0 +1,37 @@
+-- The faults that an open passes on.
+use Rattle.std.proofs.Common.{◌≡◌, ℕ, Err, sym, ◌∙◌}
+use Rattle.std.specs.Prelude.{Result, IsErrOf}
+use Rattle.std.specs.Result.{IsErrAnd}
+use Rattle.std.proofs.lemmas.Result.{err_from_is_err_and}
+use Rattle.ipc_checkpoint.specs.declared.error.LoadError.{LoadError}
+use Rattle.ipc_checkpoint.specs.declared.error.LoadError.TheVariants as loads
+use Rattle.ipc_image.specs.declared.restoring.ImageError.{ImageError}
+use Rattle.ipc_image.specs.declared.restoring.ImageError.TheVariants as images
+use Rattle.ipc_journal.specs.declared.error.JournalError.{JournalError}
+use Rattle.ipc_journal.specs.declared.error.JournalError.TheVariants as journals
+use Rattle.ipc_store.specs.declared.fault.OpenError.{OpenError}
+use Rattle.ipc_store.specs.declared.fault.OpenError.TheVariants as errors
+use Rattle.ipc_store.specs.View.{of_journal_error, of_load_error, of_image_error}
+
+pub err-same : {T : Type 0} (r : Result T OpenError) (a b : OpenError) → r ≡ Err a → r ≡ Err b → a ≡ b
+err-same r a b one other = cc
+
+-- an error that is passed on is the one that came
+pub passed_on : {T : Type 0} (r : Result T OpenError) (came went : OpenError) → IsErrAnd r (λ y. y ≡ came) → IsErrOf r went → came ≡ went
+passed_on r came went is went-is = let q = err_from_is_err_and r is in sym q.2 ∙ err-same r q.0 went q.1 went-is
+
+-- which fault it was: of the journal
+pub journal-fault : (fault : JournalError) (sector : ℕ) → of_journal_error fault ≡ errors.Damaged sector → fault ≡ journals.Damaged sector
+journal-fault journals.Device sector is = cc
+journal-fault (journals.Damaged n) sector is = cc
+
+-- of the objects' sectors
+pub load-fault : (fault : LoadError) (sector : ℕ) → of_load_error fault ≡ errors.Damaged sector → fault ≡ loads.Damaged sector
+load-fault loads.Device sector is = cc
+load-fault (loads.Damaged n) sector is = cc
+load-fault loads.NoMemory sector is = cc
+
+-- of the state that they are
+pub image-fault : (fault : ImageError) (sector : ℕ) → of_image_error fault ≡ errors.Damaged sector → (fault ≡ images.Damaged) × (sector ≡ 1)
+image-fault images.Damaged sector is = (cc, cc)
+image-fault images.NoMemory sector is = absurd cc

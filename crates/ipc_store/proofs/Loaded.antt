@@ -1,0 +1,89 @@
+-- What was loaded, step by step, is the device.
+use Rattle.std.proofs.Common.{◌≡◌, ℕ, ◌≤◌, List, length, refl, sym, ap, subst, ◌∙◌, arith}
+use Rattle.std.specs.Prelude.{map}
+use Rattle.ipc_base.specs.declared.limits.Limits.{Limits}
+use Rattle.ipc_base.specs.Limits.{ArePassed}
+use Rattle.ipc_base.specs.Objects.{PlainObjects}
+use Rattle.ipc_checkpoint.specs.declared.checkpoint.Checkpoint.{Checkpoint}
+use Rattle.ipc_checkpoint.specs.declared.layout.Layout.{Layout}
+use Rattle.ipc_checkpoint.specs.Checkpoint.{IsLaidOut, Holds as HoldsObjects}
+use Rattle.ipc_checkpoint.specs.Matches.{CheckpointMatches}
+use Rattle.ipc_checkpoint.specs.View.{epoch_of as saved_epoch, layout_of as saved_layout}
+use Rattle.ipc_checkpoint.proofs.CallerLemmas.{CheckpointMatches-holds}
+use Rattle.ipc_disk.specs.declared.range.Range.{Range}
+use Rattle.ipc_disk.specs.Medium.{Image, Medium, IsHonest, IsDurable, Stays}
+use Rattle.ipc_disk.specs.Range.{IsWithin}
+use Rattle.ipc_disk.proofs.CallerLemmas.{Stays-join}
+use Rattle.ipc_journal.specs.declared.journal.Journal.{Journal}
+use Rattle.ipc_journal.specs.Matches.{JournalMatches}
+use Rattle.ipc_journal.specs.View.{range_of, epoch_of}
+use Rattle.ipc_state.specs.State.{State}
+use Rattle.ipc_engine.specs.Event.{PlainEvent}
+use Rattle.ipc_image.specs.Saved.{StandForState}
+use Rattle.ipc_image.specs.Sizes.{area_of, need_of}
+use Rattle.ipc_store.specs.Batch.{batch_bytes}
+use Rattle.ipc_store.specs.Image.{journal_range, layout_of, IsDevice, HasBase, LeadTo}
+use Rattle.ipc_store.specs.Relations.Matches.{AreOnDisk, DeviceMatches}
+use Rattle.ipc_store.proofs.Formatting.{laid-out}
+
+-- calls that only read, one after another
+pub chain : (m0 m1 m2 : Medium) → IsHonest m0 → Stays m0 m1 → (IsHonest m1 → Stays m1 m2) → Stays m0 m2
+chain m0 m1 m2 honest first next = Stays-join m0 m1 m2 honest first (next (first.time.honest.0 honest))
+
+-- and what lasted before lasts after them
+pub stays-durable : (m0 m1 : Medium) → IsHonest m0 → Stays m0 m1 → IsDurable m0 → IsDurable m1
+stays-durable m0 m1 honest call durable = λ now left. durable now (call.images now left) ∙ sym (call.contents honest)
+
+-- the objects that stand for a state, as a checkpoint knows them
+abbrev pub Kept : Limits → State → Checkpoint → Medium → Type 0
+Kept limits from checkpoint medium = (objects : PlainObjects) × StandForState limits from objects × CheckpointMatches checkpoint objects medium
+
+-- the batches that lead on from there
+abbrev pub Led : Limits → State → State → Journal → Medium → Type 0
+Led limits from to journal medium =
+    (batches : List (List PlainEvent)) × JournalMatches journal (map batch_bytes batches) medium × LeadTo limits from batches to
+
+module _ (limits : Limits) (size : ℕ) (checkpoint : Checkpoint) (layout : saved_layout checkpoint ≡ layout_of limits size) where
+  -- a device whose objects stand for a state
+  pub has-base : (medium : Medium) (from : State) → IsHonest medium → IsDevice limits medium.contents → length medium.contents ≡ size
+      → Kept limits from checkpoint medium → HasBase limits (saved_epoch checkpoint) from medium.contents
+  has-base medium from honest device count kept = record {
+    device = device;
+    objects = kept.0;
+    there = subst (λ (l : Layout). HoldsObjects l (saved_epoch checkpoint) kept.0 medium.contents)
+        (layout ∙ ap (layout_of limits) (sym count)) (CheckpointMatches-holds checkpoint kept.0 medium kept.2 medium.contents honest.reads);
+    stand = kept.1;
+  }
+
+  module _ (journal : Journal) (range : range_of journal ≡ journal_range) (epoch : epoch_of journal ≡ saved_epoch checkpoint)
+      (others : Limits) (same : others ≡ limits) where
+    -- the whole device
+    pub loaded : (medium : Medium) (from to : State) → IsHonest medium → IsDurable medium → IsDevice limits medium.contents
+        → length medium.contents ≡ size → Kept limits from checkpoint medium → Led limits from to journal medium
+        → DeviceMatches medium others checkpoint journal to
+    loaded medium from to honest durable device count kept led =
+        subst (λ (l : Limits). DeviceMatches medium l checkpoint journal to) (sym same) (record {
+          honest = honest;
+          range = range;
+          epoch = epoch;
+          device = λ image now.
+              subst (λ (i : Image). IsDevice limits i × (saved_layout checkpoint ≡ layout_of limits (length i))) (sym (durable image now))
+              (device, layout ∙ ap (layout_of limits) (sym count));
+          from = from;
+          objects = kept.0;
+          stand = kept.1;
+          saved = kept.2;
+          batches = led.0;
+          appended = led.1;
+          leads = led.2;
+        })
+
+    -- and where it lies
+    pub on-disk : (last : ℕ) → last ≡ size → ArePassed limits → need_of limits ≤ size → AreOnDisk last others checkpoint journal
+    on-disk last is passed room = record {
+      objects = subst (λ (n : ℕ). IsLaidOut (saved_layout checkpoint) n) (sym is)
+          (subst (λ (l : Layout). IsLaidOut l size) (sym layout) (laid-out limits size passed room));
+      room = ap (λ (l : Layout). l.area) layout ∙ ap area_of (sym same);
+      within = subst (λ (r : Range). IsWithin r last) (sym range) (omega (arith, is, room));
+      epoch = epoch;
+    }

@@ -1,0 +1,54 @@
+-- The objects are none, or stand for no state.
+use Rattle.std.proofs.Common.{◌≡◌, ℕ, Err, length, sym, ap, subst, ◌∙◌}
+use Rattle.ipc_base.specs.Objects.{PlainObjects}
+use Rattle.ipc_checkpoint.specs.declared.layout.Layout.{Layout}
+use Rattle.ipc_checkpoint.specs.Checkpoint.{IsOwn, Holds}
+use Rattle.ipc_checkpoint.specs.View.{epoch_of}
+use Rattle.ipc_checkpoint.proofs.CallerLemmas.{Holds-one}
+use Rattle.ipc_disk.specs.Medium.{Image, IsHonest}
+use Rattle.ipc_image.specs.Saved.{StandForState}
+use Rattle.ipc_store.specs.declared.fault.OpenError.TheVariants as errors
+use Rattle.ipc_store.specs.Image.{layout_of, HasObjects, IsFirstFault}
+use Rattle.ipc_store.specs.View.{of_load_error, of_image_error}
+use Rattle.ipc_store.proofs.Faults.{passed_on, load-fault, image-fault}
+use Rattle.ipc_store.proofs.loading.load_base.Given.{Over}
+use Rattle.ipc_store.proofs.loading.load_base.Goals as goal
+use Rattle.ipc_store.proofs.loading.load_base.Goals.{After-load}
+
+-- where the objects of the image are
+lies : (g : Over) (c : After-load g) → IsHonest (g.D.SectorDisk.medium c.args.disk.now)
+    → c.layout_of-layout.result ≡ layout_of c.args.limits (length (g.D.SectorDisk.medium c.args.disk.now).contents)
+lies g c honest =
+    c.layout_of-layout.ensures.exact
+    ∙ ap (layout_of c.args.limits) (c.sectors.ensures ∙ sym (g.met.D.SectorDisk.shaped c.args.disk.now _ honest.reads).count)
+
+pub returns-in_err-checkpoint-clause-damaged : goal.returns-in_err-checkpoint-clause-damaged
+returns-in_err-checkpoint-clause-damaged g c = λ sector is honest device.
+    let image : Image = (g.D.SectorDisk.medium c.args.disk.now).contents in
+    let here = lies g (goal.at.returns-in_err-checkpoint-clause-damaged g c).After-load honest in
+    let fault = load-fault c.in_err-checkpoint.field-0.0 sector
+    (passed_on c.from_residual.result (of_load_error c.in_err-checkpoint.field-0.0) (errors.Damaged sector) c.from_residual.ensures.1 is) in
+    let err = ap Err fault in
+    let none : (epoch : ℕ) (objects : PlainObjects) → ¬ HasObjects c.args.limits epoch objects image =
+    λ epoch objects has. c.in_err-checkpoint.ensures.damaged sector err honest epoch objects
+    (subst (λ (l : Layout). Holds l epoch objects image) (sym here) has) in
+    let own = subst (λ (l : Layout). IsOwn l sector) here (c.in_err-checkpoint.ensures.named sector err) in
+    (λ epoch base has. none epoch has.objects has.there, IsFirstFault.Objects c.args.limits sector device own none)
+
+pub returns-in_err-engine-clause-damaged : goal.returns-in_err-engine-clause-damaged
+returns-in_err-engine-clause-damaged g c = λ sector is honest device.
+    let image : Image = (g.D.SectorDisk.medium c.args.disk.now).contents in
+    let here = lies g (goal.at.returns-in_err-engine-clause-damaged g c).After-load honest in
+    let fault = image-fault c.in_err-engine.field-0.0 sector
+    (passed_on c.from_residual-in_err-engine.result (of_image_error c.in_err-engine.field-0.0) (errors.Damaged sector)
+    c.from_residual-in_err-engine.ensures.1 is) in
+    let never = c.in_err-engine.ensures.damaged (ap Err fault.0) in
+    let epoch : ℕ = epoch_of c.in_ok-checkpoint.checkpoint in
+    let objects : PlainObjects = c.in_ok-checkpoint.objects in
+    let there : HasObjects c.args.limits epoch objects image =
+    subst (λ (l : Layout). Holds l epoch objects image) here (c.in_ok-checkpoint.ensures.holds honest) in (
+      λ other base has.
+          let one = Holds-one (layout_of c.args.limits (length image)) epoch other objects has.objects image there has.there in
+          never base (subst (λ (o : PlainObjects). StandForState c.args.limits base o) (sym one.1) has.stand),
+      subst (IsFirstFault image) (sym fault.1) (IsFirstFault.NoState c.args.limits epoch objects device there never),
+    )

@@ -1,0 +1,91 @@
+-- Each exit: the journal that was opened, and what its batches lead to.
+use Rattle.std.proofs.Common.{◌≡◌, inl, inr, ⊎_elim, ℕ, ◌<◌, ◌^◌, List, Err, length, refl, sym, ap, subst, ◌∙◌, arith}
+use Rattle.std.specs.Prelude.{map}
+use Rattle.std.proofs.lemmas.Result.{err_from_is_err_and}
+use Rattle.ipc_disk.specs.declared.range.Range.{Range}
+use Rattle.ipc_disk.specs.Medium.{Image, Medium, IsHonest}
+use Rattle.ipc_disk.proofs.CallerLemmas.{Stays-join}
+use Rattle.ipc_checkpoint.specs.View.{epoch_of as saved_epoch}
+use Rattle.ipc_journal.specs.Journal.{Holds, header_used}
+use Rattle.ipc_journal.specs.View.{epoch_of, used_of}
+use Rattle.ipc_journal.proofs.CallerLemmas.{JournalMatches-stays}
+use Rattle.ipc_store.specs.declared.fault.OpenError.TheVariants as errors
+use Rattle.ipc_store.specs.Batch.{batch_bytes}
+use Rattle.ipc_store.specs.Image.{journal_range, HasNoHeader}
+use Rattle.ipc_store.specs.View.{of_journal_error}
+use Rattle.ipc_store.specs.Relations.Replay.{IsOpened, Replays, IsGoodUpTo}
+use Rattle.ipc_store.proofs.Faults.{err-same, passed_on, journal-fault}
+use Rattle.ipc_store.proofs.Opened.{header-damaged, is_opened, batch-damaged, used-is, holds}
+use Rattle.ipc_store.proofs.loading.load_journal.Given.{Over}
+use Rattle.ipc_store.proofs.loading.load_journal.Goals as goal
+use Rattle.ipc_store.proofs.loading.load_journal.Goals.{In_ok-journal}
+
+-- the journal of the image
+opened_on : (g : Over) (c : In_ok-journal g) → IsHonest (g.D.SectorDisk.medium c.args.disk.now)
+    → IsOpened c.in_ok-journal.journal (g.D.SectorDisk.medium c.args.disk.now).contents
+opened_on g c honest =
+    is_opened c.in_ok-journal.journal c.epoch.result _ _ refl c.in_ok-journal.ensures.range c.in_ok-journal.ensures.epoch
+    (c.in_ok-journal.ensures.older honest) (c.in_ok-journal.ensures.current honest) (c.in_ok-journal.ensures.not_newer honest)
+
+-- the image has no more sectors than can be counted
+fits : (g : Over) (c : In_ok-journal g) → IsHonest (g.D.SectorDisk.medium c.args.disk.now)
+    → length (g.D.SectorDisk.medium c.args.disk.now).contents < 2 ^ 32
+fits g c honest =
+    omega (arith, (g.met.D.SectorDisk.shaped c.args.disk.now _ honest.reads).count, g.met.D.SectorDisk.fits c.args.disk.now)
+
+pub returns-in_err-journal-clause-damaged : goal.returns-in_err-journal-clause-damaged
+returns-in_err-journal-clause-damaged g c = λ sector is honest has.
+    let image : Image = (g.D.SectorDisk.medium c.args.disk.now).contents in
+    let few : length image < 2 ^ 32 =
+    omega (arith, (g.met.D.SectorDisk.shaped c.args.disk.now image honest.reads).count, g.met.D.SectorDisk.fits c.args.disk.now) in
+    let e = ap Err (journal-fault c.in_err-journal.field-0.0 sector
+    (passed_on c.from_residual.result (of_journal_error c.in_err-journal.field-0.0) (errors.Damaged sector) c.from_residual.ensures.1 is)) in
+    header-damaged c.args.engine.now.limits (saved_epoch c.args.checkpoint.now) c.args.engine.now.state image few has sector
+    (c.in_err-journal.ensures.named sector e)
+    (subst (λ (n : ℕ). HasNoHeader n image) c.epoch.ensures (c.in_err-journal.ensures.damaged sector e honest))
+
+pub returns-in_err-replay-clause-damaged : goal.returns-in_err-replay-clause-damaged
+returns-in_err-replay-clause-damaged g c = λ sector is honest has.
+    let here = (goal.at.returns-in_err-replay-clause-damaged g c).In_ok-journal in
+    let image : Image = (g.D.SectorDisk.medium c.args.disk.now).contents in
+    let limits = c.args.engine.now.limits in
+    let s = c.args.engine.now.state in
+    let journal = c.in_ok-journal.journal in
+    let same = c.open.ensures.reads.contents honest in
+    let still = c.open.ensures.reads.time.honest.0 honest in
+    let e = ap Err (passed_on c.from_residual-in_err-replay.result c.in_err-replay.field-0.0 (errors.Damaged sector)
+    c.from_residual-in_err-replay.ensures.1 is) in
+    batch-damaged limits (saved_epoch c.args.checkpoint.now) s image (fits g here honest) has journal c.in_ok-journal.ensures.range
+    (c.in_ok-journal.ensures.epoch ∙ c.epoch.ensures) (opened_on g here honest)
+    (λ batches t found. c.in_err-replay.ensures.damaged sector batches t e still
+    (subst (λ (x : Image). Replays limits s journal x batches t) (sym same) found))
+    sector (subst (λ (x : Image). IsGoodUpTo limits s journal x sector) same (c.in_err-replay.ensures.named sector e still))
+
+pub returns-in_err-replay-clause-faults : goal.returns-in_err-replay-clause-faults
+returns-in_err-replay-clause-faults g c = λ found which.
+    let went = passed_on c.from_residual-in_err-replay.result c.in_err-replay.field-0.0 in
+    c.in_err-replay.ensures.faults found (⊎_elim
+    (λ is. inl (ap Err (went errors.NotFormatted c.from_residual-in_err-replay.ensures.1 is)))
+    (λ is. inr (ap Err (went (errors.Version found) c.from_residual-in_err-replay.ensures.1 is))) which)
+
+pub returns-clause-leads : goal.returns-clause-leads
+returns-clause-leads g c = λ honest durable.
+    let here = (goal.at.returns-clause-leads g c).In_ok-journal in
+    let m : g.row.D.Denot → Medium = g.D.SectorDisk.medium in
+    let image : Image = (m c.args.disk.now).contents in
+    let journal = c.in_ok-journal.journal in
+    let still = c.open.ensures.reads.time.honest.0 honest in
+    let found = c.in_ok-replay.ensures.replays still in
+    let filled = subst (λ (x : Image). Replays c.args.engine.now.limits c.args.engine.now.state journal x found.0 c.replay.new.engine.state)
+    (c.open.ensures.reads.contents honest) found.1 in
+    let batches : List (List ℕ) = map batch_bytes found.0 in
+    let stands : Holds journal_range c.epoch.result batches image =
+    subst (λ (n : ℕ). Holds journal_range n batches image) c.in_ok-journal.ensures.epoch
+    (subst (λ (r : Range). Holds r (epoch_of journal) batches image) c.in_ok-journal.ensures.range
+    (holds journal image (opened_on g here honest) batches journal.room filled.filled)) in (
+      found.0,
+      JournalMatches-stays journal batches (m c.open.new.disk) (m c.replay.new.disk) (c.replay.ensures.reads still)
+          (c.in_ok-journal.ensures.stands honest batches
+          (λ now left. subst (Holds journal_range c.epoch.result batches) (sym (durable now left)) stands)),
+      found.1.leads,
+    )

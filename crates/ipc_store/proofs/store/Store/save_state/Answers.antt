@@ -1,0 +1,63 @@
+-- Each exit: the images since the start, and the store after it.
+use Rattle.std.proofs.Common.{◌≡◌, [], sym, ap, subst, ◌∙◌, arith}
+use Rattle.ipc_base.specs.declared.limits.Limits.{Limits}
+use Rattle.ipc_base.specs.Objects.{PlainObjects}
+use Rattle.ipc_state.specs.State.{State}
+use Rattle.ipc_image.specs.Saved.{StandForState}
+use Rattle.ipc_engine.specs.Step.{run}
+use Rattle.ipc_store.proofs.Committing.{any_moment-none, any_moment-save, saved}
+use Rattle.ipc_store.proofs.Devices.{stays-on-disk, kept-fits}
+use Rattle.ipc_store.proofs.store.Store.save_state.Goals as goal
+
+-- the objects that are saved are those of the state
+stands : {limits : Limits} {s : State} {objects others : PlainObjects} → others ≡ objects → StandForState limits s objects
+    → StandForState limits s others
+stands {limits} {s} same stand = subst (λ (o : PlainObjects). StandForState limits s o) (sym same) stand
+
+pub returns-in_default-clause-any_moment : goal.returns-in_default-clause-any_moment
+returns-in_default-clause-any_moment g c = rw (sym c.self.view_is) (λ base pending at.
+    any_moment-none _ (g.D.SectorDisk.medium c.self.inside.disk) _ base pending at (g.met.D.SectorDisk.only_now _))
+
+pub returns-in-Err-clause-any_moment : goal.returns-in-Err-clause-any_moment
+returns-in-Err-clause-any_moment g c = rw (sym c.self.view_is) (λ base pending at.
+    any_moment-save _ _ _ base pending at _ (omega (arith, c.epoch.ensures, c.in-Some.ensures)) _
+    (stands c.objects_of-objects.ensures.objects c.objects_of-objects.ensures.stand)
+    (c.save.ensures.others at.device.honest) c.save.ensures.any_moment)
+
+pub returns-clause-any_moment : goal.returns-clause-any_moment
+returns-clause-any_moment g c = rw (sym c.self.view_is) (λ base pending at.
+    any_moment-save _ _ _ base pending at _ (omega (arith, c.epoch.ensures, c.in-Some.ensures)) _
+    (stands c.objects_of-objects.ensures.objects c.objects_of-objects.ensures.stand)
+    (c.save.ensures.others at.device.honest) c.save.ensures.any_moment)
+
+pub save-requires-clause-old_fits : goal.save-requires-clause-old_fits
+save-requires-clause-old_fits g c = λ objects saved.
+    let found = c.self.invariant.2 (ap (λ v. v.stopped) c.self.view_is ∙ c.requires.goes_on) saved.honest in
+    kept-fits _ _ _ _ found.0 _ found.1.1.device c.self.invariant.0 objects saved
+
+pub returns-clause-matches : goal.returns-clause-matches
+returns-clause-matches g c = rw (sym c.self.view_is, c.clear.ensures) (λ base pending at.
+    saved _ _ _ base pending at _ (omega (arith, c.epoch.ensures, c.in-Some.ensures)) _
+    (stands c.objects_of-objects.ensures.objects c.objects_of-objects.ensures.stand)
+    (c.save.ensures.others at.device.honest) _ _ _ _
+    c.save.ensures.layout c.in_default-save.ensures.epoch c.turn.ensures.range c.turn.ensures.epoch c.turn.ensures.unused
+    c.in_default-save.ensures.matches)
+
+pub invariant_of-self-2 : goal.invariant_of-self-2
+invariant_of-self-2 g c = (
+  stays-on-disk _ _ _ _ _ _ _ c.save.ensures.size c.save.ensures.layout c.turn.ensures.range
+      (c.turn.ensures.epoch ∙ sym c.in_default-save.ensures.epoch) c.self.invariant.0,
+  omega (arith, c.self.invariant.1, c.count.ensures.count, ap (λ b. b.count) c.clear.ensures),
+  λ goes honest. let found = c.self.invariant.2 goes (c.save.ensures.honest.1 honest) in
+      let at = found.1.1 in
+      rw c.clear.ensures (
+        (run c.self.inside.engine.limits found.0 found.1.0).state,
+        (
+          [],
+          saved _ _ _ found.0 found.1.0 at _ (omega (arith, c.epoch.ensures, c.in-Some.ensures)) _
+              (stands c.objects_of-objects.ensures.objects c.objects_of-objects.ensures.stand)
+              (c.save.ensures.others at.device.honest) _ _ _ _ c.save.ensures.layout c.in_default-save.ensures.epoch c.turn.ensures.range
+              c.turn.ensures.epoch c.turn.ensures.unused c.in_default-save.ensures.matches,
+        ),
+      ),
+)
