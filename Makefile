@@ -4,18 +4,20 @@
 .PHONY: help run test imports runs memory program bench
 
 help:
-	@echo "make run    proves and builds what is needed, and runs examples/first_queue.script; some minutes the first"
-	@echo "            time. It may be stopped: crates that are proved stay proved, and the next run goes on after them"
+	@echo "make run    proves and builds what is needed, some minutes the first time, and runs examples/device.sh: a"
+	@echo "            message outlives the program. It may be stopped: crates that are proved stay proved, and the"
+	@echo "            next run goes on after them"
 	@echo "make test   what 'make imports' runs; the gate: every proof from nothing, the edits that must fail, the tests,"
 	@echo "            the program; and then what 'make runs' and 'make memory' run, on what the gate has built. It takes"
-	@echo "            more than half an hour on four cores"
+	@echo "            about an hour on four cores"
 	@echo "make imports  that no crate names what is another's own, nor one that carries requests a call"
 	@echo "make runs   the program on scripts and command lines: what it prints and says, and its exit status"
 	@echo "make memory the engine's tests and the program, with each allocation refused in turn"
-	@echo "make bench  processor time of runs, lines and ticks on both devices, peak memory, and what a commit writes"
+	@echo "make bench  processor time of runs, lines and ticks on both devices, peak memory, what a commit writes, and"
+	@echo "            commits a second on a file beside the same writes and syncs done bare"
 
 run: program
-	crates/ipcd/out/ipcd replay --small < examples/first_queue.script
+	@sh examples/device.sh crates/ipcd/out/ipcd
 
 # The crates below the program, lowest first: those that crates.txt names before it. A crate that is proved, and of which
 # nothing has changed, takes a moment. What rt says of a crate is shown if the crate fails.
@@ -61,6 +63,7 @@ test: imports
 	@$(RUNS)
 	@$(REFUSE_EACH)
 
-# Twenty groups of runs of each script. It needs awk.
+# Twenty groups of runs of each script, and turns of commits on a file. It needs awk, and for the turns a C compiler.
 bench: program
 	@sh bench/replay.sh crates/ipcd/out/ipcd
+	@sh bench/commits.sh crates/ipcd/out/ipcd

@@ -4,7 +4,7 @@
 #
 #     sh bench/replay.sh PROGRAM [GROUPS]
 #
-# A journal has room for 255 commits, and each line but `open` makes one. So a script is short, and is run many times.
+# A script is short, and is run many times, so that no save of the state falls among its commits.
 # Runs of a script and of its first lines alone take turns, in so many groups, and a row tells the difference. On the
 # standard device a run's lines take a hundredth to a tenth of what it takes without them, so those rows are rough.
 # Every run is compared with the output that the protocol asks for: bench/scripts.awk writes both.

@@ -196,9 +196,9 @@ echo "0 data 1 0" | script
 says "ipcd: line 2004: bad line"
 run 2 replay
 
-# Connection 1 says HELLO, and then gets its queue again and again: 255 lines that each accept events. `open` accepts
-# none. The journal has 256 sectors, of which the device's open takes one and each of these lines one.
-lines_of_255() {
+# Connection 1 says HELLO, and then gets its queue again and again: 600 lines that each accept events. The journal has 256
+# sectors, and each of these lines takes one, so it is full twice, and is emptied.
+lines_of_600() {
 	script << 'END'
 0 open 3
 0 open 1
@@ -206,43 +206,18 @@ lines_of_255() {
 END
 	echo "1 0000000a00000001000000000001" | wanted
 	serial=2
-	while [ "$serial" -le 255 ]; do
+	while [ "$serial" -le 600 ]; do
 		printf '0 data 1 0000000d%08x0a000004d200000380\n' "$serial" >> "$folder/script"
 		printf '1 0000000a%08x000000000001\n' "$serial" >> "$folder/wanted"
 		serial=$((serial + 1))
 	done
 }
-name "a journal that gets full"
-lines_of_255
-echo "0 open 2" | script
+name "more lines than a journal has sectors"
+lines_of_600
 run 0 replay --small
-
-# No sector is left for what the next line accepts. Each connection, in rising number, is told EIO, 5, and has ended.
-# The line after it is not run.
-last_words() {
-	wanted << 'END'
-1 00000006000000000005
-1 end
-3 00000006000000000005
-3 end
-END
-	says "ipcd: device fault"
-}
-name "a line more than the journal has room for"
-lines_of_255
-script << 'END'
-0 data 1 0000000d000001000a000004d200000380
-0 open 1
-END
-last_words
-run 1 replay --small
-name "a tick more than the journal has room for"
-lines_of_255
-script << 'END'
-0 tick
-END
-last_words
-run 1 replay
+name "more lines than a journal has sectors, on a large device"
+lines_of_600
+run 0 replay
 
 # A length of 4 is a fault of the stream: EPROTO, 71, and the connection ends.
 name "a fault of the stream, and then a bad line"
@@ -312,7 +287,7 @@ fi
 
 name "no command"
 says "error: 'ipcd' requires a subcommand but one was not provided"
-says "  [subcommands: replay, help]"
+says "  [subcommands: replay, format, run, dump, help]"
 says ""
 says "Usage: ipcd <COMMAND>"
 says ""
@@ -328,10 +303,184 @@ name "an argument that is not UTF-8"
 says "ipcd: an argument is not valid UTF-8"
 run 2 replay "$(printf '\377')"
 
+# ---- devices in files
+
+device=$folder/device
+
+# HELLO, msgget of key 1234 with mode 0600, and a msgsnd of "hi".
+first_queue() {
+	script << 'END'
+0 open 1
+0 data 1 0000000d0000000101000003e800000064
+0 data 1 0000000d000000020a000004d200000380
+0 data 1 00000017000000030b000000010000080000000000000000056869
+END
+}
+
+# A device under standard limits needs 45830 sectors, and one under small limits 448.
+name "a device of as many sectors as it needs"
+echo "formatted 45830 sectors" | wanted
+run 0 format "$device"
+[ "$(wc -c < "$device")" -eq 23464960 ] || fail "the file has not 45830 sectors"
+name "a device of fewer sectors than it needs"
+says "ipcd: too small, 45830 sectors needed"
+run 1 format "$device" --sectors 45829
+[ "$(wc -c < "$device")" -eq 23464960 ] || fail "the file was touched"
+name "a device that is cut"
+echo "formatted 448 sectors" | wanted
+run 0 format "$device" --small
+[ "$(wc -c < "$device")" -eq 229376 ] || fail "the file has not 448 sectors"
+name "a device of more sectors than it needs"
+echo "formatted 500 sectors" | wanted
+run 0 format --sectors 500 --small "$device"
+[ "$(wc -c < "$device")" -eq 256000 ] || fail "the file has not 500 sectors"
+
+name "an empty listing"
+run 0 dump "$device"
+name "a script on a device"
+first_queue
+wanted << 'END'
+1 0000000a00000001000000000001
+1 0000000a00000002000000000001
+1 00000006000000030000
+END
+run 0 run "$device"
+name "a listing"
+echo "msg          1        1234 0600       1000        100          2          1" | wanted
+run 0 dump "$device"
+
+# The second run finds the queue of the first, and its message. Process 1 has left at the restart: this is process 2.
+name "a second script on a device"
+script << 'END'
+0 open 1
+0 data 1 0000000d0000000101000003e800000064
+0 data 1 00000019000000020c0000000100000800000000400000000000000000
+END
+wanted << 'END'
+1 0000000a00000001000000000002
+1 0000001000000002000000000000000000056869
+END
+run 0 run "$device"
+name "a listing without messages"
+echo "msg          1        1234 0600       1000        100          0          0" | wanted
+run 0 dump "$device"
+
+if [ -c /dev/full ]; then
+	name "a listing that cannot be written"
+	says "ipcd: output fault"
+	runs=$((runs + 1))
+	status=0
+	"$ipcd" dump "$device" > /dev/full 2> "$folder/errors" || status=$?
+	ends 1
+fi
+
+# A run holds its device until its script ends. It has it when the restart stands in the file.
+name "a device in use"
+mkfifo "$folder/fifo"
+before=$(cksum < "$device")
+"$ipcd" run "$device" < "$folder/fifo" > "$folder/held" 2>&1 &
+held=$!
+exec 3> "$folder/fifo"
+tries=0
+while [ "$(cksum < "$device")" = "$before" ]; do
+	[ "$tries" -lt 30 ] || fail "it was not opened"
+	tries=$((tries + 1))
+	sleep 1
+done
+for command in run dump "format --small"; do
+	name "a device in use: $command"
+	says "ipcd: device fault"
+	run 1 $command "$device"
+done
+exec 3>&-
+wait "$held" || fail "the run that held it has status $?"
+[ ! -s "$folder/held" ] || fail "the run that held it said something"
+name "a device that is free again"
+echo "msg          1        1234 0600       1000        100          0          0" | wanted
+run 0 dump "$device"
+
+# A program that is killed in the midst of 1200 sends, each with a reply. After each reply its message is on the device; the
+# send after the last reply may be too. The first two replies are of HELLO and msgget.
+name "a program that is killed"
+"$ipcd" format "$folder/killed" > "$folder/output"
+script << 'END'
+0 open 1
+0 data 1 0000000d0000000101000003e800000064
+0 data 1 0000000d000000020a000004d200000380
+END
+serial=3
+while [ "$serial" -le 1202 ]; do
+	printf '0 data 1 00000016%08x0b0000000100000800000000000000000561\n' "$serial" >> "$folder/script"
+	serial=$((serial + 1))
+done
+"$ipcd" run "$folder/killed" < "$folder/script" > "$folder/output" &
+victim=$!
+while [ "$(wc -l < "$folder/output")" -lt 200 ]; do :; done
+kill -9 "$victim"
+wait "$victim" 2> "$folder/ended" || :
+replies=$(wc -l < "$folder/output")
+"$ipcd" dump "$folder/killed" > "$folder/listed" || fail "it is not opened again"
+kept=$(awk '{ print $NF }' "$folder/listed")
+[ "$kept" -ge $((replies - 2)) ] || fail "$replies replies, and $kept messages kept"
+[ "$kept" -le $((replies - 1)) ] || fail "$replies replies, and $kept messages kept"
+runs=$((runs + 2))
+
+for command in run dump; do
+	name "no file: $command"
+	says "ipcd: device fault"
+	run 1 $command "$folder/nothing"
+done
+[ ! -e "$folder/nothing" ] || fail "a file was made"
+for command in run dump format; do
+	name "a folder: $command"
+	says "ipcd: device fault"
+	run 1 $command "$folder"
+	name "a file in no folder: $command"
+	says "ipcd: device fault"
+	run 1 $command "$folder/nowhere/device"
+done
+
+# Less than one sector, and none at all: no device begins there.
+: > "$folder/empty"
+dd if=/dev/zero of="$folder/short" bs=511 count=1 2> "$folder/dd"
+for file in empty short; do
+	for command in run dump; do
+		name "a file that is $file: $command"
+		says "ipcd: not formatted"
+		run 1 $command "$folder/$file"
+	done
+done
+
+# Nobody but root may read such a file.
+if [ "$(id -u)" -ne 0 ]; then
+	chmod 000 "$folder/empty"
+	for command in run dump format; do
+		name "a file that may not be read: $command"
+		says "ipcd: device fault"
+		run 1 $command "$folder/empty"
+	done
+fi
+
+name "no device"
+says "error: the following required arguments were not provided:"
+says "  <DEVICE>"
+says ""
+says "Usage: ipcd run <DEVICE>"
+says ""
+says "For more information, try '--help'."
+run 2 run
+name "a number that does not fit"
+says "error: invalid value '4294967296' for '--sectors <N>': 4294967296 is not in 0..=4294967295"
+says ""
+says "For more information, try '--help'."
+run 2 format "$device" --sectors 4294967296
+
 name "help"
 tells "^Usage: ipcd <COMMAND>$" --help
 name "help of a command"
 tells "^ *--small " replay --help
+name "help of format"
+tells "^ *--sectors <N> " format --help
 name "the version"
 tells "^ipcd [0-9]*\.[0-9]*\.[0-9]*$" --version
 
