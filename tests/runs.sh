@@ -375,26 +375,44 @@ if [ -c /dev/full ]; then
 fi
 
 # A run holds its device until its script ends. It has it when the restart stands in the file.
-name "a device in use"
 mkfifo "$folder/fifo"
-before=$(cksum < "$device")
-"$ipcd" run "$device" < "$folder/fifo" > "$folder/held" 2>&1 &
-held=$!
-exec 3> "$folder/fifo"
-tries=0
-while [ "$(cksum < "$device")" = "$before" ]; do
-	[ "$tries" -lt 30 ] || fail "it was not opened"
-	tries=$((tries + 1))
-	sleep 1
-done
+
+# Starts a run on a device, whose script is to be written to file descriptor 3, and waits until it has the device.
+hold() {
+	before=$(cksum < "$1")
+	"$ipcd" run "$1" < "$folder/fifo" > "$folder/held" 2> "$folder/held_errors" &
+	held=$!
+	exec 3> "$folder/fifo"
+	tries=0
+	while [ "$(cksum < "$1")" = "$before" ]; do
+		[ "$tries" -lt 30 ] || fail "it was not opened"
+		tries=$((tries + 1))
+		sleep 1
+	done
+}
+
+# The run that was started gets its script, and is to end with this status.
+let_go() {
+	runs=$((runs + 1))
+	cat "$folder/script" >&3
+	exec 3>&-
+	status=0
+	wait "$held" || status=$?
+	mv "$folder/held" "$folder/output"
+	mv "$folder/held_errors" "$folder/errors"
+	ends "$1"
+	cmp -s "$folder/wanted" "$folder/output" || fail "standard output differs"
+}
+
+name "a device in use"
+hold "$device"
 for command in run dump "format --small"; do
 	name "a device in use: $command"
 	says "ipcd: device fault"
 	run 1 $command "$device"
 done
-exec 3>&-
-wait "$held" || fail "the run that held it has status $?"
-[ ! -s "$folder/held" ] || fail "the run that held it said something"
+name "a run that held its device"
+let_go 0
 name "a device that is free again"
 echo "msg          1        1234 0600       1000        100          0          0" | wanted
 run 0 dump "$device"
@@ -424,6 +442,152 @@ kept=$(awk '{ print $NF }' "$folder/listed")
 [ "$kept" -ge $((replies - 2)) ] || fail "$replies replies, and $kept messages kept"
 [ "$kept" -le $((replies - 1)) ] || fail "$replies replies, and $kept messages kept"
 runs=$((runs + 2))
+
+# ---- a full disk, and a file that is cut
+
+# The same as `run`, on a disk that has room for no more than so many sectors of a file. What lies behind them is refused.
+run_on_full() {
+	room=$1
+	shift
+	(
+		trap '' XFSZ
+		ulimit -f "$room"
+		run "$@"
+	)
+	runs=$((runs + 1))
+}
+
+name "a new device on a full disk"
+says "ipcd: device fault"
+run_on_full 447 1 format --small "$folder/full"
+name "a new device that was not made"
+says "ipcd: not formatted"
+run 1 dump "$folder/full"
+name "the same when there is room"
+echo "formatted 448 sectors" | wanted
+run 0 format --small "$folder/full"
+
+# An open takes the first sector of the journal, sector 4, and so there is none for it, and then none for its first commit.
+# The lines after HELLO take a sector each: the third commit would be in sector 7.
+name "an open on a full disk"
+says "ipcd: device fault"
+run_on_full 4 1 run "$folder/full"
+name "a first commit on a full disk"
+first_queue
+wanted << 'END'
+1 00000006000000000005
+1 end
+END
+says "ipcd: device fault"
+run_on_full 5 1 run "$folder/full"
+name "a device on which nothing was answered"
+run 0 dump "$folder/full"
+"$ipcd" format --small "$folder/full" > "$folder/output"
+name "a commit on a full disk"
+first_queue
+wanted << 'END'
+1 0000000a00000001000000000001
+1 0000000a00000002000000000001
+1 00000006000000000005
+1 end
+END
+says "ipcd: device fault"
+run_on_full 7 1 run "$folder/full"
+name "what was answered before a commit was refused"
+echo "msg          1        1234 0600       1000        100          0          0" | wanted
+run 0 dump "$folder/full"
+
+# The journal ends with sector 259, so it has room for all commits, and a save has none.
+name "a save on a full disk"
+"$ipcd" format --small "$folder/full" > "$folder/output"
+first_queue
+echo "save" | script
+wanted << 'END'
+1 0000000a00000001000000000001
+1 0000000a00000002000000000001
+1 00000006000000030000
+1 00000006000000000005
+1 end
+END
+says "ipcd: device fault"
+run_on_full 260 1 run "$folder/full"
+name "what was answered before a save was refused"
+echo "msg          1        1234 0600       1000        100          2          1" | wanted
+run 0 dump "$folder/full"
+
+# The open takes one of the 256 sectors of the journal, and each line with a reply another.
+name "a full journal on a full disk"
+"$ipcd" format --small "$folder/full" > "$folder/output"
+lines_of_600
+head -n 255 "$folder/wanted" > "$folder/first"
+cat "$folder/first" - > "$folder/wanted" << 'END'
+1 00000006000000000005
+1 end
+3 00000006000000000005
+3 end
+END
+says "ipcd: device fault"
+run_on_full 260 1 run "$folder/full"
+name "what was answered before the journal was full"
+echo "msg          1        1234 0600       1000        100          0          0" | wanted
+run 0 dump "$folder/full"
+
+# Process 1 has left. The queue is there, and the journal goes on in new sectors.
+name "a device when there is room again"
+first_queue
+wanted << 'END'
+1 0000000a00000001000000000002
+1 0000000a00000002000000000001
+1 00000006000000030000
+END
+run 0 run "$folder/full"
+name "a device that cannot grow on a full disk"
+before=$(cksum < "$folder/full")
+says "ipcd: device fault"
+run_on_full 448 1 format --small --sectors 500 "$folder/full"
+[ "$(cksum < "$folder/full")" = "$before" ] || fail "the file was touched"
+name "a device that did not grow"
+echo "msg          1        1234 0600       1000        100          2          1" | wanted
+run 0 dump "$folder/full"
+
+# A file that is cut from outside while a run has it as its device. The server reads no device while it goes on, so clients
+# are answered from what it knows; an open is the first to see that bytes are gone. Line `stop` is one.
+receive_and_stop() {
+	script << 'END'
+0 open 1
+0 data 1 0000000d0000000101000003e800000064
+0 data 1 00000019000000020c0000000100000800000000400000000000000000
+stop
+END
+	wanted << 'END'
+1 0000000a00000001000000000003
+1 0000001000000002000000000000000000056869
+END
+}
+
+# The first 260 sectors have no objects. The superblock names more sectors than there are then.
+name "a file that loses its objects during a run"
+cp "$folder/full" "$folder/cut"
+hold "$folder/cut"
+dd if=/dev/null of="$folder/cut" bs=512 seek=260 2> "$folder/dd"
+receive_and_stop
+says "ipcd: device fault"
+let_go 1
+name "a file that has lost its objects"
+says "ipcd: damaged sector 0"
+run 1 dump "$folder/cut"
+
+# Of an empty file the next commit makes one that has zeros for a superblock.
+name "a file that loses all during a run"
+cp "$folder/full" "$folder/cut"
+hold "$folder/cut"
+: > "$folder/cut"
+receive_and_stop
+says "ipcd: not formatted"
+let_go 1
+name "a file that has lost all"
+says "ipcd: not formatted"
+run 1 dump "$folder/cut"
 
 for command in run dump; do
 	name "no file: $command"

@@ -1,8 +1,13 @@
 -- What the command line asks for, and the exit status if it asks for nothing.
-use Rattle.std.specs.Prelude.{◌≡◌, ℕ, pos, Bool, true, if◌then◌else◌, Result, IfOk, IfErr}
-use Rattle.std.specs.Prelude.{List, Option, Some, None, codes, option_and_then}
+use Rattle.std.specs.Prelude.{◌≡◌, ◌==◌, ℕ, pos, Bool, true, false, not}
+use Rattle.std.specs.Prelude.{if◌then◌else◌, Result, IfOk, IfErr, List, [], ◌∷◌, Option, Some, None}
+use Rattle.std.specs.Prelude.{codes, option_and_then, string_bytes, unwrap_or}
+use Rattle.std.specs.Option.{option_map_or}
 use Rattle.std.specs.Str.{bytes_eq}
-use Rattle.clap.specs.Words.{App, Row, Rule, Text, new_app, new_rule, one_of, with_rule, with_subcommand}
+use Rattle.std.specs.Str.Parse.{digits_value, without_leading_plus}
+use Rattle.clap.specs.ValueTests.{is_unsigned_in}
+use Rattle.clap.specs.Words.{App, Row, Rule, Text, first_of, new_app, new_rule, one_of, with_rule}
+use Rattle.clap.specs.Words.{with_subcommand}
 use Rattle.clap.specs.declared.builder.action.ArgAction.TheVariants.{SetTrue}
 use Rattle.clap.specs.declared.builder.value_parser.ValueParser.TheVariants.{Signed}
 use Rattle.clap.specs.declared.error.Error.{Error}
@@ -12,6 +17,7 @@ use Rattle.clap.specs.declared.error.kind.ErrorKind.TheVariants.{DisplayHelp, Di
 use Rattle.ipc_base.specs.declared.limits.Limits.{Limits}
 use Rattle.ipc_base.specs.Limits.{standard_limits, small_limits}
 use Rattle.ipcd.specs.declared.command.Request.{Request}
+use Rattle.ipcd.specs.declared.command.Request.TheVariants as request
 use Rattle.ipcd.specs.declared.command.Refusal.{Refusal}
 use Rattle.ipcd.specs.declared.command.Refusal.TheVariants.{NoMemory, NotText, Parser}
 
@@ -75,12 +81,73 @@ declared =
     with_subcommand (with_subcommand (with_subcommand (with_subcommand ipcd_command replay_command.top)
     format_command.top) run_command.top) dump_command.top
 
--- the text of the flag `--small` of `replay`
-abbrev pub small_in : Option (Text × List Row) → Option Text
-small_in found = option_and_then
-    (λ p. if bytes_eq p.0 (codes "replay") then one_of (codes "small") p.1 else None) found
+-- ---- what words that are taken ask for
+
+-- a request, with the file of its device as text
+pub data PlainRequest : Type 0 where
+  Replay : (small : Bool) → PlainRequest
+  Format : (device : Text) → (small : Bool) → (sectors : Option ℕ) → PlainRequest
+  Run : (device : Text) → PlainRequest
+  Dump : (device : Text) → PlainRequest
+
+abbrev pub plain_request : Request → PlainRequest
+plain_request (request.Replay small) = Replay small
+plain_request (request.Format device small sectors) = Format (string_bytes device) small sectors
+plain_request (request.Run device) = Run (string_bytes device)
+plain_request (request.Dump device) = Dump (string_bytes device)
+
+-- the number that a text of decimal digits writes, if it fits into 32 bits; a plus may stand first
+abbrev pub number_of : Text → Option ℕ
+number_of text =
+    if is_unsigned_in 0 4294967295 text then Some (digits_value 10 (without_leading_plus text))
+    else None
+
+-- what was found for `--small`, DEVICE and `--sectors N`
+abbrev pub asked_small : List Row → Bool
+asked_small rows = option_map_or (λ t. bytes_eq t (codes "true")) (one_of (codes "small") rows) false
+
+abbrev pub asked_device : List Row → Text
+asked_device rows = unwrap_or (first_of (codes "device") rows) []
+
+abbrev pub asked_sectors : List Row → Option ℕ
+asked_sectors rows = option_and_then number_of (one_of (codes "sectors") rows)
+
+-- what a command asks for, by its name and what was found for its arguments. The parser takes no
+-- other name; such a one would ask for a listing of no file
+abbrev pub asked_by : Text → List Row → PlainRequest
+asked_by name rows =
+    if bytes_eq name (codes "replay") then Replay (asked_small rows)
+    else (if bytes_eq name (codes "format")
+    then Format (asked_device rows) (asked_small rows) (asked_sectors rows)
+    else (if bytes_eq name (codes "run") then Run (asked_device rows)
+    else (if bytes_eq name (codes "dump") then Dump (asked_device rows)
+    else Dump [])))
+
+-- the same, by the command that was found; the parser takes no words without one
+abbrev pub asked : Option (Text × List Row) → PlainRequest
+asked None = Dump []
+asked (Some found) = asked_by found.0 found.1
+
+-- a word that is no flag: it has less than two bytes, or does not begin with `-` (45)
+abbrev pub is_no_flag : Text → Bool
+is_no_flag [] = true
+is_no_flag (first ∷ []) = true
+is_no_flag (first ∷ second ∷ rest) = not (first == 45)
+
+-- `[--small] [--sectors N]`
+abbrev pub small_words : Bool → List Text
+small_words small = if small then codes "--small" ∷ [] else []
+
+abbrev pub sectors_words : Option Text → List Text
+sectors_words None = []
+sectors_words (Some number) = codes "--sectors" ∷ number ∷ []
 
 -- a command line that asks for this: it is refused for want of memory alone
+pub record AsksFor (wanted : PlainRequest) (result : Result Request Error) : Type 0 where
+  pub ok : IfOk result (λ request. plain_request request ≡ wanted)
+  pub err : IfErr result (λ error. kind_of error ≡ OutOfMemory)
+
+-- the same of a request without a file
 pub record IsTakenAs (request : Request) (result : Result Request Error) : Type 0 where
   pub ok : IfOk result (λ asked. asked ≡ request)
   pub err : IfErr result (λ error. kind_of error ≡ OutOfMemory)

@@ -1,9 +1,15 @@
 //! The command line.
 
-ghost use Rattle.std.specs.Prelude.{◌≡◌, ℕ, true, false, List, [], ◌∷◌, map, codes, Some, IfOk};
+ghost use Rattle.std.specs.Prelude.{◌≡◌, ℕ, Bool, true, false, List, [], ◌∷◌, ◌++◌, map, codes};
+ghost use Rattle.std.specs.Prelude.{IfOk, IfSome, IsSome, Option, option_and_then, string_bytes};
 ghost use Rattle.ipc_base.specs.Limits.{ArePassed};
-ghost use Rattle.clap.specs.Words.{app_of, rule_of, fault_of, subcommand_rows_of, FailsBy};
-ghost use Rattle.ipcd.specs.Command.{limits_asked, refusal_status, IsTakenAs, declared, small_in};
+ghost use Rattle.clap.specs.Words.{app_of, rule_of, fault_of, subcommand_of, subcommand_rows_of};
+ghost use Rattle.clap.specs.Words.{FailsBy, found_of, rows_of};
+ghost use Rattle.ipcd.specs.Command.{limits_asked, refusal_status, IsTakenAs, AsksFor, declared};
+ghost use Rattle.ipcd.specs.Command.PlainRequest.{Format, Run, Dump};
+ghost use Rattle.ipcd.specs.Command.{plain_request, asked, asked_small, asked_device};
+ghost use Rattle.ipcd.specs.Command.{asked_sectors, number_of, is_no_flag, small_words};
+ghost use Rattle.ipcd.specs.Command.{sectors_words};
 ghost use Rattle.ipcd.specs.Command.{small_rule, sectors_rule, device_rule};
 
 use clap::error::ErrorKind;
@@ -99,6 +105,20 @@ pub(crate) fn parse<S: AsStr>(alloc: Global, words: &[S]) -> Result<Request, Err
     ensures small { (name : List ℕ)
         → map S.text words.now ≡ name ∷ codes "replay" ∷ codes "--small" ∷ []
         → IsTakenAs (Request.Replay true) result }
+    ensures format { (name device : List ℕ) (small : Bool) (number : Option (List ℕ))
+        → is_no_flag device ≡ true → IfSome number (λ text. IsSome (number_of text))
+        → map S.text words.now
+        ≡ name ∷ codes "format" ∷ device ∷ small_words small ++ sectors_words number
+        → AsksFor (Format device small (option_and_then number_of number)) result }
+    ensures run { (name device : List ℕ) → is_no_flag device ≡ true
+        → map S.text words.now ≡ name ∷ codes "run" ∷ device ∷ []
+        → AsksFor (Run device) result }
+    ensures dump { (name device : List ℕ) → is_no_flag device ≡ true
+        → map S.text words.now ≡ name ∷ codes "dump" ∷ device ∷ []
+        → AsksFor (Dump device) result }
+    // What any words ask for, if they are taken, by what the parser finds in them.
+    ensures asked { IfOk result (λ request.
+        plain_request request ≡ asked (subcommand_of declared (map S.text words.now))) }
 {
     let matches = command_line(alloc)?.try_get_matches_from(words)?;
     Ok(request_in(alloc, &matches)?)
@@ -168,26 +188,19 @@ fn device_word<'a>(alloc: Global) -> Arg<'a>
 
 // What the matches ask for.
 fn request_in(alloc: Global, matches: &ArgMatches<'_>) -> Result<Request, AllocError>
-    ensures standard { small_in (subcommand_rows_of matches.now) ≡ Some (codes "false")
-        → IfOk result (λ asked. asked ≡ Request.Replay false) }
-    ensures small { small_in (subcommand_rows_of matches.now) ≡ Some (codes "true")
-        → IfOk result (λ asked. asked ≡ Request.Replay true) }
+    ensures { IfOk result (λ request.
+        plain_request request ≡ asked (subcommand_rows_of matches.now)) }
 {
-    match matches.subcommand_matches("replay") {
-        Some(replay) => Ok(Request::Replay {
-            small: replay.get_flag("small"),
-        }),
-        None => file_request_in(alloc, matches),
+    if let Some(replay) = matches.subcommand_matches("replay") {
+        return Ok(Request::Replay {
+            small: small_in(replay),
+        });
     }
-}
-
-// What the matches ask for of a device in a file.
-fn file_request_in(alloc: Global, matches: &ArgMatches<'_>) -> Result<Request, AllocError> {
     if let Some(format) = matches.subcommand_matches("format") {
         return Ok(Request::Format {
             device: device_in(alloc, format)?,
-            small: format.get_flag("small"),
-            sectors: format.get_one("sectors"),
+            small: small_in(format),
+            sectors: sectors_in(format),
         });
     }
     if let Some(run) = matches.subcommand_matches("run") {
@@ -202,9 +215,26 @@ fn file_request_in(alloc: Global, matches: &ArgMatches<'_>) -> Result<Request, A
     Ok(Request::Dump { device })
 }
 
+// Whether a command has the flag `--small`.
+fn small_in(command: &ArgMatches<'_>) -> bool
+    ensures { result ≡ asked_small (rows_of (found_of command.now)) }
+{
+    command.get_one("small").unwrap_or(false)
+}
+
 // The file that a command names. The parser has refused a command that names none.
-fn device_in(alloc: Global, command: &ArgMatches<'_>) -> Result<String, AllocError> {
+fn device_in(alloc: Global, command: &ArgMatches<'_>) -> Result<String, AllocError>
+    ensures { IfOk result (λ device.
+        string_bytes device ≡ asked_device (rows_of (found_of command.now))) }
+{
     command.get_str("device").unwrap_or("").to_string(alloc)
+}
+
+// The number of sectors that a command asks for.
+fn sectors_in(command: &ArgMatches<'_>) -> Option<u32>
+    ensures { result ≡ asked_sectors (rows_of (found_of command.now)) }
+{
+    command.get_one("sectors")
 }
 
 /// The limits of a server: small ones where they are asked for, else the standard ones.

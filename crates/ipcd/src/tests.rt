@@ -74,22 +74,25 @@ fn requests_for_files(rt: HostRuntime) {
         ),
     ];
     for (words, wanted) in formats {
-        match parse(rt.alloc(), words) {
+        let asked = parse(rt.alloc(), words);
+        match &asked {
             Ok(
                 Request::Format {
                     device,
                     small,
                     sectors,
                 },
-            ) => assert_eq!(rt; (device.as_str(), small, sectors), wanted, "{words:?}"),
+            ) => assert_eq!(rt; (device.as_str(), *small, *sectors), wanted, "{words:?}"),
             Ok(_) | Err(_) => assert!(rt; false, "{words:?} is no format"),
         }
     }
-    match parse(rt.alloc(), &["ipcd", "run", "queues"]) {
+    let run = parse(rt.alloc(), &["ipcd", "run", "queues"]);
+    match &run {
         Ok(Request::Run { device }) => assert_eq!(rt; device.as_str(), "queues"),
         Ok(_) | Err(_) => assert!(rt; false, "it is no run"),
     }
-    match parse(rt.alloc(), &["ipcd", "dump", "queues"]) {
+    let dump = parse(rt.alloc(), &["ipcd", "dump", "queues"]);
+    match &dump {
         Ok(Request::Dump { device }) => assert_eq!(rt; device.as_str(), "queues"),
         Ok(_) | Err(_) => assert!(rt; false, "it is no dump"),
     }
