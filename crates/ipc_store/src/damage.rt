@@ -1,7 +1,8 @@
 //! What an open answers on a device that is damaged, byte by byte.
 
 use crate::tests::{
-    SMALL_DEVICE, TICK, call, commit_all, get, hello, opened, send, small_device, take_all, text,
+    SMALL_DEVICE, TICK, call, closed, commit_all, get, has_made, hello, holds, is_number,
+    new_store, opened, send, take, take_all, text, unopened,
 };
 use crate::{OpenError, Store};
 use ipc_base::{Limits, Moment, Pid};
@@ -11,24 +12,28 @@ use std::alloc::Global;
 use std::process::Abort;
 use std::test::Fail;
 
-const GOODBYE: Event<'static> = Event::Exit {
-    pid: Pid(1),
-    moment: Moment(0),
-};
-
-// A device with four batches one after another: the restart of an open, a HELLO with a msgget, a send that is
-// refused with a tick, which take two sectors, and a tick with an exit.
-fn good_device(rt: &impl Abort, alloc: Global) -> Result<MemoryDisk, Fail> {
-    let mut store = opened(alloc, small_device(alloc)?)?;
-    let batches = [
-        [hello(1000), call(1, get(1234))],
-        [call(1, send(1, text(500))), TICK],
-        [TICK, GOODBYE],
-    ];
-    for batch in batches {
-        commit_all(rt, &mut store, &batch)?;
+// The exit of a process, at moment 0.
+fn goodbye(pid: u32) -> Event<'static> {
+    Event::Exit {
+        pid: Pid(pid),
+        moment: Moment(0),
     }
-    Ok(store.close())
+}
+
+// Commits three batches: a HELLO with a msgget, a send that is refused with a tick, which take two sectors, and a tick
+// with an exit.
+fn commit_three(rt: &impl Abort, store: &mut Store<MemoryDisk>) -> Result<(), Fail> {
+    commit_all(rt, store, &[hello(1000), call(1, get(1234))])?;
+    commit_all(rt, store, &[call(1, send(1, text(500))), TICK])?;
+    commit_all(rt, store, &[TICK, goodbye(1)])?;
+    Ok(())
+}
+
+// A device with four batches one after another: the restart of an open, and these three.
+fn good_device(rt: &impl Abort, alloc: Global) -> Result<MemoryDisk, Fail> {
+    let mut store = new_store(alloc)?;
+    commit_three(rt, &mut store)?;
+    Ok(closed(store))
 }
 
 // The header and the body of its journal, without what is zeros or text.
@@ -70,27 +75,33 @@ fn compared(sector: &[u8; 512], bytes: &[u8]) -> (bool, bool) {
     (sector.starts_with(bytes), zeros)
 }
 
+static SECTORS: [(u32, &[u8]); 5] = [
+    (3, &HEADER),
+    (4, &RESTART),
+    (5, &FIRST),
+    (6, &SECOND),
+    (8, &THIRD),
+];
+
+// The tick after the text of 500 bytes.
+static TICK_AT_30: [u8; 14] = [0, 0, 0, 9, 4, 0, 0, 0, 0, 0, 0, 0, 0, 0];
+
+// A sector begins with these bytes, and the others are zeros; but not in sector 6, which a text goes on.
+fn has_front(rt: &impl Abort, disk: &mut MemoryDisk, at: u32, bytes: &[u8]) -> Result<(), Fail> {
+    let (begins, zeros) = compared(&sector_of(disk, at)?, bytes);
+    holds(rt, begins, "sector", at as u64);
+    holds(rt, zeros || at == 6, "zeros of sector", at as u64);
+    Ok(())
+}
+
 #[test]
 fn a_journal_to_the_byte(rt: HostRuntime) -> Result<(), Fail> {
     let mut disk = good_device(&rt, rt.alloc())?;
-    let sectors: [(u32, &[u8]); 5] = [
-        (3, &HEADER),
-        (4, &RESTART),
-        (5, &FIRST),
-        (6, &SECOND),
-        (8, &THIRD),
-    ];
-    for (at, bytes) in sectors {
-        let (begins, zeros) = compared(&sector_of(&mut disk, at)?, bytes);
-        assert!(rt; begins, "sector {at}");
-        assert!(rt; zeros || at == 6, "sector {at}");
+    for (at, bytes) in &SECTORS {
+        has_front(&rt, &mut disk, *at, bytes)?;
     }
-    // The tick after the text of 500 bytes.
     let sector = sector_of(&mut disk, 7)?;
-    assert_eq!(rt;
-        sector.get(30..44),
-        [0, 0, 0, 9, 4, 0, 0, 0, 0, 0, 0, 0, 0, 0].get(..)
-    );
+    holds(&rt, sector.get(30..44) == TICK_AT_30.get(..), "sector", 7);
     Ok(())
 }
 
@@ -108,14 +119,19 @@ fn alter(disk: &mut MemoryDisk, at: u32, offset: usize, bytes: &[u8]) -> Result<
     Ok(before)
 }
 
-// An open of the disk answers this fault, writes nothing, and hands the disk back.
-fn refused(rt: &impl Abort, alloc: Global, disk: MemoryDisk, fault: OpenError) -> MemoryDisk {
+/// An open of the disk answers this fault, writes nothing, and hands the disk back.
+pub(crate) fn refused(
+    rt: &impl Abort,
+    alloc: Global,
+    disk: MemoryDisk,
+    fault: OpenError,
+) -> MemoryDisk {
     let writes = disk.writes();
-    let Err(unopened) = Store::open(alloc, disk) else {
+    let Some(unopened) = unopened(alloc, disk) else {
         panic!(rt; "opened, in place of: {fault}");
     };
-    assert_eq!(rt; unopened.error, fault);
-    assert_eq!(rt; unopened.disk.writes(), writes, "{fault}");
+    assert!(rt; unopened.error == fault, "{fault}");
+    is_number(rt, unopened.disk.writes(), writes, "writes");
     unopened.disk
 }
 
@@ -139,7 +155,7 @@ fn damaged(sector: u32) -> OpenError {
 }
 
 // A sector, a place in it, other bytes there, and what an open answers: another beginning, and other versions.
-const FAULTS: [(u32, usize, &[u8], OpenError); 4] = [
+static FAULTS: [(u32, usize, &[u8], OpenError); 4] = [
     (0, 0, &[0x69], OpenError::NotFormatted),
     (0, 7, &[0], OpenError::NotFormatted),
     (0, 11, &[1], OpenError::Version { found: 1 }),
@@ -147,7 +163,7 @@ const FAULTS: [(u32, usize, &[u8], OpenError); 4] = [
 ];
 
 // A sector, a place in it, other bytes there, and the sector that an open names as damaged.
-const DAMAGES: [(u32, usize, &[u8], u32); 54] = [
+static DAMAGES: [(u32, usize, &[u8], u32); 54] = [
     // The superblock: one sector more or fewer, a message longer than a queue, one process more than there is room for.
     (0, 15, &[0xc1], 0),
     (0, 15, &[0xbf], 0),
@@ -218,11 +234,11 @@ const DAMAGES: [(u32, usize, &[u8], u32); 54] = [
 
 #[test]
 fn each_damage_has_its_fault(rt: HostRuntime) -> Result<(), Fail> {
-    for (at, offset, bytes, fault) in FAULTS {
-        is_refused(&rt, rt.alloc(), (at, offset, bytes), fault)?;
+    for (at, offset, bytes, fault) in &FAULTS {
+        is_refused(&rt, rt.alloc(), (*at, *offset, bytes), *fault)?;
     }
-    for (at, offset, bytes, sector) in DAMAGES {
-        is_refused(&rt, rt.alloc(), (at, offset, bytes), damaged(sector))?;
+    for (at, offset, bytes, sector) in &DAMAGES {
+        is_refused(&rt, rt.alloc(), (*at, *offset, bytes), damaged(*sector))?;
     }
     Ok(())
 }
@@ -238,23 +254,34 @@ fn each_number_of_the_superblock_is_tested(rt: HostRuntime) -> Result<(), Fail> 
     Ok(())
 }
 
+// Lets the journal count all its sectors.
+fn count_all(disk: &mut MemoryDisk) -> Result<(), Fail> {
+    alter(disk, 3, 8, &[0, 0, 1, 0])?;
+    Ok(())
+}
+
+// The root of epoch 2, with 192 bytes in area 1.
+const SECOND_ROOT: [u8; 16] = [0, 0, 0, 0, 0, 0, 0, 2, 0, 0, 0, 1, 0, 0, 0, 192];
+
+// The disk after an open that saves, after one sync at first.
+fn saved_at_open(rt: &impl Abort, alloc: Global, disk: MemoryDisk) -> Result<MemoryDisk, Fail> {
+    let before = (disk.writes(), disk.syncs());
+    let mut disk = closed(opened(alloc, disk)?);
+    has_made(rt, &disk, before, (2, 3));
+    has_front(rt, &mut disk, 1, &SECOND_ROOT)?;
+    Ok(disk)
+}
+
 // All sectors of the body count: those behind the batches are batches without records. With one byte more in the last
 // of them that one is none.
 #[test]
 fn a_journal_that_counts_all_its_sectors(rt: HostRuntime) -> Result<(), Fail> {
     let mut disk = good_device(&rt, rt.alloc())?;
-    alter(&mut disk, 3, 8, &[0, 0, 1, 0])?;
+    count_all(&mut disk)?;
     alter(&mut disk, 259, 3, &[1])?;
     let mut disk = refused(&rt, rt.alloc(), disk, damaged(259));
     alter(&mut disk, 259, 3, &[0])?;
-    let (writes, syncs) = (disk.writes(), disk.syncs());
-    let mut disk = opened(rt.alloc(), disk)?.close();
-    // One sync at first, and a save.
-    assert_eq!(rt; disk.writes().checked_sub(writes), Some(2));
-    assert_eq!(rt; disk.syncs().checked_sub(syncs), Some(3));
-    let root = sector_of(&mut disk, 1)?;
-    let (begins, zeros) = compared(&root, &[0, 0, 0, 0, 0, 0, 0, 2, 0, 0, 0, 1, 0, 0, 0, 192]);
-    assert!(rt; begins && zeros);
+    let disk = saved_at_open(&rt, rt.alloc(), disk)?;
     opened(rt.alloc(), disk)?;
     Ok(())
 }
@@ -262,19 +289,19 @@ fn a_journal_that_counts_all_its_sectors(rt: HostRuntime) -> Result<(), Fail> {
 // A device whose objects are those of process 1, of its queue 1 with the message `hi`, and of epoch 2: 222 bytes in
 // area 1.
 fn saved_device(rt: &impl Abort, alloc: Global) -> Result<MemoryDisk, Fail> {
-    let mut store = opened(alloc, small_device(alloc)?)?;
+    let mut store = new_store(alloc)?;
     commit_all(
         rt,
         &mut store,
         &[hello(1000), call(1, get(1234)), call(1, send(1, b"hi"))],
     )?;
     store.save()?;
-    Ok(store.close())
+    Ok(closed(store))
 }
 
 // A sector, the first and the last of some bytes of it, and the sector that an open names as damaged if one of them is
 // turned over. With 0 it opens.
-const TURNED: [(u32, usize, usize, u32); 41] = [
+static TURNED: [(u32, usize, usize, u32); 41] = [
     (1, 0, 7, 0), // the epoch, which is later then
     (1, 8, 14, 1), // the area, and the length: past the area
     (1, 15, 15, 354), // 33 bytes of objects
@@ -321,59 +348,77 @@ const TURNED: [(u32, usize, usize, u32); 41] = [
 // An open of the disk names this sector as damaged, and writes nothing, or, with 0, it opens.
 fn is_answered(rt: &impl Abort, alloc: Global, disk: MemoryDisk, wanted: u32) {
     let writes = disk.writes();
-    match Store::open(alloc, disk) {
-        Ok(_) => assert_eq!(rt; wanted, 0),
-        Err(unopened) => {
-            assert_eq!(rt; unopened.error, damaged(wanted));
-            assert_eq!(rt; unopened.disk.writes(), writes);
+    match unopened(alloc, disk) {
+        None => is_number(rt, 0, wanted as u64, "sector"),
+        Some(unopened) => {
+            let is_so = unopened.error == damaged(wanted);
+            holds(rt, is_so, "sector", wanted as u64);
+            is_number(rt, unopened.disk.writes(), writes, "writes");
         }
     }
+}
+
+// A copy of a disk with a byte turned over.
+fn turned(
+    alloc: Global,
+    disk: &mut MemoryDisk,
+    at: u32,
+    offset: usize,
+) -> Result<MemoryDisk, Fail> {
+    let mut copy = copied(alloc, disk, SMALL_DEVICE)?;
+    let byte = sector_of(disk, at)?.get(offset).copied().unwrap_or(0);
+    alter(&mut copy, at, offset, &[!byte])?;
+    Ok(copy)
 }
 
 // Each byte of the root and of the objects, and some of those after them.
 #[test]
 fn each_byte_of_the_objects(rt: HostRuntime) -> Result<(), Fail> {
     let mut good = saved_device(&rt, rt.alloc())?;
-    for (at, first, last, wanted) in TURNED {
-        for offset in first..last.saturating_add(1) {
-            let mut disk = copied(rt.alloc(), &mut good, SMALL_DEVICE)?;
-            let sector = sector_of(&mut disk, at)?;
-            let Some(byte) = sector.get(offset) else {
-                panic!(rt; "no such byte");
-            };
-            alter(&mut disk, at, offset, &[!*byte])?;
-            is_answered(&rt, rt.alloc(), disk, wanted);
+    for (at, first, last, wanted) in &TURNED {
+        for offset in *first..last.saturating_add(1) {
+            holds(&rt, offset < 512, "offset", offset as u64);
+            let disk = turned(rt.alloc(), &mut good, *at, offset)?;
+            is_answered(&rt, rt.alloc(), disk, *wanted);
         }
     }
     Ok(())
 }
 
-// Two queues of two messages of 64 bytes each: 592 bytes of objects, 80 of them in the second sector. One byte more,
-// and one object more, are missed at the end.
+// A device with two queues of two messages of 64 bytes each: 592 bytes of objects, 80 of them in the second sector.
+fn two_queues(rt: &impl Abort, alloc: Global) -> Result<MemoryDisk, Fail> {
+    let mut store = new_store(alloc)?;
+    take_all(
+        rt,
+        &mut store,
+        &[hello(1000), call(1, get(1)), call(1, get(2))],
+    )?;
+    for id in [1, 1, 2, 2] {
+        take(rt, &mut store, call(1, send(id, text(64))))?;
+    }
+    store.save()?;
+    Ok(closed(store))
+}
+
+// With a byte at a place the disk is damaged in this sector, or, with 0, it opens. The byte of before is put back.
+fn is_missed(
+    rt: &impl Abort,
+    alloc: Global,
+    disk: &mut MemoryDisk,
+    (at, offset, byte, sector): (u32, usize, u8, u32),
+) -> Result<(), Fail> {
+    let before = alter(disk, at, offset, &[byte])?;
+    is_answered(rt, alloc, copied(alloc, disk, SMALL_DEVICE)?, sector);
+    alter(disk, at, 0, &before)?;
+    Ok(())
+}
+
+// One byte more, and one object more, are missed at the end.
 #[test]
 fn objects_in_two_sectors(rt: HostRuntime) -> Result<(), Fail> {
-    let mut store = opened(rt.alloc(), small_device(rt.alloc())?)?;
-    let events = [
-        hello(1000),
-        call(1, get(1)),
-        call(1, get(2)),
-        call(1, send(1, text(64))),
-        call(1, send(1, text(64))),
-        call(1, send(2, text(64))),
-        call(1, send(2, text(64))),
-    ];
-    take_all(&rt, &mut store, &events)?;
-    store.save()?;
-    let mut disk = store.close();
-    for (at, offset, byte, sector) in [(1, 15, 0x51, 355), (354, 3, 7, 355), (355, 3, 8, 0)] {
-        let before = alter(&mut disk, at, offset, &[byte])?;
-        is_answered(
-            &rt,
-            rt.alloc(),
-            copied(rt.alloc(), &mut disk, SMALL_DEVICE)?,
-            sector,
-        );
-        alter(&mut disk, at, 0, &before)?;
+    let mut disk = two_queues(&rt, rt.alloc())?;
+    for row in [(1, 15, 0x51, 355), (354, 3, 7, 355), (355, 3, 8, 0)] {
+        is_missed(&rt, rt.alloc(), &mut disk, row)?;
     }
     opened(rt.alloc(), disk)?;
     Ok(())
@@ -383,30 +428,32 @@ fn objects_in_two_sectors(rt: HostRuntime) -> Result<(), Fail> {
 #[test]
 fn a_batch_has_at_most_32768_bytes(rt: HostRuntime) -> Result<(), Fail> {
     let mut disk = good_device(&rt, rt.alloc())?;
-    alter(&mut disk, 3, 8, &[0, 0, 1, 0])?;
+    count_all(&mut disk)?;
     alter(&mut disk, 8, 0, &[0, 0, 0x7f, 0xfd])?;
     refused(&rt, rt.alloc(), disk, damaged(8));
     Ok(())
 }
 
+// A sector, a place in it, and what an open answers if the byte there is wrong, and those of the rows before.
+static ORDER: [(u32, usize, OpenError); 9] = [
+    (8, 8, OpenError::Damaged { sector: 8 }),
+    (5, 8, OpenError::Damaged { sector: 5 }),
+    (3, 0, OpenError::Damaged { sector: 3 }),
+    (260, 51, OpenError::Damaged { sector: 1 }),
+    (260, 3, OpenError::Damaged { sector: 260 }),
+    (1, 8, OpenError::Damaged { sector: 1 }),
+    (0, 99, OpenError::Damaged { sector: 0 }),
+    (0, 8, OpenError::Version { found: 4278190080 }),
+    (0, 0, OpenError::NotFormatted),
+];
+
 // The first fault decides: each byte is wrong, from the last to the first.
 #[test]
 fn faults_have_an_order(rt: HostRuntime) -> Result<(), Fail> {
-    let rows = [
-        (8, 8, damaged(8)),
-        (5, 8, damaged(5)),
-        (3, 0, damaged(3)),
-        (260, 51, damaged(1)),
-        (260, 3, damaged(260)),
-        (1, 8, damaged(1)),
-        (0, 99, damaged(0)),
-        (0, 8, OpenError::Version { found: 4278190080 }),
-        (0, 0, OpenError::NotFormatted),
-    ];
     let mut disk = good_device(&rt, rt.alloc())?;
-    for (at, offset, fault) in rows {
-        alter(&mut disk, at, offset, &[0xff])?;
-        disk = refused(&rt, rt.alloc(), disk, fault);
+    for (at, offset, fault) in &ORDER {
+        alter(&mut disk, *at, *offset, &[0xff])?;
+        disk = refused(&rt, rt.alloc(), disk, *fault);
     }
     Ok(())
 }
@@ -414,7 +461,7 @@ fn faults_have_an_order(rt: HostRuntime) -> Result<(), Fail> {
 // A sector, a place in it, and other bytes there with which the device opens: a later epoch of the objects; an earlier
 // one of the journal, whatever it counts; a count without the last batch, or with a batch of no records; a batch
 // emptied; and bytes that mean nothing.
-const FREE: [(u32, usize, &[u8]); 20] = [
+static FREE: [(u32, usize, &[u8]); 20] = [
     (1, 7, &[2]),
     (1, 0, &[0xff, 0xff, 0xff, 0xff, 0xff, 0xff, 0xff, 0xff]),
     (3, 7, &[0]),
@@ -439,9 +486,9 @@ const FREE: [(u32, usize, &[u8]); 20] = [
 
 #[test]
 fn other_bytes_are_not_tested(rt: HostRuntime) -> Result<(), Fail> {
-    for (at, offset, bytes) in FREE {
+    for (at, offset, bytes) in &FREE {
         let mut disk = good_device(&rt, rt.alloc())?;
-        alter(&mut disk, at, offset, bytes)?;
+        alter(&mut disk, *at, *offset, bytes)?;
         opened(rt.alloc(), disk)?;
     }
     Ok(())
@@ -464,20 +511,22 @@ pub(crate) fn copied(
     Ok(copy)
 }
 
+// How many sectors a device has, and what an open answers.
+static SIZES: [(u32, OpenError); 6] = [
+    (0, OpenError::NotFormatted),
+    (2, OpenError::NotFormatted),
+    (3, OpenError::Damaged { sector: 0 }),
+    (4, OpenError::Damaged { sector: 0 }),
+    (447, OpenError::Damaged { sector: 0 }),
+    (449, OpenError::Damaged { sector: 0 }),
+];
+
 #[test]
 fn devices_of_other_sizes(rt: HostRuntime) -> Result<(), Fail> {
     let mut good = good_device(&rt, rt.alloc())?;
-    let rows = [
-        (0, OpenError::NotFormatted),
-        (2, OpenError::NotFormatted),
-        (3, damaged(0)),
-        (4, damaged(0)),
-        (447, damaged(0)),
-        (449, damaged(0)),
-    ];
-    for (sectors, fault) in rows {
-        let disk = copied(rt.alloc(), &mut good, sectors)?;
-        refused(&rt, rt.alloc(), disk, fault);
+    for (sectors, fault) in &SIZES {
+        let disk = copied(rt.alloc(), &mut good, *sectors)?;
+        refused(&rt, rt.alloc(), disk, *fault);
     }
     opened(rt.alloc(), copied(rt.alloc(), &mut good, SMALL_DEVICE)?)?;
     Ok(())

@@ -1,12 +1,14 @@
 //! Saves: their bytes and numbers, which commit and which open is one, what is there after them, and the last epoch.
 
+use crate::damage::refused;
 use crate::tests::{
-    HEADER, HI, OBJECTS, ROOT, SUPERBLOCK, TICK, call, commit_all, get, hello, is_answered,
-    is_sector, is_stopped, opened, receive, received_by, send, send_texts, small_device, take,
+    HEADER, HI, OBJECTS, Opened, ROOT, SUPERBLOCK, TICK, call, closed, commit_all, commit_fails,
+    get, has_made, hello, holds, is_answered, is_number, is_sector, is_stopped, new_store, opened,
+    receive, received_by, send, send_texts, small_device, take, unsynced,
 };
 use crate::{CommitError, OpenError, Store};
 use ipc_base::{Moment, Objects, Pid};
-use ipc_disk::{FuseDisk, MemoryDisk, SectorDisk};
+use ipc_disk::{MemoryDisk, SectorDisk};
 use ipc_engine::{Engine, Event};
 use ipc_image::objects_of;
 use std::alloc::Global;
@@ -20,10 +22,8 @@ fn has_header(rt: &impl Abort, disk: &mut MemoryDisk, epoch: u64, used: u32) -> 
     for (here, byte) in header.iter_mut().zip(bytes) {
         *here = byte;
     }
-    assert!(rt;
-        is_sector(disk, 3, &header)?,
-        "epoch {epoch}, {used} sectors"
-    );
+    let is_so = is_sector(disk, 3, &header)?;
+    assert!(rt; is_so, "epoch {epoch}, {used} sectors");
     Ok(())
 }
 
@@ -34,10 +34,8 @@ fn has_root(
     (epoch, area, len): (u8, u8, u8),
 ) -> Result<(), Fail> {
     let root = [0, 0, 0, 0, 0, 0, 0, epoch, 0, 0, 0, area, 0, 0, 0, len];
-    assert!(rt;
-        is_sector(disk, 1, &root)?,
-        "epoch {epoch}, area {area}, {len} bytes"
-    );
+    let is_so = is_sector(disk, 1, &root)?;
+    assert!(rt; is_so, "epoch {epoch}, area {area}, {len} bytes");
     Ok(())
 }
 
@@ -53,6 +51,30 @@ fn objects_in(alloc: Global, engine: &Engine) -> Result<Vec<u8>, Fail> {
         bytes.extend_from_slice(&window)?;
     }
     Ok(bytes)
+}
+
+// A root, and the epoch of the journal with how many sectors it counts.
+fn has_places(
+    rt: &impl Abort,
+    disk: &mut MemoryDisk,
+    root: (u8, u8, u8),
+    (epoch, used): (u64, u32),
+) -> Result<(), Fail> {
+    has_root(rt, disk, root)?;
+    has_header(rt, disk, epoch, used)
+}
+
+// A disk opens to a machine with these objects.
+fn opens_to(rt: &impl Abort, alloc: Global, disk: MemoryDisk, wanted: &[u8]) -> Result<(), Fail> {
+    let store = opened(alloc, disk)?;
+    has_objects(rt, alloc, store.engine(), wanted)
+}
+
+// A machine has these objects.
+fn has_objects(rt: &impl Abort, alloc: Global, engine: &Engine, wanted: &[u8]) -> Result<(), Fail> {
+    let found = objects_in(alloc, engine)?;
+    holds(rt, found.as_slice() == wanted, "objects", 0);
+    Ok(())
 }
 
 // The objects of process 1, of its queue 1, and of the message.
@@ -76,177 +98,259 @@ const SAVED: [u8; 222] = [
 
 // A device on which process 1 made its queue and sent the message, by one commit, and that was saved then, or not.
 fn with_message(rt: &impl Abort, alloc: Global, save: bool) -> Result<MemoryDisk, Fail> {
-    let mut store = opened(alloc, small_device(alloc)?)?;
+    let mut store = new_store(alloc)?;
     let events = [hello(1000), call(1, get(1234)), call(1, send(1, b"hi"))];
     commit_all(rt, &mut store, &events)?;
     if save {
         store.save()?;
-        assert_eq!(rt; store.confirmed(), 4);
+        is_number(rt, store.confirmed(), 4, "confirmed");
     }
-    Ok(store.close())
+    Ok(closed(store))
 }
 
-// The save writes 222 bytes into area 1, and the root. The journal, with its two batches of epoch 1, stays as it is.
+// The bytes of a sector before its zeros, after the save: neither of the root nor of the journal.
+fn saved_bytes(at: u32) -> &'static [u8] {
+    match at {
+        0 => &SUPERBLOCK,
+        260 => &OBJECTS,
+        354 => &SAVED,
+        _ => &[],
+    }
+}
+
+// All sectors after the save: the journal, with its two batches of epoch 1, stays as it is.
+fn has_saved(rt: &impl Abort, disk: &mut MemoryDisk) -> Result<(), Fail> {
+    for at in 0..448 {
+        let other = (1..6).contains(&at);
+        let is_so = other || is_sector(disk, at, saved_bytes(at))?;
+        holds(rt, is_so, "sector", at as u64);
+    }
+    has_places(rt, disk, (2, 1, 222), (1, 2))
+}
+
+// The save writes 222 bytes into area 1, and the root.
 #[test]
 fn a_save_to_the_byte(rt: HostRuntime) -> Result<(), Fail> {
     let before = with_message(&rt, rt.alloc(), false)?;
+    let before = (before.writes(), before.syncs());
     let mut disk = with_message(&rt, rt.alloc(), true)?;
-    assert_eq!(rt; disk.writes().checked_sub(before.writes()), Some(2));
-    assert_eq!(rt; disk.syncs().checked_sub(before.syncs()), Some(2));
-    for at in 0..448 {
-        let bytes: &[u8] = match at {
-            0 => &SUPERBLOCK,
-            260 => &OBJECTS,
-            354 => &SAVED,
-            _ => &[],
-        };
-        let other = (1..6).contains(&at);
-        assert!(rt; other || is_sector(&mut disk, at, bytes)?, "sector {at}");
-    }
-    has_root(&rt, &mut disk, (2, 1, 222))?;
-    has_header(&rt, &mut disk, 1, 2)?;
-    assert_eq!(rt; FuseDisk::new(disk, 0, 0).unsynced(), 0);
+    has_made(&rt, &disk, before, (2, 2));
+    has_saved(&rt, &mut disk)?;
+    is_number(&rt, unsynced(disk), 0, "unsynced");
     Ok(())
 }
 
 // The processes are gone, the queue is there with the message, and the next pid is 2.
+fn has_message(rt: &impl Abort, alloc: Global, store: &mut Store<MemoryDisk>) -> Result<(), Fail> {
+    holds(rt, !store.engine().connected(Pid(1)), "pid", 1);
+    let welcome = [0, 0, 0, 2, 0, 0, 0, 10, 0, 0, 0, 1, 0, 0, 0, 0, 0, 2];
+    is_answered(rt, alloc, store, hello(1000), &welcome)?;
+    is_answered(rt, alloc, store, call(2, receive(1)), &HI)?;
+    store.commit()?;
+    Ok(())
+}
+
+// The disk of a store that was opened after the save, and whose message was received.
+fn received(rt: &impl Abort, alloc: Global) -> Result<MemoryDisk, Fail> {
+    let mut store = opened(alloc, with_message(rt, alloc, true)?)?;
+    has_message(rt, alloc, &mut store)?;
+    Ok(closed(store))
+}
+
 #[test]
 fn a_restart_after_a_save(rt: HostRuntime) -> Result<(), Fail> {
-    let disk = with_message(&rt, rt.alloc(), true)?;
-    let mut store = opened(rt.alloc(), disk)?;
-    assert!(rt; !store.engine().connected(Pid(1)));
-    let welcome = [0, 0, 0, 2, 0, 0, 0, 10, 0, 0, 0, 1, 0, 0, 0, 0, 0, 2];
-    is_answered(&rt, rt.alloc(), &mut store, hello(1000), &welcome)?;
-    is_answered(&rt, rt.alloc(), &mut store, call(2, receive(1)), &HI)?;
-    store.commit()?;
+    let mut disk = received(&rt, rt.alloc())?;
     // The journal begins anew, at epoch 2.
-    let mut disk = store.close();
     has_header(&rt, &mut disk, 2, 2)?;
-    assert_eq!(rt;
-        received_by(&rt, rt.alloc(), disk, 3)?.get(12..14),
-        [0, 0x2a].get(..)
-    );
+    let replies = received_by(&rt, rt.alloc(), disk, 3)?;
+    holds(&rt, replies.get(12..14) == [0, 0x2a].get(..), "ENOMSG", 3);
+    Ok(())
+}
+
+// Commits so many ticks, each alone.
+fn commit_ticks(rt: &impl Abort, store: &mut Store<MemoryDisk>, ticks: u32) -> Result<(), Fail> {
+    for _ in 0..ticks {
+        commit_all(rt, store, &[TICK])?;
+    }
     Ok(())
 }
 
 // A device whose journal has one sector for the restart, one for each of so many ticks, and one for the HELLO of
 // process 1, after which nothing waits.
-fn filled(rt: &impl Abort, alloc: Global, ticks: u32) -> Result<Store<MemoryDisk>, Fail> {
-    let mut store = opened(alloc, small_device(alloc)?)?;
-    for _ in 0..ticks {
-        commit_all(rt, &mut store, &[TICK])?;
-    }
+fn filled(rt: &impl Abort, alloc: Global, ticks: u32) -> Result<Opened<MemoryDisk>, Fail> {
+    let mut store = new_store(alloc)?;
+    commit_ticks(rt, &mut store, ticks)?;
     commit_all(rt, &mut store, &[hello(1000)])?;
     Ok(store)
 }
 
-// The length of a text, the bytes of the batch of its send, and, after a commit onto 255 used sectors and a tick, the
-// epoch of the journal, how many sectors it counts, and the root. A process and no queue have 128 bytes.
-const LAST_SECTORS: [(usize, usize, u64, u32, (u8, u8, u8)); 2] = [
-    (470, 512, 1, 256, (1, 0, 112)),
-    (471, 513, 2, 1, (2, 1, 128)),
-];
+// The disk after the send of a text of this length, in a batch of so many bytes, on 255 used sectors. A commit that
+// saves is followed by a tick.
+fn sent_at_last(
+    rt: &impl Abort,
+    alloc: Global,
+    (len, bytes): (usize, usize),
+    saves: bool,
+) -> Result<MemoryDisk, Fail> {
+    let mut store = filled(rt, alloc, 253)?;
+    let found = send_texts(rt, &mut store, &[len])?;
+    is_number(rt, found as u64, bytes as u64, "bytes");
+    store.commit()?;
+    is_number(rt, store.confirmed(), 256, "confirmed");
+    if saves {
+        commit_all(rt, &mut store, &[TICK])?;
+    }
+    Ok(closed(store))
+}
 
+// The format made 5 writes, and the 255 commits 510; then 2.
+#[test]
+fn a_commit_that_fits(rt: HostRuntime) -> Result<(), Fail> {
+    let mut disk = sent_at_last(&rt, rt.alloc(), (470, 512), false)?;
+    is_number(&rt, disk.writes(), 517, "writes");
+    has_places(&rt, &mut disk, (1, 0, 112), (1, 256))?;
+    opened(rt.alloc(), disk)?;
+    Ok(())
+}
+
+// Then 2, and the tick's 2. A process and no queue have 128 bytes.
 #[test]
 fn a_commit_that_does_not_fit_saves(rt: HostRuntime) -> Result<(), Fail> {
-    for (len, bytes, epoch, used, root) in LAST_SECTORS {
-        let mut store = filled(&rt, rt.alloc(), 253)?;
-        assert_eq!(rt; send_texts(&rt, &mut store, &[len])?, bytes);
-        store.commit()?;
-        assert_eq!(rt; store.confirmed(), 256);
-        if epoch == 2 {
-            commit_all(&rt, &mut store, &[TICK])?;
-        }
-        let mut disk = store.close();
-        // The format made 5 writes, and the 255 commits 510; then 2, or 2 and the tick's 2.
-        assert_eq!(rt; disk.writes(), if epoch == 2 { 519 } else { 517 });
-        has_header(&rt, &mut disk, epoch, used)?;
-        has_root(&rt, &mut disk, root)?;
-        opened(rt.alloc(), disk)?;
-    }
+    let mut disk = sent_at_last(&rt, rt.alloc(), (471, 513), true)?;
+    is_number(&rt, disk.writes(), 519, "writes");
+    has_places(&rt, &mut disk, (2, 1, 128), (2, 1))?;
+    opened(rt.alloc(), disk)?;
     Ok(())
 }
 
-// The restart and 255 ticks fill the journal, the next tick is saved, and 44 are appended again.
-#[test]
-fn three_hundred_commits(rt: HostRuntime) -> Result<(), Fail> {
-    let mut store = opened(rt.alloc(), small_device(rt.alloc())?)?;
+// A store in which the restart and 255 ticks have filled the journal, the next tick was saved, and 44 were appended.
+fn after_300_ticks(rt: &impl Abort, alloc: Global) -> Result<Opened<MemoryDisk>, Fail> {
+    let mut store = new_store(alloc)?;
     for tick in 0..300 {
         let moment = Moment(tick);
-        commit_all(&rt, &mut store, &[Event::Tick { moment }])?;
+        commit_all(rt, &mut store, &[Event::Tick { moment }])?;
     }
-    assert_eq!(rt; store.confirmed(), 301);
-    let wanted = objects_in(rt.alloc(), store.engine())?;
-    // The clock is at 299, after 16 bytes of its number and length.
-    assert_eq!(rt; wanted.get(16..24), [0, 0, 0, 0, 0, 0, 1, 43].get(..));
-    let mut disk = store.close();
-    has_root(&rt, &mut disk, (2, 1, 112))?;
-    has_header(&rt, &mut disk, 2, 44)?;
-    let store = opened(rt.alloc(), disk)?;
-    assert!(rt; objects_in(rt.alloc(), store.engine())? == wanted);
-    Ok(())
+    is_number(rt, store.confirmed(), 301, "confirmed");
+    Ok(store)
 }
 
-// Each save of a machine to which nothing has happened makes two writes and two syncs, and turns the areas.
+// The clock is at 299, after 16 bytes of its number and length.
+static CLOCK: [u8; 8] = [0, 0, 0, 0, 0, 0, 1, 43];
+
 #[test]
-fn a_save_of_nothing(rt: HostRuntime) -> Result<(), Fail> {
-    let mut store = opened(rt.alloc(), small_device(rt.alloc())?)?;
+fn three_hundred_commits(rt: HostRuntime) -> Result<(), Fail> {
+    let store = after_300_ticks(&rt, rt.alloc())?;
     let wanted = objects_in(rt.alloc(), store.engine())?;
+    holds(&rt, wanted.get(16..24) == CLOCK.get(..), "clock", 299);
+    let mut disk = closed(store);
+    has_places(&rt, &mut disk, (2, 1, 112), (2, 44))?;
+    opens_to(&rt, rt.alloc(), disk, &wanted)
+}
+
+// The disk of a store after four saves, and the objects of its machine, which stay as they are.
+fn saved_four_times(rt: &impl Abort, alloc: Global) -> Result<(MemoryDisk, Vec<u8>), Fail> {
+    let mut store = new_store(alloc)?;
+    let wanted = objects_in(alloc, store.engine())?;
     for _ in 0..4 {
         store.save()?;
     }
-    assert_eq!(rt; store.confirmed(), 1);
-    assert!(rt; objects_in(rt.alloc(), store.engine())? == wanted);
-    let mut disk = store.close();
-    // The format made 5 writes and 3 syncs, and the open 2 and 3.
-    assert_eq!(rt; (disk.writes(), disk.syncs()), (15, 14));
-    has_root(&rt, &mut disk, (5, 0, 112))?;
+    is_number(rt, store.confirmed(), 1, "confirmed");
+    has_objects(rt, alloc, store.engine(), &wanted)?;
+    Ok((closed(store), wanted))
+}
+
+// The root of the fifth epoch, and the objects in both areas.
+fn has_both_areas(rt: &impl Abort, disk: &mut MemoryDisk) -> Result<(), Fail> {
+    has_root(rt, disk, (5, 0, 112))?;
     for at in [260, 354] {
-        assert!(rt; is_sector(&mut disk, at, &OBJECTS)?);
+        let is_so = is_sector(disk, at, &OBJECTS)?;
+        holds(rt, is_so, "sector", at as u64);
     }
-    let store = opened(rt.alloc(), disk)?;
-    assert!(rt; objects_in(rt.alloc(), store.engine())? == wanted);
     Ok(())
+}
+
+// Each save of a machine to which nothing has happened makes two writes and two syncs, and turns the areas. The format
+// made 5 writes and 3 syncs, and the open 2 and 3.
+#[test]
+fn a_save_of_nothing(rt: HostRuntime) -> Result<(), Fail> {
+    let (mut disk, wanted) = saved_four_times(&rt, rt.alloc())?;
+    has_made(&rt, &disk, (0, 0), (15, 14));
+    has_both_areas(&rt, &mut disk)?;
+    opens_to(&rt, rt.alloc(), disk, &wanted)
+}
+
+// The disk after one more open, which makes two writes.
+fn opened_once(rt: &impl Abort, alloc: Global, disk: MemoryDisk) -> Result<MemoryDisk, Fail> {
+    let before = disk.writes();
+    let store = opened(alloc, disk)?;
+    is_number(rt, store.confirmed(), 1, "confirmed");
+    let disk = closed(store);
+    is_number(rt, disk.writes(), before.saturating_add(2), "writes");
+    Ok(disk)
+}
+
+// The disk after so many opens, after each of which it has this root.
+fn opened_times(
+    rt: &impl Abort,
+    alloc: Global,
+    disk: MemoryDisk,
+    (times, root): (u32, (u8, u8, u8)),
+) -> Result<MemoryDisk, Fail> {
+    let mut disk = disk;
+    for _ in 0..times {
+        disk = opened_once(rt, alloc, disk)?;
+        has_root(rt, &mut disk, root)?;
+    }
+    Ok(disk)
 }
 
 // Each open takes one sector of the journal, and the 257th saves.
 #[test]
 fn a_device_of_300_opens(rt: HostRuntime) -> Result<(), Fail> {
-    let mut disk = small_device(rt.alloc())?;
-    for opens in 1..301 {
-        let before = disk.writes();
-        let store = opened(rt.alloc(), disk)?;
-        assert_eq!(rt; store.confirmed(), 1);
-        disk = store.close();
-        assert_eq!(rt; disk.writes().checked_sub(before), Some(2), "open {opens}");
-        let root = if opens < 257 {
-            (1, 0, 112)
-        } else {
-            (2, 1, 112)
-        };
-        has_root(&rt, &mut disk, root)?;
+    let disk = small_device(rt.alloc())?;
+    let disk = opened_times(&rt, rt.alloc(), disk, (256, (1, 0, 112)))?;
+    let mut disk = opened_times(&rt, rt.alloc(), disk, (44, (2, 1, 112)))?;
+    has_header(&rt, &mut disk, 2, 43)
+}
+
+// These bytes at the last epoch, and then zeros.
+fn at_last(bytes: &[u8]) -> [u8; 512] {
+    let mut sector = [0; 512];
+    for (here, byte) in sector.iter_mut().zip(bytes) {
+        *here = *byte;
     }
-    has_header(&rt, &mut disk, 2, 43)?;
-    Ok(())
+    for here in sector.iter_mut().take(8) {
+        *here = 0xff;
+    }
+    sector
 }
 
 // A new device whose root and journal are of the last epoch.
 fn at_the_last_epoch(alloc: Global) -> Result<MemoryDisk, Fail> {
     let mut disk = small_device(alloc)?;
-    for (at, bytes) in [(1, ROOT.as_slice()), (3, HEADER.as_slice())] {
-        let mut sector = [0; 512];
-        for (here, byte) in sector.iter_mut().zip(bytes) {
-            *here = *byte;
-        }
-        for here in sector.iter_mut().take(8) {
-            *here = 0xff;
-        }
-        if at < disk.sectors() {
-            disk.write(at, &sector)?;
-        }
+    if disk.sectors() > 3 {
+        disk.write(1, &at_last(&ROOT))?;
+        disk.write(3, &at_last(&HEADER))?;
     }
     disk.sync()?;
     Ok(disk)
+}
+
+// A save is refused, then and later.
+fn no_save(rt: &impl Abort, store: &mut Store<MemoryDisk>) -> Result<(), Fail> {
+    commit_all(rt, store, &[hello(1000)])?;
+    take(rt, store, TICK)?;
+    holds(rt, store.save() == Err(CommitError::Stopped), "save", 1);
+    is_stopped(rt, store, 2);
+    holds(rt, store.save() == Err(CommitError::Stopped), "save", 2);
+    Ok(())
+}
+
+// The disk of a store that refused a save.
+fn not_saved(rt: &impl Abort, alloc: Global, disk: MemoryDisk) -> Result<MemoryDisk, Fail> {
+    let mut store = opened(alloc, disk)?;
+    no_save(rt, &mut store)?;
+    Ok(closed(store))
 }
 
 // A save is refused. What waits is gone, and nothing is written.
@@ -254,43 +358,40 @@ fn at_the_last_epoch(alloc: Global) -> Result<MemoryDisk, Fail> {
 fn a_save_at_the_last_epoch(rt: HostRuntime) -> Result<(), Fail> {
     let disk = at_the_last_epoch(rt.alloc())?;
     let writes = disk.writes();
-    let mut store = opened(rt.alloc(), disk)?;
-    commit_all(&rt, &mut store, &[hello(1000)])?;
-    take(&rt, &mut store, TICK)?;
-    assert_eq!(rt; store.save(), Err(CommitError::Stopped));
-    is_stopped(&rt, &mut store, 2);
-    assert_eq!(rt; store.save(), Err(CommitError::Stopped));
-    let mut disk = store.close();
+    let mut disk = not_saved(&rt, rt.alloc(), disk)?;
     // The open and the commit made 2 each.
-    assert_eq!(rt; disk.writes().checked_sub(writes), Some(4));
+    is_number(&rt, disk.writes(), writes.saturating_add(4), "writes");
     has_header(&rt, &mut disk, 18446744073709551615, 2)?;
     opened(rt.alloc(), disk)?;
     Ok(())
 }
 
-// The journal takes 256 commits, the restart among them. Then the device stops for good.
+// A journal takes 256 commits, the restart among them, and then the store stops.
+fn comes_to_its_end(rt: &impl Abort, store: &mut Store<MemoryDisk>) -> Result<(), Fail> {
+    commit_ticks(rt, store, 255)?;
+    store.commit()?;
+    take(rt, store, TICK)?;
+    commit_fails(rt, store, CommitError::Stopped);
+    is_stopped(rt, store, 256);
+    Ok(())
+}
+
+// The disk of such a store.
+fn ended(rt: &impl Abort, alloc: Global) -> Result<MemoryDisk, Fail> {
+    let mut store = opened(alloc, at_the_last_epoch(alloc)?)?;
+    comes_to_its_end(rt, &mut store)?;
+    Ok(closed(store))
+}
+
+// The device stops for good.
 #[test]
 fn the_end_of_the_last_epoch(rt: HostRuntime) -> Result<(), Fail> {
-    let mut store = opened(rt.alloc(), at_the_last_epoch(rt.alloc())?)?;
-    for _ in 0..255 {
-        commit_all(&rt, &mut store, &[TICK])?;
-    }
-    assert_eq!(rt; store.commit(), Ok(()));
-    take(&rt, &mut store, TICK)?;
-    assert_eq!(rt; store.commit(), Err(CommitError::Stopped));
-    is_stopped(&rt, &mut store, 256);
-    let mut disk = store.close();
+    let mut disk = ended(&rt, rt.alloc())?;
     for _ in 0..2 {
-        let writes = disk.writes();
-        let Err(unopened) = Store::open(rt.alloc(), disk) else {
-            panic!(rt; "opened");
-        };
-        assert_eq!(rt; unopened.error, OpenError::Damaged { sector: 1 });
-        disk = unopened.disk;
-        assert_eq!(rt; disk.writes(), writes);
+        disk = refused(&rt, rt.alloc(), disk, OpenError::Damaged { sector: 1 });
     }
     // The format made 5 writes, the last epoch 2, and each of 256 commits 2.
-    assert_eq!(rt; disk.writes(), 519);
+    is_number(&rt, disk.writes(), 519, "writes");
     has_header(&rt, &mut disk, 18446744073709551615, 256)?;
     Ok(())
 }

@@ -4,10 +4,10 @@
 use crate::damage::copied;
 use crate::replay::is_for_process;
 use crate::tests::{
-    SMALL_DEVICE, TICK, add_replies, call, commit_all, get, hello, opened, receive, send,
-    small_device, take, text,
+    Opened, SMALL_DEVICE, TICK, add_replies, boxed, call, closed, commit_all, get, hello, holds,
+    is_number, new_store, opened, receive, send, small_device, take, text, unopened,
 };
-use crate::{CommitError, OpenError, Store};
+use crate::{CommitError, OpenError, Store, Unopened};
 use ipc_base::{Cred, GetFlags, Id, Limits, Moment, MsgFlags, Pid};
 use ipc_disk::{FuseDisk, MemoryDisk, SectorDisk};
 use ipc_engine::{Engine, Event};
@@ -38,7 +38,7 @@ enum Line {
 use Line::{Commit, Exit, Get, Hello, Receive, Refused, Save, Send, Tick};
 
 // Each commit, and the first save, bring something that the probes see. The second save brings nothing.
-const SCRIPT: [Line; 62] = [
+static SCRIPT: [Line; 62] = [
     Hello(1000),
     Get(1, 7, 0x380),
     Commit, // 59 bytes, one sector
@@ -212,43 +212,65 @@ impl<D: SectorDisk> Probed for Store<D> {
     }
 }
 
-// The replies to a HELLO, to msgget of the keys and of a new queue, and to msgrcv until the queues are empty: they
-// tell the next numbers, the queues, and the messages in order.
-fn probe<M: Probed>(rt: &impl Abort, alloc: Global, machine: &mut M) -> Result<Vec<u8>, Fail> {
-    let mut replies = Vec::new(alloc);
-    machine.go(rt, hello(1000))?;
-    add_replies(rt, &mut replies, machine.machine())?;
-    let Some(welcome) = machine.machine().outcomes().first() else {
+// Adds the replies of a machine to one more event.
+fn ask<M: Probed>(
+    rt: &impl Abort,
+    replies: &mut Vec<u8>,
+    machine: &mut M,
+    event: Event<'_>,
+) -> Result<(), Fail> {
+    machine.go(rt, event)?;
+    add_replies(rt, replies, machine.machine())
+}
+
+// The process that got the first reply.
+fn first_pid(rt: &impl Abort, engine: &Engine) -> u32 {
+    let Some(welcome) = engine.outcomes().first() else {
         panic!(rt; "no reply to a HELLO");
     };
-    let pid = welcome.pid.0;
+    welcome.pid.0
+}
+
+// msgget of a key that is there.
+fn find(key: i32) -> Call<'static> {
     let flags = GetFlags(0);
-    let finds = [
-        Call::Msgget { key: 7, flags },
-        Call::Msgget { key: 8, flags },
-        get(0),
-    ];
-    for find in finds {
-        machine.go(rt, call(pid, find))?;
-        add_replies(rt, &mut replies, machine.machine())?;
-    }
+    Call::Msgget { key, flags }
+}
+
+// Adds the replies to a HELLO, to msgget of the keys and of a new queue, and to msgrcv until the queues are empty: they
+// tell the next numbers, the queues, and the messages in order.
+fn add_probe<M: Probed>(
+    rt: &impl Abort,
+    replies: &mut Vec<u8>,
+    machine: &mut M,
+) -> Result<(), Fail> {
+    ask(rt, replies, machine, hello(1000))?;
+    let pid = first_pid(rt, machine.machine());
+    ask(rt, replies, machine, call(pid, find(7)))?;
+    ask(rt, replies, machine, call(pid, find(8)))?;
+    ask(rt, replies, machine, call(pid, get(0)))?;
     for _ in 0..8 {
-        for id in 1..3 {
-            machine.go(rt, call(pid, receive(id)))?;
-            add_replies(rt, &mut replies, machine.machine())?;
-        }
+        ask(rt, replies, machine, call(pid, receive(1)))?;
+        ask(rt, replies, machine, call(pid, receive(2)))?;
     }
+    Ok(())
+}
+
+// The replies of a probe.
+fn probe<M: Probed>(rt: &impl Abort, alloc: Global, machine: &mut M) -> Result<Vec<u8>, Fail> {
+    let mut replies = Vec::new(alloc);
+    add_probe(rt, &mut replies, machine)?;
     Ok(replies)
 }
 
 // Leads a machine through the first `count` events of the script.
 fn go_to(rt: &impl Abort, engine: &mut Engine, count: u64) -> Result<(), Fail> {
     let mut left = count;
-    for (number, line) in (1..).zip(SCRIPT) {
+    for (number, line) in (1..).zip(&SCRIPT) {
         if left == 0 {
             break;
         }
-        if let Some(event) = event_of(number, line) {
+        if let Some(event) = event_of(number, *line) {
             engine.go(rt, event)?;
             left -= 1;
         }
@@ -282,43 +304,56 @@ struct Stopped {
     failed: bool,
 }
 
-// Works on the script on a new device that passes so many calls.
-fn work(rt: &impl Abort, alloc: Global, calls: u64, keep: u64) -> Result<Stopped, Fail> {
-    let fuse = FuseDisk::new(small_device(alloc)?, calls, keep);
-    let mut store = match Store::open(alloc, fuse) {
-        Ok(store) => store,
-        Err(unopened) => {
-            assert_eq!(rt; unopened.error, OpenError::Device);
-            let disk = unopened.disk;
-            return Ok(Stopped {
-                disk,
-                confirmed: 0,
-                accepted: 0,
-                failed: true,
-            });
-        }
-    };
+// Works on the script until the disk fails: how many events it accepted, and whether the disk failed.
+fn work_on(rt: &impl Abort, store: &mut Store<FuseDisk>) -> Result<(u64, bool), Fail> {
     let mut accepted: u64 = 0;
-    let mut failed = false;
-    for (number, line) in (1..).zip(SCRIPT) {
-        match event_of(number, line) {
+    for (number, line) in (1..).zip(&SCRIPT) {
+        match event_of(number, *line) {
             Some(event) => {
-                take(rt, &mut store, event)?;
+                take(rt, store, event)?;
                 accepted = accepted.saturating_add(1);
             }
-            None => failed = make_last(&mut store, line).is_err(),
-        }
-        if failed {
-            break;
+            None => {
+                if make_last(store, *line).is_err() {
+                    return Ok((accepted, true));
+                }
+            }
         }
     }
+    Ok((accepted, false))
+}
+
+// Works on the script in a store.
+fn worked(rt: &impl Abort, store: Opened<FuseDisk>) -> Result<Stopped, Fail> {
+    let mut store = store;
+    let (accepted, failed) = work_on(rt, &mut store)?;
     let confirmed = store.confirmed().saturating_sub(1);
     Ok(Stopped {
-        disk: store.close(),
+        disk: closed(store),
         confirmed,
         accepted,
         failed,
     })
+}
+
+// The disk of a store that did not open, as its disk failed.
+fn not_opened(rt: &impl Abort, unopened: Unopened<FuseDisk>) -> FuseDisk {
+    holds(rt, unopened.error == OpenError::Device, "error", 0);
+    unopened.disk
+}
+
+// Works on the script on a new device that passes so many calls.
+fn work(rt: &impl Abort, alloc: Global, calls: u64, keep: u64) -> Result<Stopped, Fail> {
+    let fuse = FuseDisk::new(small_device(alloc)?, calls, keep);
+    match boxed(alloc, fuse)? {
+        Ok(store) => worked(rt, store),
+        Err(unopened) => Ok(Stopped {
+            disk: not_opened(rt, unopened),
+            confirmed: 0,
+            accepted: 0,
+            failed: true,
+        }),
+    }
 }
 
 // The choice of a crash after `before` other ones: each combination of up to four unsynced sectors, and of more none,
@@ -338,10 +373,25 @@ fn choice(before: u32, unsynced: u32) -> Option<u64> {
 // What the probes find on a device that opens.
 fn probe_disk(rt: &impl Abort, alloc: Global, disk: MemoryDisk) -> Result<Vec<u8>, Fail> {
     let mut store = opened(alloc, disk)?;
-    let found = probe(rt, alloc, &mut store)?;
+    let found = probe(rt, alloc, &mut *store)?;
     store.commit()?;
-    assert_eq!(rt; store.confirmed(), 21);
+    is_number(rt, store.confirmed(), 21, "confirmed");
     Ok(found)
+}
+
+// The device that is left opens to the events that were confirmed, or to all that were accepted.
+fn is_kept(
+    rt: &impl Abort,
+    alloc: Global,
+    left: Stopped,
+    (calls, keep): (u64, u64),
+) -> Result<(), Fail> {
+    let confirmed = probe_after(rt, alloc, left.confirmed)?;
+    let accepted = probe_after(rt, alloc, left.accepted)?;
+    let found = probe_disk(rt, alloc, left.disk.crash())?;
+    let is_so = found == confirmed || found == accepted;
+    assert!(rt; is_so, "{calls} calls, choice {keep}");
+    Ok(())
 }
 
 // Stops the work after so many calls, with each choice of a crash. Each device that is left opens to the events that
@@ -359,13 +409,7 @@ fn work_again(rt: &impl Abort, alloc: Global, calls: u64) -> Result<u32, Fail> {
         if before == 0 {
             unsynced = left.disk.unsynced();
         }
-        let confirmed = probe_after(rt, alloc, left.confirmed)?;
-        let accepted = probe_after(rt, alloc, left.accepted)?;
-        let found = probe_disk(rt, alloc, left.disk.crash())?;
-        assert!(rt;
-            found == confirmed || found == accepted,
-            "{calls} calls, choice {keep}"
-        );
+        is_kept(rt, alloc, left, (calls, keep))?;
     }
     panic!(rt; "no end of the choices");
 }
@@ -387,8 +431,27 @@ fn a_store_that_is_stopped_anywhere(rt: HostRuntime) -> Result<(), Fail> {
         devices = devices.saturating_add(left);
     }
     println!(rt; "{stops} stops left {devices} devices")?;
-    assert_eq!(rt; (stops, devices), (64, 130));
+    is_number(&rt, stops, 64, "stops");
+    is_number(&rt, devices as u64, 130, "devices");
     Ok(())
+}
+
+// Stops the opening of a device after so many calls, with a choice of a crash, and opens what is left: whether it was
+// stopped. What the probes find is the same.
+fn is_opening_stopped(
+    rt: &impl Abort,
+    alloc: Global,
+    disk: MemoryDisk,
+    (calls, keep): (u64, u64),
+    wanted: &[u8],
+) -> Result<bool, Fail> {
+    let Some(unopened) = unopened(alloc, FuseDisk::new(disk, calls, keep)) else {
+        return Ok(false);
+    };
+    let found = probe_disk(rt, alloc, not_opened(rt, unopened).crash())?;
+    let is_so = found.as_slice() == wanted;
+    assert!(rt; is_so, "an open with {calls} calls, choice {keep}");
+    Ok(true)
 }
 
 // Stops the opening of a device at each of its calls but so many first ones, and opens what a crash leaves. An open
@@ -402,16 +465,10 @@ fn stop_openings(
     let wanted = probe_disk(rt, alloc, copied(alloc, disk, SMALL_DEVICE)?)?;
     for calls in first..300 {
         for keep in [0, u64::MAX] {
-            let fuse = FuseDisk::new(copied(alloc, disk, SMALL_DEVICE)?, calls, keep);
-            let Err(unopened) = Store::open(alloc, fuse) else {
+            let copy = copied(alloc, disk, SMALL_DEVICE)?;
+            if !is_opening_stopped(rt, alloc, copy, (calls, keep), &wanted)? {
                 return Ok(calls);
-            };
-            assert_eq!(rt; unopened.error, OpenError::Device);
-            let found = probe_disk(rt, alloc, unopened.disk.crash())?;
-            assert!(rt;
-                found == wanted,
-                "an open with {calls} calls, choice {keep}"
-            );
+            }
         }
     }
     panic!(rt; "no end of an opening");
@@ -425,26 +482,32 @@ fn an_opening_that_is_stopped_anywhere(rt: HostRuntime) -> Result<(), Fail> {
     let mut stops: u64 = 0;
     for calls in (0..64).step_by(5) {
         let left = work(&rt, rt.alloc(), calls, u64::MAX)?;
-        assert!(rt; left.failed);
+        holds(&rt, left.failed, "failed", calls);
         let more = stop_openings(&rt, rt.alloc(), &mut left.disk.crash(), 0)?;
         stops = stops.saturating_add(more);
     }
     println!(rt; "{stops} stops")?;
-    assert_eq!(rt; stops, 186);
+    is_number(&rt, stops, 186, "stops");
     Ok(())
 }
 
-// The journal is full, so the open saves: 5 calls and one for each of the 256 sectors before it writes, and then 4.
+// A device whose journal is full.
+fn full_device(rt: &impl Abort, alloc: Global) -> Result<MemoryDisk, Fail> {
+    let mut store = new_store(alloc)?;
+    let events = [hello(1000), call(1, get(7)), call(1, send(1, b"hi"))];
+    commit_all(rt, &mut store, &events)?;
+    for _ in 0..254 {
+        commit_all(rt, &mut store, &[TICK])?;
+    }
+    Ok(closed(store))
+}
+
+// The open saves: 5 calls and one for each of the 256 sectors before it writes, and then 4.
 #[test]
 fn an_opening_that_saves_and_is_stopped(rt: HostRuntime) -> Result<(), Fail> {
-    let mut store = opened(rt.alloc(), small_device(rt.alloc())?)?;
-    let events = [hello(1000), call(1, get(7)), call(1, send(1, b"hi"))];
-    commit_all(&rt, &mut store, &events)?;
-    for _ in 0..254 {
-        commit_all(&rt, &mut store, &[TICK])?;
-    }
-    let calls = stop_openings(&rt, rt.alloc(), &mut store.close(), 260)?;
-    assert_eq!(rt; calls, 265);
+    let mut disk = full_device(&rt, rt.alloc())?;
+    let calls = stop_openings(&rt, rt.alloc(), &mut disk, 260)?;
+    is_number(&rt, calls, 265, "calls");
     Ok(())
 }
 
@@ -454,8 +517,8 @@ fn probes_see_each_commit(rt: HostRuntime) -> Result<(), Fail> {
     let mut before = probe_after(&rt, rt.alloc(), 0)?;
     let mut count: u64 = 0;
     let mut lasting: u64 = 0;
-    for (number, line) in (1..).zip(SCRIPT) {
-        if event_of(number, line).is_some() {
+    for (number, line) in (1..).zip(&SCRIPT) {
+        if event_of(number, *line).is_some() {
             count = count.saturating_add(1);
             continue;
         }
@@ -464,10 +527,10 @@ fn probes_see_each_commit(rt: HostRuntime) -> Result<(), Fail> {
         }
         lasting = count;
         let after = probe_after(&rt, rt.alloc(), count)?;
-        assert!(rt; before != after, "line {number}");
+        holds(&rt, before != after, "line", number as u64);
         before = after;
     }
-    assert_eq!(rt; count, 50);
+    is_number(&rt, count, 50, "events");
     Ok(())
 }
 
@@ -480,7 +543,7 @@ enum Left {
 }
 
 // Calls of the format that pass, the choice of a crash, and what is left.
-const FORMATS: [(u64, u64, Left); 16] = [
+static FORMATS: [(u64, u64, Left); 16] = [
     (0, 1, Left::Old),
     (1, 0, Left::Old), // the superblock is overwritten with zeros, and that is lost
     (1, 1, Left::Nothing), // or kept
@@ -506,35 +569,53 @@ fn left_on(
     disk: MemoryDisk,
     (old, new): (&[u8], &[u8]),
 ) -> Result<Left, Fail> {
-    let mut store = match Store::open(alloc, disk) {
-        Ok(store) => store,
+    match boxed(alloc, disk)? {
+        Ok(store) => found_in(rt, alloc, store, (old, new)),
         Err(unopened) => {
-            assert_eq!(rt; unopened.error, OpenError::NotFormatted);
-            return Ok(Left::Nothing);
+            holds(rt, unopened.error == OpenError::NotFormatted, "error", 0);
+            Ok(Left::Nothing)
         }
-    };
-    let found = probe(rt, alloc, &mut store)?;
-    assert!(rt; found.as_slice() == old || found.as_slice() == new);
-    Ok(if found.as_slice() == old {
-        Left::Old
-    } else {
-        Left::New
-    })
+    }
+}
+
+// The same of a store.
+fn found_in(
+    rt: &impl Abort,
+    alloc: Global,
+    store: Opened<MemoryDisk>,
+    (old, new): (&[u8], &[u8]),
+) -> Result<Left, Fail> {
+    let mut store = store;
+    let found = probe(rt, alloc, &mut *store)?;
+    if found.as_slice() == old {
+        return Ok(Left::Old);
+    }
+    holds(rt, found.as_slice() == new, "old or new", 0);
+    Ok(Left::New)
+}
+
+// A format of a device that is used, which is stopped after so many calls, with a choice of a crash, leaves this.
+fn is_left(
+    rt: &impl Abort,
+    alloc: Global,
+    (calls, keep, wanted): (u64, u64, Left),
+    probes: (&[u8], &[u8]),
+) -> Result<(), Fail> {
+    let done = work(rt, alloc, 200, 0)?;
+    let mut fuse = FuseDisk::new(done.disk.crash(), calls, keep);
+    let is_ok = Store::format(&mut fuse, &Limits::small()).is_ok();
+    holds(rt, is_ok == (calls == 8), "calls", calls);
+    let left = left_on(rt, alloc, fuse.crash(), probes)?;
+    assert!(rt; left == wanted, "{calls} calls, choice {keep}");
+    Ok(())
 }
 
 #[test]
 fn a_format_that_is_stopped(rt: HostRuntime) -> Result<(), Fail> {
     let old = probe_after(&rt, rt.alloc(), 50)?;
     let new = probe_after(&rt, rt.alloc(), 0)?;
-    for (calls, keep, wanted) in FORMATS {
-        let done = work(&rt, rt.alloc(), 200, 0)?;
-        let mut fuse = FuseDisk::new(done.disk.crash(), calls, keep);
-        assert_eq!(rt;
-            Store::format(&mut fuse, &Limits::small()).is_ok(),
-            calls == 8
-        );
-        let left = left_on(&rt, rt.alloc(), fuse.crash(), (&old, &new))?;
-        assert_eq!(rt; left, wanted, "{calls} calls, choice {keep}");
+    for row in &FORMATS {
+        is_left(&rt, rt.alloc(), *row, (&old, &new))?;
     }
     Ok(())
 }

@@ -1,7 +1,7 @@
 //! The numbers of a device, a commit that is stopped, where a store stops, and what a restart leaves.
 
 use crate::replay::is_for_process;
-use crate::{CommitError, FormatError, OpenError, StepError, Store};
+use crate::{CommitError, FormatError, OpenError, StepError, Store, Unopened};
 use ipc_base::{BadLimits, Cred, GetFlags, Id, Limits, Moment, MsgFlags, Pid};
 use ipc_disk::{FuseDisk, MemoryDisk, SectorDisk};
 use ipc_engine::{Engine, Event};
@@ -21,12 +21,71 @@ pub(crate) fn small_device(alloc: Global) -> Result<MemoryDisk, Fail> {
     Ok(disk)
 }
 
-/// A device that is to open.
-pub(crate) fn opened<D: SectorDisk + Drop>(alloc: Global, disk: D) -> Result<Store<D>, Fail> {
+/// This holds; if not, these words and this number say where.
+pub(crate) fn holds(rt: &impl Abort, is_so: bool, what: &str, number: u64) {
+    assert!(rt; is_so, "{what} {number}");
+}
+
+/// A number is the one that is wanted; if not, these words say which.
+pub(crate) fn is_number(rt: &impl Abort, found: u64, wanted: u64, what: &str) {
+    assert!(rt; found == wanted, "{what}: {found}, not {wanted}");
+}
+
+/// What a disk has made since it had made so many writes and syncs.
+pub(crate) fn has_made(
+    rt: &impl Abort,
+    disk: &MemoryDisk,
+    (writes, syncs): (u64, u64),
+    wanted: (u64, u64),
+) {
+    let wanted = (
+        writes.saturating_add(wanted.0),
+        syncs.saturating_add(wanted.1),
+    );
+    is_number(rt, disk.writes(), wanted.0, "writes");
+    is_number(rt, disk.syncs(), wanted.1, "syncs");
+}
+
+/// How many sectors of a disk are not synced.
+pub(crate) fn unsynced(disk: MemoryDisk) -> u64 {
+    FuseDisk::new(disk, 0, 0).unsynced() as u64
+}
+
+/// A store, boxed: a function that gives it up on its way drops a box, and not each part of it.
+pub(crate) type Opened<D> = Box<Store<D>>;
+
+/// The store of a device, or why there is none.
+pub(crate) fn boxed<D: SectorDisk + Drop>(
+    alloc: Global,
+    disk: D,
+) -> Result<Result<Opened<D>, Unopened<D>>, Fail> {
     match Store::open(alloc, disk) {
+        Ok(store) => Ok(Ok(Box::new(alloc, store)?)),
+        Err(unopened) => Ok(Err(unopened)),
+    }
+}
+
+/// A device that is to open.
+pub(crate) fn opened<D: SectorDisk + Drop>(alloc: Global, disk: D) -> Result<Opened<D>, Fail> {
+    match boxed(alloc, disk)? {
         Ok(store) => Ok(store),
         Err(unopened) => Err(Fail::new(unopened.error)),
     }
+}
+
+/// Why a disk does not open, with the disk.
+pub(crate) fn unopened<D: SectorDisk + Drop>(alloc: Global, disk: D) -> Option<Unopened<D>> {
+    Store::open(alloc, disk).err()
+}
+
+/// The store of a new device.
+pub(crate) fn new_store(alloc: Global) -> Result<Opened<MemoryDisk>, Fail> {
+    opened(alloc, small_device(alloc)?)
+}
+
+/// The disk of a store that is no longer used.
+pub(crate) fn closed<D: SectorDisk>(store: Opened<D>) -> D {
+    Box::into_inner(store).close()
 }
 
 /// A step on an event, which goes by its record.
@@ -196,55 +255,86 @@ pub(crate) fn is_sector<D: SectorDisk>(disk: &mut D, at: u32, bytes: &[u8]) -> R
     Ok(sector.starts_with(bytes) && sector.iter().skip(bytes.len()).all(|byte| *byte == 0))
 }
 
+// The bytes of a sector of a new device before its zeros.
+fn new_bytes(at: u32) -> &'static [u8] {
+    match at {
+        0 => &SUPERBLOCK,
+        1 => &ROOT,
+        3 => &HEADER,
+        260 => &OBJECTS,
+        _ => &[],
+    }
+}
+
 #[test]
 fn a_device_to_the_byte(rt: HostRuntime) -> Result<(), Fail> {
     let mut disk = small_device(rt.alloc())?;
-    assert_eq!(rt; (disk.sectors(), disk.writes(), disk.syncs()), (448, 5, 3));
+    is_number(&rt, disk.sectors() as u64, 448, "sectors");
+    has_made(&rt, &disk, (0, 0), (5, 3));
     for at in 0..448 {
-        let bytes: &[u8] = match at {
-            0 => &SUPERBLOCK,
-            1 => &ROOT,
-            3 => &HEADER,
-            260 => &OBJECTS,
-            _ => &[],
-        };
-        assert!(rt; is_sector(&mut disk, at, bytes)?, "sector {at}");
+        let is_so = is_sector(&mut disk, at, new_bytes(at))?;
+        holds(&rt, is_so, "sector", at as u64);
     }
     // All of it lasts.
-    assert_eq!(rt; FuseDisk::new(disk, 0, 0).unsynced(), 0);
+    is_number(&rt, unsynced(disk), 0, "unsynced");
+    Ok(())
+}
+
+// A format of a disk of so many sectors has this answer, and writes only if it succeeds.
+fn is_formatted(
+    rt: &impl Abort,
+    alloc: Global,
+    (sectors, limits): (u32, &Limits),
+    wanted: Result<(), FormatError>,
+) -> Result<(), Fail> {
+    let mut disk = MemoryDisk::new(alloc, sectors)?;
+    let found = Store::format(&mut disk, limits);
+    holds(rt, found == wanted, "sectors", sectors as u64);
+    let writes = if wanted.is_ok() { 5 } else { 0 };
+    is_number(rt, disk.writes(), writes, "writes");
+    Ok(())
+}
+
+// Sectors, and what a format answers under small limits, and under standard ones.
+static SMALL_FORMATS: [(u32, Result<(), FormatError>); 3] = [
+    (448, Ok(())),
+    (447, Err(FormatError::TooSmall { need: 448 })),
+    (0, Err(FormatError::TooSmall { need: 448 })),
+];
+
+static STANDARD_FORMATS: [(u32, Result<(), FormatError>); 2] = [
+    (45830, Ok(())),
+    (45829, Err(FormatError::TooSmall { need: 45830 })),
+];
+
+#[test]
+fn formats_that_are_refused(rt: HostRuntime) -> Result<(), Fail> {
+    let limits = Limits::small();
+    for (sectors, wanted) in &SMALL_FORMATS {
+        is_formatted(&rt, rt.alloc(), (*sectors, &limits), *wanted)?;
+    }
+    let limits = Limits::standard();
+    for (sectors, wanted) in &STANDARD_FORMATS {
+        is_formatted(&rt, rt.alloc(), (*sectors, &limits), *wanted)?;
+    }
     Ok(())
 }
 
 #[test]
-fn formats_that_are_refused(rt: HostRuntime) -> Result<(), Fail> {
-    let (small, standard) = (Limits::small(), Limits::standard());
+fn formats_under_bad_limits(rt: HostRuntime) -> Result<(), Fail> {
     let mut bad = Limits::small();
     bad.msgmax = 129;
-    let bad_limits = FormatError::BadLimits(BadLimits { field: 2 });
-    let rows = [
-        (448, small, Ok(())),
-        (447, small, Err(FormatError::TooSmall { need: 448 })),
-        (0, small, Err(FormatError::TooSmall { need: 448 })),
-        (45830, standard, Ok(())),
-        (45829, standard, Err(FormatError::TooSmall { need: 45830 })),
-        (448, bad, Err(bad_limits)),
-        (0, bad, Err(bad_limits)),
-    ];
-    for (sectors, limits, wanted) in rows {
-        let mut disk = MemoryDisk::new(rt.alloc(), sectors)?;
-        assert_eq!(rt;
-            Store::format(&mut disk, &limits),
-            wanted,
-            "{sectors} sectors"
-        );
-        let writes = if wanted.is_ok() { 5 } else { 0 };
-        assert_eq!(rt; disk.writes(), writes, "{sectors} sectors");
-    }
+    let wanted = Err(FormatError::BadLimits(BadLimits { field: 2 }));
+    is_formatted(&rt, rt.alloc(), (448, &bad), wanted)?;
+    is_formatted(&rt, rt.alloc(), (0, &bad), wanted)?;
+    Ok(())
+}
+
+#[test]
+fn a_format_of_a_broken_disk(rt: HostRuntime) -> Result<(), Fail> {
     let mut broken = FuseDisk::new(MemoryDisk::new(rt.alloc(), 448)?, 0, 0);
-    assert_eq!(rt;
-        Store::format(&mut broken, &small),
-        Err(FormatError::Device)
-    );
+    let found = Store::format(&mut broken, &Limits::small());
+    holds(&rt, found == Err(FormatError::Device), "broken", 0);
     Ok(())
 }
 
@@ -258,7 +348,7 @@ fn about_to_send<D: SectorDisk + Drop>(
     rt: &impl Abort,
     alloc: Global,
     disk: D,
-) -> Result<Store<D>, Fail> {
+) -> Result<Opened<D>, Fail> {
     let mut store = opened(alloc, disk)?;
     commit_all(rt, &mut store, &[hello(1000), call(1, get(1234))])?;
     take_all(rt, &mut store, &[TICK, call(1, send(1, b"hi"))])?;
@@ -267,7 +357,7 @@ fn about_to_send<D: SectorDisk + Drop>(
 
 // Calls of the commit that pass, the choice of a crash, whether the commit is acknowledged, and whether the message
 // is there.
-const CRASHES: [(u8, u64, bool, bool); 10] = [
+static CRASHES: [(u8, u64, bool, bool); 10] = [
     (0, 0, false, false),
     (0, 1, false, false),
     (1, 0, false, false), // the batch is written, and it is lost
@@ -288,8 +378,9 @@ fn crashed(
     acknowledged: bool,
 ) -> Result<MemoryDisk, Fail> {
     let mut store = about_to_send(rt, alloc, fuse)?;
-    assert_eq!(rt; store.commit().is_ok(), acknowledged);
-    Ok(store.close().crash())
+    let is_so = store.commit().is_ok() == acknowledged;
+    holds(rt, is_so, "acknowledged", acknowledged as u64);
+    Ok(closed(store).crash())
 }
 
 /// The replies to a receive on a device, by a process that is new and has this pid.
@@ -304,29 +395,48 @@ pub(crate) fn received_by(
     replies_to(rt, alloc, &mut store, call(pid, receive(1)))
 }
 
+// A commit that is stopped after so many calls, with this choice of a crash, is acknowledged or not, and leaves the
+// message or not.
+fn is_left(
+    rt: &impl Abort,
+    alloc: Global,
+    (calls, keep): (u8, u64),
+    (acknowledged, there): (bool, bool),
+) -> Result<(), Fail> {
+    let passed = OPEN_CALLS + COMMIT_CALLS + calls as u64;
+    let fuse = FuseDisk::new(small_device(alloc)?, passed, keep);
+    let disk = crashed(rt, alloc, fuse, acknowledged)?;
+    let replies = received_by(rt, alloc, disk, 2)?;
+    let wanted: &[u8] = if there { &HI } else { &NO_MESSAGE };
+    let is_so = replies.as_slice() == wanted;
+    assert!(rt; is_so, "{calls} calls, choice {keep}");
+    Ok(())
+}
+
 #[test]
 fn a_crash_leaves_the_message_or_not(rt: HostRuntime) -> Result<(), Fail> {
-    for (calls, keep, acknowledged, there) in CRASHES {
-        let passed = OPEN_CALLS + COMMIT_CALLS + calls as u64;
-        let fuse = FuseDisk::new(small_device(rt.alloc())?, passed, keep);
-        let disk = crashed(&rt, rt.alloc(), fuse, acknowledged)?;
-        let replies = received_by(&rt, rt.alloc(), disk, 2)?;
-        let wanted = if there {
-            HI.as_slice()
-        } else {
-            NO_MESSAGE.as_slice()
-        };
-        assert_eq!(rt; replies.as_slice(), wanted, "{calls} calls, choice {keep}");
+    for (calls, keep, acknowledged, there) in &CRASHES {
+        is_left(&rt, rt.alloc(), (*calls, *keep), (*acknowledged, *there))?;
     }
     Ok(())
+}
+
+/// A commit has this error.
+pub(crate) fn commit_fails<D: SectorDisk>(
+    rt: &impl Abort,
+    store: &mut Store<D>,
+    wanted: CommitError,
+) {
+    holds(rt, store.commit() == Err(wanted), "commit", 0);
 }
 
 /// A store that has stopped after so many events neither steps nor commits.
 pub(crate) fn is_stopped<D: SectorDisk>(rt: &impl Abort, store: &mut Store<D>, confirmed: u64) {
     for _ in 0..2 {
-        assert_eq!(rt; take(rt, store, TICK), Err(StepError::Stopped));
-        assert_eq!(rt; store.commit(), Err(CommitError::Stopped));
-        assert_eq!(rt; store.confirmed(), confirmed);
+        let found = take(rt, store, TICK);
+        holds(rt, found == Err(StepError::Stopped), "step", 0);
+        commit_fails(rt, store, CommitError::Stopped);
+        is_number(rt, store.confirmed(), confirmed, "confirmed");
     }
 }
 
@@ -339,7 +449,7 @@ pub(crate) fn is_answered<D: SectorDisk>(
     wanted: &[u8],
 ) -> Result<(), Fail> {
     let replies = replies_to(rt, alloc, store, event)?;
-    assert_eq!(rt; replies.as_slice(), wanted);
+    holds(rt, replies.as_slice() == wanted, "replies", 0);
     Ok(())
 }
 
@@ -349,83 +459,108 @@ fn failed(rt: &impl Abort, alloc: Global) -> Result<FuseDisk, Fail> {
     let fuse = FuseDisk::new(small_device(alloc)?, calls, 0);
     let mut store = about_to_send(rt, alloc, fuse)?;
     // The restart, the HELLO and the msgget last.
-    assert_eq!(rt; store.confirmed(), 3);
-    assert_eq!(rt; store.commit(), Err(CommitError::Device));
+    is_number(rt, store.confirmed(), 3, "confirmed");
+    commit_fails(rt, &mut store, CommitError::Device);
     is_stopped(rt, &mut store, 3);
-    Ok(store.close())
+    Ok(closed(store))
+}
+
+// The msgget of a key by process 2 has this number.
+fn has_number(
+    rt: &impl Abort,
+    alloc: Global,
+    store: &mut Store<MemoryDisk>,
+    (key, id): (i32, u8),
+) -> Result<(), Fail> {
+    let wanted = [0, 0, 0, 2, 0, 0, 0, 10, 0, 0, 0, 4, 0, 0, 0, 0, 0, id];
+    is_answered(rt, alloc, store, call(2, get(key)), &wanted)
+}
+
+// A store whose message is lost goes on.
+fn goes_on(rt: &impl Abort, alloc: Global, store: &mut Store<MemoryDisk>) -> Result<(), Fail> {
+    is_number(rt, store.confirmed(), 1, "confirmed");
+    take(rt, store, hello(1000))?;
+    // Queue 1 is there, and so a second one has the number 2.
+    has_number(rt, alloc, store, (1234, 1))?;
+    has_number(rt, alloc, store, (0, 2))?;
+    store.commit()?;
+    is_number(rt, store.confirmed(), 4, "confirmed");
+    Ok(())
 }
 
 #[test]
 fn a_store_stops_at_a_failure(rt: HostRuntime) -> Result<(), Fail> {
     let disk = failed(&rt, rt.alloc())?;
-    assert_eq!(rt; (disk.failures(), disk.unsynced()), (1, 1));
+    is_number(&rt, disk.failures(), 1, "failures");
+    is_number(&rt, disk.unsynced() as u64, 1, "unsynced");
     let mut store = opened(rt.alloc(), disk.crash())?;
-    assert_eq!(rt; store.confirmed(), 1);
-    take(&rt, &mut store, hello(1000))?;
-    // Queue 1 is there, and so a second one has the number 2.
-    for (key, id) in [(1234, 1), (0, 2)] {
-        let wanted = [0, 0, 0, 2, 0, 0, 0, 10, 0, 0, 0, 4, 0, 0, 0, 0, 0, id];
-        is_answered(&rt, rt.alloc(), &mut store, call(2, get(key)), &wanted)?;
-    }
-    store.commit()?;
-    assert_eq!(rt; store.confirmed(), 4);
-    Ok(())
+    goes_on(&rt, rt.alloc(), &mut store)
+}
+
+// The disk that an open hands back after it has failed with so many calls.
+fn handed_back(rt: &impl Abort, alloc: Global, disk: MemoryDisk, calls: u64) -> FuseDisk {
+    let Some(unopened) = unopened(alloc, FuseDisk::new(disk, calls, 0)) else {
+        panic!(rt; "opened with {calls} calls");
+    };
+    assert_eq!(rt; unopened.error, OpenError::Device);
+    unopened.disk
 }
 
 #[test]
 fn a_failure_at_an_open_hands_the_disk_back(rt: HostRuntime) -> Result<(), Fail> {
     for calls in 0..OPEN_CALLS {
-        let fuse = FuseDisk::new(small_device(rt.alloc())?, calls, 0);
-        let Err(unopened) = Store::open(rt.alloc(), fuse) else {
-            panic!(rt; "opened with {calls} calls");
-        };
-        assert_eq!(rt; unopened.error, OpenError::Device);
-        assert_eq!(rt; unopened.disk.failures(), 1);
-        opened(rt.alloc(), unopened.disk.crash())?;
+        let disk = handed_back(&rt, rt.alloc(), small_device(rt.alloc())?, calls);
+        is_number(&rt, disk.failures(), 1, "failures");
+        opened(rt.alloc(), disk.crash())?;
     }
     Ok(())
 }
 
-// A sector that is not synced: the first call of an open makes it last.
+// A new device on which a sector is not synced.
+fn unsynced_device(alloc: Global) -> Result<MemoryDisk, Fail> {
+    let mut disk = small_device(alloc)?;
+    if disk.sectors() == SMALL_DEVICE {
+        disk.write(2, &[1; 512])?;
+    }
+    Ok(disk)
+}
+
+// The first call of an open makes it last.
 #[test]
 fn an_open_syncs_before_it_reads(rt: HostRuntime) -> Result<(), Fail> {
     for (calls, unsynced) in [(0, 1), (1, 0), (3, 0)] {
-        let mut disk = small_device(rt.alloc())?;
-        if disk.sectors() == SMALL_DEVICE {
-            disk.write(2, &[1; 512])?;
-        }
-        let Err(unopened) = Store::open(rt.alloc(), FuseDisk::new(disk, calls, 0)) else {
-            panic!(rt; "opened with {calls} calls");
-        };
-        assert_eq!(rt; unopened.error, OpenError::Device);
-        assert_eq!(rt; unopened.disk.unsynced(), unsynced, "{calls} calls");
+        let disk = handed_back(&rt, rt.alloc(), unsynced_device(rt.alloc())?, calls);
+        is_number(&rt, disk.unsynced() as u64, unsynced, "unsynced");
     }
     Ok(())
 }
 
 // A device on which two processes were connected, and the message was sent. What waited at its close is gone: a HELLO,
 // and the receive of the message.
-fn closed(rt: &impl Abort, alloc: Global) -> Result<MemoryDisk, Fail> {
+fn left_behind(rt: &impl Abort, alloc: Global) -> Result<MemoryDisk, Fail> {
     let mut store = about_to_send(rt, alloc, small_device(alloc)?)?;
     commit_all(rt, &mut store, &[hello(1000)])?;
     take_all(rt, &mut store, &[hello(1000), call(3, receive(1))])?;
-    assert!(rt; store.engine().connected(Pid(3)));
-    Ok(store.close())
+    holds(rt, store.engine().connected(Pid(3)), "pid", 3);
+    Ok(closed(store))
+}
+
+// A store has the queue with its message and no process; the next pid is 3.
+fn has_queue(rt: &impl Abort, alloc: Global, store: &mut Store<MemoryDisk>) -> Result<(), Fail> {
+    for pid in 1..4 {
+        holds(rt, !store.engine().connected(Pid(pid)), "pid", pid as u64);
+    }
+    let welcome = [0, 0, 0, 3, 0, 0, 0, 10, 0, 0, 0, 1, 0, 0, 0, 0, 0, 3];
+    is_answered(rt, alloc, store, hello(1000), &welcome)?;
+    let mut wanted = HI;
+    wanted[3] = 3;
+    is_answered(rt, alloc, store, call(3, receive(1)), &wanted)
 }
 
 #[test]
 fn a_restart_leaves_queues_and_no_process(rt: HostRuntime) -> Result<(), Fail> {
-    let disk = closed(&rt, rt.alloc())?;
-    let mut store = opened(rt.alloc(), disk)?;
-    for pid in 1..4 {
-        assert!(rt; !store.engine().connected(Pid(pid)));
-    }
-    let welcome = [0, 0, 0, 3, 0, 0, 0, 10, 0, 0, 0, 1, 0, 0, 0, 0, 0, 3];
-    is_answered(&rt, rt.alloc(), &mut store, hello(1000), &welcome)?;
-    let mut wanted = HI;
-    wanted[3] = 3;
-    is_answered(&rt, rt.alloc(), &mut store, call(3, receive(1)), &wanted)?;
-    Ok(())
+    let mut store = opened(rt.alloc(), left_behind(&rt, rt.alloc())?)?;
+    has_queue(&rt, rt.alloc(), &mut store)
 }
 
 /// So many bytes of text, at most 8427.
@@ -441,7 +576,7 @@ static TEXT: [u8; 8427] = [7; 8427];
 
 // The lengths of texts, the bytes of the batch of their sends, and the writes and syncs of its commit: the batch has 4
 // bytes of its length, and 38 and a text each.
-const BATCHES: [(&[usize], usize, (u64, u64)); 7] = [
+static BATCHES: [(&[usize], usize, (u64, u64)); 7] = [
     (&[], 4, (0, 0)),
     (&[2], 44, (2, 2)),
     (&[470], 512, (2, 2)),
@@ -466,8 +601,8 @@ pub(crate) fn send_texts<D: SectorDisk>(
 }
 
 // A store in which process 1 is connected, and nothing waits.
-fn connected(rt: &impl Abort, alloc: Global) -> Result<Store<MemoryDisk>, Fail> {
-    let mut store = opened(alloc, small_device(alloc)?)?;
+fn connected(rt: &impl Abort, alloc: Global) -> Result<Opened<MemoryDisk>, Fail> {
+    let mut store = new_store(alloc)?;
     commit_all(rt, &mut store, &[hello(1000)])?;
     Ok(store)
 }
@@ -475,18 +610,18 @@ fn connected(rt: &impl Abort, alloc: Global) -> Result<Store<MemoryDisk>, Fail> 
 // The disk after a commit of sends of texts of these lengths, in a batch of so many bytes.
 fn sent(rt: &impl Abort, alloc: Global, lens: &[usize], bytes: usize) -> Result<MemoryDisk, Fail> {
     let mut store = connected(rt, alloc)?;
-    assert_eq!(rt; send_texts(rt, &mut store, lens)?, bytes);
+    let found = send_texts(rt, &mut store, lens)?;
+    is_number(rt, found as u64, bytes as u64, "bytes");
     store.commit()?;
-    Ok(store.close())
+    Ok(closed(store))
 }
 
 #[test]
 fn a_commit_is_two_syncs(rt: HostRuntime) -> Result<(), Fail> {
-    for (lens, bytes, (writes, syncs)) in BATCHES {
-        let disk = sent(&rt, rt.alloc(), lens, bytes)?;
+    for (lens, bytes, made) in &BATCHES {
+        let disk = sent(&rt, rt.alloc(), lens, *bytes)?;
         // The format made 5 writes and 3 syncs, the open 2 and 3, and the HELLO 2 and 2.
-        assert_eq!(rt; disk.writes().checked_sub(9), Some(writes), "{bytes} bytes");
-        assert_eq!(rt; disk.syncs().checked_sub(8), Some(syncs), "{bytes} bytes");
+        has_made(&rt, &disk, (9, 8), *made);
     }
     Ok(())
 }
@@ -497,7 +632,7 @@ fn has_room_after(rt: &impl Abort, alloc: Global, last: usize) -> Result<bool, F
     send_texts(rt, &mut store, &[8427, 8427, last])?;
     let room = store.has_room();
     store.commit()?;
-    assert!(rt; store.has_room());
+    holds(rt, store.has_room(), "room after", last as u64);
     Ok(room)
 }
 
@@ -505,21 +640,23 @@ fn has_room_after(rt: &impl Abort, alloc: Global, last: usize) -> Result<bool, F
 #[test]
 fn room_for_the_longest_record(rt: HostRuntime) -> Result<(), Fail> {
     for (last, room) in [(7331, true), (7332, false), (8427, false)] {
-        assert_eq!(rt; has_room_after(&rt, rt.alloc(), last)?, room, "{last}");
+        let found = has_room_after(&rt, rt.alloc(), last)?;
+        holds(&rt, found == room, "room after", last as u64);
     }
     Ok(())
 }
 
 // A store takes so many more events. It takes the longest records of so many, and not of one more.
 fn takes_more<D: SectorDisk>(rt: &impl Abort, store: &Store<D>, left: u64, longest: usize) {
-    assert_eq!(rt; store.events_left(), left);
-    assert!(rt; store.is_ready_for(longest));
-    assert!(rt; !store.is_ready_for(longest.saturating_add(1)));
-    assert!(rt; !store.is_ready_for(usize::MAX));
+    is_number(rt, store.events_left(), left, "events left");
+    holds(rt, store.is_ready_for(longest), "ready", left);
+    let more = longest.saturating_add(1);
+    holds(rt, !store.is_ready_for(more), "not ready", left);
+    holds(rt, !store.is_ready_for(usize::MAX), "never ready", left);
 }
 
 // How many more events a store takes, and of how many the longest records, after each of three longest records.
-const AFTER_EACH: [(u64, usize); 3] = [
+static AFTER_EACH: [(u64, usize); 3] = [
     (18446744073709551612, 2),
     (18446744073709551611, 1),
     (18446744073709551610, 0),
@@ -527,18 +664,31 @@ const AFTER_EACH: [(u64, usize); 3] = [
 
 // Three records of 8465 bytes have room after the 4 bytes of the length: 25399 of 32768 bytes. Four have not. Of the
 // 18446744073709551615 events that a store takes the restart is the first.
-#[test]
-fn a_batch_of_the_longest_records(rt: HostRuntime) -> Result<(), Fail> {
-    let mut store = opened(rt.alloc(), small_device(rt.alloc())?)?;
-    takes_more(&rt, &store, 18446744073709551614, 3);
-    commit_all(&rt, &mut store, &[hello(1000)])?;
-    takes_more(&rt, &store, 18446744073709551613, 3);
-    for (left, longest) in AFTER_EACH {
-        take(&rt, &mut store, call(1, send(1, &TEXT)))?;
-        takes_more(&rt, &store, left, longest);
+fn takes_the_longest(rt: &impl Abort, store: &mut Store<MemoryDisk>) -> Result<(), Fail> {
+    takes_more(rt, store, 18446744073709551614, 3);
+    commit_all(rt, store, &[hello(1000)])?;
+    takes_more(rt, store, 18446744073709551613, 3);
+    for (left, longest) in &AFTER_EACH {
+        take(rt, store, call(1, send(1, &TEXT)))?;
+        takes_more(rt, store, *left, *longest);
     }
     store.commit()?;
-    takes_more(&rt, &store, 18446744073709551610, 3);
+    takes_more(rt, store, 18446744073709551610, 3);
+    Ok(())
+}
+
+#[test]
+fn a_batch_of_the_longest_records(rt: HostRuntime) -> Result<(), Fail> {
+    let mut store = new_store(rt.alloc())?;
+    takes_the_longest(&rt, &mut store)
+}
+
+// A store stops at its next commit, and takes no more.
+fn takes_none(rt: &impl Abort, store: &mut Store<FuseDisk>) -> Result<(), Fail> {
+    take(rt, store, TICK)?;
+    takes_more(rt, store, 18446744073709551613, 3);
+    commit_fails(rt, store, CommitError::Device);
+    takes_more(rt, store, 0, 0);
     Ok(())
 }
 
@@ -546,9 +696,5 @@ fn a_batch_of_the_longest_records(rt: HostRuntime) -> Result<(), Fail> {
 fn a_store_that_has_stopped_takes_no_more(rt: HostRuntime) -> Result<(), Fail> {
     let fuse = FuseDisk::new(small_device(rt.alloc())?, OPEN_CALLS, 0);
     let mut store = opened(rt.alloc(), fuse)?;
-    take(&rt, &mut store, TICK)?;
-    takes_more(&rt, &store, 18446744073709551613, 3);
-    assert_eq!(rt; store.commit(), Err(CommitError::Device));
-    takes_more(&rt, &store, 0, 0);
-    Ok(())
+    takes_none(&rt, &mut store)
 }

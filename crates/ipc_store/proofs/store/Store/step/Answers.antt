@@ -53,7 +53,7 @@ invariant_of-self-2 g c =
     subst (λ v. IsForProcess v.machine.state (plain_event c.args.event)) (sym c.self.view_is) c.requires.process in (
       subst (λ (l : Limits). AreOnDisk (g.D.SectorDisk.size c.self.inside.disk) l c.self.inside.checkpoint c.self.inside.journal)
           (sym c.step.ensures.limits) c.self.invariant.0,
-      omega (arith, c.self.invariant.1, c.push.ensures.count, c.if-self.false),
+      omega (arith, c.self.invariant.1, c.push.ensures.count),
       λ goes honest. let found = c.self.invariant.2 goes honest in (
         found.0,
         (
