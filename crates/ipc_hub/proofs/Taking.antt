@@ -7,7 +7,6 @@ use Rattle.ipc_base.specs.Table.{value_at, with_value}
 use Rattle.ipc_base.specs.declared.errno.Errno.TheVariants.{ENOMEM}
 use Rattle.ipc_base.specs.declared.limits.Limits.{Limits}
 use Rattle.ipc_base.proofs.CallerLemmas.{paired-at, at-with, twice, own}
-use Rattle.ipc_wire.specs.Request.{PlainRequest}
 use Rattle.ipc_wire.specs.Stream.{PlainFrame, first, missing, Stream, begins_with, stream_of}
 use Rattle.ipc_wire.specs.Stream.PlainFrame.{More, Whole, Fault}
 use Rattle.ipc_wire.specs.Stream.Ending.{Rest}
@@ -23,8 +22,8 @@ use Rattle.ipc_store.proofs.CallerLemmas.{Takes-none, Takes-both}
 use Rattle.ipc_hub.specs.View.{ConnectionView, HubView, StoredHub}
 use Rattle.ipc_hub.specs.Relations.Delivery.{pushed}
 use Rattle.ipc_hub.specs.Relations.Matches.{ClientMatches, IsAhead, TakesIn, Waits, Accepts}
+use Rattle.ipc_hub.specs.Relations.Requests.{IsRequest}
 use Rattle.ipc_hub.proofs.Deliveries.{push-matches}
-use Rattle.ipc_hub.proofs.Keeping.{with_connection}
 use Rattle.ipc_hub.proofs.Ending.{change-matches}
 use Rattle.ipc_hub.proofs.Pieces.{KeepsNone, acts, ended-stays, gone-stays, settled, emptied, take_in-acts, take_in-nothing, take_in-pieces, request-keeps}
 
@@ -43,13 +42,24 @@ ending-none limits h conn moment none = by_client (client_at h conn) refl
             ∙ ap (λ (i : List ℕ). with_client h conn (record c { input = i })) (sym (none c is))
             ∙ ap (λ (es : List (ℕ × Client)). record h { clients = es }) (own h.clients conn c is)
 
-module _ (limits : Limits) (confirmed : ℕ) (old : HubView) (h : Clients) (conn moment : ℕ) (v : ConnectionView) (next : List ℕ)
-    (ahead : IsAhead limits confirmed old h) (found : value_at nat_eq old.connections conn ≡ Some v) (live : v.ended ≡ false) where
+-- a connection that goes on and was found, in a hub that is ahead of what is confirmed
+pub record Open (limits : Limits) (confirmed : ℕ) (old : HubView) (h : Clients) (conn : ℕ) (v : ConnectionView) : Type 0 where
+  pub ahead : IsAhead limits confirmed old h
+  pub found : value_at nat_eq old.connections conn ≡ Some v
+  pub live : v.ended ≡ false
+
+-- other bytes are kept
+kept-bytes : (confirmed accepted : ℕ) (v : ConnectionView) (c : Client) (bytes : List ℕ) → ClientMatches confirmed accepted v c
+    → ClientMatches confirmed accepted (record v { input = bytes }) (record c { input = bytes })
+kept-bytes confirmed accepted v c bytes m =
+    record { process = m.process; input = refl; ended = m.ended; kept = m.kept; visible = m.visible; seen = m.seen; frames = m.frames }
+
+module _ {limits : Limits} {confirmed : ℕ} {old : HubView} {h : Clients} {conn : ℕ} {v : ConnectionView} (o : Open limits confirmed old h conn v) where
   pub partner : (c : Client) × ((client_at h conn ≡ Some c) × ClientMatches confirmed (accepted h) v c)
-  partner = paired-at (ClientMatches confirmed (accepted h)) old.connections h.clients conn v ahead.matches.clients found
+  partner = paired-at (ClientMatches confirmed (accepted h)) old.connections h.clients conn v o.ahead.matches.clients o.found
 
   -- the client, and when the bytes that it keeps are taken out
-  abbrev pub cl : Client
+  abbrev cl : Client
   cl = partner.0
 
   abbrev pub bare : Client
@@ -64,138 +74,116 @@ module _ (limits : Limits) (confirmed : ℕ) (old : HubView) (h : Clients) (conn
   pub mine : ClientMatches confirmed (accepted h) v cl
   mine = partner.1.1
 
-  open_still : cl.ended ≡ false
-  open_still = sym mine.ended ∙ live
-
   pub bare-here : client_at emptied_hub conn ≡ Some bare
   bare-here = at-with h.clients conn bare cl here
 
-  -- the connection of which the frame was taken off
-  pub emptied-matches : IsAhead limits confirmed (with_connection old conn (record v { input = [] })) emptied_hub
-  emptied-matches =
-      record {
-        matches = change-matches limits confirmed old (with_connection old conn (record v { input = [] })) h conn (record v { input = [] }) bare ahead.matches
-            refl refl refl
-            (record {
-              process = mine.process;
-              input = refl;
-              ended = mine.ended;
-              kept = mine.kept;
-              visible = mine.visible;
-              seen = mine.seen;
-              frames = mine.frames;
-            });
-        later = ahead.later;
-      }
+  open_still : cl.ended ≡ false
+  open_still = sym mine.ended ∙ o.live
 
-  abbrev pub bytes : List ℕ
-  bytes = v.input ++ next
-
-  -- what taking in comes to
-  taken : (refused : List Bool) (f : PlainFrame) → first bytes ≡ f
-      → take_in limits h conn next moment refused
-      ≡ settled limits emptied_hub conn moment (begins_with f bytes (λ used. stream_of (drop used bytes))) refused
-  taken refused f is =
-      take_in-acts limits h conn moment cl next refused here open_still
-      ∙ ap (λ (s : Stream). settled limits emptied_hub conn moment s refused)
-      (ap (λ (i : List ℕ). stream_of (i ++ next)) (sym mine.input) ∙ stream_begun bytes f is)
-
-  -- no whole frame yet
-  pub more-taken : (P : Clients → Type 0) → first bytes ≡ More → P (with_client h conn (record cl { input = bytes }))
-      → P (take_in limits h conn next moment [])
-  more-taken P is =
-      let d : Client = record cl { input = bytes } in
-      let to : take_in limits h conn next moment [] ≡ with_client h conn d =
-      taken [] More is ∙ acts emptied_hub conn _ bare bare-here open_still
-      ∙ ap (λ (es : List (ℕ × Client)). record h { clients = es }) (twice h.clients conn bare d) in
-      subst P (sym to)
-
-  pub more-matches : (new : HubView) → new.limits ≡ old.limits → new.state ≡ old.state
+  -- the connection and its client keep other bytes
+  with-bytes : (bytes : List ℕ) (new : HubView) → new.limits ≡ old.limits → new.state ≡ old.state
       → new.connections ≡ with_value nat_eq old.connections conn (record v { input = bytes })
       → IsAhead limits confirmed new (with_client h conn (record cl { input = bytes }))
-  more-matches new same state rows =
+  with-bytes bytes new same state rows =
       record {
-        matches = change-matches limits confirmed old new h conn (record v { input = bytes }) (record cl { input = bytes }) ahead.matches same state rows
-            (record {
-              process = mine.process;
-              input = refl;
-              ended = mine.ended;
-              kept = mine.kept;
-              visible = mine.visible;
-              seen = mine.seen;
-              frames = mine.frames;
-            });
-        later = ahead.later;
+        matches = change-matches limits confirmed old new h conn (record v { input = bytes }) (record cl { input = bytes }) o.ahead.matches same state rows
+            (kept-bytes confirmed (accepted h) v cl bytes mine);
+        later = o.ahead.later;
       }
 
-  -- a fault
-  pub fault-taken : (P : Clients → Type 0) (serial : ℕ) → first bytes ≡ Fault serial → P (break_off limits emptied_hub conn bare serial moment)
-      → P (take_in limits h conn next moment [])
-  fault-taken P serial is = subst P (sym (taken [] (Fault serial) is ∙ acts emptied_hub conn _ bare bare-here open_still))
+  -- the connection of which the frame was taken off
+  pub emptied-matches : (new : HubView) → new.limits ≡ old.limits → new.state ≡ old.state
+      → new.connections ≡ with_value nat_eq old.connections conn (record v { input = [] }) → IsAhead limits confirmed new emptied_hub
+  emptied-matches = with-bytes []
 
-  module _ (used : ℕ) (request : PlainRequest) (waits : first v.input ≡ More) (few : length next ≤ missing v.input)
-      (whole : first bytes ≡ Whole used request) where
-    -- nothing is behind a frame that these bytes complete
-    nothing-behind : drop used bytes ≡ []
-    nothing-behind =
-        let last : used ≡ length bytes = whole_last v.input next used request waits few whole in
-        none (drop used bytes) (omega (arith, last, length-drop used bytes))
-      where
-        none : (xs : List ℕ) → length xs ≡ 0 → xs ≡ []
-        none [] is = refl
-        none (x ∷ xs) is = absurd (omega (arith, is))
+  -- a refusal is its reply
+  pub refused-matches : (mid new : HubView) (serial : ℕ) → IsAhead limits confirmed mid emptied_hub → new.limits ≡ mid.limits → new.state ≡ mid.state
+      → new.connections ≡ with_value nat_eq mid.connections conn (pushed (reply_of (refusal serial ENOMEM)) (record v { input = [] }))
+      → IsAhead limits confirmed new (refuse emptied_hub conn bare serial)
+  refused-matches mid new serial before same state rows =
+      record {
+        matches = change-matches limits confirmed mid new emptied_hub conn _ _ before.matches same state rows
+            (push-matches confirmed (accepted h) (accepted h) (record v { input = [] }) bare (refusal serial ENOMEM) o.ahead.later (omega arith)
+            (omega arith) (kept-bytes confirmed (accepted h) v cl [] mine));
+        later = o.ahead.later;
+      }
 
-    -- a request, and what it came to
-    request-taken : (P : Clients → Type 0) (refused : Bool) → P (on_request limits emptied_hub conn bare moment request refused)
-        → P (take_in limits h conn next moment (refused ∷ []))
-    request-taken P refused came =
-        let after : Clients = on_request limits emptied_hub conn bare moment request refused in
-        let to : take_in limits h conn next moment (refused ∷ []) ≡ after =
-        taken (refused ∷ []) (Whole used request) whole
-        ∙ ap (λ (s : Stream). settled limits emptied_hub conn moment (record { requests = request ∷ s.requests; ending = s.ending }) (refused ∷ []))
-        (ap stream_of nothing-behind ∙ stream_begun [] More (first_short [] (omega arith)))
-        ∙ ap (λ (t : Clients). on_ending limits t conn moment (Rest [])) (acts emptied_hub conn _ bare bare-here open_still)
-        ∙ ending-none limits after conn moment (request-keeps limits emptied_hub conn moment bare request refused refl) in
-        subst P (sym to) came
+  module _ (next : List ℕ) (moment : ℕ) (P Q : Clients → Type 0) where
+    abbrev bytes : List ℕ
+    bytes = v.input ++ next
 
-    made-by : (made : Option PlainEvent) → event_of v.process request moment ≡ made → event_of cl.process request moment ≡ made
-    made-by made is = ap (λ (p : Option ℕ). event_of p request moment) (sym mine.process) ∙ is
+    -- the bytes come to clients of which both are so
+    abbrev pub Comes-to : Type 0
+    Comes-to = (refused : List Bool) × P (take_in limits h conn next moment refused) × Q (take_in limits h conn next moment refused)
 
-    pub served-taken : (P : Clients → Type 0) (e : PlainEvent) → event_of v.process request moment ≡ Some e → P (serve limits emptied_hub conn bare e)
-        → P (take_in limits h conn next moment (false ∷ []))
-    served-taken P e made came = request-taken P false (rw (made-by (Some e) made) came)
+    comes-to : (refused : List Bool) (now : Clients) → take_in limits h conn next moment refused ≡ now → P now × Q now → Comes-to
+    comes-to refused now is came = (refused, rw is came.0, rw is came.1)
 
-    pub broken-taken : (P : Clients → Type 0) → event_of v.process request moment ≡ None → P (break_off limits emptied_hub conn bare request.serial moment)
-        → P (take_in limits h conn next moment (false ∷ []))
-    broken-taken P made came = request-taken P false (rw (made-by None made) came)
+    -- what taking in comes to
+    taken : (refused : List Bool) (f : PlainFrame) → first bytes ≡ f
+        → take_in limits h conn next moment refused
+        ≡ settled limits emptied_hub conn moment (begins_with f bytes (λ used. stream_of (drop used bytes))) refused
+    taken refused f is =
+        take_in-acts limits h conn moment cl next refused here open_still
+        ∙ ap (λ (s : Stream). settled limits emptied_hub conn moment s refused)
+        (ap (λ (i : List ℕ). stream_of (i ++ next)) (sym mine.input) ∙ stream_begun bytes f is)
 
-    pub refused-taken : (P : Clients → Type 0) (e : PlainEvent) → event_of v.process request moment ≡ Some e
-        → takes_memory old.limits old.state e ≡ true → P (refuse emptied_hub conn bare request.serial) → P (take_in limits h conn next moment (true ∷ []))
-    refused-taken P e made takes came =
-        let takes' : takes_memory limits h.state e ≡ true = sym (λ i. takes_memory (ahead.matches.same i) (ahead.matches.state i) e) ∙ takes in
-        request-taken P true (rw (made-by (Some e) made) (rw takes' came))
+    -- no whole frame yet
+    pub more-taken : (new : HubView) → new.limits ≡ old.limits → new.state ≡ old.state
+        → new.connections ≡ with_value nat_eq old.connections conn (record v { input = bytes }) → first bytes ≡ More
+        → ((now : Clients) → now.events ≡ h.events → IsAhead limits confirmed new now → P now × Q now) → Comes-to
+    more-taken new same state rows is does =
+        let d : Client = record cl { input = bytes } in
+        let to : take_in limits h conn next moment [] ≡ with_client h conn d =
+        taken [] More is ∙ acts emptied_hub conn _ bare bare-here open_still
+        ∙ ap (λ (es : List (ℕ × Client)). record h { clients = es }) (twice h.clients conn bare d) in
+        comes-to [] (with_client h conn d) to (does (with_client h conn d) refl (with-bytes bytes new same state rows))
 
-    pub refused-matches : (new : HubView) → new.limits ≡ old.limits → new.state ≡ old.state
-        → new.connections ≡ with_value nat_eq (with_value nat_eq old.connections conn (record v { input = [] })) conn
-        (pushed (reply_of (refusal request.serial ENOMEM)) (record v { input = [] }))
-        → IsAhead limits confirmed new (refuse emptied_hub conn bare request.serial)
-    refused-matches new same state rows =
-        record {
-          matches = change-matches limits confirmed (with_connection old conn (record v { input = [] })) new emptied_hub conn _ _ emptied-matches.matches
-              same state rows
-              (push-matches confirmed (accepted h) (accepted h) (record v { input = [] }) bare (refusal request.serial ENOMEM) ahead.later (omega arith)
-              (omega arith)
-              (record {
-                process = mine.process;
-                input = refl;
-                ended = mine.ended;
-                kept = mine.kept;
-                visible = mine.visible;
-                seen = mine.seen;
-                frames = mine.frames;
-              }));
-          later = ahead.later;
-        }
+    -- a fault
+    pub fault-taken : (serial : ℕ) → first bytes ≡ Fault serial → P (break_off limits emptied_hub conn bare serial moment)
+        × Q (break_off limits emptied_hub conn bare serial moment) → Comes-to
+    fault-taken serial is = comes-to [] _ (taken [] (Fault serial) is ∙ acts emptied_hub conn _ bare bare-here open_still)
+
+    module _ {made : Option PlainEvent} (asked : IsRequest (first bytes) v.process moment made) (waits : first v.input ≡ More)
+        (few : length next ≤ missing v.input) where
+      -- nothing is behind a frame that these bytes complete
+      nothing-behind : drop asked.used bytes ≡ []
+      nothing-behind =
+          let last : asked.used ≡ length bytes = whole_last v.input next asked.used asked.request waits few asked.whole in
+          none (drop asked.used bytes) (omega (arith, last, length-drop asked.used bytes))
+        where
+          none : (xs : List ℕ) → length xs ≡ 0 → xs ≡ []
+          none [] is = refl
+          none (x ∷ xs) is = absurd (omega (arith, is))
+
+      -- a request, and what it came to
+      request-taken : (refused : Bool) → P (on_request limits emptied_hub conn bare moment asked.request refused)
+          × Q (on_request limits emptied_hub conn bare moment asked.request refused) → Comes-to
+      request-taken refused came =
+          let after : Clients = on_request limits emptied_hub conn bare moment asked.request refused in
+          let to : take_in limits h conn next moment (refused ∷ []) ≡ after =
+          taken (refused ∷ []) (Whole asked.used asked.request) asked.whole
+          ∙ ap (λ (s : Stream). settled limits emptied_hub conn moment (record { requests = asked.request ∷ s.requests; ending = s.ending }) (refused ∷ []))
+          (ap stream_of nothing-behind ∙ stream_begun [] More (first_short [] (omega arith)))
+          ∙ ap (λ (t : Clients). on_ending limits t conn moment (Rest [])) (acts emptied_hub conn _ bare bare-here open_still)
+          ∙ ending-none limits after conn moment (request-keeps limits emptied_hub conn moment bare asked.request refused refl) in
+          comes-to (refused ∷ []) after to came
+
+      made-by : event_of cl.process asked.request moment ≡ made
+      made-by = ap (λ (p : Option ℕ). event_of p asked.request moment) (sym mine.process) ∙ asked.event
+
+      pub served-taken : (e : PlainEvent) → made ≡ Some e → P (serve limits emptied_hub conn bare e) × Q (serve limits emptied_hub conn bare e) → Comes-to
+      served-taken e is came = request-taken false (rw (made-by ∙ is) came)
+
+      pub broken-taken : made ≡ None → P (break_off limits emptied_hub conn bare asked.request.serial moment)
+          × Q (break_off limits emptied_hub conn bare asked.request.serial moment) → Comes-to
+      broken-taken is came = request-taken false (rw (made-by ∙ is) came)
+
+      pub refused-taken : (e : PlainEvent) → made ≡ Some e → takes_memory old.limits old.state e ≡ true
+          → P (refuse emptied_hub conn bare asked.request.serial) × Q (refuse emptied_hub conn bare asked.request.serial) → Comes-to
+      refused-taken e is takes came =
+          let takes' : takes_memory limits h.state e ≡ true = sym (λ i. takes_memory (o.ahead.matches.same i) (o.ahead.matches.state i) e) ∙ takes in
+          request-taken true (rw (made-by ∙ is) (rw takes' came))
 
 -- ---- nothing, an ended connection, and bytes in a row
 
@@ -206,8 +194,8 @@ module _ {D : Type 0} (medium : D → Medium) (law : (d : D) (image : Image) →
     same-waits old new same =
         subst (Waits medium old []) (sym same) (record { confirmed = refl; waiting = omega arith; takes = Takes-none medium law old })
 
-    pub same-accepts : (old new : StoreView D) (h : Clients) → new ≡ old → Accepts medium old new h h
-    same-accepts old new h same = record { events = []; adds = sym (append-nil h.events); waits = same-waits old new same }
+    pub same-accepts : (old new : StoreView D) (h now : Clients) → now.events ≡ h.events → new ≡ old → Accepts medium old new h now
+    same-accepts old new h now stay same = record { events = []; adds = stay ∙ sym (append-nil h.events); waits = same-waits old new same }
 
     pub nothing-takes : (old : StoredHub D) (conn moment : ℕ) (v : ConnectionView) → value_at nat_eq old.hub.connections conn ≡ Some v → first v.input ≡ More
         → TakesIn medium old old conn [] moment
@@ -216,7 +204,7 @@ module _ {D : Type 0} (medium : D → Medium) (law : (d : D) (image : Image) →
         let to = take_in-nothing limits h conn moment (Some p.0) p.1.0 (λ c is.
         let same : p.0 ≡ c = cc in subst (λ (d : Client). first d.input ≡ More) same (ap first (sym p.1.1.input) ∙ waits)) in
         let is = subst (λ (t : Clients). IsAhead limits confirmed old.hub t × Accepts medium old.store old.store h t) (sym to)
-        (ahead, same-accepts old.store old.store h refl) in
+        (ahead, same-accepts old.store old.store h h refl refl) in
         ([], is.0, is.1)
 
     pub ended-takes : (old : StoredHub D) (conn moment : ℕ) (v : ConnectionView) (bytes : List ℕ) → value_at nat_eq old.hub.connections conn ≡ Some v
@@ -224,7 +212,7 @@ module _ {D : Type 0} (medium : D → Medium) (law : (d : D) (image : Image) →
     ended-takes old conn moment v next found over limits confirmed h ahead =
         let p = paired-at (ClientMatches confirmed (accepted h)) old.hub.connections h.clients conn v ahead.matches.clients found in
         let is = subst (λ (t : Clients). IsAhead limits confirmed old.hub t × Accepts medium old.store old.store h t)
-        (sym (ended-stays h conn _ p.0 p.1.0 (sym p.1.1.ended ∙ over))) (ahead, same-accepts old.store old.store h refl) in
+        (sym (ended-stays h conn _ p.0 p.1.0 (sym p.1.1.ended ∙ over))) (ahead, same-accepts old.store old.store h h refl refl) in
         ([], is.0, is.1)
 
     pub accepts-then : (one two three : StoreView D) (h h' h'' : Clients) → Accepts medium one two h h' → Accepts medium two three h' h''

@@ -7,8 +7,7 @@ ghost use Rattle.ipc_base.specs.Limits.{longest_reply, ArePassed};
 ghost use Rattle.ipc_base.specs.Table.{EachValue, IsRising, keys_of, seen_as, with_value};
 ghost use Rattle.ipc_wire.specs.Request.{plain_request};
 ghost use Rattle.ipc_wire.specs.Spelling.{HasFrame};
-ghost use Rattle.ipc_wire.specs.Stream.{first, missing};
-ghost use Rattle.ipc_wire.specs.Stream.PlainFrame.{More};
+ghost use Rattle.ipc_wire.specs.Stream.{first};
 ghost use Rattle.ipc_engine.specs.Event.{Tick};
 ghost use Rattle.ipc_engine.specs.View.{plain_event, plain_outcome, reply_of};
 ghost use Rattle.ipc_hub.specs.declared.connection.Connection.{Connection};
@@ -20,7 +19,7 @@ ghost use Rattle.ipc_hub.specs.Relations.Delivery.{last_frame, last_frames, push
 ghost use Rattle.ipc_hub.specs.Relations.Delivery.{IsShort, HasRoomIn, HaveRoom, HasRoomToAnswer};
 ghost use Rattle.ipc_hub.specs.Relations.Invariant.{HubInvariant, GoesOn, IsConnected, IsNobodys, LeavesOthers};
 ghost use Rattle.ipc_hub.specs.Relations.Matches.{Simulates, SimulatesAt, TakesIn, Waits};
-ghost use Rattle.ipc_hub.specs.Relations.Requests.{ComesTo, exit_of, taken_off};
+ghost use Rattle.ipc_hub.specs.Relations.Requests.{ComesTo, exit_of, taken_off, Received, Took};
 ghost use Rattle.ipc_image.specs.Records.{HasRecord};
 ghost use Rattle.ipc_store.specs.View.{IsReadyFor};
 
@@ -232,23 +231,26 @@ fn break_off<D: SectorDisk>(
 /// how many bytes it took, and what came of them.
 fn receive<D: SectorDisk>(
     store: &mut Store<D>,
-    connection: &mut Connection,
+    connections: &mut [Connection],
+    place: usize,
     piece: &[u8],
     moment: Moment,
 ) -> (usize, Asked)
-    requires more { first connection.old.input.items ≡ More }
+    requires passed { ArePassed store.old.machine.limits }
+    requires hub { HubInvariant (hub_view store.old.machine connections.old) }
+    requires place { place < length connections.old }
+    requires live { (c : Connection) → IsThere connections.old place c → c.ended ≡ false }
+    requires room { (c : Connection) → IsThere connections.old place c
+        → longest_reply store.old.machine.limits + last_frames ≤ c.outbox.free }
     requires ready { IsReadyFor store.old 1 }
-    requires connected { IsConnected store.old.machine.state (pid_of connection.old.process) }
-    ensures comes { ComesTo D.medium store.old store.new (pid_of connection.old.process)
-        (first (connection.old.input.items ++ take result.0 piece.now)) moment.0 result.1 }
-    ensures number { connection.new.number ≡ connection.old.number }
-    ensures view { view_of connection.new ≡ taken_off result.1
-        (record (view_of connection.old) { input = connection.old.input.items ++ take result.0 piece.now }) }
+    ensures received { Received D.medium store.old store.new connections.old connections.new place
+        (take result.0 piece.now) moment.0 result.1 }
+    ensures count { length connections.new ≡ length connections.old }
     ensures within { result.0 ≤ length piece.now }
-    ensures few { length (take result.0 piece.now) ≤ missing connection.old.input.items }
     ensures some { 0 < length piece.now → 0 < result.0 }
     ensures disk { store.new.disk ≡ store.old.disk }
 {
+    let connection = &mut connections[place];
     let count = connection.fill(piece);
     let asked = ask(store, connection, moment);
     (count, asked)
@@ -269,21 +271,17 @@ fn take<D: SectorDisk>(
     requires room { (c : Connection) → IsThere connections.old place c → c.ended ≡ false
         → longest_reply store.old.machine.limits + last_frames ≤ c.outbox.free }
     requires ready { IsReadyFor store.old 1 }
-    ensures goes_on { GoesOn (hub_view store.old.machine connections.old) (hub_view store.new.machine connections.new) }
-    ensures bytes { (c : Connection) → IsThere connections.old place c
-        → TakesIn D.medium (stored_view store.old connections.old) (stored_view store.new connections.new) c.number
-        (take result piece.now) moment.0 }
+    ensures took { Took D.medium store.old store.new connections.old connections.new place (take result piece.now)
+        moment.0 }
     ensures within { result ≤ length piece.now }
     ensures some { 0 < length piece.now → 0 < result }
-    ensures answers { (c : Connection) → IsThere connections.new place c → kept c.outbox ≡ []
-        → store.new ≡ store.old }
     ensures disk { store.new.disk ≡ store.old.disk }
 {
-    let connection = &mut connections[place];
+    let connection = &connections[place];
     if connection.ended {
         return piece.len();
     }
-    let (count, asked) = receive(store, connection, piece, moment);
+    let (count, asked) = receive(store, connections, place, piece, moment);
     match asked {
         Asked::More => {}
         Asked::Served => answer(connections, place, store.engine().outcomes()),

@@ -37,7 +37,7 @@ loop-taken-init g c =
       goes_on = record { limits = refl; numbers = refl; invariant = c.requires.hub };
       bytes = λ d it. nothing-takes g.D.SectorDisk.medium g.met.D.SectorDisk.only_now hub d.number c.args.moment.0 (view_of d)
           (at-there c.args.connections.now c.args.place d it)
-          (kept c.args.store.now.machine c.args.connections.now c.args.place d c.requires.hub c.requires.place it.same).input;
+          (kept c.args.store.now.machine c.args.connections.now c.args.place d c.requires.hub it).input;
       first = λ _. (refl, refl);
       disk = refl;
       ready = λ _ _ _. c.requires.ready;
@@ -66,7 +66,7 @@ returns-then-not-has_room-clause-whole g c d it none =
     let held = c.loop-taken.invariant in
     let within : c.args.place < length ds = omega (arith, c.requires.place, same-length c.args.connections.now ds held.goes_on.numbers) in
     absurd (never_room c.loop-taken.store.machine.limits ds c.args.place was d within it none
-    (kept c.loop-taken.store.machine ds c.args.place d held.goes_on.invariant within it.same).size
+    (kept c.loop-taken.store.machine ds c.args.place d held.goes_on.invariant it).size
     (longest c.longest_reply-reply.ensures.longest (c.limits.ensures.limits ∙ ap (λ (m : Machine). m.limits) c.engine.ensures) held.goes_on.limits)
     c.has_room.ensures.1 c.if-not-has_room.true)
 
@@ -78,7 +78,7 @@ returns-then-not-has_room-clause-starts g c d it none some =
     elim (zero_or_some c.loop-taken.taken) [
       | inr more ↦ more
       | inl first ↦ absurd (never_room c.args.store.now.machine.limits cs c.args.place was d c.requires.place it none
-          (kept c.args.store.now.machine cs c.args.place d c.requires.hub c.requires.place it.same).size
+          (kept c.args.store.now.machine cs c.args.place d c.requires.hub it).size
           (longest c.longest_reply-reply.ensures.longest (c.limits.ensures.limits ∙ ap (λ (m : Machine). m.limits) c.engine.ensures) refl)
           (rw (held.first first).0 at c.has_room.ensures.1) c.if-not-has_room.true)
     ]
@@ -101,20 +101,21 @@ loop-taken-preserved g c =
     let within' : c.args.place < length ds = omega (arith, c.requires.place, same-length cs ds held.goes_on.numbers) in
     let was' : Connection = get_or ds c.args.place was in
     let now = there ds 0 c.args.place (2 ^ 32) was held.goes_on.invariant.rising within' c.index-connections-place-in-loop-taken.is in
+    let took = c.take-taken.ensures.took in
     record {
       within = omega (arith, c.take-taken.ensures.within, ap length whole, length-drop i piece);
-      passed = subst ArePassed (sym c.take-taken.ensures.goes_on.limits) held.passed;
-      goes_on = goes-further old.hub mid.hub new.hub held.goes_on.limits held.goes_on.numbers c.take-taken.ensures.goes_on;
+      passed = subst ArePassed (sym took.goes_on.limits) held.passed;
+      goes_on = goes-further old.hub mid.hub new.hub held.goes_on.limits held.goes_on.numbers took.goes_on;
       bytes = λ d it.
           let same : was.number ≡ d.number =
           ap (λ (e : Connection). e.number) c.index-connections-place-in-loop-taken.is
           ∙ same-number cs ds c.args.place d was held.goes_on.numbers c.requires.place ∙ ap (λ (e : Connection). e.number) (sym it.same) in
-          let next : TakesIn med mid new d.number (take n rest) c.args.moment.0 = rw same at (c.take-taken.ensures.bytes was now) in
+          let next : TakesIn med mid new d.number (take n rest) c.args.moment.0 = rw same at (took.bytes was now) in
           subst (λ (bs : List ℕ). TakesIn med old new d.number bs c.args.moment.0)
           (sym (take-add i n piece ∙ ap (λ (r : List ℕ). take i piece ++ take n r) (sym whole)))
           (takes-then med g.met.D.SectorDisk.only_now old mid new d.number c.args.moment.0 (take i piece) (take n rest) (held.bytes d it) next);
       first = λ none. absurd (omega (arith, none, c.take-taken.ensures.some (omega (arith, ap length whole, length-drop i piece))));
       disk = c.take-taken.ensures.disk ∙ held.disk;
-      ready = λ d it none. subst (λ (s : StoreView g.row.D.Denot). IsReadyFor s 1) (sym (c.take-taken.ensures.answers d it none))
+      ready = λ d it none. subst (λ (s : StoreView g.row.D.Denot). IsReadyFor s 1) (sym (took.answers d it none))
           (c.is_ready_for.ensures.0 c.if-not-is_ready_for.false);
     }
