@@ -1,5 +1,5 @@
 -- The calls of the hub over its rows: a connection comes, goes, is released, or has its output consumed.
-use Rattle.std.proofs.Common.{◌≡◌, ℕ, ◌+◌, ◌<◌, ◌≤◌, ◌^◌, false, List, [], ◌++◌, length, drop, Option, Some, None, refl}
+use Rattle.std.proofs.Common.{◌≡◌, ◌≢◌, ℕ, ◌+◌, ◌<◌, ◌≤◌, ◌^◌, false, List, [], ◌++◌, length, drop, Option, Some, None, refl}
 use Rattle.std.proofs.Common.{sym, ap, ◌∙◌, subst, arith, inl, inr, ◌∷◌, append-nil, zero, suc}
 use Rattle.std.specs.Prelude.{nat_eq, option_and_then, option_map}
 use Rattle.std.proofs.lemmas.Bool.{cases_eq}
@@ -19,7 +19,8 @@ use Rattle.ipc_hub.specs.Relations.Delivery.{released, consumed}
 use Rattle.ipc_hub.specs.Relations.Invariant.{process_in, IsKept, IsNew, HubInvariant, IsNobodys}
 use Rattle.ipc_hub.specs.Relations.Matches.{IsFrame, ClientMatches, HubMatches}
 use Rattle.ipc_hub.proofs.Frames.{all-confirmed, confirmed-short, consumed-bytes, consumed-shown, consumed-all}
-use Rattle.ipc_hub.proofs.Keeping.{own-less}
+use Rattle.ipc_hub.proofs.Keeping.{table-invariant}
+use Rattle.ipc_hub.proofs.Deliveries.{table-matches}
 use Rattle.ipc_hub.proofs.Ending.{change-matches}
 
 abbrev process_of : Option ConnectionView → Option ℕ
@@ -30,87 +31,69 @@ process_of r = option_and_then (λ (c : ConnectionView). c.process) r
 pub entry-invariant : (h : HubView) (conn : ℕ) (v : ConnectionView) → HubInvariant h → conn < 2 ^ 32 → value_at nat_eq h.connections conn ≡ None
     → IsNew (longest_reply h.limits) v → HubInvariant (record h { connections = with_entry h.connections conn v })
 entry-invariant h conn v inv small none new =
-    record {
-      own = own-less h.state h.state h.connections (with_entry h.connections conn v) inv.own (λ k pid is.
-          let before : process_in h.connections k ≡ Some pid =
-          elim (cases_eq k conn) [
-            | inl same ↦
-                let here : v.process ≡ Some pid = sym (ap process_of (entry-at h.connections conn v none)) ∙ (rw same at is) in
-                let never : None ≡ Some pid = sym new.process ∙ here in cc
-            | inr apart ↦ sym (ap process_of (entry-other h.connections conn k v apart)) ∙ is
-          ] in
-          (before, inv.own.connected k pid before));
-      each = each-entry (IsKept h.limits) h.connections conn v inv.each
-          (record {
-            input = rw new.input (first_short [] (omega arith));
-            last = λ _. omega (arith, new.room);
-            spare = omega (arith, new.room);
-            size = omega (arith, new.room);
-          });
-      rising = rising-entry 0 h.connections (2 ^ 32) conn v inv.rising (omega arith) small none;
-    }
+    table-invariant h (with_entry h.connections conn v) inv
+    (λ k pid is. elim (cases_eq k conn) [
+      | inl same ↦
+          let here : v.process ≡ Some pid = sym (ap process_of (entry-at h.connections conn v none)) ∙ (rw same at is) in
+          let never : None ≡ Some pid = sym new.process ∙ here in cc
+      | inr apart ↦ sym (ap process_of (entry-other h.connections conn k v apart)) ∙ is
+    ])
+    (each-entry (IsKept h.limits) h.connections conn v inv.each
+    (record {
+      input = rw new.input (first_short [] (omega arith));
+      last = λ _. omega (arith, new.room);
+      spare = omega (arith, new.room);
+      size = omega (arith, new.room);
+    }))
+    (rising-entry 0 h.connections (2 ^ 32) conn v inv.rising (omega arith) small none)
 
 pub entry-matches : (limits : Limits) (confirmed : ℕ) (old new : HubView) (h : Clients) (conn : ℕ) (v : ConnectionView) (reply : ℕ)
     → HubMatches limits confirmed old h → new.limits ≡ old.limits → new.state ≡ old.state → new.connections ≡ with_entry old.connections conn v
     → IsNew reply v → HubMatches limits confirmed new (connect h conn)
 entry-matches limits confirmed old new h conn v reply m same state rows n =
-    record {
-      same = same ∙ m.same;
-      state = state ∙ m.state;
-      clients = rw rows (paired-entry (ClientMatches confirmed (accepted h)) old.connections h.clients conn v start_client m.clients
-          (record {
-            process = n.process;
-            input = n.input;
-            ended = n.ended;
-            kept = ap (λ (bs : List ℕ). bs ++ v.outbox.waiting) n.visible ∙ n.waiting;
-            visible = n.visible;
-            seen = omega arith;
-            frames = λ k d none. absurd (omega (arith, none));
-          }));
-      known = m.known;
-    }
+    table-matches limits confirmed confirmed old new h (with_entry old.connections conn v) (with_entry h.clients conn start_client) m same state rows m.known
+    (paired-entry (ClientMatches confirmed (accepted h)) old.connections h.clients conn v start_client m.clients
+    (record {
+      process = n.process;
+      input = n.input;
+      ended = n.ended;
+      kept = ap (λ (bs : List ℕ). bs ++ v.outbox.waiting) n.visible ∙ n.waiting;
+      visible = n.visible;
+      seen = omega arith;
+      frames = λ k d none. absurd (omega (arith, none));
+    }))
 
 -- ---- a connection goes
 
-pub without-invariant : (h : HubView) (conn : ℕ) → HubInvariant h → HubInvariant (record h { connections = without nat_eq h.connections conn })
-without-invariant h conn inv =
-    record {
-      own = own-less h.state h.state h.connections (without nat_eq h.connections conn) inv.own (λ k pid is.
-          let before : process_in h.connections k ≡ Some pid =
-          elim (cases_eq k conn) [
-            | inl same ↦
-                let gone : process_in (without nat_eq h.connections conn) conn ≡ None =
-                ap process_of
-                (nobody (value_at nat_eq (without nat_eq h.connections conn) conn) (rising-gone 0 h.connections (2 ^ 32) conn inv.rising)) in
-                let never : None ≡ Some pid = sym gone ∙ (rw same at is) in cc
-            | inr apart ↦ sym (ap process_of (value_at-without h.connections conn k apart)) ∙ is
-          ] in
-          (before, inv.own.connected k pid before));
-      each = each-without (IsKept h.limits) h.connections conn inv.each;
-      rising = rising-without 0 h.connections (2 ^ 32) conn inv.rising;
-    }
-
-pub without-nobodys : (h : HubView) (conn : ℕ) (v : ConnectionView) → HubInvariant h → value_at nat_eq h.connections conn ≡ Some v
-    → IsNobodys (without nat_eq h.connections conn) v.process
-without-nobodys h conn v inv found k pid mine is =
+-- whose process a process is then: not that of the one that has gone
+process-without : (h : HubView) (conn k pid : ℕ) → HubInvariant h → process_in (without nat_eq h.connections conn) k ≡ Some pid
+    → (k ≢ conn) × (process_in h.connections k ≡ Some pid)
+process-without h conn k pid inv is =
     elim (cases_eq k conn) [
       | inl same ↦
           let gone : process_in (without nat_eq h.connections conn) conn ≡ None =
           ap process_of (nobody (value_at nat_eq (without nat_eq h.connections conn) conn) (rising-gone 0 h.connections (2 ^ 32) conn inv.rising)) in
           let never : None ≡ Some pid = sym gone ∙ (rw same at is) in cc
-      | inr apart ↦ apart (inv.own.one k conn pid (sym (ap process_of (value_at-without h.connections conn k apart)) ∙ is) (ap process_of found ∙ mine))
+      | inr apart ↦ (apart, sym (ap process_of (value_at-without h.connections conn k apart)) ∙ is)
     ]
+
+pub without-invariant : (h : HubView) (conn : ℕ) → HubInvariant h → HubInvariant (record h { connections = without nat_eq h.connections conn })
+without-invariant h conn inv =
+    table-invariant h (without nat_eq h.connections conn) inv (λ k pid is. (process-without h conn k pid inv is).1)
+    (each-without (IsKept h.limits) h.connections conn inv.each) (rising-without 0 h.connections (2 ^ 32) conn inv.rising)
+
+pub without-nobodys : (h : HubView) (conn : ℕ) (v : ConnectionView) → HubInvariant h → value_at nat_eq h.connections conn ≡ Some v
+    → IsNobodys (without nat_eq h.connections conn) v.process
+without-nobodys h conn v inv found k pid mine is =
+    let other = process-without h conn k pid inv is in
+    other.0 (inv.own.one k conn pid other.1 (ap process_of found ∙ mine))
 
 pub without-matches : (limits : Limits) (confirmed : ℕ) (old new : HubView) (h : Clients) (conn : ℕ) → HubMatches limits confirmed old h
     → new.limits ≡ old.limits → new.state ≡ old.state → new.connections ≡ without nat_eq old.connections conn
     → HubMatches limits confirmed new (record h { clients = without nat_eq h.clients conn })
 without-matches limits confirmed old new h conn m same state rows =
-    record {
-      same = same ∙ m.same;
-      state = state ∙ m.state;
-      clients = rw rows (paired-without (ClientMatches confirmed (accepted h)) old.connections h.clients conn m.clients);
-      known = m.known;
-    }
+    table-matches limits confirmed confirmed old new h (without nat_eq old.connections conn) (without nat_eq h.clients conn) m same state rows m.known
+    (paired-without (ClientMatches confirmed (accepted h)) old.connections h.clients conn m.clients)
 
 -- ---- all frames are seen
 
@@ -120,14 +103,10 @@ released-kept limits v k =
 
 pub released-invariant : (h : HubView) → HubInvariant h → HubInvariant (record h { connections = seen_as released h.connections })
 released-invariant h inv =
-    record {
-      own = own-less h.state h.state h.connections (seen_as released h.connections) inv.own (λ k pid is.
-          let before : process_in h.connections k ≡ Some pid =
-          by_value (value_at nat_eq h.connections k) (sym (ap process_of (at-map released h.connections k)) ∙ is) in
-          (before, inv.own.connected k pid before));
-      each = each-seen (IsKept h.limits) (IsKept h.limits) (IsKept h.limits) h.connections released inv.each inv.each (λ v k _. released-kept h.limits v k);
-      rising = rw (keys-map released h.connections) inv.rising;
-    }
+    table-invariant h (seen_as released h.connections) inv
+    (λ k pid is. by_value (value_at nat_eq h.connections k) (sym (ap process_of (at-map released h.connections k)) ∙ is))
+    (each-seen (IsKept h.limits) (IsKept h.limits) (IsKept h.limits) h.connections released inv.each inv.each (λ v k _. released-kept h.limits v k))
+    (rw (keys-map released h.connections) inv.rising)
   where
     by_value : (r : Option ConnectionView) {pid : ℕ} → process_of (option_map released r) ≡ Some pid → process_of r ≡ Some pid
     by_value None is = is
@@ -151,14 +130,10 @@ released-matches confirmed accepted v c m =
 pub release-matches : (limits : Limits) (confirmed : ℕ) (old new : HubView) (h : Clients) → HubMatches limits confirmed old h → new.limits ≡ old.limits
     → new.state ≡ old.state → new.connections ≡ seen_as released old.connections → HubMatches limits (accepted h) new h
 release-matches limits confirmed old new h m same state rows =
-    record {
-      same = same ∙ m.same;
-      state = state ∙ m.state;
-      clients = rw rows (subst (ArePaired (ClientMatches (accepted h) (accepted h)) (seen_as released old.connections)) (map-same h.clients)
-          (paired-seen (ClientMatches confirmed (accepted h)) (ClientMatches (accepted h) (accepted h)) old.connections h.clients released (λ c. c) m.clients
-          (released-matches confirmed (accepted h))));
-      known = omega arith;
-    }
+    table-matches limits confirmed (accepted h) old new h (seen_as released old.connections) h.clients m same state rows (omega arith)
+    (subst (ArePaired (ClientMatches (accepted h) (accepted h)) (seen_as released old.connections)) (map-same h.clients)
+    (paired-seen (ClientMatches confirmed (accepted h)) (ClientMatches (accepted h) (accepted h)) old.connections h.clients released (λ c. c) m.clients
+    (released-matches confirmed (accepted h))))
   where
     map-same : (es : List (ℕ × Client)) → seen_as (λ c. c) es ≡ es
     map-same [] = refl

@@ -19,6 +19,13 @@ use Rattle.ipc_hub.specs.Relations.Delivery.{pushed, put_for, put_all, IsShort, 
 use Rattle.ipc_hub.specs.Relations.Matches.{IsFrame, AreFrames, ClientMatches, HubMatches, IsAhead}
 use Rattle.ipc_hub.proofs.Frames.{confirmed-short}
 
+-- other connections and clients of the same hub, of which more may be confirmed
+pub table-matches : (limits : Limits) (confirmed now : ℕ) (old new : HubView) (h : Clients) (table : List (ℕ × ConnectionView)) (clients : List (ℕ × Client))
+    → HubMatches limits confirmed old h → new.limits ≡ old.limits → new.state ≡ old.state → new.connections ≡ table → now ≤ accepted h
+    → ArePaired (ClientMatches now (accepted h)) table clients → HubMatches limits now new (record h { clients = clients })
+table-matches limits confirmed now old new h table clients m same state rows known paired =
+    record { same = same ∙ m.same; state = state ∙ m.state; clients = rw rows paired; known = known }
+
 -- a frame that is not confirmed is not seen
 not_yet : (confirmed : ℕ) (frames : List Frame) (f : Frame) → confirmed < f.mark
     → confirmed_bytes confirmed (frames ++ f ∷ []) ≡ confirmed_bytes confirmed frames

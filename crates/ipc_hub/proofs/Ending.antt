@@ -13,7 +13,7 @@ use Rattle.ipc_hub.specs.View.{ConnectionView, HubView}
 use Rattle.ipc_hub.specs.Relations.Delivery.{pushed}
 use Rattle.ipc_hub.specs.Relations.Matches.{ClientMatches, HubMatches, IsAhead}
 use Rattle.ipc_hub.specs.Relations.Requests.{exit_of}
-use Rattle.ipc_hub.proofs.Deliveries.{push-matches}
+use Rattle.ipc_hub.proofs.Deliveries.{push-matches, table-matches}
 use Rattle.ipc_hub.proofs.Keeping.{with_connection}
 
 -- the connection, when it is over
@@ -52,12 +52,8 @@ pub change-matches : (limits : Limits) (confirmed : ℕ) (old new : HubView) (h 
     → new.connections ≡ with_value nat_eq old.connections conn v → ClientMatches confirmed (accepted h) v c
     → HubMatches limits confirmed new (with_client h conn c)
 change-matches limits confirmed old new h conn v c m same state rows is =
-    record {
-      same = same ∙ m.same;
-      state = state ∙ m.state;
-      clients = rw rows (paired-with (ClientMatches confirmed (accepted h)) old.connections h.clients conn v c m.clients is);
-      known = m.known;
-    }
+    table-matches limits confirmed confirmed old new h (with_value nat_eq old.connections conn v) (with_value nat_eq h.clients conn c) m same state rows m.known
+    (paired-with (ClientMatches confirmed (accepted h)) old.connections h.clients conn v c m.clients is)
 
 -- the process leaves, and an EPROTO frame is the last
 pub end-matches : (limits : Limits) (confirmed : ℕ) (old left new : HubView) (h : Clients) (conn serial moment : ℕ) (v : ConnectionView) (c : Client)

@@ -16,7 +16,7 @@ use Rattle.ipc_hub.specs.Clients.{accepted, Frame, Client, Clients, refusal, all
 use Rattle.ipc_hub.specs.View.{ConnectionView, HubView}
 use Rattle.ipc_hub.specs.Relations.Delivery.{failed}
 use Rattle.ipc_hub.specs.Relations.Matches.{IsFrame, AreFrames, ClientMatches, HubMatches}
-use Rattle.ipc_hub.proofs.Deliveries.{frames-later}
+use Rattle.ipc_hub.proofs.Deliveries.{frames-later, table-matches}
 use Rattle.ipc_hub.proofs.Frames.{all-confirmed}
 
 -- ---- the frames that are confirmed
@@ -78,10 +78,6 @@ failed-matches confirmed accepted known v c m =
 pub fail-matches : (limits : Limits) (confirmed : ℕ) (old new : HubView) (h : Clients) → HubMatches limits confirmed old h → new.limits ≡ old.limits
     → new.state ≡ old.state → new.connections ≡ seen_as failed old.connections → HubMatches limits confirmed new (fail confirmed h)
 fail-matches limits confirmed old new h m same state rows =
-    record {
-      same = same ∙ m.same;
-      state = state ∙ m.state;
-      clients = rw rows (paired-seen (ClientMatches confirmed (accepted h)) (ClientMatches confirmed (accepted h)) old.connections h.clients failed
-          (cut_off confirmed) m.clients (failed-matches confirmed (accepted h) m.known));
-      known = m.known;
-    }
+    table-matches limits confirmed confirmed old new h (seen_as failed old.connections) (seen_as (cut_off confirmed) h.clients) m same state rows m.known
+    (paired-seen (ClientMatches confirmed (accepted h)) (ClientMatches confirmed (accepted h)) old.connections h.clients failed
+    (cut_off confirmed) m.clients (failed-matches confirmed (accepted h) m.known))

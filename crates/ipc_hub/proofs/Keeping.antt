@@ -1,9 +1,9 @@
 -- What holds of the hub's connections goes on holding when replies are put into their outboxes.
-use Rattle.std.proofs.Common.{◌≡◌, ◌≢◌, ℕ, ◌+◌, ◌≤◌, true, false, List, [], ◌∷◌, ◌++◌, length, Option, Some, None, refl, sym, ap, ◌∙◌, arith, ◌⊎◌, inl, inr}
+use Rattle.std.proofs.Common.{◌≡◌, ◌≢◌, ℕ, ◌+◌, ◌≤◌, ◌^◌, true, false, List, [], ◌∷◌, ◌++◌, length, Option, Some, None, refl, sym, ap, ◌∙◌, arith, ◌⊎◌, inl, inr}
 use Rattle.std.specs.Prelude.{nat_eq, option_map, option_and_then}
 use Rattle.std.proofs.lemmas.Bool.{cases_eq}
 use Rattle.std.proofs.lemmas.List.{length-append}
-use Rattle.ipc_base.specs.Table.{value_at, with_value, keys_of, seen_as, EachValue}
+use Rattle.ipc_base.specs.Table.{value_at, with_value, keys_of, seen_as, EachValue, IsRising}
 use Rattle.ipc_base.specs.declared.limits.Limits.{Limits}
 use Rattle.ipc_base.proofs.CallerLemmas.{choice, each-seen, each-with, at-map, keys-map, at-with, other-with, keys_of-with_value}
 use Rattle.ipc_wire.specs.Reply.{reply_bytes}
@@ -81,12 +81,23 @@ room-short (o ∷ os) table room = (room.0, room-short os (seen_as (put_for o) t
 -- ---- the hub
 
 -- each connection has the process that it had, or none, and these are connected
-pub own-less : (s s' : State) (table table' : List (ℕ × ConnectionView)) → AreOwn s table
+own-less : (s s' : State) (table table' : List (ℕ × ConnectionView)) → AreOwn s table
     → ((conn pid : ℕ) → process_in table' conn ≡ Some pid → (process_in table conn ≡ Some pid) × (is_process s' pid ≡ true)) → AreOwn s' table'
 own-less s s' table table' own less =
     record {
       connected = λ conn pid is. (less conn pid is).1;
       one = λ conn other pid is too. own.one conn other pid (less conn pid is).0 (less other pid too).0;
+    }
+
+-- other connections of the same hub
+pub table-invariant : (h : HubView) (table : List (ℕ × ConnectionView)) → HubInvariant h
+    → ((conn pid : ℕ) → process_in table conn ≡ Some pid → process_in h.connections conn ≡ Some pid) → EachValue (IsKept h.limits) table
+    → IsRising 0 (keys_of table) (2 ^ 32) → HubInvariant (record h { connections = table })
+table-invariant h table inv less each rising =
+    record {
+      own = own-less h.state h.state h.connections table inv.own (λ conn pid is. (less conn pid is, inv.own.connected conn pid (less conn pid is)));
+      each = each;
+      rising = rising;
     }
 
 -- replies to processes of which none has left
@@ -127,18 +138,12 @@ process-with table conn k pid was v found is =
 pub change-invariant : (h : HubView) (conn : ℕ) (was v : ConnectionView) → HubInvariant h → value_at nat_eq h.connections conn ≡ Some was
     → ((pid : ℕ) → v.process ≡ Some pid → was.process ≡ Some pid) → IsKept h.limits v → HubInvariant (with_connection h conn v)
 change-invariant h conn was v inv found less kept =
-    record {
-      own = own-less h.state h.state h.connections (with_value nat_eq h.connections conn v) inv.own
-          (λ k pid is.
-          let before : process_in h.connections k ≡ Some pid =
-          elim (process-with h.connections conn k pid was v found is) [
-            | inl here ↦ ap (process_in h.connections) here.0 ∙ ap (option_and_then (λ (c : ConnectionView). c.process)) found ∙ less pid here.1
-            | inr there ↦ there.1
-          ] in
-          (before, inv.own.connected k pid before));
-      each = each-with (IsKept h.limits) h.connections conn v inv.each kept;
-      rising = rw (keys_of-with_value nat_eq h.connections conn v) inv.rising;
-    }
+    table-invariant h (with_value nat_eq h.connections conn v) inv
+    (λ k pid is. elim (process-with h.connections conn k pid was v found is) [
+      | inl here ↦ ap (process_in h.connections) here.0 ∙ ap (option_and_then (λ (c : ConnectionView). c.process)) found ∙ less pid here.1
+      | inr there ↦ there.1
+    ])
+    (each-with (IsKept h.limits) h.connections conn v inv.each kept) (rw (keys_of-with_value nat_eq h.connections conn v) inv.rising)
 
 -- nobody has the process that it had if it has none now
 pub change-nobodys : (h : HubView) (conn : ℕ) (was v : ConnectionView) → HubInvariant h → value_at nat_eq h.connections conn ≡ Some was

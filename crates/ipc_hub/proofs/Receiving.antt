@@ -2,7 +2,7 @@
 use Rattle.std.proofs.Common.{◌≡◌, ◌≢◌, ℕ, ◌+◌, ◌<◌, ◌≤◌, ◌^◌, true, false, List, [], ◌∷◌, ◌++◌, length, get_or, set, Some}
 use Rattle.std.proofs.Common.{refl, sym, ap, ◌∙◌, subst, arith, inl, inr, Option, None}
 use Rattle.std.specs.Prelude.{nat_eq, option_map}
-use Rattle.std.proofs.lemmas.List.{get_or_default, length-append}
+use Rattle.std.proofs.lemmas.List.{length-append}
 use Rattle.ipc_base.specs.Limits.{ArePassed, longest_reply}
 use Rattle.ipc_base.specs.Table.{value_at, with_value, keys_of}
 use Rattle.ipc_base.specs.declared.errno.Errno.TheVariants.{ENOMEM}
@@ -28,8 +28,8 @@ use Rattle.ipc_hub.specs.Relations.Delivery.{last_frame, last_frames, pushed, pu
 use Rattle.ipc_hub.specs.Relations.Delivery.{HasRoomToAnswer}
 use Rattle.ipc_hub.specs.Relations.Invariant.{IsKept, HubInvariant, GoesOn, IsConnected}
 use Rattle.ipc_hub.specs.Relations.Matches.{IsAhead, SimulatesAt, Waits, Accepts}
-use Rattle.ipc_hub.specs.Relations.Requests.{Steps, IsRequest, ComesTo, exit_of, taken_off, Received, Took}
-use Rattle.ipc_hub.proofs.Rows.{there, at-there, the-same, set-there, same-number, same-length}
+use Rattle.ipc_hub.specs.Relations.Requests.{Steps, ComesTo, exit_of, taken_off, Received, Took}
+use Rattle.ipc_hub.proofs.Rows.{at-there, set-there, at-place, same-there, row-there, same-length}
 use Rattle.ipc_hub.proofs.Keeping.{change-invariant, connected-at, kept-pushed, put-keys}
 use Rattle.ipc_hub.proofs.Ending.{leave-adds}
 use Rattle.ipc_hub.proofs.Requests.{Answers, request-answers}
@@ -130,6 +130,10 @@ heard-some o v own = by_process v.process own
 abbrev Law : {D : Type 0} → (D → Medium) → Type 0
 Law {D} medium = (d : D) (image : Image) → (medium d).images_since (medium d).moment image → (medium d).images_now image
 
+-- a hub of which nothing changed
+pub goes-same : (h : HubView) → HubInvariant h → GoesOn h h
+goes-same h inv = record { limits = refl; numbers = refl; invariant = inv }
+
 -- the same hub goes on with other connections
 pub goes-further : (old mid new : HubView) → mid.limits ≡ old.limits → keys_of mid.connections ≡ keys_of old.connections → GoesOn mid new → GoesOn old new
 goes-further old mid new limits numbers g = record { limits = g.limits ∙ limits; numbers = g.numbers ∙ numbers; invariant = g.invariant }
@@ -149,30 +153,14 @@ module _ {D : Type 0} {medium : D → Medium} {old new : StoreView D} {cs ds : L
   found' : value_at nat_eq (rows ds) r.was.number ≡ Some then
   found' = ap (λ (t : List (ℕ × ConnectionView)). value_at nat_eq t r.was.number) r.table ∙ at-with (rows cs) r.was.number then (view_of r.was) found
 
-  -- the connection that is at its place later on
-  row-there : (fs : List Connection) (d : Connection) (v : ConnectionView) → keys_of (rows fs) ≡ keys_of (rows cs)
-      → value_at nat_eq (rows fs) r.was.number ≡ Some v → IsThere fs place d → row d ≡ (r.was.number, v)
-  row-there fs d v keys now it = λ i. (sym number i, one i)
-    where
-      number : r.was.number ≡ d.number
-      number = ap (λ (c : Connection). c.number) r.there.same ∙ sym (same-number cs fs place r.was d keys r.within) ∙ ap (λ (c : Connection). c.number) (sym it.same)
-
-      inner : (x : ConnectionView) → Some x ≡ Some v → x ≡ v
-      inner x e = cc
-
-      one : view_of d ≡ v
-      one = inner (view_of d) (sym (at-there fs place d it) ∙ ap (value_at nat_eq (rows fs)) (sym number) ∙ now)
-
   now-there : (d : Connection) → IsThere ds place d → row d ≡ (r.was.number, then)
-  now-there d it = row-there ds d then numbers found' it
+  now-there d it = row-there cs ds place r.was d then r.within r.there numbers found' it
 
   abbrev off : Connection
   off = get_or ds place r.was
 
   off-there : IsThere ds place off
-  off-there =
-      let within' : place < length ds = omega (arith, r.within, same-length cs ds numbers) in
-      there ds 0 place (2 ^ 32) off r.still.rising within' (sym (get_or_default ds place off r.was within'))
+  off-there = at-place ds place (2 ^ 32) r.was r.still.rising (omega (arith, r.within, same-length cs ds numbers))
 
   off-row : row off ≡ (r.was.number, then)
   off-row = now-there off off-there
@@ -186,7 +174,7 @@ module _ {D : Type 0} {medium : D → Medium} {old new : StoreView D} {cs ds : L
 
   -- the connection that was at its place
   its : (d : Connection) → IsThere cs place d → d ≡ r.was
-  its d it = the-same cs place d r.was it r.within ∙ sym r.there.same
+  its d it = same-there cs place d r.was r.within it r.there
 
 -- ---- no whole frame yet
 
@@ -251,7 +239,7 @@ module _ {D : Type 0} {medium : D → Medium} {old new : StoreView D} {cs ds : L
         ∙ at-map (put_for answers.o) (with_value nat_eq mid.connections r.was.number asked_one) r.was.number
         ∙ ap (option_map (put_for answers.o)) (at-with mid.connections r.was.number asked_one bare-now (found' r)) in
         heard-some answers.o bare-now answers.own
-        (ap (λ (x : ℕ × ConnectionView). outbox_kept x.1.outbox) (sym (row-there r fs d (put_for answers.o asked_one) keys found-now it)) ∙ none)
+        (ap (λ (x : ℕ × ConnectionView). outbox_kept x.1.outbox) (sym (row-there cs fs place r.was d (put_for answers.o asked_one) r.within r.there keys found-now it)) ∙ none)
 
     pub served-took : Took medium old new cs fs place next moment
     served-took =
@@ -299,7 +287,7 @@ module _ {D : Type 0} {medium : D → Medium} {old new : StoreView D} {cs ds : L
         let found-now : value_at nat_eq (rows fs) r.was.number ≡ Some last-n =
         ap (λ (t : List (ℕ × ConnectionView)). value_at nat_eq t r.was.number) told-n ∙ at-with mid-n.connections r.was.number last-n bare-n (found' r) in
         pushed-some (reply_of (refusal serial ENOMEM)) bare-n
-        (ap (λ (x : ℕ × ConnectionView). outbox_kept x.1.outbox) (sym (row-there r fs d last-n keys-n found-now it)) ∙ none)
+        (ap (λ (x : ℕ × ConnectionView). outbox_kept x.1.outbox) (sym (row-there cs fs place r.was d last-n r.within r.there keys-n found-now it)) ∙ none)
 
     pub refused-took : Took medium old new cs fs place next moment
     refused-took =

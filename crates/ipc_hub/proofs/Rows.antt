@@ -116,6 +116,29 @@ same-length [] (y ∷ ds) same = cc
 same-length (x ∷ cs) [] same = cc
 same-length (x ∷ cs) (y ∷ ds) same = let rest : keys_of (rows ds) ≡ keys_of (rows cs) = cc in ap suc (same-length cs ds rest)
 
+-- some connection is at a place
+pub at-place : (cs : List Connection) (place high : ℕ) (d : Connection) → IsRising 0 (keys_of (rows cs)) high → place < length cs
+    → IsThere cs place (get_or cs place d)
+at-place cs place high d rising within = there cs 0 place high (get_or cs place d) rising within (get_or_default cs place d (get_or cs place d) within)
+
+-- and one alone
+pub same-there : (cs : List Connection) (place : ℕ) (c d : Connection) → place < length cs → IsThere cs place c → IsThere cs place d → c ≡ d
+same-there cs place c d within at too = the-same cs place c d at within ∙ sym too.same
+
+-- with the same numbers in a row, the one at a place has the number that stood there, and what the rows have under it
+pub row-there : (cs ds : List Connection) (place : ℕ) (c d : Connection) (v : ConnectionView) → place < length cs → IsThere cs place c
+    → keys_of (rows ds) ≡ keys_of (rows cs) → value_at nat_eq (rows ds) c.number ≡ Some v → IsThere ds place d → row d ≡ (c.number, v)
+row-there cs ds place c d v within at keys now at' = λ i. (sym number i, one (view_of d) view i)
+  where
+    number : c.number ≡ d.number
+    number = ap (λ (x : Connection). x.number) at.same ∙ sym (same-number cs ds place c d keys within) ∙ ap (λ (x : Connection). x.number) (sym at'.same)
+
+    view : Some (view_of d) ≡ Some v
+    view = sym (at-there ds place d at') ∙ ap (value_at nat_eq (rows ds)) (sym number) ∙ now
+
+    one : (x : ConnectionView) → Some x ≡ Some v → x ≡ v
+    one x e = cc
+
 -- ---- where a number stands, or would
 
 pub rising-up : (low : ℕ) (cs : List Connection) (high : ℕ) → IsRising low (keys_of (rows cs)) high → IsNonDecreasingBy (λ (c : Connection). c.number) cs

@@ -2,7 +2,6 @@
 
 ghost use Rattle.std.specs.Prelude.{◌≡◌, ◌≢◌, ◌+◌, ◌<◌, ◌≤◌, ◌^◌, true, false, []};
 ghost use Rattle.std.specs.Prelude.{◌∷◌, ◌++◌, length, map, take, nat_eq, option_map, IfSome};
-ghost use Rattle.ipc_base.specs.declared.errno.Errno.TheVariants.{ENOMEM};
 ghost use Rattle.ipc_base.specs.Limits.{longest_reply, ArePassed};
 ghost use Rattle.ipc_base.specs.Table.{EachValue, IsRising, keys_of, seen_as, with_value};
 ghost use Rattle.ipc_wire.specs.Request.{plain_request};
@@ -19,7 +18,7 @@ ghost use Rattle.ipc_hub.specs.Relations.Delivery.{last_frame, last_frames, push
 ghost use Rattle.ipc_hub.specs.Relations.Delivery.{IsShort, HasRoomIn, HaveRoom, HasRoomToAnswer};
 ghost use Rattle.ipc_hub.specs.Relations.Invariant.{HubInvariant, GoesOn, IsConnected, IsNobodys, LeavesOthers};
 ghost use Rattle.ipc_hub.specs.Relations.Matches.{Simulates, SimulatesAt, TakesIn, Waits};
-ghost use Rattle.ipc_hub.specs.Relations.Requests.{ComesTo, exit_of, taken_off, Received, Took};
+ghost use Rattle.ipc_hub.specs.Relations.Requests.{ComesTo, exit_of, taken_off, Closed, Received, Took};
 ghost use Rattle.ipc_image.specs.Records.{HasRecord};
 ghost use Rattle.ipc_store.specs.View.{IsReadyFor};
 
@@ -185,17 +184,27 @@ fn answer(connections: &mut [Connection], place: usize, outcomes: &[Outcome])
     deliver(connections, outcomes);
 }
 
-/// Memory was refused to the request of a connection.
-fn refuse(connections: &mut [Connection], place: usize, serial: u32)
+/// Puts a reply without a body into a connection: memory was refused to its request, or the server ends it.
+fn refuse(connections: &mut [Connection], place: usize, serial: u32, errno: Errno)
     requires rising { IsRising 0 (keys_of (rows connections.old)) (2 ^ 32) }
     requires place { place < length connections.old }
     requires room { (c : Connection) → IsThere connections.old place c → last_frame ≤ c.outbox.free }
     ensures { (c : Connection) → IsThere connections.old place c
         → rows connections.new ≡ with_value nat_eq (rows connections.old) c.number
-        (pushed (reply_of (refusal_of serial ENOMEM)) (view_of c)) }
+        (pushed (reply_of (refusal_of serial errno)) (view_of c)) }
 {
     let connection = &mut connections[place];
-    connection.push(&refusal(serial, Errno::ENOMEM));
+    connection.push(&refusal(serial, errno));
+}
+
+/// A connection is over: it keeps no bytes of a request, and has no process. Answers the one that it had.
+fn close(connections: &mut [Connection], place: usize) -> Option<Pid>
+    requires rising { IsRising 0 (keys_of (rows connections.old)) (2 ^ 32) }
+    requires place { place < length connections.old }
+    ensures { Closed connections.old connections.new place (pid_of result) }
+{
+    let connection = &mut connections[place];
+    connection.close()
 }
 
 /// The server ends a connection: its process leaves, and an EPROTO frame is the last.
@@ -220,11 +229,9 @@ fn break_off<D: SectorDisk>(
     ensures answers { (c : Connection) → IsThere connections.new place c → kept c.outbox ≢ [] }
     ensures disk { store.new.disk ≡ store.old.disk }
 {
-    let connection = &mut connections[place];
-    let process = connection.close();
+    let process = close(connections, place);
     leave(store, connections, process, moment);
-    let connection = &mut connections[place];
-    connection.push(&refusal(serial, Errno::EPROTO));
+    refuse(connections, place, serial, Errno::EPROTO);
 }
 
 /// Gives a connection bytes of a piece, up to the end of a frame at most, and asks the machine if it is whole. Answers
@@ -285,7 +292,7 @@ fn take<D: SectorDisk>(
     match asked {
         Asked::More => {}
         Asked::Served => answer(connections, place, store.engine().outcomes()),
-        Asked::NoMemory { serial } => refuse(connections, place, serial),
+        Asked::NoMemory { serial } => refuse(connections, place, serial, Errno::ENOMEM),
         Asked::Broken { serial } => break_off(store, connections, place, serial, moment),
     }
     count

@@ -94,6 +94,15 @@ pub record Received {D : Type 0} (medium : D → Medium) (old new : StoreView D)
       (taken_off asked (record (view_of was) { input = was.input.items ++ bytes }))
   pub still : HubInvariant (hub_view old.machine ds)
 
+-- The connection at a place is over: it keeps no bytes of a request, and its process, if it had one, is its no more.
+pub record Closed (cs ds : List Connection) (place : ℕ) (process : Option ℕ) : Type 0 where
+  pub within : place < length cs
+  pub was : Connection
+  pub there : IsThere cs place was
+  pub had : (view_of was).process ≡ process
+  pub table : rows ds ≡ with_value nat_eq (rows cs) was.number
+      (record (view_of was) { process = None; input = []; ended = true })
+
 -- The connection at a place has taken bytes, and what they complete was served. If it keeps no frame then, no event
 -- came of them.
 pub record Took {D : Type 0} (medium : D → Medium) (old new : StoreView D) (cs ds : List Connection) (place : ℕ)

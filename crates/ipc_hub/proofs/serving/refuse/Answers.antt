@@ -1,5 +1,4 @@
 use Rattle.std.proofs.Common.{◌^◌, get_or, length, sym, ap, ◌∙◌, arith}
-use Rattle.ipc_base.specs.declared.errno.Errno.TheVariants.{ENOMEM}
 use Rattle.ipc_wire.specs.Reply.{PlainReply, reply_bytes}
 use Rattle.ipc_wire.proofs.CallerLemmas.{length-reply_bytes}
 use Rattle.ipc_engine.specs.View.{reply_of}
@@ -18,7 +17,7 @@ push-requires-clause-room c =
     omega (
       arith,
       c.requires.room was at,
-      length-reply_bytes (reply_of (refusal c.args.serial ENOMEM)),
+      length-reply_bytes (reply_of (refusal c.args.serial c.args.errno)),
       ap (λ (r : PlainReply). length (reply_bytes r)) c.refusal.ensures,
       ap (λ (d : Connection). d.outbox.free) c.index-connections-place.is,
     )
@@ -28,6 +27,6 @@ returns c d at =
     let cs = c.args.connections.now in
     let was = c.index-connections-place.result in
     let now : Connection = get_or cs c.args.place was in
-    set-there cs c.args.place d was c.push.new.self (pushed (reply_of (refusal c.args.serial ENOMEM)) (view_of d)) at c.requires.place c.push.ensures.number
+    set-there cs c.args.place d was c.push.new.self (pushed (reply_of (refusal c.args.serial c.args.errno)) (view_of d)) at c.requires.place c.push.ensures.number
     (c.push.ensures.view ∙ ap (λ (r : PlainReply). pushed r (view_of now)) c.refusal.ensures
-    ∙ ap (λ (e : Connection). pushed (reply_of (refusal c.args.serial ENOMEM)) (view_of e)) (sym (the-same cs c.args.place d was at c.requires.place)))
+    ∙ ap (λ (e : Connection). pushed (reply_of (refusal c.args.serial c.args.errno)) (view_of e)) (sym (the-same cs c.args.place d was at c.requires.place)))

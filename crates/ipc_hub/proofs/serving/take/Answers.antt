@@ -4,11 +4,11 @@ use Rattle.ipc_engine.specs.Engine.{Machine}
 use Rattle.ipc_engine.specs.Event.{PlainOutcome}
 use Rattle.ipc_store.specs.View.{StoreView, IsReadyFor}
 use Rattle.ipc_hub.specs.declared.connection.Connection.{Connection}
-use Rattle.ipc_hub.specs.Relations.Rows.{view_of, row, rows, stored_view, IsThere}
+use Rattle.ipc_hub.specs.Relations.Rows.{view_of, row, rows, hub_view, stored_view, IsThere}
 use Rattle.ipc_hub.specs.Relations.Delivery.{HasRoomToAnswer}
 use Rattle.ipc_hub.proofs.Rows.{at-there, the-same}
 use Rattle.ipc_hub.proofs.Taking.{ended-takes}
-use Rattle.ipc_hub.proofs.Receiving.{more-took, served-room, served-took, refused-room, refused-took, broken-live, broken-took}
+use Rattle.ipc_hub.proofs.Receiving.{goes-same, more-took, served-room, served-took, refused-room, refused-took, broken-live, broken-took}
 use Rattle.ipc_hub.proofs.serving.take.Goals as goal
 
 -- the outcomes that a store lends
@@ -24,7 +24,7 @@ pub returns-then-connection-clause-took : goal.returns-then-connection-clause-to
 returns-then-connection-clause-took g c =
     let cs = c.args.connections.now in
     record {
-      goes_on = record { limits = refl; numbers = refl; invariant = c.requires.hub };
+      goes_on = goes-same (hub_view c.args.store.now.machine cs) c.requires.hub;
       bytes = λ d it. rw (take_all (length c.args.piece.now) c.args.piece.now (omega arith))
           (ended-takes g.D.SectorDisk.medium g.met.D.SectorDisk.only_now (stored_view c.args.store.now cs) d.number c.args.moment.0 (view_of d)
           c.args.piece.now (at-there cs c.args.place d it)
