@@ -52,7 +52,8 @@ module _ (old : Machine) (cs : List Connection) (place : ℕ) (was : Connection)
 pub still-kept : {D : Type 0} (medium : D → Medium) (old new : StoreView D) (limits : Limits) (v : ConnectionView) (bytes : List ℕ) (moment : ℕ) (asked : Asked)
     → IsKept limits v → ComesTo medium old new v.process (first bytes) moment asked → IsKept limits (taken_off asked (record v { input = bytes }))
 still-kept medium old new limits v bytes moment asks.More k comes = record { input = comes.0; last = k.last; spare = k.spare; size = k.size }
-still-kept medium old new limits v bytes moment asks.Served k comes = record { input = first_short [] (omega arith); last = k.last; spare = k.spare; size = k.size }
+still-kept medium old new limits v bytes moment asks.Served k comes =
+    record { input = first_short [] (omega arith); last = k.last; spare = k.spare; size = k.size }
 still-kept medium old new limits v bytes moment (asks.NoMemory n) k comes =
     record { input = first_short [] (omega arith); last = k.last; spare = k.spare; size = k.size }
 still-kept medium old new limits v bytes moment (asks.Broken n) k comes =
@@ -184,7 +185,9 @@ module _ {D : Type 0} {medium : D → Medium} {old new : StoreView D} {cs ds : L
   more-took =
       record {
         goes_on = rw r.comes.1 (record { limits = refl; numbers = numbers r; invariant = r.still });
-        bytes = λ d it limits confirmed h ahead. rw (its r d it) (more-taken (opened r ahead) next moment (IsAhead limits confirmed (hub_view new.machine ds)) (Accepts medium old new h) (hub_view new.machine ds)
+        bytes = λ d it limits confirmed h ahead.
+            rw (its r d it) (more-taken (opened r ahead) next moment (IsAhead limits confirmed (hub_view new.machine ds)) (Accepts medium old new h)
+            (hub_view new.machine ds)
             (ap (λ (s : StoreView D). s.machine.limits) r.comes.1) (ap (λ (s : StoreView D). s.machine.state) r.comes.1) r.table r.comes.0
             (λ now stay is. (is, same-accepts medium law old new h now stay r.comes.1)));
         answers = λ d it none. r.comes.1;
@@ -239,7 +242,8 @@ module _ {D : Type 0} {medium : D → Medium} {old new : StoreView D} {cs ds : L
         ∙ at-map (put_for answers.o) (with_value nat_eq mid.connections r.was.number asked_one) r.was.number
         ∙ ap (option_map (put_for answers.o)) (at-with mid.connections r.was.number asked_one bare-now (found' r)) in
         heard-some answers.o bare-now answers.own
-        (ap (λ (x : ℕ × ConnectionView). outbox_kept x.1.outbox) (sym (row-there cs fs place r.was d (put_for answers.o asked_one) r.within r.there keys found-now it)) ∙ none)
+        (ap (λ (x : ℕ × ConnectionView). outbox_kept x.1.outbox)
+        (sym (row-there cs fs place r.was d (put_for answers.o asked_one) r.within r.there keys found-now it)) ∙ none)
 
     pub served-took : Took medium old new cs fs place next moment
     served-took =
@@ -248,7 +252,8 @@ module _ {D : Type 0} {medium : D → Medium} {old new : StoreView D} {cs ds : L
               (answer-goes-on mid r.was.number bare-now now r.still (found' r) r.room answers (hub_view new.machine fs) steps.limits steps.state told);
           bytes = λ d it limits confirmed h ahead.
               let o = opened r ahead in
-              rw (its r d it) (served-taken o next moment (IsAhead limits confirmed (hub_view new.machine fs)) (Accepts medium old new h) r.comes.1.0 (waits r) r.few e refl (
+              rw (its r d it) (served-taken o next moment (IsAhead limits confirmed (hub_view new.machine fs)) (Accepts medium old new h)
+              r.comes.1.0 (waits r) r.few e refl (
                 serve-matches limits confirmed mid (hub_view new.machine fs) (emptied_hub o) r.was.number bare-now (bare o) e
                     (emptied-matches o mid refl refl r.table).matches (found' r) (bare-here o) answers steps.limits steps.state told,
                 record { events = e ∷ []; adds = refl; waits = steps.waits },
@@ -304,7 +309,8 @@ module _ {D : Type 0} {medium : D → Medium} {old new : StoreView D} {cs ds : L
           });
           bytes = λ d it limits confirmed h ahead.
               let o = opened r ahead in
-              rw (its r d it) (refused-taken o next moment (IsAhead limits confirmed (hub_view new.machine fs)) (Accepts medium old new h) r.comes.made (waits r) r.few r.comes.event refl r.comes.takes (
+              rw (its r d it) (refused-taken o next moment (IsAhead limits confirmed (hub_view new.machine fs)) (Accepts medium old new h)
+              r.comes.made (waits r) r.few r.comes.event refl r.comes.takes (
                 refused-matches o mid-n (hub_view new.machine fs) r.comes.made.request.serial (emptied-matches o mid-n refl refl r.table)
                     (ap (λ (s : StoreView D). s.machine.limits) same) (ap (λ (s : StoreView D). s.machine.state) same) (rw r.comes.serial told-n),
                 same-accepts medium law old new h (refuse (emptied_hub o) r.was.number (bare o) r.comes.made.request.serial) refl same,
@@ -348,7 +354,8 @@ module _ {D : Type 0} {medium : D → Medium} {old new : StoreView D} {cs ds : L
               waits = waited;
             } in
             rw (its r d it) (elim r.comes.1 [
-              | inl fault ↦ fault-taken o next moment (IsAhead limits confirmed (hub_view last.machine fs)) (Accepts medium old last h) serial fault (over, adds)
+              | inl fault ↦ fault-taken o next moment (IsAhead limits confirmed (hub_view last.machine fs)) (Accepts medium old last h) serial fault
+                  (over, adds)
               | inr asked ↦ broken-taken o next moment (IsAhead limits confirmed (hub_view last.machine fs)) (Accepts medium old last h) asked.0 (waits r)
                   r.few refl (rw asked.1 (over, adds))
             ]);

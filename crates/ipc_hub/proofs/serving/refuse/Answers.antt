@@ -27,6 +27,7 @@ returns c d at =
     let cs = c.args.connections.now in
     let was = c.index-connections-place.result in
     let now : Connection = get_or cs c.args.place was in
-    set-there cs c.args.place d was c.push.new.self (pushed (reply_of (refusal c.args.serial c.args.errno)) (view_of d)) at c.requires.place c.push.ensures.number
+    set-there cs c.args.place d was c.push.new.self (pushed (reply_of (refusal c.args.serial c.args.errno)) (view_of d)) at c.requires.place
+    c.push.ensures.number
     (c.push.ensures.view ∙ ap (λ (r : PlainReply). pushed r (view_of now)) c.refusal.ensures
     ∙ ap (λ (e : Connection). pushed (reply_of (refusal c.args.serial c.args.errno)) (view_of e)) (sym (the-same cs c.args.place d was at c.requires.place)))
