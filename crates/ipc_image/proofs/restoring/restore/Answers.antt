@@ -35,8 +35,8 @@ returns-then-not-is_none_counted-clause-damaged c is s stands =
     elim c.then-not-is_none_counted.branch [
       | then-not-is_none_counted-via-then-not-is_none_counted w ↦
           let none =
-              same_object c.args.objects.now 2 c.in-Some-object_numbered-2.calls.now (count_bytes 0)
-              c.in-Some-object_numbered-2.ensures.some parts.calls in
+          same_object c.args.objects.now 2 c.in-Some-object_numbered-2.calls.now (count_bytes 0)
+          c.in-Some-object_numbered-2.ensures.some parts.calls in
           let yes = c.is_none_counted.ensures.1 none in
           let no = w.if-not-is_none_counted.true in
           absurd cc

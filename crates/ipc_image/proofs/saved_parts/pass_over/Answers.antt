@@ -8,7 +8,7 @@ use Rattle.ipc_image.proofs.Windows.{passed-next}
 use Rattle.ipc_image.proofs.saved_parts.pass_over.Goals as goal
 
 pub loop-mark-init : goal.loop-mark-init
-loop-mark-init c = record { mark = c.requires.mark; passed = λ begun is. is; }
+loop-mark-init c = record { mark = c.requires.mark; passed = λ begun is. is }
 
 pub returns-then-not-passes_over-clause-passed : goal.returns-then-not-passes_over-clause-passed
 returns-then-not-passes_over-clause-passed c begun is =
