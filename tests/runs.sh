@@ -4,7 +4,7 @@
 #     sh tests/runs.sh IPCD
 #
 # Each run has a script, what standard output and standard error are to have, and the status. These were reckoned from
-# docs/PROTOCOL.md, and never taken from the program. It takes a second.
+# docs/PROTOCOL.md and docs/DEVICE.md, and never taken from the program. It takes some seconds.
 #
 # It needs a POSIX shell and awk.
 
