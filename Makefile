@@ -9,7 +9,7 @@ help:
 	@echo "            next run goes on after them"
 	@echo "make test   what 'make imports' runs; the gate: every proof from nothing, the edits that must fail, the tests,"
 	@echo "            the program; and then what 'make runs' and 'make memory' run, on what the gate has built. It takes"
-	@echo "            an hour or more on four cores"
+	@echo "            an hour to an hour and a half on four cores"
 	@echo "make imports  that no crate names what is another's own, nor one that carries requests a call"
 	@echo "make runs   the program on scripts and command lines: what it prints and says, and its exit status"
 	@echo "make memory the engine's tests and the program, with each allocation refused in turn"

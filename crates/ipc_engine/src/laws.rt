@@ -1,6 +1,7 @@
 //! Laws of the definitions alone. A call of one does nothing; its contract is the law.
 
-ghost use Rattle.std.specs.Prelude.{◌≡◌, ◌≢◌, ◌<◌, ◌≤◌, ℕ, true, false, List, [], ◌++◌, length, max};
+ghost use Rattle.std.specs.Prelude.{◌≡◌, ◌≢◌, ◌<◌, ◌≤◌, ℕ, true, false};
+ghost use Rattle.std.specs.Prelude.{List, [], ◌++◌, length, max};
 ghost use Rattle.std.specs.Prelude.{Option, None, All, IsSome};
 ghost use Rattle.ipc_base.specs.declared.limits.Limits.{Limits};
 ghost use Rattle.ipc_base.specs.declared.identity.Cred.{Cred};
@@ -71,7 +72,8 @@ pub fn connect_adds_one_process()
         → IsSound limits s → is_process s pid ≡ true
         → All (λ o. o.pid ≢ pid) (step limits s (Connect cred serial moment)).outcomes }
     ensures there { (limits : Limits) (s : State) (cred : Cred) (serial moment : ℕ)
-        → All (λ o. o.errno ≡ None → is_process (step limits s (Connect cred serial moment)).state o.pid ≡ true)
+        → All (λ o. o.errno ≡ None
+        → is_process (step limits s (Connect cred serial moment)).state o.pid ≡ true)
         (step limits s (Connect cred serial moment)).outcomes }
     ensures others { (limits : Limits) (s : State) (cred : Cred) (serial moment pid : ℕ)
         → is_process s pid ≡ true

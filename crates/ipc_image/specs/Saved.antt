@@ -1,7 +1,8 @@
 -- The state as objects, each of them some bytes under a number: what a checkpoint keeps. There are four that every
 -- state has, and one for each queue. Kinds that are still to come have their place: their next number is 1, and no
 -- process has a descriptor, no call waits, and no semaphore is adjusted.
-use Rattle.std.specs.Prelude.{◌≡◌, ◌+◌, ◌<◌, ◌^◌, ℕ, List, [], ◌∷◌, ◌++◌, length, map, All, FitsSigned}
+use Rattle.std.specs.Prelude.{◌≡◌, ◌+◌, ◌<◌, ◌^◌, ℕ, List, [], ◌∷◌, ◌++◌}
+use Rattle.std.specs.Prelude.{length, map, All, FitsSigned}
 use Rattle.std.specs.Int.{w32, w64, cast_unsigned}
 use Rattle.std.specs.List.{flat_map}
 use Rattle.ipc_base.specs.declared.identity.Cred.{Cred}
@@ -46,7 +47,8 @@ processes_bytes processes = count_bytes (length processes) ++ flat_map process_b
 -- key, uid, gid, cuid, cgid, mode, stime, rtime, ctime, lspid, lrpid, qbytes, and how many messages
 abbrev pub queue_sizes : List Size
 queue_sizes =
-    Four ∷ Four ∷ Four ∷ Four ∷ Four ∷ Four ∷ Eight ∷ Eight ∷ Eight ∷ Four ∷ Four ∷ Four ∷ Four ∷ []
+    Four ∷ Four ∷ Four ∷ Four ∷ Four ∷ Four
+    ∷ Eight ∷ Eight ∷ Eight ∷ Four ∷ Four ∷ Four ∷ Four ∷ []
 
 abbrev pub queue_numbers : Entry Queue → List ℕ
 queue_numbers e =

@@ -1,6 +1,7 @@
 -- What an image of a device stands for. Its objects stand for a base, the state that the last save has kept, and the
 -- batches of its journal at the same epoch lead from there to the state of the image.
-use Rattle.std.specs.Prelude.{◌≡◌, ◌≢◌, ◌⊎◌, ◌<◌, ◌≤◌, ◌+◌, ◌-◌, ◌^◌, ℕ, List, [], ◌∷◌, length, map, All}
+use Rattle.std.specs.Prelude.{◌≡◌, ◌≢◌, ◌⊎◌, ◌<◌, ◌≤◌, ◌+◌, ◌-◌, ◌^◌}
+use Rattle.std.specs.Prelude.{ℕ, List, [], ◌∷◌, length, map, All}
 use Rattle.std.specs.List.{flat_map}
 use Rattle.ipc_base.specs.declared.limits.Limits.{Limits}
 use Rattle.ipc_base.specs.Objects.{PlainObjects}
@@ -121,12 +122,15 @@ HasNoBatchAt limits s range place used image =
 -- good batches, where more is used but no batch of events that can come there stands within it.
 pub data IsFirstFault (image : Image) : ℕ → Type 0 where
   Superblock : ((limits : Limits) → ¬ IsDevice limits image) → IsFirstFault image 0
-  Objects : (limits : Limits) (sector : ℕ) → IsDevice limits image → IsOwn (layout_of limits (length image)) sector
-      → ((epoch : ℕ) (objects : PlainObjects) → ¬ HasObjects limits epoch objects image) → IsFirstFault image sector
+  Objects : (limits : Limits) (sector : ℕ) → IsDevice limits image
+      → IsOwn (layout_of limits (length image)) sector
+      → ((epoch : ℕ) (objects : PlainObjects) → ¬ HasObjects limits epoch objects image)
+      → IsFirstFault image sector
   NoState : (limits : Limits) (epoch : ℕ) (objects : PlainObjects) → IsDevice limits image
-      → HasObjects limits epoch objects image → ((s : State) → ¬ StandForState limits s objects) → IsFirstFault image 1
-  Header : (limits : Limits) (epoch : ℕ) (base : State) → HasBase limits epoch base image → HasNoHeader epoch image
-      → IsFirstFault image 3
+      → HasObjects limits epoch objects image → ((s : State) → ¬ StandForState limits s objects)
+      → IsFirstFault image 1
+  Header : (limits : Limits) (epoch : ℕ) (base : State) → HasBase limits epoch base image
+      → HasNoHeader epoch image → IsFirstFault image 3
   AtBatch : (limits : Limits) (epoch : ℕ) (base : State) (batches : List (List PlainEvent)) (s : State)
       → HasBase limits epoch base image → LeadTo limits base batches s
       → Fill journal_range 0 (sectors_of (map batch_bytes batches)) (map batch_bytes batches) image

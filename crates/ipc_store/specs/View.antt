@@ -1,5 +1,6 @@
 -- What a store shows.
-use Rattle.std.specs.Prelude.{◌≡◌, ◌≤◌, ◌+◌, ◌-◌, ◌*◌, ◌^◌, ℕ, Bool, true, if◌then◌else◌, List, length}
+use Rattle.std.specs.Prelude.{◌≡◌, ◌≤◌, ◌+◌, ◌-◌, ◌*◌, ◌^◌, ℕ}
+use Rattle.std.specs.Prelude.{Bool, true, if◌then◌else◌, List, length}
 use Rattle.ipc_engine.specs.Engine.{Machine}
 use Rattle.ipc_checkpoint.specs.declared.checkpoint.Checkpoint.{Checkpoint}
 use Rattle.ipc_checkpoint.specs.declared.error.LoadError.{LoadError}
@@ -35,7 +36,8 @@ pub record StoreView (D : Type 0) : Type 0 where
   pub stopped : Bool
 
 -- the parts of a store, as it shows them
-abbrev pub store_view : {D : Type 0} → D → Machine → Checkpoint → Journal → BatchView → ℕ → Bool → StoreView D
+abbrev pub store_view : {D : Type 0} → D → Machine → Checkpoint → Journal → BatchView → ℕ → Bool
+    → StoreView D
 store_view disk machine checkpoint journal batch confirmed stopped = record {
   disk = disk;
   machine = machine;

@@ -1,6 +1,6 @@
 //! What an open answers on a device that is damaged, byte by byte.
 
-use crate::tests::{
+use crate::common::{
     SMALL_DEVICE, TICK, call, closed, commit_all, get, has_made, hello, holds, is_number,
     new_store, opened, send, take, take_all, text, unopened,
 };

@@ -21,7 +21,11 @@ pub use opening::Unopened;
 pub use store::Store;
 
 #[cfg(test)]
+mod common;
+#[cfg(test)]
 mod damage;
+#[cfg(test)]
+mod format_stops;
 #[cfg(test)]
 mod saves;
 #[cfg(test)]

@@ -1,11 +1,11 @@
 //! Saves: their bytes and numbers, which commit and which open is one, what is there after them, and the last epoch.
 
-use crate::damage::refused;
-use crate::tests::{
+use crate::common::{
     HEADER, HI, OBJECTS, Opened, ROOT, SUPERBLOCK, TICK, call, closed, commit_all, commit_fails,
     get, has_made, hello, holds, is_answered, is_number, is_sector, is_stopped, new_store, opened,
     receive, received_by, send, send_texts, small_device, take, unsynced,
 };
+use crate::damage::refused;
 use crate::{CommitError, OpenError, Store};
 use ipc_base::{Moment, Objects, Pid};
 use ipc_disk::{MemoryDisk, SectorDisk};

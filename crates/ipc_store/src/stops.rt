@@ -1,12 +1,12 @@
 //! A store that is stopped at each device call, at its work and at its opening: what opens then stands for the events
 //! that were confirmed, or for these and the ones of the commit that was stopped.
 
-use crate::damage::copied;
-use crate::replay::is_for_process;
-use crate::tests::{
+use crate::common::{
     Opened, SMALL_DEVICE, TICK, add_replies, boxed, call, closed, commit_all, get, hello, holds,
     is_number, new_store, opened, receive, send, small_device, take, text, unopened,
 };
+use crate::damage::copied;
+use crate::replay::is_for_process;
 use crate::{CommitError, OpenError, Store, Unopened};
 use ipc_base::{Cred, GetFlags, Id, Limits, Moment, MsgFlags, Pid};
 use ipc_disk::{FuseDisk, MemoryDisk, SectorDisk};
@@ -183,7 +183,7 @@ fn event_of(number: u32, line: Line) -> Option<Event<'static>> {
 }
 
 // What is probed: a machine alone, or that of a store.
-trait Probed {
+pub(crate) trait Probed {
     fn go(&mut self, rt: &impl Abort, event: Event<'_>) -> Result<(), Fail>;
 
     fn machine(&self) -> &Engine;
@@ -257,7 +257,11 @@ fn add_probe<M: Probed>(
 }
 
 // The replies of a probe.
-fn probe<M: Probed>(rt: &impl Abort, alloc: Global, machine: &mut M) -> Result<Vec<u8>, Fail> {
+pub(crate) fn probe<M: Probed>(
+    rt: &impl Abort,
+    alloc: Global,
+    machine: &mut M,
+) -> Result<Vec<u8>, Fail> {
     let mut replies = Vec::new(alloc);
     add_probe(rt, &mut replies, machine)?;
     Ok(replies)
@@ -279,7 +283,7 @@ fn go_to(rt: &impl Abort, engine: &mut Engine, count: u64) -> Result<(), Fail> {
 }
 
 // What the probes find of a machine after the first `count` events of the script and a restart.
-fn probe_after(rt: &impl Abort, alloc: Global, count: u64) -> Result<Vec<u8>, Fail> {
+pub(crate) fn probe_after(rt: &impl Abort, alloc: Global, count: u64) -> Result<Vec<u8>, Fail> {
     let mut engine = Engine::new(alloc, Limits::small())?;
     go_to(rt, &mut engine, count)?;
     engine.go(rt, Event::Restart)?;
@@ -297,8 +301,8 @@ fn make_last<D: SectorDisk>(store: &mut Store<D>, line: Line) -> Result<(), Comm
 // A store that worked on the script until its disk failed: the disk, how many events it had confirmed, how many it
 // had accepted, and whether the disk failed.
 #[derive(Drop)]
-struct Stopped {
-    disk: FuseDisk,
+pub(crate) struct Stopped {
+    pub(crate) disk: FuseDisk,
     confirmed: u64,
     accepted: u64,
     failed: bool,
@@ -343,7 +347,7 @@ fn not_opened(rt: &impl Abort, unopened: Unopened<FuseDisk>) -> FuseDisk {
 }
 
 // Works on the script on a new device that passes so many calls.
-fn work(rt: &impl Abort, alloc: Global, calls: u64, keep: u64) -> Result<Stopped, Fail> {
+pub(crate) fn work(rt: &impl Abort, alloc: Global, calls: u64, keep: u64) -> Result<Stopped, Fail> {
     let fuse = FuseDisk::new(small_device(alloc)?, calls, keep);
     match boxed(alloc, fuse)? {
         Ok(store) => worked(rt, store),
@@ -531,91 +535,5 @@ fn probes_see_each_commit(rt: HostRuntime) -> Result<(), Fail> {
         before = after;
     }
     is_number(&rt, count, 50, "events");
-    Ok(())
-}
-
-// What a format that is stopped leaves: the device of before, none, or the new one.
-#[derive(Clone, Copy, Debug, PartialEq, Eq)]
-enum Left {
-    Old,
-    Nothing,
-    New,
-}
-
-// Calls of the format that pass, the choice of a crash, and what is left.
-static FORMATS: [(u64, u64, Left); 16] = [
-    (0, 1, Left::Old),
-    (1, 0, Left::Old), // the superblock is overwritten with zeros, and that is lost
-    (1, 1, Left::Nothing), // or kept
-    (2, 1, Left::Nothing), // they last
-    (3, 1, Left::Nothing), // the header is written
-    (4, 1, Left::Nothing), // the objects are
-    (4, 3, Left::Nothing),
-    (5, 0, Left::Nothing), // the root is
-    (5, 1, Left::Nothing),
-    (5, 2, Left::Nothing),
-    (5, 4, Left::Nothing),
-    (5, 7, Left::Nothing),
-    (6, 7, Left::Nothing), // they last
-    (7, 0, Left::Nothing), // the superblock is written, and it is lost
-    (7, 1, Left::New), // or kept
-    (8, 0, Left::New), // it lasts
-];
-
-// What is left on a device, by what the probes find on the old one and on the new one.
-fn left_on(
-    rt: &impl Abort,
-    alloc: Global,
-    disk: MemoryDisk,
-    (old, new): (&[u8], &[u8]),
-) -> Result<Left, Fail> {
-    match boxed(alloc, disk)? {
-        Ok(store) => found_in(rt, alloc, store, (old, new)),
-        Err(unopened) => {
-            holds(rt, unopened.error == OpenError::NotFormatted, "error", 0);
-            Ok(Left::Nothing)
-        }
-    }
-}
-
-// The same of a store.
-fn found_in(
-    rt: &impl Abort,
-    alloc: Global,
-    store: Opened<MemoryDisk>,
-    (old, new): (&[u8], &[u8]),
-) -> Result<Left, Fail> {
-    let mut store = store;
-    let found = probe(rt, alloc, &mut *store)?;
-    if found.as_slice() == old {
-        return Ok(Left::Old);
-    }
-    holds(rt, found.as_slice() == new, "old or new", 0);
-    Ok(Left::New)
-}
-
-// A format of a device that is used, which is stopped after so many calls, with a choice of a crash, leaves this.
-fn is_left(
-    rt: &impl Abort,
-    alloc: Global,
-    (calls, keep, wanted): (u64, u64, Left),
-    probes: (&[u8], &[u8]),
-) -> Result<(), Fail> {
-    let done = work(rt, alloc, 200, 0)?;
-    let mut fuse = FuseDisk::new(done.disk.crash(), calls, keep);
-    let is_ok = Store::format(&mut fuse, &Limits::small()).is_ok();
-    holds(rt, is_ok == (calls == 8), "calls", calls);
-    let left = left_on(rt, alloc, fuse.crash(), probes)?;
-    assert!(rt; left == wanted, "{calls} calls, choice {keep}");
-    Ok(())
-}
-
-#[test]
-fn a_format_that_is_stopped(rt: HostRuntime) -> Result<(), Fail> {
-    let old = probe_after(&rt, rt.alloc(), 50)?;
-    let new = probe_after(&rt, rt.alloc(), 0)?;
-    for row in &FORMATS {
-        is_left(&rt, rt.alloc(), *row, (&old, &new))?;
-    }
     Ok(())
 }

@@ -1,5 +1,6 @@
 -- Replies put into the outboxes of their processes.
-use Rattle.std.specs.Prelude.{◌≡◌, ℕ, ◌+◌, ◌-◌, ◌<◌, ◌≤◌, ◌^◌, ◌==◌, true, List, [], ◌∷◌, ◌++◌, length, drop}
+use Rattle.std.specs.Prelude.{◌≡◌, ℕ, ◌+◌, ◌-◌, ◌<◌, ◌≤◌, ◌^◌, ◌==◌, true}
+use Rattle.std.specs.Prelude.{List, [], ◌∷◌, ◌++◌, length, drop}
 use Rattle.std.specs.Prelude.{if◌then◌else◌}
 use Rattle.std.specs.Prelude.{Option, Some, None, nat_eq}
 use Rattle.ipc_base.specs.declared.errno.Errno.TheVariants.{EIO}
@@ -105,7 +106,8 @@ HasRoomToGreet None c = Unit {0}
 HasRoomToGreet (Some o) c = IsShort o × HasRoom o c
 
 -- the table in which a connection has been told the reply to its request
-abbrev pub with_answer : List PlainOutcome → ℕ × ConnectionView → List (ℕ × ConnectionView) → List (ℕ × ConnectionView)
+abbrev pub with_answer : List PlainOutcome → ℕ × ConnectionView → List (ℕ × ConnectionView)
+    → List (ℕ × ConnectionView)
 with_answer os e table = with_value nat_eq table e.0 (answered (last_reply os) e.1)
 
 -- the replies to the request of a connection, and the others of its event, have room

@@ -23,14 +23,16 @@ pub record Fails {D : Type 0} (medium : D → Medium) (old new : StoredHub D) : 
 
 -- A call that lets time pass or commits is refused by this fault. It is `Stopped` if the hub goes on no more, and once
 -- if the numbers of epochs are at their end: then the hub fails as by the disk.
-abbrev pub Halts : {D : Type 0} → (D → Medium) → (D → Counts) → StoredHub D → StoredHub D → CommitError → Type 0
+abbrev pub Halts : {D : Type 0} → (D → Medium) → (D → Counts) → StoredHub D → StoredHub D → CommitError
+    → Type 0
 Halts medium counts old new commit.Device =
     Fails medium old new × ((counts new.store.disk).failures ≡ counted (counts old.store.disk).failures 1)
 Halts medium counts old new commit.Stopped =
     (HasStopped old × (new ≡ old)) ⊎ (Fails medium old new × IsAtLastEpoch old.store)
 
 -- so is a call that names a connection, or because none has its number
-abbrev pub Refuses : {D : Type 0} → (D → Medium) → (D → Counts) → StoredHub D → StoredHub D → ℕ → ServeError → Type 0
+abbrev pub Refuses : {D : Type 0} → (D → Medium) → (D → Counts) → StoredHub D → StoredHub D → ℕ
+    → ServeError → Type 0
 Refuses medium counts old new conn Unknown =
     (¬ HasStopped old) × (is_connected old.hub conn ≡ false) × (new ≡ old)
 Refuses medium counts old new conn Device = Halts medium counts old new commit.Device
