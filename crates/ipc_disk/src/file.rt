@@ -7,13 +7,17 @@ ghost use Rattle.ipc_disk.specs.Counts.{counted, with_failure, with_write, with_
 ghost use Rattle.ipc_disk.specs.Medium.{IsHonest, IsDurable, Stays, Writes};
 ghost use Rattle.ipc_disk.specs.Range.{IsInside, IsWithin};
 
+use crate::progress::Silent;
 use crate::run::Run;
-use crate::{DiskFault, SectorDisk};
+use crate::{DiskFault, Progress, SectorDisk};
 use std::fs::{File, OpenOptions};
 use std::io;
 use std::os::unix::fs::FileExt;
 use std::path::AsPath;
 use std::rt::Files;
+
+// A progress hears of each whole multiple of so many bytes of a file: a MiB.
+const STEP: u64 = 1 << 20;
 
 /// A disk in a file, on which it has an exclusive lock: until it is dropped, nobody else can open
 /// the file as a disk. Up to 64 neighbouring sectors that were written wait in the value. One write
@@ -91,25 +95,29 @@ fn open_locked<R: Files<File = File>, P: AsPath>(
 }
 
 // Writes zeros from one place of a file to another, up to a multiple of 4096 each time. A hole
-// would cost the file system a write to its own journal at a later sync.
-fn fill(file: &File, from: u64, end: u64) -> io::Result<()> {
+// would cost the file system a write to its own journal at a later sync. Tells at each whole MiB of
+// the file, and at the end, how many sectors the file has by then.
+fn fill<P: Progress>(file: &File, from: u64, end: u64, progress: &mut P) -> io::Result<()> {
     let zeros = [0; 4096];
     let mut at = from;
     while at < end {
         let stop = next_stop(at, end);
         file.write_all_at(&zeros[..(stop - at) as usize], at)?;
         at = stop;
+        if at % STEP == 0 || at == end {
+            progress.reached(whole_sectors(at));
+        }
     }
     Ok(())
 }
 
 // Gives a file its length, and syncs it.
-fn resize(file: &File, len: u64) -> io::Result<()> {
+fn resize<P: Progress>(file: &File, len: u64, progress: &mut P) -> io::Result<()> {
     let old = file.metadata()?.len();
     if len < old {
         file.set_len(len)?;
     } else {
-        fill(file, old, len)?;
+        fill(file, old, len, progress)?;
     }
     file.sync_all()
 }
@@ -133,10 +141,28 @@ impl FileDisk {
         ensures nothing_waits { IfOk result (λ disk. waiting_values disk ≡ []) }
         ensures sure { IfOk result (λ disk. ¬ IsTrue (has_failed_sync disk)) }
     {
+        FileDisk::create_with(rt, path, sectors, &mut Silent)
+    }
+
+    /// As `create`. While zeros are written, `progress` hears how many sectors the file has by then:
+    /// at each whole MiB of the file, and at its end, so `sectors` is the last number. Of a file that
+    /// gets no zeros, since it is cut or has its length, it hears nothing.
+    pub fn create_with<R: Files<File = File>, P: AsPath, T: Progress>(
+        rt: &R,
+        path: P,
+        sectors: u32,
+        progress: &mut T,
+    ) -> Result<FileDisk, DiskFault>
+        ensures size { IfOk result (λ disk. file_size disk ≡ sectors) }
+        ensures unused { IfOk result (λ disk. file_counts disk
+            ≡ record { failures = 0; writes = 0; syncs = 0 }) }
+        ensures nothing_waits { IfOk result (λ disk. waiting_values disk ≡ []) }
+        ensures sure { IfOk result (λ disk. ¬ IsTrue (has_failed_sync disk)) }
+    {
         let Ok(file) = open_locked(rt, path, true) else {
             return Err(DiskFault);
         };
-        if resize(&file, offset(sectors)).is_err() {
+        if resize(&file, offset(sectors), progress).is_err() {
             return Err(DiskFault);
         }
         Ok(FileDisk::over(file, sectors))

@@ -6,6 +6,7 @@ mod file;
 mod fuse;
 mod laws;
 mod memory;
+mod progress;
 mod range;
 mod run;
 mod standing;
@@ -15,6 +16,7 @@ pub use file::FileDisk;
 pub use fuse::FuseDisk;
 pub use laws::disks_in_memory_are_honest;
 pub use memory::MemoryDisk;
+pub use progress::Progress;
 pub use range::Range;
 pub use standing::{read_bytes, sectors_for_len, settle_sector, write_bytes};
 

@@ -1,7 +1,7 @@
 //! A disk in a file: what it keeps, locks and refuses. No clause speaks of a file's bytes.
 
 use super::{NEW, OLD, bytes, fill};
-use crate::{DiskFault, FileDisk, MemoryDisk, SectorDisk};
+use crate::{DiskFault, FileDisk, MemoryDisk, Progress, SectorDisk};
 use std::fs::{File, OpenOptions};
 use std::path::PathBuf;
 use std::rt::{Env, Files};
@@ -81,6 +81,48 @@ fn a_file_gets_its_length(rt: HostRuntime) -> Result<(), Fail> {
             (len, old.min(len), len),
             "from {old}"
         );
+    }
+    fs::remove_file(&rt, &path)?;
+    Ok(())
+}
+
+// Remembers what it hears.
+#[derive(Drop)]
+struct Heard {
+    sectors: Vec<u32>,
+}
+
+impl Progress for Heard {
+    fn reached(&mut self, sectors: u32) {
+        // Without memory a number is missing, and the test fails.
+        let _kept = self.sectors.push(sectors);
+    }
+}
+
+// The length of a file that is there, the sectors that it is to have then, and what is heard. A MiB is
+// 2048 sectors, and 3000000 bytes are 2 MiB and some more. The last three files get no zeros.
+const TOLD: [(usize, u32, &[u32]); 9] = [
+    (0, 1, &[1]),
+    (0, 5000, &[2048, 4096, 5000]),
+    (0, 4096, &[2048, 4096]),
+    (3000000, 10000, &[6144, 8192, 10000]),
+    (1048576, 3000, &[3000]),
+    (700, 2049, &[2048, 2049]),
+    (0, 0, &[]),
+    (2097152, 4096, &[]),
+    (3000000, 4096, &[]),
+];
+
+#[test]
+fn a_progress_hears_how_far_it_is(rt: HostRuntime) -> Result<(), Fail> {
+    let path = path_of(&rt, process::id(rt.process()), "told")?;
+    for (old, sectors, told) in TOLD {
+        put_file(&rt, &path, old)?;
+        let mut heard = Heard {
+            sectors: Vec::new(rt.alloc()),
+        };
+        drop(FileDisk::create_with(&rt, &path, sectors, &mut heard)?);
+        assert_eq!(rt; heard.sectors.as_slice(), told, "{sectors} from {old}");
     }
     fs::remove_file(&rt, &path)?;
     Ok(())
