@@ -132,7 +132,7 @@ fn command_line<'a>(alloc: Global) -> Result<Command<'a>, AllocError>
         .about("Runs the script on standard input, on a fresh server with a device in memory")
         .arg(small_flag(alloc))?;
     let format = Command::new(alloc, "format")
-        .about("Makes a device in a file. All that stood there is lost")
+        .about("Makes a device in a file. What stood there is lost. A terminal shows how far it is")
         .arg(device_word(alloc))?
         .arg(small_flag(alloc))?
         .arg(sectors_option(alloc))?;

@@ -14,6 +14,7 @@ ghost use Rattle.ipcd.specs.declared.ending.Fault.TheVariants.{Run};
 ghost use Rattle.ipcd.specs.Device.{sectors_given};
 
 use crate::ending::Fault;
+use crate::meter::Meter;
 use ipc_base::Limits;
 use ipc_disk::{FileDisk, MemoryDisk, SectorDisk};
 use ipc_image::need;
@@ -21,6 +22,7 @@ use ipc_script::ScriptFault;
 use ipc_store::Store;
 use std::alloc::Global;
 use std::fs::File;
+use std::io::IsTerminal;
 use std::rt::Files;
 
 /// A store over a new device in memory, which has as many sectors as these limits need. Its machine
@@ -59,9 +61,11 @@ pub fn open_store<D: SectorDisk + Drop>(alloc: Global, disk: D) -> Result<Store<
 }
 
 /// Makes a device in a file, of as many sectors as are asked for or as it needs, and answers how
-/// many. Too few are refused before the file is touched.
-pub fn format_file<R: Files<File = File>>(
+/// many. Too few are refused before the file is touched. How far it is, is said on `errors` if that is
+/// a terminal.
+pub fn format_file<R: Files<File = File>, E: Eprint + IsTerminal>(
     rt: &R,
+    errors: &E,
     path: &str,
     limits: &Limits,
     asked: Option<u32>,
@@ -70,7 +74,10 @@ pub fn format_file<R: Files<File = File>>(
     ensures { IfOk result (λ sectors. sectors_given (need_of limits.now) asked ≡ Ok sectors) }
 {
     let sectors = sectors_for(limits, asked)?;
-    let mut disk = FileDisk::create(rt, path, sectors)?;
+    let mut meter = Meter::new(errors, sectors);
+    let made = FileDisk::create_with(rt, path, sectors, &mut meter);
+    meter.end();
+    let mut disk = made?;
     Store::format(&mut disk, limits)?;
     Ok(sectors)
 }

@@ -5,6 +5,7 @@
 mod command;
 mod device;
 mod ending;
+mod meter;
 
 use command::{Request, limits_of, request_of};
 use device::{format_file, new_store, open_file};
@@ -14,6 +15,7 @@ use ipc_script::{ScriptFault, dump, run_script};
 use ipc_store::Store;
 use std::fs::File;
 use std::io;
+use std::io::IsTerminal;
 use std::process::ExitCode;
 use std::rt::Files;
 
@@ -23,7 +25,7 @@ mod tests;
 fn main(rt: HostRuntime) -> io::Result<ExitCode> {
     let status = match request_of(&rt) {
         Ok(request) => {
-            let outcome = answer(&rt, &request);
+            let outcome = answer(&rt, &rt.stderr(), &request);
             if let Err(fault) = outcome {
                 // The status stands also if standard error is closed.
                 let _said = eprintln!(&rt; "{fault}");
@@ -38,9 +40,10 @@ fn main(rt: HostRuntime) -> io::Result<ExitCode> {
     Ok(ExitCode::from(status))
 }
 
-/// Does what the command line asks for.
+/// Does what the command line asks for. What takes long is said on `errors`, if that is a terminal.
 fn answer(
     rt: &(impl Input + Print + AllocGlobal + Files<File = File>),
+    errors: &(impl Eprint + IsTerminal),
     request: &Request,
 ) -> Result<(), Fault> {
     match request {
@@ -56,7 +59,7 @@ fn answer(
             small,
             sectors,
         } => {
-            let made = format_file(rt, device, &limits_of(*small), *sectors)?;
+            let made = format_file(rt, errors, device, &limits_of(*small), *sectors)?;
             if println!(rt; "formatted {made} sectors").is_err() {
                 return Err(Fault::Run(ScriptFault::Output));
             }

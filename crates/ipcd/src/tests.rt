@@ -5,8 +5,13 @@ use crate::device::{format_file, open_file};
 use crate::ending::Fault;
 use ipc_base::Limits;
 use ipc_script::ScriptFault;
+use std::fmt::Display;
+use std::fs::File;
+use std::io::{IsTerminal, Write};
+use std::path::PathBuf;
+use std::rt::Env;
 use std::test::Fail;
-use std::{env, fs, process};
+use std::{env, fs, io, process};
 
 #[test]
 fn command_lines(rt: HostRuntime) {
@@ -98,21 +103,29 @@ fn requests_for_files(rt: HostRuntime) {
     }
 }
 
+// A place for a file of one test.
+fn path_of<R: Env + AllocGlobal>(rt: &R, id: u32, file: &str) -> Result<PathBuf, Fail> {
+    let name = format!(in rt.alloc(); "ipcd-{id}-{file}")?;
+    Ok(env::temp_dir(rt)?.join(rt.alloc(), name.as_str())?)
+}
+
 #[test]
 fn a_device_in_a_file(rt: HostRuntime) -> Result<(), Fail> {
-    let id = process::id(rt.process());
-    let name = format!(in rt.alloc(); "ipcd-{id}-device")?;
-    let path = env::temp_dir(&rt)?.join(rt.alloc(), name.as_str())?;
+    let path = path_of(&rt, process::id(rt.process()), "device")?;
     let Some(path) = path.to_str() else {
         return Err(Fail::new("a path that is no text"));
     };
+    let errors = rt.stderr();
     let small = Limits::small();
     let device = Fault::Run(ScriptFault::Device);
     let need = Fault::TooSmall { need: 448 };
-    assert_eq!(rt; format_file(&rt, path, &small, Some(447)), Err(need));
+    assert_eq!(rt;
+        format_file(&rt, &errors, path, &small, Some(447)),
+        Err(need)
+    );
     assert_eq!(rt; open_file(&rt, path).err(), Some(device));
-    assert_eq!(rt; format_file(&rt, path, &small, Some(449)), Ok(449));
-    assert_eq!(rt; format_file(&rt, path, &small, None), Ok(448));
+    assert_eq!(rt; format_file(&rt, &errors, path, &small, Some(449)), Ok(449));
+    assert_eq!(rt; format_file(&rt, &errors, path, &small, None), Ok(448));
     let opened = match open_file(&rt, path) {
         Ok(store) => {
             assert_eq!(rt; *store.engine().limits(), small);
@@ -123,5 +136,70 @@ fn a_device_in_a_file(rt: HostRuntime) -> Result<(), Fail> {
     };
     fs::remove_file(&rt, path)?;
     assert!(rt; opened);
+    Ok(())
+}
+
+/// Standard error in a file, which may be a terminal.
+#[derive(Drop)]
+struct Screen {
+    file: File,
+    is_terminal: bool,
+}
+
+impl Eprint for Screen {
+    fn eprint<D: Display + Drop>(&self, value: D) -> io::Result<()> {
+        write!(&self.file, "{value}")
+    }
+
+    fn eprintln<D: Display + Drop>(&self, value: D) -> io::Result<()> {
+        writeln!(&self.file, "{value}")
+    }
+}
+
+impl IsTerminal for Screen {
+    fn is_terminal(&self) -> bool {
+        self.is_terminal
+    }
+}
+
+// What stands on the screen after a new device, one that is cut, and one that grows. A MiB is 2048 sectors.
+const SAID: &str =
+    "\ripcd: 2048 of 5000 sectors\ripcd: 4096 of 5000 sectors\ripcd: 5000 of 5000 sectors\n\
+\ripcd: 2048 of 3000 sectors\ripcd: 3000 of 3000 sectors\n";
+
+#[test]
+fn a_format_says_how_far_it_is(rt: HostRuntime) -> Result<(), Fail> {
+    let id = process::id(rt.process());
+    let (device, said) = (path_of(&rt, id, "told")?, path_of(&rt, id, "said")?);
+    let Some(path) = device.to_str() else {
+        return Err(Fail::new("a path that is no text"));
+    };
+    let small = Limits::small();
+    let mut screen = Screen {
+        file: File::create(&rt, &said)?,
+        is_terminal: false,
+    };
+    assert_eq!(rt;
+        format_file(&rt, &screen, path, &small, Some(5000)),
+        Ok(5000)
+    );
+    fs::remove_file(&rt, path)?;
+    screen.is_terminal = true;
+    for sectors in [5000, 448, 3000] {
+        assert_eq!(rt;
+            format_file(&rt, &screen, path, &small, Some(sectors)),
+            Ok(sectors)
+        );
+    }
+    assert_eq!(rt; fs::read_to_string(&rt, &said)?.as_str(), SAID);
+
+    // A screen that refuses what is written.
+    screen.file = File::open(&rt, &said)?;
+    assert_eq!(rt;
+        format_file(&rt, &screen, path, &small, Some(9000)),
+        Ok(9000)
+    );
+    fs::remove_file(&rt, path)?;
+    fs::remove_file(&rt, &said)?;
     Ok(())
 }
