@@ -244,8 +244,8 @@ impl<D: SectorDisk> Hub<D> {
         done
     }
 
-    // Whether the hub goes on no more.
-    fn has_stopped(&self) -> bool
+    /// Whether the hub goes on no more: the disk has failed, or the events or the epochs are at their end.
+    pub fn has_stopped(&self) -> bool
         ensures { IsTrue result ↔ HasStopped self.now }
     {
         self.store.events_left() < MOST_EVENTS as u64

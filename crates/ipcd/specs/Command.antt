@@ -53,6 +53,17 @@ sectors_rule = record (new_rule (codes "sectors")) {
 abbrev pub device_rule : Rule
 device_rule = record (new_rule (codes "device")) { value_names = 1; required = true }
 
+-- the word that names a socket, and the option `--turns N`
+abbrev pub socket_rule : Rule
+socket_rule = record (new_rule (codes "socket")) { value_names = 1; required = true }
+
+abbrev pub turns_rule : Rule
+turns_rule = record (new_rule (codes "turns")) {
+  long = Some (codes "turns");
+  value_names = 1;
+  parser = Some (Signed (pos 0) (pos 4294967295));
+}
+
 -- `replay`, with the flag
 abbrev pub replay_command : App
 replay_command = with_rule (new_app (codes "replay")) small_rule
@@ -69,17 +80,23 @@ run_command = with_rule (new_app (codes "run")) device_rule
 abbrev pub dump_command : App
 dump_command = with_rule (new_app (codes "dump")) device_rule
 
+-- `serve`, with a device, a socket and the option
+abbrev pub serve_command : App
+serve_command =
+    with_rule (with_rule (with_rule (new_app (codes "serve")) device_rule) socket_rule) turns_rule
+
 -- `ipcd`, with a version; it needs a command below it
 abbrev pub ipcd_command : App
 ipcd_command = record (new_app (codes "ipcd")) {
   top = record (new_app (codes "ipcd")).top { has_version = true; subcommand_required = true };
 }
 
--- the command line: `ipcd`, and below it the four commands
+-- the command line: `ipcd`, and below it the five commands
 abbrev pub declared : App
 declared =
-    with_subcommand (with_subcommand (with_subcommand (with_subcommand ipcd_command replay_command.top)
-    format_command.top) run_command.top) dump_command.top
+    with_subcommand (with_subcommand (with_subcommand (with_subcommand
+    (with_subcommand ipcd_command replay_command.top) format_command.top) run_command.top)
+    dump_command.top) serve_command.top
 
 -- ---- what words that are taken ask for
 
@@ -89,12 +106,15 @@ pub data PlainRequest : Type 0 where
   Format : (device : Text) → (small : Bool) → (sectors : Option ℕ) → PlainRequest
   Run : (device : Text) → PlainRequest
   Dump : (device : Text) → PlainRequest
+  Serve : (device socket : Text) → (turns : ℕ) → PlainRequest
 
 abbrev pub plain_request : Request → PlainRequest
 plain_request (request.Replay small) = Replay small
 plain_request (request.Format device small sectors) = Format (string_bytes device) small sectors
 plain_request (request.Run device) = Run (string_bytes device)
 plain_request (request.Dump device) = Dump (string_bytes device)
+plain_request (request.Serve device socket turns) =
+    Serve (string_bytes device) (string_bytes socket) turns
 
 -- the number that a text of decimal digits writes, if it fits into 32 bits; a plus may stand first
 abbrev pub number_of : Text → Option ℕ
@@ -102,26 +122,34 @@ number_of text =
     if is_unsigned_in 0 4294967295 text then Some (digits_value 10 (without_leading_plus text))
     else None
 
--- what was found for `--small`, DEVICE and `--sectors N`
+-- how many turns a server makes, by how many are asked for
+abbrev pub turns_of : Option ℕ → ℕ
+turns_of number = unwrap_or number 4294967295
+
+-- what was found for `--small`, and by a name, as text and as a number
 abbrev pub asked_small : List Row → Bool
 asked_small rows = option_map_or (λ t. bytes_eq t (codes "true")) (one_of (codes "small") rows) false
 
-abbrev pub asked_device : List Row → Text
-asked_device rows = unwrap_or (first_of (codes "device") rows) []
+abbrev pub asked_text : Text → List Row → Text
+asked_text name rows = unwrap_or (first_of name rows) []
 
-abbrev pub asked_sectors : List Row → Option ℕ
-asked_sectors rows = option_and_then number_of (one_of (codes "sectors") rows)
+abbrev pub asked_number : Text → List Row → Option ℕ
+asked_number name rows = option_and_then number_of (one_of name rows)
 
 -- what a command asks for, by its name and what was found for its arguments. The parser takes no
 -- other name; such a one would ask for a listing of no file
 abbrev pub asked_by : Text → List Row → PlainRequest
 asked_by name rows =
+    let device = asked_text (codes "device") rows in
     if bytes_eq name (codes "replay") then Replay (asked_small rows)
     else (if bytes_eq name (codes "format")
-    then Format (asked_device rows) (asked_small rows) (asked_sectors rows)
-    else (if bytes_eq name (codes "run") then Run (asked_device rows)
-    else (if bytes_eq name (codes "dump") then Dump (asked_device rows)
-    else Dump [])))
+    then Format device (asked_small rows) (asked_number (codes "sectors") rows)
+    else (if bytes_eq name (codes "run") then Run device
+    else (if bytes_eq name (codes "dump") then Dump device
+    else (if bytes_eq name (codes "serve")
+    then Serve device (asked_text (codes "socket") rows)
+    (turns_of (asked_number (codes "turns") rows))
+    else Dump []))))
 
 -- the same, by the command that was found; the parser takes no words without one
 abbrev pub asked : Option (Text × List Row) → PlainRequest
@@ -141,6 +169,10 @@ small_words small = if small then codes "--small" ∷ [] else []
 abbrev pub sectors_words : Option Text → List Text
 sectors_words None = []
 sectors_words (Some number) = codes "--sectors" ∷ number ∷ []
+
+abbrev pub turns_words : Option Text → List Text
+turns_words None = []
+turns_words (Some number) = codes "--turns" ∷ number ∷ []
 
 -- a command line that asks for this: it is refused for want of memory alone
 pub record AsksFor (wanted : PlainRequest) (result : Result Request Error) : Type 0 where

@@ -11,14 +11,19 @@ use Rattle.ipc_script.specs.declared.fault.ScriptFault.TheVariants.{TooLong, Bad
 use Rattle.ipc_script.specs.declared.listing.DumpError.{DumpError}
 use Rattle.ipc_script.specs.declared.listing.DumpError.TheVariants as dump
 use Rattle.ipc_script.specs.Fault.{fault_text}
+use Rattle.ipc_server.specs.declared.fault.ServerError.{ServerError}
+use Rattle.ipc_server.specs.declared.fault.ServerError.TheVariants as server
+use Rattle.ipc_server.specs.declared.fault.ServeFault.{ServeFault}
+use Rattle.ipc_server.specs.declared.fault.ServeFault.TheVariants as serving
 use Rattle.ipcd.specs.declared.ending.Fault.{Fault}
-use Rattle.ipcd.specs.declared.ending.Fault.TheVariants.{Run, TooSmall}
+use Rattle.ipcd.specs.declared.ending.Fault.TheVariants.{Run, TooSmall, Socket}
 
 -- ---- the status and the text
 
 -- 1 if the world failed or a device is too small, 2 if the script is wrong
 abbrev pub fault_status : Fault → ℕ
 fault_status (TooSmall need) = 1
+fault_status Socket = 1
 fault_status (Run NoMemory) = 1
 fault_status (Run Input) = 1
 fault_status (Run Output) = 1
@@ -39,6 +44,7 @@ exit_status (Err fault) = fault_status fault
 -- the text of a fault
 abbrev pub text_of : Fault → List ℕ
 text_of (Run fault) = fault_text fault
+text_of Socket = codes "socket fault"
 text_of (TooSmall need) = codes "too small, " ++ decimal need ++ codes " sectors needed"
 
 -- the program's name, and the text
@@ -68,3 +74,14 @@ of_format_error format.Device = device_fault
 abbrev pub of_dump_error : DumpError → Fault
 of_dump_error dump.NoMemory = Run NoMemory
 of_dump_error dump.Output = Run Output
+
+-- of a server that was not made
+abbrev pub of_server_error : ServerError → Fault
+of_server_error server.NoMemory = Run NoMemory
+of_server_error server.Socket = Socket
+
+-- of a turn that was broken off
+abbrev pub of_serve_fault : ServeFault → Fault
+of_serve_fault serving.Stopped = device_fault
+of_serve_fault serving.Device = device_fault
+of_serve_fault serving.Socket = Socket

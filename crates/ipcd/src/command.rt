@@ -6,11 +6,11 @@ ghost use Rattle.ipc_base.specs.Limits.{ArePassed};
 ghost use Rattle.clap.specs.Words.{app_of, rule_of, fault_of, subcommand_of, subcommand_rows_of};
 ghost use Rattle.clap.specs.Words.{FailsBy, found_of, rows_of};
 ghost use Rattle.ipcd.specs.Command.{limits_asked, refusal_status, IsTakenAs, AsksFor, declared};
-ghost use Rattle.ipcd.specs.Command.PlainRequest.{Format, Run, Dump};
-ghost use Rattle.ipcd.specs.Command.{plain_request, asked, asked_small, asked_device};
-ghost use Rattle.ipcd.specs.Command.{asked_sectors, number_of, is_no_flag, small_words};
-ghost use Rattle.ipcd.specs.Command.{sectors_words};
-ghost use Rattle.ipcd.specs.Command.{small_rule, sectors_rule, device_rule};
+ghost use Rattle.ipcd.specs.Command.PlainRequest.{Format, Run, Dump, Serve};
+ghost use Rattle.ipcd.specs.Command.{plain_request, asked, asked_small, asked_text};
+ghost use Rattle.ipcd.specs.Command.{asked_number, number_of};
+ghost use Rattle.ipcd.specs.Command.{is_no_flag, small_words, sectors_words, turns_words, turns_of};
+ghost use Rattle.ipcd.specs.Command.{small_rule, sectors_rule, device_rule, socket_rule, turns_rule};
 
 use clap::error::ErrorKind;
 use clap::{Arg, ArgAction, ArgMatches, Command, Error, value_parser};
@@ -41,6 +41,12 @@ pub enum Request {
     /// List the objects of the device in a file.
     Dump {
         device: String,
+    },
+    /// Serve the device in a file to the clients of a socket, for so many turns.
+    Serve {
+        device: String,
+        socket: String,
+        turns: u32,
     },
 }
 
@@ -116,6 +122,12 @@ pub(crate) fn parse<S: AsStr>(alloc: Global, words: &[S]) -> Result<Request, Err
     ensures dump { (name device : List ℕ) → is_no_flag device ≡ true
         → map S.text words.now ≡ name ∷ codes "dump" ∷ device ∷ []
         → AsksFor (Dump device) result }
+    ensures serve { (name device socket : List ℕ) (number : Option (List ℕ))
+        → is_no_flag device ≡ true → is_no_flag socket ≡ true
+        → IfSome number (λ text. IsSome (number_of text))
+        → map S.text words.now
+        ≡ name ∷ codes "serve" ∷ device ∷ socket ∷ turns_words number
+        → AsksFor (Serve device socket (turns_of (option_and_then number_of number))) result }
     // What any words ask for, if they are taken, by what the parser finds in them.
     ensures asked { IfOk result (λ request.
         plain_request request ≡ asked (subcommand_of declared (map S.text words.now))) }
@@ -142,14 +154,20 @@ fn command_line<'a>(alloc: Global) -> Result<Command<'a>, AllocError>
     let dump = Command::new(alloc, "dump")
         .about("Lists the objects of the server whose device is in a file")
         .arg(device_word(alloc))?;
+    let serve = Command::new(alloc, "serve")
+        .about("Serves the device in a file to the clients of a Unix socket")
+        .arg(device_word(alloc))?
+        .arg(socket_word(alloc))?
+        .arg(turns_option(alloc))?;
     Command::new(alloc, "ipcd")
-        .about("System V message queues, run from a script")
+        .about("System V message queues that outlive the system")
         .version("0.1.0")
         .subcommand_required(true)
         .subcommand(replay)?
         .subcommand(format)?
         .subcommand(run)?
-        .subcommand(dump)
+        .subcommand(dump)?
+        .subcommand(serve)
 }
 
 // The flag `--small`.
@@ -186,6 +204,31 @@ fn device_word<'a>(alloc: Global) -> Arg<'a>
         .help("The file of the device")
 }
 
+// The word that names a socket.
+fn socket_word<'a>(alloc: Global) -> Arg<'a>
+    ensures rule { rule_of result ≡ socket_rule }
+    ensures local { result.global ≡ false }
+{
+    Arg::new(alloc, "socket")
+        .value_name("SOCKET")
+        .required(true)
+        .help("The file that the socket is made at. Nothing may stand there")
+}
+
+// The option `--turns N`.
+fn turns_option<'a>(alloc: Global) -> Arg<'a>
+    ensures rule { rule_of result ≡ turns_rule }
+    ensures local { result.global ≡ false }
+{
+    Arg::new(alloc, "turns")
+        .long("turns")
+        .value_name("N")
+        .value_parser(value_parser!(u32))
+        .help(
+            "How many turns of its loop the server makes before it ends: 4294967295 if none are given",
+        )
+}
+
 // What the matches ask for.
 fn request_in(alloc: Global, matches: &ArgMatches<'_>) -> Result<Request, AllocError>
     ensures { IfOk result (λ request.
@@ -198,18 +241,25 @@ fn request_in(alloc: Global, matches: &ArgMatches<'_>) -> Result<Request, AllocE
     }
     if let Some(format) = matches.subcommand_matches("format") {
         return Ok(Request::Format {
-            device: device_in(alloc, format)?,
+            device: text_in(alloc, format, "device")?,
             small: small_in(format),
-            sectors: sectors_in(format),
+            sectors: number_in(format, "sectors"),
         });
     }
     if let Some(run) = matches.subcommand_matches("run") {
         return Ok(Request::Run {
-            device: device_in(alloc, run)?,
+            device: text_in(alloc, run, "device")?,
+        });
+    }
+    if let Some(serve) = matches.subcommand_matches("serve") {
+        return Ok(Request::Serve {
+            device: text_in(alloc, serve, "device")?,
+            socket: text_in(alloc, serve, "socket")?,
+            turns: number_in(serve, "turns").unwrap_or(u32::MAX),
         });
     }
     let device = match matches.subcommand_matches("dump") {
-        Some(dump) => device_in(alloc, dump)?,
+        Some(dump) => text_in(alloc, dump, "device")?,
         None => String::new(alloc),
     };
     Ok(Request::Dump { device })
@@ -222,19 +272,20 @@ fn small_in(command: &ArgMatches<'_>) -> bool
     command.get_one("small").unwrap_or(false)
 }
 
-// The file that a command names. The parser has refused a command that names none.
-fn device_in(alloc: Global, command: &ArgMatches<'_>) -> Result<String, AllocError>
-    ensures { IfOk result (λ device.
-        string_bytes device ≡ asked_device (rows_of (found_of command.now))) }
+// The text that a command has by this name. The parser has refused a command without one that it
+// needs.
+fn text_in(alloc: Global, command: &ArgMatches<'_>, name: &str) -> Result<String, AllocError>
+    ensures { IfOk result (λ text.
+        string_bytes text ≡ asked_text name.now (rows_of (found_of command.now))) }
 {
-    command.get_str("device").unwrap_or("").to_string(alloc)
+    command.get_str(name).unwrap_or("").to_string(alloc)
 }
 
-// The number of sectors that a command asks for.
-fn sectors_in(command: &ArgMatches<'_>) -> Option<u32>
-    ensures { result ≡ asked_sectors (rows_of (found_of command.now)) }
+// The number that a command has by this name.
+fn number_in(command: &ArgMatches<'_>, name: &str) -> Option<u32>
+    ensures { result ≡ asked_number name.now (rows_of (found_of command.now)) }
 {
-    command.get_one("sectors")
+    command.get_one(name)
 }
 
 /// The limits of a server: small ones where they are asked for, else the standard ones.

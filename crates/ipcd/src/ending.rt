@@ -2,11 +2,12 @@
 
 ghost use Rattle.std.specs.Prelude.{◌≡◌, Some};
 ghost use Rattle.ipcd.specs.Ending.{exit_status, complaint_text, of_open_error, of_format_error};
-ghost use Rattle.ipcd.specs.Ending.{of_dump_error, device_fault};
+ghost use Rattle.ipcd.specs.Ending.{of_dump_error, of_server_error, of_serve_fault, device_fault};
 ghost use Rattle.ipcd.specs.declared.ending.Fault.TheVariants.{Run};
 
 use ipc_disk::DiskFault;
 use ipc_script::{DumpError, ScriptFault};
+use ipc_server::{ServeFault, ServerError};
 use ipc_store::{FormatError, OpenError};
 use std::fmt;
 
@@ -18,6 +19,8 @@ pub enum Fault {
     Run(ScriptFault),
     /// A device is to have at least so many sectors.
     TooSmall { need: u32 },
+    /// The socket cannot be made, or cannot be waited for.
+    Socket,
 }
 
 /// The exit status: 0 without a fault, 1 if the world failed or the device is too small, 2 if the
@@ -29,6 +32,7 @@ pub fn exit_of(outcome: &Result<(), Fault>) -> u8
         Ok(()) => 0,
         Err(
             Fault::TooSmall { .. }
+            | Fault::Socket
             | Fault::Run(
                 ScriptFault::NoMemory
                 | ScriptFault::Input
@@ -57,6 +61,7 @@ impl fmt::Display for Fault {
         match self {
             Fault::Run(fault) => write!(f, "ipcd: {fault}"),
             Fault::TooSmall { need } => write!(f, "ipcd: too small, {need} sectors needed"),
+            Fault::Socket => write!(f, "ipcd: socket fault"),
         }
     }
 }
@@ -66,6 +71,28 @@ impl From<ScriptFault> for Fault {
 
     fn from(fault: ScriptFault) -> Self {
         Fault::Run(fault)
+    }
+}
+
+impl From<ServerError> for Fault {
+    ghost from_gives = { λ error e. e ≡ of_server_error error };
+
+    fn from(error: ServerError) -> Self {
+        match error {
+            ServerError::NoMemory => Fault::Run(ScriptFault::NoMemory),
+            ServerError::Socket => Fault::Socket,
+        }
+    }
+}
+
+impl From<ServeFault> for Fault {
+    ghost from_gives = { λ fault e. e ≡ of_serve_fault fault };
+
+    fn from(fault: ServeFault) -> Self {
+        match fault {
+            ServeFault::Device | ServeFault::Stopped => Fault::Run(ScriptFault::Device),
+            ServeFault::Socket => Fault::Socket,
+        }
     }
 }
 

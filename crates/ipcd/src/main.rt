@@ -1,11 +1,12 @@
 //! `ipcd`, the program: it runs scripts of connections on a server whose device is in memory or in a
-//! file, and it makes and lists such files.
+//! file, it makes and lists such files, and it serves them to the clients of a socket.
 #![tactic(auto)]
 
 mod command;
 mod device;
 mod ending;
 mod meter;
+mod serve;
 
 use command::{Request, limits_of, request_of};
 use device::{format_file, new_store, open_file};
@@ -13,16 +14,22 @@ use ending::{Fault, exit_of};
 use ipc_disk::SectorDisk;
 use ipc_script::{ScriptFault, dump, run_script};
 use ipc_store::Store;
+use serve::serve;
 use std::fs::File;
 use std::io;
 use std::io::IsTerminal;
+use std::net::Net;
 use std::process::ExitCode;
 use std::rt::Files;
+use std::time::Clock;
 
 #[cfg(test)]
 mod tests;
 
 fn main(rt: HostRuntime) -> io::Result<ExitCode> {
+    // A file that is opened gets the lowest descriptor that is free. Where a standard stream is
+    // closed a device would get its place, and lines would be written over it: these files take it.
+    let _streams = [null(&rt), null(&rt), null(&rt)];
     let status = match request_of(&rt) {
         Ok(request) => {
             let outcome = answer(&rt, &rt.stderr(), &request);
@@ -40,9 +47,14 @@ fn main(rt: HostRuntime) -> io::Result<ExitCode> {
     Ok(ExitCode::from(status))
 }
 
+// A file that holds nothing and takes nothing.
+fn null<R: Files<File = File>>(rt: &R) -> io::Result<File> {
+    File::open(rt, "/dev/null")
+}
+
 /// Does what the command line asks for. What takes long is said on `errors`, if that is a terminal.
 fn answer(
-    rt: &(impl Input + Print + AllocGlobal + Files<File = File>),
+    rt: &(impl Input + Print + AllocGlobal + Files<File = File> + Net + Clock),
     errors: &(impl Eprint + IsTerminal),
     request: &Request,
 ) -> Result<(), Fault> {
@@ -65,6 +77,11 @@ fn answer(
             }
             Ok(())
         }
+        Request::Serve {
+            device,
+            socket,
+            turns,
+        } => serve(rt, device, socket, *turns),
     }
 }
 

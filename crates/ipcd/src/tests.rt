@@ -28,11 +28,14 @@ fn command_lines(rt: HostRuntime) {
             Ok(_) | Err(_) => assert!(rt; false, "{words:?} is no replay"),
         }
     }
-    let refused: [(&[&str], u8); 16] = [
+    let refused: [(&[&str], u8); 19] = [
         (&["ipcd"], 2),
         (&["ipcd", "replay", "--big"], 2),
         (&["ipcd", "replay", "queues"], 2),
         (&["ipcd", "serve"], 2),
+        (&["ipcd", "serve", "queues"], 2),
+        (&["ipcd", "serve", "queues", "socket", "more"], 2),
+        (&["ipcd", "serve", "queues", "socket", "--turns", "many"], 2),
         (&["ipcd", "run"], 2),
         (&["ipcd", "run", "queues", "--small"], 2),
         (&["ipcd", "dump"], 2),
@@ -100,6 +103,41 @@ fn requests_for_files(rt: HostRuntime) {
     match &dump {
         Ok(Request::Dump { device }) => assert_eq!(rt; device.as_str(), "queues"),
         Ok(_) | Err(_) => assert!(rt; false, "it is no dump"),
+    }
+}
+
+#[test]
+fn requests_for_a_server(rt: HostRuntime) {
+    let serves: [(&[&str], (&str, &str, u32)); 3] = [
+        (
+            &["ipcd", "serve", "queues", "socket"],
+            ("queues", "socket", 4294967295),
+        ),
+        (
+            &["ipcd", "serve", "queues", "socket", "--turns", "0"],
+            ("queues", "socket", 0),
+        ),
+        (
+            &["ipcd", "serve", "--turns=12", "a b", "c d"],
+            ("a b", "c d", 12),
+        ),
+    ];
+    for (words, wanted) in serves {
+        let asked = parse(rt.alloc(), words);
+        match &asked {
+            Ok(
+                Request::Serve {
+                    device,
+                    socket,
+                    turns,
+                },
+            ) => assert_eq!(rt;
+                (device.as_str(), socket.as_str(), *turns),
+                wanted,
+                "{words:?}"
+            ),
+            Ok(_) | Err(_) => assert!(rt; false, "{words:?} is no request for a server"),
+        }
     }
 }
 

@@ -2,7 +2,7 @@ use Rattle.std.proofs.Common.{◌≡◌, ◌∙◌, ap, ap₂, Bool, true, false
 use Rattle.std.proofs.lemmas.Result.{IfOk-weaker}
 use Rattle.clap.specs.Words.{App, app_of, new_app, with_rule, with_subcommand}
 use Rattle.clap.specs.declared.builder.command.Command.TheViews.{out-Command}
-use Rattle.ipcd.specs.Command.{device_rule, small_rule, replay_command, format_command, run_command, dump_command, ipcd_command}
+use Rattle.ipcd.specs.Command.{device_rule, small_rule, replay_command, format_command, run_command, dump_command, serve_command, ipcd_command, socket_rule}
 use Rattle.ipcd.proofs.command.command_line.Goals as goal
 
 -- a command below another
@@ -30,10 +30,17 @@ returns c =
     c.in_ok-run.ensures.shape c.device_word-2.ensures.local ∙ ap₂ with_rule (about_3 ∙ c.new-3.ensures.app) c.device_word-2.ensures.rule in
     let dump : app_of c.in_ok-dump.dump ≡ dump_command =
     c.in_ok-dump.ensures.shape c.device_word-3.ensures.local ∙ ap₂ with_rule (about_4 ∙ c.new-4.ensures.app) c.device_word-3.ensures.rule in
+    let about_5 : app_of c.about-5.result ≡ app_of c.new-5.result = rw c.about-5.ensures refl in
+    let served : app_of c.in_ok-arg-3.field-0 ≡ with_rule (new_app (codes "serve")) device_rule =
+    c.in_ok-arg-3.ensures.shape c.device_word-4.ensures.local ∙ ap₂ with_rule (about_5 ∙ c.new-5.ensures.app) c.device_word-4.ensures.rule in
+    let socket : app_of c.in_ok-arg-4.field-0 ≡ with_rule (with_rule (new_app (codes "serve")) device_rule) socket_rule =
+    c.in_ok-arg-4.ensures.shape c.socket_word.ensures.local ∙ ap₂ with_rule served c.socket_word.ensures.rule in
+    let serve : app_of c.in_ok-serve.serve ≡ serve_command =
+    c.in_ok-serve.ensures.shape c.turns_option.ensures.local ∙ ap₂ with_rule socket c.turns_option.ensures.rule in
     let ipcd : app_of c.subcommand_required.result ≡ ipcd_command =
-    rw (c.subcommand_required.ensures, c.version.ensures, c.about-5.ensures)
+    rw (c.subcommand_required.ensures, c.version.ensures, c.about-6.ensures)
     (ap (λ (a : App). record a { top = record a.top { has_version = true; subcommand_required = true } })
-    c.new-5.ensures.app) in
+    c.new-6.ensures.app) in
     let new : (out-Command c.about.result).has_globals ≡ false = rw c.about.ensures c.new.ensures.local in
     let new_2 : (out-Command c.about-2.result).has_globals ≡ false = rw c.about-2.ensures c.new-2.ensures.local in
     let new_3 : (out-Command c.about-3.result).has_globals ≡ false = rw c.about-3.ensures c.new-3.ensures.local in
@@ -48,9 +55,15 @@ returns c =
     no_globals c.in_ok-run.ensures.globals new_3 c.device_word-2.ensures.local in
     let dump_local : (out-Command c.in_ok-dump.dump).has_globals ≡ false =
     no_globals c.in_ok-dump.ensures.globals new_4 c.device_word-3.ensures.local in
+    let new_5 : (out-Command c.about-5.result).has_globals ≡ false = rw c.about-5.ensures c.new-5.ensures.local in
+    let served_local : (out-Command c.in_ok-arg-3.field-0).has_globals ≡ false =
+    no_globals c.in_ok-arg-3.ensures.globals new_5 c.device_word-4.ensures.local in
+    let socket_local = no_globals c.in_ok-arg-4.ensures.globals served_local c.socket_word.ensures.local in
+    let serve_local = no_globals c.in_ok-serve.ensures.globals socket_local c.turns_option.ensures.local in
     let one = c.in_ok-subcommand.ensures.shape replay_local ∙ below _ _ _ _ ipcd replay in
     let two = c.in_ok-subcommand-2.ensures.shape format_local ∙ below _ _ _ _ one format in
     let three = c.in_ok-subcommand-3.ensures.shape run_local ∙ below _ _ _ _ two run in
-    IfOk-weaker c.subcommand-4.result _ _
-    (λ command added. added.shape dump_local ∙ below _ _ _ _ three dump)
-    c.subcommand-4.ensures
+    let four = c.in_ok-subcommand-4.ensures.shape dump_local ∙ below _ _ _ _ three dump in
+    IfOk-weaker c.subcommand-5.result _ _
+    (λ command added. added.shape serve_local ∙ below _ _ _ _ four serve)
+    c.subcommand-5.ensures

@@ -22,8 +22,8 @@ use Rattle.clap.specs.declared.builder.command.Command.{Command}
 use Rattle.clap.specs.declared.parser.matches.ArgMatches.{ArgMatches}
 use Rattle.clap.specs.Simple.{HasMatchesOf}
 use Rattle.clap.proofs.OnLiterals.{clap_on_literals}
-use Rattle.ipcd.specs.Command.{PlainRequest, plain_request, asked, declared, is_no_flag, number_of, small_words, sectors_words, AsksFor, IsTakenAs}
-use Rattle.ipcd.specs.Command.PlainRequest.{Replay, Format, Run, Dump}
+use Rattle.ipcd.specs.Command.{PlainRequest, plain_request, asked, declared, is_no_flag, number_of, small_words, sectors_words, turns_words, turns_of, AsksFor, IsTakenAs}
+use Rattle.ipcd.specs.Command.PlainRequest.{Replay, Format, Run, Dump, Serve}
 use Rattle.ipcd.proofs.command.parse.Goals as goal
 
 abbrev standard_words : List ℕ → List Text
@@ -157,6 +157,24 @@ format-taken name device false (Some word) v n =
 format-taken name device true (Some word) v n =
     rw (v.dashes, v.long, v.short, n.value.dashes, n.value.long, n.value.short) (ap passes_all n.passes)
 
+abbrev serve_line : List ℕ → List ℕ → List ℕ → Option Text → List Text
+serve_line name device socket number = name ∷ codes "serve" ∷ device ∷ socket ∷ turns_words number
+
+serve-read : (name device socket : List ℕ) (number : Option Text) → IsValue device → IsValue socket → IfSome number IsNumber
+    → asked (subcommand_of declared (serve_line name device socket number)) ≡ Serve device socket (turns_of (option_and_then number_of number))
+unfolding clap_on_literals
+serve-read name device socket None v w n = rw (v.dashes, v.long, v.short, w.dashes, w.long, w.short) refl
+serve-read name device socket (Some word) v w n =
+    rw (v.dashes, v.long, v.short, w.dashes, w.long, w.short, n.value.dashes, n.value.long, n.value.short)
+    (ap (λ (t : Text). Serve device socket (turns_of (number_of t))) n.same)
+
+serve-taken : (name device socket : List ℕ) (number : Option Text) → IsValue device → IsValue socket → IfSome number IsNumber
+    → takes declared (serve_line name device socket number) ≡ true
+unfolding clap_on_literals
+serve-taken name device socket None v w n = rw (v.dashes, v.long, v.short, w.dashes, w.long, w.short) refl
+serve-taken name device socket (Some word) v w n =
+    rw (v.dashes, v.long, v.short, w.dashes, w.long, w.short, n.value.dashes, n.value.long, n.value.short) (ap passes_all n.passes)
+
 -- what the parser finds in these words
 found-in : (command : Command) (words : List Text) (m : ArgMatches) → app_of command ≡ declared
     → HasMatchesOf (app_of command) words m → subcommand_rows_of m ≡ subcommand_of declared words
@@ -192,6 +210,7 @@ replay-only (request.Replay b) small is = let same : b ≡ small = cc in ap (λ 
 replay-only (request.Format device b sectors) small is = cc
 replay-only (request.Run device) small is = cc
 replay-only (request.Dump device) small is = cc
+replay-only (request.Serve device socket turns) small is = cc
 
 pub returns-clause-refused : goal.returns-clause-refused
 returns-clause-refused g c = no-fault _ _ c.in_ok-command_line.ensures c.in_ok-matches.ensures.kinds
@@ -226,6 +245,12 @@ returns-in_err-matches-clause-dump g c = λ name device no_flag words.
     memory-only _ _ _ c.from_residual-in_err-matches.ensures.1
     (c.in_err-matches.ensures.passes (ap₂ takes c.in_ok-command_line.ensures words ∙ dump-taken name device (value-of device no_flag)))
 
+pub returns-in_err-matches-clause-serve : goal.returns-in_err-matches-clause-serve
+returns-in_err-matches-clause-serve g c = λ name device socket number no_flag no_option some words.
+    memory-only _ _ _ c.from_residual-in_err-matches.ensures.1
+    (c.in_err-matches.ensures.passes (ap₂ takes c.in_ok-command_line.ensures words
+    ∙ serve-taken name device socket number (value-of device no_flag) (value-of socket no_option) (numbers-of number some)))
+
 pub returns-clause-standard : goal.returns-clause-standard
 returns-clause-standard g c = λ name words. record {
   ok = replay-only _ false (asks _ _ _ _ _ _ c.in_ok-command_line.ensures c.in_ok-matches.ensures.matches
@@ -258,5 +283,12 @@ pub returns-clause-dump : goal.returns-clause-dump
 returns-clause-dump g c = λ name device no_flag words. record {
   ok = asks _ _ _ _ _ _ c.in_ok-command_line.ensures c.in_ok-matches.ensures.matches
       c.in_ok-request_in.ensures words (dump-read name device (value-of device no_flag));
+  err = tt;
+}
+
+pub returns-clause-serve : goal.returns-clause-serve
+returns-clause-serve g c = λ name device socket number no_flag no_option some words. record {
+  ok = asks _ _ _ _ _ _ c.in_ok-command_line.ensures c.in_ok-matches.ensures.matches c.in_ok-request_in.ensures words
+      (serve-read name device socket number (value-of device no_flag) (value-of socket no_option) (numbers-of number some));
   err = tt;
 }

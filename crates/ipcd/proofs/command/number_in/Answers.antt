@@ -1,4 +1,4 @@
-use Rattle.std.proofs.Common.{◌≡◌, ◌∙◌, ap, refl, arith, ℕ, Bool, true, false, Option, Some, None, Ok, Err, codes}
+use Rattle.std.proofs.Common.{◌≡◌, ◌∙◌, ap, refl, arith, ℕ, Bool, true, false, Option, Some, None, Ok, Err}
 use Rattle.std.specs.Prelude.{option_and_then, Result}
 use Rattle.std.specs.Str.Parse.{ParsesUnsigned, ExplainsUnsignedError, HasUnsignedDigitsIfOk}
 use Rattle.clap.specs.Matches.{ReadsOne}
@@ -8,7 +8,7 @@ use Rattle.clap.specs.declared.builder.value_parser.ValueParser.TheVariants.{Uns
 use Rattle.clap.proofs.ValueTestLemmas.{accepts-Accepts, Accepts-accepts}
 use Rattle.clap.proofs.WalkLemmas.{one_text-rows}
 use Rattle.ipcd.specs.Command.{number_of}
-use Rattle.ipcd.proofs.command.sectors_in.Goals as goal
+use Rattle.ipcd.proofs.command.number_in.Goals as goal
 
 -- what `get_one` reads as a `u32`
 read : {E : Type 0} (gives : Text → Result ℕ E → Type 0) → ((t : Text) (r : Result ℕ E) → gives t r → ParsesUnsigned 32 10 t r)
@@ -31,4 +31,4 @@ read gives parses (Some t) None none value = other (is_unsigned_in 0 4294967295 
 pub returns : goal.returns
 returns c = read (λ bs r. ParsesUnsigned 32 10 bs r × ExplainsUnsignedError 10 bs r × HasUnsignedDigitsIfOk bs r) (λ t r g. g.0)
     _ c.get_one.result c.get_one.ensures.none c.get_one.ensures.value
-    ∙ ap (option_and_then number_of) (one_text-rows (found_of c.args.command.now) (codes "sectors"))
+    ∙ ap (option_and_then number_of) (one_text-rows (found_of c.args.command.now) c.args.name.now)

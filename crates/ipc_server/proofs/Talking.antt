@@ -1,0 +1,125 @@
+-- What a client's bytes come to, and what it is sent.
+use Rattle.std.proofs.Common.{◌≡◌, ℕ, List, [], ◌∷◌, ◌++◌, Option, Some, None, refl, sym, ap, ◌∙◌, append_assoc, append-nil, take, drop, length, arith}
+use Rattle.std.specs.Io.KnownBytes.{Appends, Consumes, Keeps, prepend_known}
+use Rattle.std.proofs.lemmas.List.{map-append, take-append-drop}
+use Rattle.std.proofs.lemmas.Grind.{flat_map-append}
+use Rattle.ipc_disk.specs.Medium.{Image, Medium}
+use Rattle.ipc_hub.specs.View.{StoredHub}
+use Rattle.ipc_hub.specs.Relations.Matches.{ServesFeed}
+use Rattle.ipc_server.specs.Acts.{Piece, after, all_of, feeds}
+use Rattle.ipc_server.specs.Acts.Act.{Feeds}
+use Rattle.ipc_server.specs.Goes.{Goes, Hears, Tells}
+use Rattle.ipc_server.proofs.Going.{after-both, comes-both, comes-none}
+
+-- ---- known bytes
+
+pub consumes-none : (known : Option (List ℕ)) → Consumes known known []
+consumes-none None = tt
+consumes-none (Some xs) = refl
+
+pub consumes-both : (known mid left : Option (List ℕ)) (xs ys : List ℕ) → Consumes known mid xs → Consumes mid left ys → Consumes known left (xs ++ ys)
+consumes-both None mid left xs ys one two = tt
+consumes-both (Some all) None left xs ys one two = absurd one
+consumes-both (Some all) (Some mid) None xs ys one two = absurd two
+consumes-both (Some all) (Some mid) (Some left) xs ys one two = one ∙ ap (λ zs. xs ++ zs) two ∙ sym (append_assoc xs ys left)
+
+-- what is kept is consumed as before
+pub kept-consumes : (known mid left : Option (List ℕ)) (xs : List ℕ) → Keeps known mid → Consumes mid left xs → Consumes known left xs
+kept-consumes None mid left xs same uses = tt
+kept-consumes (Some all) None left xs same uses = absurd same
+kept-consumes (Some all) (Some mid) left xs same uses = rw (sym same) uses
+
+-- what is there of a piece of no bytes
+pub empty-kept : (bytes : List ℕ) (known now : Option (List ℕ)) → length bytes ≡ 0 → Keeps known now → Keeps (prepend_known bytes known) now
+empty-kept [] None now none same = tt
+empty-kept [] (Some xs) now none same = same
+empty-kept (b ∷ bytes) known now none same = absurd (omega (arith, none))
+
+-- the first bytes of a piece are consumed
+pub piece-consumes : (bytes : List ℕ) (count : ℕ) (known : Option (List ℕ))
+    → Consumes (prepend_known bytes known) (prepend_known (drop count bytes) known) (take count bytes)
+piece-consumes bytes count None = tt
+piece-consumes bytes count (Some xs) =
+    ap (λ ys. ys ++ xs) (sym (take-append-drop count bytes)) ∙ append_assoc (take count bytes) (drop count bytes) xs
+
+pub appends-none : (known : Option (List ℕ)) → Appends known known []
+appends-none None = tt
+appends-none (Some xs) = sym (append-nil xs)
+
+pub appends-both : (known mid all : Option (List ℕ)) (xs ys : List ℕ) → Appends known mid xs → Appends mid all ys → Appends known all (xs ++ ys)
+appends-both None mid all xs ys one two = tt
+appends-both (Some zs) None all xs ys one two = absurd one
+appends-both (Some zs) (Some mid) None xs ys one two = absurd two
+appends-both (Some zs) (Some mid) (Some all) xs ys one two = two ∙ ap (λ ws. ws ++ ys) one ∙ append_assoc zs xs ys
+
+-- ---- what a client is sent
+
+pub tells-none : (known : Option (List ℕ)) (shown : List ℕ) → Tells known known shown shown
+tells-none known shown = ([], refl, appends-none known)
+
+pub tells-both : (known mid all : Option (List ℕ)) (shown left less : List ℕ) → Tells known mid shown left → Tells mid all left less
+    → Tells known all shown less
+tells-both known mid all shown left less one two = (
+  one.0 ++ two.0,
+  one.1 ∙ ap (λ xs. one.0 ++ xs) two.1 ∙ sym (append_assoc one.0 two.0 less),
+  appends-both known mid all one.0 two.0 one.2 two.2,
+)
+
+-- a write that failed wrote nothing
+pub tells-kept : (known mid all : Option (List ℕ)) (shown left : List ℕ) → Tells known mid shown left → Keeps mid all → Tells known all shown left
+tells-kept None mid all shown left one same = (one.0, one.1, tt)
+tells-kept (Some xs) None all shown left one same = absurd one.2
+tells-kept (Some xs) (Some mid) None shown left one same = absurd same
+tells-kept (Some xs) (Some mid) (Some all) shown left one same = (one.0, one.1, same ∙ one.2)
+
+-- one write, and what it took is consumed
+pub tells-one : (known all : Option (List ℕ)) (shown left : List ℕ) (count : ℕ) → Appends known all (take count shown) → left ≡ drop count shown
+    → Tells known all shown left
+tells-one known all shown left count appends rest =
+    (take count shown, sym (take-append-drop count shown) ∙ ap (λ xs. take count shown ++ xs) (sym rest), appends)
+
+-- ---- what a client's bytes come to
+
+pub feeds-both : (conn moment : ℕ) (pieces others : List Piece) → feeds conn moment (pieces ++ others) ≡ feeds conn moment pieces ++ feeds conn moment others
+feeds-both conn moment pieces others = map-append (λ p. Feeds conn p.bytes moment p.refused) pieces others
+
+pub all-both : (pieces others : List Piece) → all_of (pieces ++ others) ≡ all_of pieces ++ all_of others
+all-both pieces others = flat_map-append (λ p. p.bytes) pieces others
+
+module _ {D : Type 0} (medium : D → Medium) (conn moment : ℕ) where
+  pub hears-goes : (old new : StoredHub D) (there left : Option (List ℕ)) → Hears medium conn moment old new there left → Goes medium old new
+  hears-goes old new there left hears limits h m =
+      let a = hears limits h m in (feeds conn moment a.0, a.1)
+
+  pub hears-both : (old mid new : StoredHub D) (there some left : Option (List ℕ)) → Hears medium conn moment old mid there some
+      → Hears medium conn moment mid new some left → Hears medium conn moment old new there left
+  hears-both old mid new there some left one two limits h m =
+      let a = one limits h m in
+      let now = after limits h (feeds conn moment a.0) in
+      let b = two limits now a.1.matches in (
+        a.0 ++ b.0,
+        rw (feeds-both conn moment a.0 b.0, after-both limits h (feeds conn moment a.0) (feeds conn moment b.0))
+            (comes-both medium limits old mid new h now (after limits now (feeds conn moment b.0)) a.1 b.1),
+        rw (all-both a.0 b.0) (consumes-both there some left (all_of a.0) (all_of b.0) a.2 b.2),
+      )
+
+  pub hears-kept : (old new : StoredHub D) (there some left : Option (List ℕ)) → Keeps there some → Hears medium conn moment old new some left
+      → Hears medium conn moment old new there left
+  hears-kept old new there some left same hears limits h m =
+      let a = hears limits h m in (a.0, a.1, kept-consumes there some left (all_of a.0) same a.2)
+
+  -- one piece was fed, of which so much was taken
+  pub hears-one : (old new : StoredHub D) (bytes : List ℕ) (count : ℕ) (known : Option (List ℕ))
+      → ServesFeed medium old new conn (take count bytes) moment
+      → Hears medium conn moment old new (prepend_known bytes known) (prepend_known (drop count bytes) known)
+  hears-one old new bytes count known serves limits h m =
+      let a = serves limits h m in
+      let piece : Piece = record { bytes = take count bytes; refused = a.0 } in (
+        piece ∷ [],
+        a.1,
+        rw (append-nil (take count bytes)) (piece-consumes bytes count known),
+      )
+
+  pub hears-none : (law : (d : D) (image : Image) → (medium d).images_since (medium d).moment image → (medium d).images_now image)
+      (hub : StoredHub D) (known : Option (List ℕ)) → Hears medium conn moment hub hub known known
+  hears-none law hub known limits h m = ([], comes-none medium law limits hub h m, consumes-none known)

@@ -1,0 +1,20 @@
+use Rattle.ipc_server.proofs.Going.{sends-both, sends-one}
+use Rattle.ipc_server.proofs.Talking.{tells-both, tells-kept, tells-one}
+use Rattle.ipc_server.proofs.client.Client.put_out.Goals.{in-Ok, in-Err+in-Interrupted}
+use Rattle.ipc_server.proofs.client.Client.put_out.Goals as goal
+
+pub loop-preserved : goal.loop-preserved
+loop-preserved g c = elim c.match-write.branch [
+  | in-Ok w ↦ record {
+    conn = c.loop.invariant.conn;
+    sends = rw w.hub-is (sends-both c.args.hub.now c.loop.hub w.consume.new.self c.loop.invariant.sends
+        (sends-one c.loop.hub w.consume.new.self c.loop.self.conn w.in-Ok.count w.consume.ensures.ok w.consume.ensures.store));
+    tells = rw w.hub-is (tells-both _ _ _ _ _ _ c.loop.invariant.tells (tells-one _ _ _ _ w.in-Ok.count
+        (rw (c.output-output.ensures.bytes, c.loop.invariant.conn) at w.in-Ok.ensures.bytes) (rw c.loop.invariant.conn at w.consume.ensures.output)));
+  }
+  | in-Err+in-Interrupted w ↦ record {
+    conn = c.loop.invariant.conn;
+    sends = rw w.hub-is c.loop.invariant.sends;
+    tells = rw w.hub-is (tells-kept _ _ _ _ _ c.loop.invariant.tells w.in-Err.ensures.bytes);
+  }
+]

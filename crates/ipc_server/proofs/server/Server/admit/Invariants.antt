@@ -1,0 +1,5 @@
+use Rattle.ipc_server.specs.Goes.{Goes}
+use Rattle.ipc_server.proofs.server.Server.admit.Given as goal
+
+abbrev pub invariant-loop : goal.invariant-loop
+invariant-loop g l = Goes g.D.SectorDisk.medium l.fn.self l.self

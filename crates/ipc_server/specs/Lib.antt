@@ -1,0 +1,5 @@
+-- What the contracts of a server cite.
+pub mod Acts
+pub mod Fault
+pub mod Goes
+pub mod Turns

@@ -1,0 +1,174 @@
+//! The client of a connection: its socket, and what was read of it.
+
+ghost use Rattle.std.specs.Prelude.{◌≡◌, ◌≤◌, [], IfErr, OnOk};
+ghost use Rattle.std.specs.Io.KnownBytes.{Keeps, prepend_known};
+ghost use Rattle.ipc_hub.specs.View.{output_of};
+ghost use Rattle.ipc_server.specs.Goes.{Goes, Hears, Sends, Tells, Breaks};
+
+use bytes::BytesMut;
+use ipc_base::Moment;
+use ipc_disk::SectorDisk;
+use ipc_hub::{Hub, ServeError};
+use ipc_store::CommitError;
+use std::alloc::{AllocError, Global};
+use std::io::{ErrorKind, Read, Write};
+
+/// The most bytes that one read may give.
+const PIECE: usize = 4096;
+
+/// The most reads of a client in one turn, and the most writes each time that it is written to.
+const MOST_CALLS: usize = 16;
+
+/// The socket of a connection, and what is known of it. Its reads and writes do not block.
+#[derive(Drop)]
+pub(crate) struct Client<S> {
+    conn: u32,
+    socket: S,
+    /// What was read, and the hub has not taken.
+    piece: BytesMut,
+    /// A read may give something: none has said since that it would block.
+    readable: bool,
+    /// The socket took no more bytes when it was last written to.
+    full: bool,
+    /// The end of its input was read, or its socket has failed.
+    over: bool,
+}
+
+impl<S> Client<S> {
+    /// The client of a new connection. All that it will ever need is taken now.
+    pub fn new(alloc: Global, conn: u32, socket: S) -> Result<Client<S>, AllocError>
+    where
+        S: Drop,
+    {
+        Ok(Client {
+            conn,
+            socket,
+            piece: BytesMut::with_capacity(alloc, PIECE)?,
+            readable: true,
+            full: false,
+            over: false,
+        })
+    }
+
+    /// The number of its connection.
+    pub fn conn(&self) -> u32
+        ensures { result ≡ self.now.conn }
+    {
+        self.conn
+    }
+
+    /// The system says that a read may give something.
+    pub fn wake(&mut self) {
+        self.readable = true;
+    }
+
+    /// Whether it may have something for the hub already. One that does not read what it is sent has
+    /// to wait.
+    pub fn is_waiting(&self) -> bool {
+        !self.over && !self.full && (self.readable || !self.piece.is_empty())
+    }
+
+    /// Whether its connection is to be hung up: it is over, or the server has ended it and all that
+    /// it may see was written.
+    pub fn is_gone<D: SectorDisk>(&self, hub: &Hub<D>) -> bool {
+        self.over || (hub.ended(self.conn) && hub.output(self.conn).is_empty())
+    }
+}
+
+impl<S: Read> Client<S> {
+    /// Feeds the hub what was read and not taken; then, if all of that was taken, what some reads
+    /// give.
+    pub fn take_in<D: SectorDisk>(
+        &mut self,
+        hub: &mut Hub<D>,
+        moment: Moment,
+    ) -> Result<(), CommitError>
+        ensures hears { OnOk result (Hears D.medium self.old.conn moment.0 hub.old hub.new
+            (prepend_known self.old.piece.items (S.remaining self.old.socket))
+            (prepend_known self.new.piece.items (S.remaining self.new.socket))) }
+        ensures breaks { IfErr result (λ e. Breaks D.medium D.counts hub.old hub.new e) }
+        ensures conn { self.new.conn ≡ self.old.conn }
+    {
+        self.feed(hub, moment)?;
+        for _ in 0..MOST_CALLS {
+            if !self.readable || self.over || !self.piece.is_empty() {
+                return Ok(());
+            }
+            self.read();
+            self.feed(hub, moment)?;
+        }
+        Ok(())
+    }
+
+    // Reads once. Nothing waits to be taken.
+    fn read(&mut self)
+        requires { self.old.piece.items ≡ [] }
+        ensures same { Keeps (S.remaining self.old.socket)
+            (prepend_known self.new.piece.items (S.remaining self.new.socket)) }
+        ensures conn { self.new.conn ≡ self.old.conn }
+    {
+        self.piece.clear();
+        match self.piece.read_from(&mut self.socket) {
+            Ok(0) => self.over = true,
+            Ok(_) => {}
+            Err(error) => match error.kind() {
+                ErrorKind::Interrupted => {}
+                ErrorKind::WouldBlock => self.readable = false,
+                _ => self.over = true,
+            },
+        }
+    }
+
+    // Feeds the hub what was read, if there is any.
+    fn feed<D: SectorDisk>(&mut self, hub: &mut Hub<D>, moment: Moment) -> Result<(), CommitError>
+        ensures hears { OnOk result (Hears D.medium self.old.conn moment.0 hub.old hub.new
+            (prepend_known self.old.piece.items (S.remaining self.old.socket))
+            (prepend_known self.new.piece.items (S.remaining self.new.socket))) }
+        ensures breaks { IfErr result (λ e. Breaks D.medium D.counts hub.old hub.new e) }
+        ensures conn { self.new.conn ≡ self.old.conn }
+    {
+        if self.piece.is_empty() {
+            return Ok(());
+        }
+        match hub.feed(self.conn, self.piece.as_slice(), moment) {
+            Ok(taken) => self.piece.advance(taken),
+            Err(ServeError::Unknown) => self.over = true,
+            Err(ServeError::Device) => return Err(CommitError::Device),
+            Err(ServeError::Stopped) => return Err(CommitError::Stopped),
+        }
+        Ok(())
+    }
+}
+
+impl<S: Write> Client<S> {
+    /// Writes what the client may see, until nothing is left or a write would block.
+    pub fn put_out<D: SectorDisk>(&mut self, hub: &mut Hub<D>)
+        ensures sends { Sends hub.old hub.new }
+        // The socket is written what the client could see, in order, each byte once.
+        ensures tells { Tells (S.contents self.old.socket) (S.contents self.new.socket)
+            (output_of hub.old.hub self.old.conn) (output_of hub.new.hub self.old.conn) }
+        ensures conn { self.new.conn ≡ self.old.conn }
+    {
+        self.full = false;
+        for _ in 0..MOST_CALLS {
+            let output = hub.output(self.conn);
+            if output.is_empty() {
+                return;
+            }
+            match self.socket.write(output) {
+                Ok(count) => hub.consume(self.conn, count),
+                Err(error) => match error.kind() {
+                    ErrorKind::Interrupted => {}
+                    ErrorKind::WouldBlock => {
+                        self.full = true;
+                        return;
+                    }
+                    _ => {
+                        self.over = true;
+                        return;
+                    }
+                },
+            }
+        }
+    }
+}

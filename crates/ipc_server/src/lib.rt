@@ -1,0 +1,16 @@
+//! The server on a Unix socket: what its clients write is fed to a hub, and what they may see is
+//! written to them.
+#![tactic(auto)]
+
+mod client;
+mod fault;
+mod laws;
+mod rounds;
+mod server;
+
+pub use fault::{ServeFault, ServerError};
+pub use laws::a_crash_takes_nothing_back_that_was_sent;
+pub use server::{Server, Unserved};
+
+#[cfg(test)]
+mod tests;

@@ -1,0 +1,210 @@
+//! The server: a hub, the sockets of its connections, and the socket on which new ones come.
+
+ghost use Rattle.std.specs.Prelude.{◌≡◌, IfErr, IfOk, OnErr, OnOk, Err};
+ghost use Rattle.ipc_disk.specs.Medium.{IsHonest};
+ghost use Rattle.ipc_hub.specs.View.{HasStopped, StoredHub};
+ghost use Rattle.ipc_server.specs.Goes.{Goes, Breaks, BreaksOff};
+
+use crate::client::Client;
+use crate::fault::{ServeFault, ServerError};
+use crate::rounds::{put_out_all, serve_all};
+use ipc_base::Moment;
+use ipc_disk::SectorDisk;
+use ipc_hub::Hub;
+use ipc_store::CommitError;
+use mio::net::{UnixListener, UnixStream};
+use mio::{Events, Interest, Poll, Token};
+use slab::Slab;
+use std::alloc::Global;
+use std::marker::Model;
+use std::net::Net;
+use std::time::Duration;
+
+/// The most new connections in one turn.
+const MOST_ACCEPTS: usize = 64;
+
+/// The most events that one wait gives. Others come with the next.
+const MOST_EVENTS: usize = 1024;
+
+/// What events of the listening socket are told by: no client has it.
+const LISTENER: Token = Token(usize::MAX);
+
+/// How many milliseconds a wait may take, if no client has something already.
+const LONGEST_WAIT: u64 = 100;
+
+/// A server on a Unix socket. A contract sees its hub.
+#[derive(Drop)]
+pub struct Server<D: SectorDisk> {
+    alloc: Global,
+    hub: Hub<D>,
+    clients: Slab<Client<UnixStream>>,
+    listener: UnixListener,
+    poll: Poll,
+    events: Events,
+}
+
+impl<D: SectorDisk> Model for Server<D> {
+    ghost Value = { StoredHub D };
+
+    ghost view = { λ s. s.hub };
+}
+
+/// What was to be served, and why it is not.
+#[derive(Drop)]
+pub struct Unserved<D: SectorDisk> {
+    pub error: ServerError,
+    pub hub: Hub<D>,
+    pub listener: UnixListener,
+}
+
+impl<D: SectorDisk> Server<D> {
+    /// A server of a hub without connections, which are those that come on the socket.
+    pub fn new<R: Net + AllocGlobal>(
+        rt: &R,
+        hub: Hub<D>,
+        listener: UnixListener,
+    ) -> Result<Server<D>, Unserved<D>>
+        ensures ok { IfOk result (λ server. server ≡ hub) }
+        ensures err { IfErr result (λ unserved. unserved.hub ≡ hub) }
+    {
+        let alloc = rt.alloc();
+        let mut listener = listener;
+        let Ok(events) = Events::with_capacity(alloc, MOST_EVENTS) else {
+            let error = ServerError::NoMemory;
+            return Err(Unserved {
+                error,
+                hub,
+                listener,
+            });
+        };
+        let error = ServerError::Socket;
+        let Ok(poll) = Poll::new(rt) else {
+            return Err(Unserved {
+                error,
+                hub,
+                listener,
+            });
+        };
+        if poll
+            .registry()
+            .register(&mut listener, LISTENER, Interest::READABLE)
+            .is_err()
+        {
+            return Err(Unserved {
+                error,
+                hub,
+                listener,
+            });
+        }
+        Ok(Server {
+            alloc,
+            hub,
+            clients: Slab::new(alloc),
+            listener,
+            poll,
+            events,
+        })
+    }
+
+    /// One turn: waits for the sockets, lets time pass, takes new connections, feeds the hub what
+    /// the clients have written, makes all of it last at once, writes what the clients may see, and
+    /// parts with those that are gone.
+    pub fn turn(&mut self, moment: Moment) -> Result<(), ServeFault>
+        ensures ok { OnOk result (Goes D.medium self.old self.new) }
+        ensures err { IfErr result (λ fault. BreaksOff D.medium D.counts self.old self.new fault) }
+        ensures stopped { HasStopped self.old → result ≡ Err ServeFault.Stopped }
+    {
+        if self.hub.has_stopped() {
+            return Err(ServeFault::Stopped);
+        }
+        self.wait()?;
+        if let Err(error) = self.go_round(moment) {
+            put_out_all(&mut self.hub, &mut self.clients);
+            return Err(ServeFault::from(error));
+        }
+        Ok(())
+    }
+
+    // What a turn does after the wait.
+    fn go_round(&mut self, moment: Moment) -> Result<(), CommitError>
+        ensures goes { OnOk result (Goes D.medium self.old self.new) }
+        ensures breaks { IfErr result (λ e. Breaks D.medium D.counts self.old self.new e) }
+    {
+        self.hub.tick(moment)?;
+        self.admit();
+        serve_all(&mut self.hub, &mut self.clients, moment)
+    }
+
+    // Waits until a socket is ready, or not at all if a client has something already.
+    fn wait(&mut self) -> Result<(), ServeFault>
+        ensures same { self.new ≡ self.old }
+        ensures err { IfErr result (λ fault. fault ≡ ServeFault.Socket) }
+    {
+        let longest = if self.is_busy() { 0 } else { LONGEST_WAIT };
+        let longest = Duration::from_millis(longest);
+        if self.poll.poll(&mut self.events, Some(longest)).is_err() {
+            return Err(ServeFault::Socket);
+        }
+        for event in &self.events {
+            let Token(key) = event.token();
+            if event.is_readable() || event.is_read_closed() || event.is_error() {
+                if let Some(client) = self.clients.get_mut(key) {
+                    client.wake();
+                }
+            }
+        }
+        Ok(())
+    }
+
+    // Whether a client may have something already.
+    fn is_busy(&self) -> bool {
+        for (_, client) in self.clients.iter() {
+            if client.is_waiting() {
+                return true;
+            }
+        }
+        false
+    }
+
+    // Takes the connections that have come.
+    fn admit(&mut self)
+        ensures { Goes D.medium self.old self.new }
+    {
+        for _ in 0..MOST_ACCEPTS {
+            let Ok((socket, _)) = self.listener.accept() else {
+                return;
+            };
+            self.take_client(socket);
+        }
+    }
+
+    // Takes a new connection, or closes it if something that it needs is refused.
+    fn take_client(&mut self, socket: UnixStream)
+        ensures { Goes D.medium self.old self.new }
+    {
+        let mut socket = socket;
+        let key = self.clients.vacant_key();
+        let Ok(conn) = u32::try_from(key) else {
+            return;
+        };
+        if self.clients.reserve(1).is_err() {
+            return;
+        }
+        let both = Interest::READABLE | Interest::WRITABLE;
+        if self
+            .poll
+            .registry()
+            .register(&mut socket, Token(key), both)
+            .is_err()
+        {
+            return;
+        }
+        let Ok(client) = Client::new(self.alloc, conn, socket) else {
+            return;
+        };
+        let Ok(()) = self.hub.connect(conn) else {
+            return;
+        };
+        self.clients.insert_reserved(client);
+    }
+}
