@@ -1,0 +1,138 @@
+"""A client of ipcd, made of Python's standard library alone. After
+
+    $ ipcd format device
+    formatted 45830 sectors
+    $ ipcd serve device socket &
+    serving device, 45830 sectors, on socket, standard limits
+
+a first session, in the folder of this file, is
+
+    >>> from client import Connection, IPC_CREAT
+    >>> with Connection("socket") as connection:
+    ...     connection.hello(uid=1000, gid=100)
+    ...     queue = connection.msgget(1234, IPC_CREAT | 0o600)
+    ...     connection.msgsnd(queue, 5, b"hi")
+    ...     connection.msgrcv(queue, 64)
+    ...
+    1
+    (5, b'hi')
+
+A refused call raises OSError with the error number of the manual page: BlockingIOError for EAGAIN,
+FileNotFoundError for ENOENT, and so on. If the connection ends it is a ConnectionError.
+
+A client that need not wait for each reply sends some requests ahead, and then receives the replies,
+which come in the same order. Some hundred are safe; a client that sends on and on and receives
+nothing is not served any further, and waits for ever.
+
+    for text in texts:
+        connection.send(msgsnd_request(queue, 5, text))
+    for text in texts:
+        serial, errno, body = connection.receive()
+"""
+
+from __future__ import annotations
+
+import errno
+import os
+import socket
+import struct
+
+IPC_PRIVATE = 0
+IPC_CREAT = 0o1000
+IPC_EXCL = 0o2000
+IPC_NOWAIT = 0o4000
+
+
+# Requests: an opcode, and the fields of the call.
+
+
+def hello_request(uid: int, gid: int) -> bytes:
+    return struct.pack(">BII", 0x01, uid, gid)
+
+
+def msgget_request(key: int, msgflg: int) -> bytes:
+    return struct.pack(">BiI", 0x0A, key, msgflg)
+
+
+def msgsnd_request(msqid: int, mtype: int, mtext: bytes, msgflg: int = 0) -> bytes:
+    return struct.pack(">BIIq", 0x0B, msqid, msgflg, mtype) + mtext
+
+
+def msgrcv_request(msqid: int, msgsz: int, msgtyp: int = 0, msgflg: int = 0) -> bytes:
+    return struct.pack(">BIIIq", 0x0C, msqid, msgflg, msgsz, msgtyp)
+
+
+class Connection:
+    """A connection to a server. It is a process once it has said hello, until it is closed."""
+
+    def __init__(self, path: str, timeout: float | None = None) -> None:
+        """Connects to this socket. A wait of more than `timeout` seconds raises TimeoutError."""
+        self._socket = socket.socket(socket.AF_UNIX, socket.SOCK_STREAM)
+        self._socket.settimeout(timeout)
+        try:
+            self._socket.connect(path)
+        except OSError:
+            self._socket.close()
+            raise
+        self._stream = self._socket.makefile("rb")
+        self._serial = 0
+
+    def __enter__(self) -> Connection:
+        return self
+
+    def __exit__(self, *raised: object) -> None:
+        self.close()
+
+    def close(self) -> None:
+        """Ends the process. Replies that were not received are lost."""
+        self._stream.close()
+        self._socket.close()
+
+    def hello(self, uid: int, gid: int) -> int:
+        """Makes the connection a process of this user and group, and answers its pid."""
+        return _number(self.call(hello_request(uid, gid)))
+
+    def msgget(self, key: int, msgflg: int) -> int:
+        """The identifier of the queue with this key, see msgget(2)."""
+        return _number(self.call(msgget_request(key, msgflg)))
+
+    def msgsnd(self, msqid: int, mtype: int, mtext: bytes, msgflg: int = 0) -> None:
+        """Appends a message to the queue, see msgop(2)."""
+        self.call(msgsnd_request(msqid, mtype, mtext, msgflg))
+
+    def msgrcv(self, msqid: int, msgsz: int, msgtyp: int = 0, msgflg: int = 0) -> tuple[int, bytes]:
+        """Takes a message off the queue: its type and its text, see msgop(2)."""
+        body = self.call(msgrcv_request(msqid, msgsz, msgtyp, msgflg))
+        return struct.unpack(">q", body[:8])[0], body[8:]
+
+    def call(self, request: bytes) -> bytes:
+        """Sends a request, and answers the body of its reply. All earlier replies were received."""
+        serial = self.send(request)
+        answered, error, body = self.receive()
+        if answered not in (serial, 0):
+            raise RuntimeError("a call, while an earlier reply is still to be received")
+        if error:
+            raise OSError(error, os.strerror(error))
+        return body
+
+    def send(self, request: bytes) -> int:
+        """Sends a request, and answers its serial. Its reply is one of the next to be received."""
+        self._serial = self._serial % 0xFFFFFFFF + 1
+        self._socket.sendall(struct.pack(">II", 4 + len(request), self._serial) + request)
+        return self._serial
+
+    def receive(self) -> tuple[int, int, bytes]:
+        """The next reply: its serial, its error number, which is 0 for success, and its body."""
+        (length,) = struct.unpack(">I", self._read(4))
+        serial, error = struct.unpack(">IH", self._read(6))
+        return serial, error, self._read(length - 6)
+
+    def _read(self, size: int) -> bytes:
+        data = self._stream.read(size)
+        if len(data) < size:
+            raise ConnectionResetError(errno.ECONNRESET, "the server has ended the connection")
+        return data
+
+
+def _number(body: bytes) -> int:
+    return struct.unpack(">I", body)[0]
