@@ -66,14 +66,14 @@ class Connection:
     """A connection to a server. It is a process once it has said hello, until it is closed."""
 
     def __init__(self, path: str, timeout: float | None = None) -> None:
-        """Connects to this socket. A wait of more than `timeout` seconds raises TimeoutError."""
+        """Connects to a socket. A reply that takes over `timeout` seconds raises TimeoutError."""
         self._socket = socket.socket(socket.AF_UNIX, socket.SOCK_STREAM)
-        self._socket.settimeout(timeout)
         try:
             self._socket.connect(path)
         except OSError:
             self._socket.close()
             raise
+        self._socket.settimeout(timeout)
         self._stream = self._socket.makefile("rb")
         self._serial = 0
 

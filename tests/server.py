@@ -1,0 +1,169 @@
+"""A server that is tested, its device and its clients. All paths are in the working folder."""
+
+from __future__ import annotations
+
+import errno
+import os
+import signal
+import socket
+import stat
+import struct
+import subprocess
+import sys
+import time
+from collections.abc import Callable, Iterator
+from contextlib import contextmanager
+from pathlib import Path
+
+sys.path.insert(0, str(Path(__file__).resolve().parent.parent / "examples"))
+
+from client import Connection, msgrcv_request  # noqa: E402
+
+PROGRAM = os.path.realpath(sys.argv[1])
+SECTORS = {"standard": 45830, "small": 448}
+TIMEOUT = 20
+
+
+def check(holds: bool, text: str) -> None:
+    if not holds:
+        raise AssertionError(text)
+
+
+def until(condition: Callable[[], bool], text: str) -> None:
+    """Waits until the condition holds."""
+    end = time.monotonic() + TIMEOUT
+    while not condition():
+        check(time.monotonic() < end, text)
+        time.sleep(0.01)
+
+
+def run(*words: str) -> subprocess.CompletedProcess[str]:
+    """Runs the program to its end."""
+    return subprocess.run([PROGRAM, *words], capture_output=True, text=True, timeout=TIMEOUT)
+
+
+def printed(*words: str) -> str:
+    """What the program prints. It ends well."""
+    ended = run(*words)
+    check((ended.returncode, ended.stderr) == (0, ""), f"{words}: {ended}")
+    return ended.stdout
+
+
+class Server:
+    """A server of a device, which is ready."""
+
+    def __init__(
+        self,
+        *words: str,
+        at: str = "socket",
+        limits: str = "standard",
+        prepare: Callable[[], None] | None = None,
+    ) -> None:
+        self.at = at
+        self.process = subprocess.Popen(
+            [PROGRAM, "serve", "device", at, *words],
+            stdout=subprocess.PIPE,
+            stderr=subprocess.PIPE,
+            text=True,
+            preexec_fn=prepare,
+        )
+        wanted = f"serving device, {SECTORS[limits]} sectors, on {at}, {limits} limits\n"
+        line = self.process.stdout.readline()
+        if line != wanted:
+            self.process.kill()
+            check(False, f"{line!r} is printed, and not {wanted!r}: {self.process.communicate()}")
+
+    def ends(self, status: int, said: str = "") -> None:
+        """It ends with this status and these words. Its socket is left, and is removed here."""
+        output, errors = self.process.communicate(timeout=TIMEOUT)
+        ended = (self.process.returncode, output, errors)
+        check(ended == (status, "", said), f"the server ends with {ended}")
+        check(stat.S_ISSOCK(os.stat(self.at).st_mode), "the socket is not left")
+        os.remove(self.at)
+
+    def stop(self, number: signal.Signals = signal.SIGTERM) -> None:
+        self.process.send_signal(number)
+        self.ends(-number)
+
+    def descriptors(self) -> int:
+        return len(os.listdir(f"/proc/{self.process.pid}/fd"))
+
+    def memory(self) -> int:
+        """What it has in memory, in kB."""
+        status = Path(f"/proc/{self.process.pid}/status").read_text()
+        return int(status.partition("VmRSS:")[2].split()[0])
+
+
+@contextmanager
+def serving(*words: str, **named: object) -> Iterator[Server]:
+    """A server that is stopped at the end, and killed if something fails."""
+    server = Server(*words, **named)
+    try:
+        yield server
+        server.stop()
+    finally:
+        server.process.kill()
+
+
+class Client(Connection):
+    """A connection that may also send bytes which are no request."""
+
+    def __init__(self) -> None:
+        super().__init__("socket", TIMEOUT)
+
+    def fileno(self) -> int:
+        return self._socket.fileno()
+
+    def send_bytes(self, data: bytes) -> None:
+        self._socket.sendall(data)
+
+    def send_no_more(self) -> None:
+        self._socket.shutdown(socket.SHUT_WR)
+
+    def is_answered(self, frames: bytes) -> None:
+        """The next bytes that come are these frames."""
+        read = self._read(len(frames))
+        check(read == frames, f"{read.hex()} comes, and not {frames.hex()}")
+
+    def is_ended(self) -> None:
+        """The server has ended the connection, and sends no more."""
+        try:
+            more = self._stream.read(1)
+        except ConnectionResetError:
+            return
+        check(more == b"", "more comes after the last frame")
+
+
+def process() -> Client:
+    """A client that is a process."""
+    client = Client()
+    client.hello(1000, 100)
+    return client
+
+
+def frame(serial: int, request: bytes) -> bytes:
+    return struct.pack(">II", 4 + len(request), serial) + request
+
+
+def reply(serial: int, error: int, body: bytes = b"") -> bytes:
+    return struct.pack(">IIH", 6 + len(body), serial, error) + body
+
+
+def drain(client: Client, queue: int, mtype: int = 0) -> list[bytes]:
+    """Takes all messages of a type off a queue, a hundred requests at a time."""
+    texts: list[bytes] = []
+    while True:
+        for _ in range(100):
+            client.send(msgrcv_request(queue, 8192, mtype))
+        replies = [client.receive() for _ in range(100)]
+        texts += [body[8:] for _, error, body in replies if error == 0]
+        refusals = {error for _, error, _ in replies if error}
+        check(refusals <= {errno.ENOMSG}, f"receives are refused: {refusals}")
+        if refusals:
+            return texts
+
+
+def listing(queues: dict[int, list[bytes]]) -> str:
+    """What `dump` prints of queues with these texts. Their keys are their identifiers."""
+    row = "msg {0:10} {0:11} 0600       1000        100 {1:10} {2:10}\n"
+    return "".join(row.format(q, sum(map(len, texts)), len(texts)) for q, texts in queues.items())
