@@ -1,20 +1,24 @@
 # ipcd: the commands of this repository. They need the Rattle toolchain's `rt` on the path, `bench` needs awk too,
-# and `memory` awk and a C compiler: without that one it says so and refuses nothing.
+# `serves` Python, `bench-serve` Python and a C compiler, and `memory` awk and a C compiler: without that one it says so
+# and refuses nothing.
 
-.PHONY: help run test imports runs memory program bench
+.PHONY: help run test imports runs serves memory program bench bench-serve
 
 help:
 	@echo "make run    proves and builds what is needed, some minutes the first time, and runs examples/device.sh: a"
 	@echo "            message outlives the program. It may be stopped: crates that are proved stay proved, and the"
 	@echo "            next run goes on after them"
 	@echo "make test   what 'make imports' runs; the gate: every proof from nothing, the edits that must fail, the tests,"
-	@echo "            the program; and then what 'make runs' and 'make memory' run, on what the gate has built. It takes"
-	@echo "            an hour to an hour and a half on four cores"
+	@echo "            the program; and then what 'make runs', 'make serves' and 'make memory' run, on what the gate has"
+	@echo "            built. It takes an hour to an hour and a half on four cores"
 	@echo "make imports  that no crate names what is another's own, nor one that carries requests a call"
 	@echo "make runs   the program on scripts and command lines: what it prints and says, and its exit status"
+	@echo "make serves the program as a server: clients by the dozen, crashes under load, what ends a connection; and"
+	@echo "            examples/serve.sh, in which a message outlives a crash. Half a minute, once built"
 	@echo "make memory the engine's tests and the program, with each allocation refused in turn"
 	@echo "make bench  processor time of runs, lines and ticks on both devices, peak memory, what a commit writes, and"
 	@echo "            commits a second on a file beside the same writes and syncs done bare"
+	@echo "make bench-serve  sends and receives a second over the socket, beside the same, and their processor time"
 
 run: program
 	@sh examples/device.sh crates/ipcd/out/ipcd
@@ -58,12 +62,22 @@ RUNS = sh tests/runs.sh crates/ipcd/out/ipcd
 runs: program
 	@$(RUNS)
 
+SERVES = python3 tests/serve.py crates/ipcd/out/ipcd && sh examples/serve.sh crates/ipcd/out/ipcd
+
+serves: program
+	@$(SERVES)
+
 test: imports
 	rt ci
 	@$(RUNS)
+	@$(SERVES)
 	@$(REFUSE_EACH)
 
 # Twenty groups of runs of each script, and turns of commits on a file. It needs awk, and for the turns a C compiler.
 bench: program
 	@sh bench/replay.sh crates/ipcd/out/ipcd
 	@sh bench/commits.sh crates/ipcd/out/ipcd
+
+# Nine turns of eight loads on a server. It needs Python and a C compiler.
+bench-serve: program
+	@python3 bench/serve.py crates/ipcd/out/ipcd

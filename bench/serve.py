@@ -1,0 +1,155 @@
+"""Sends and receives of 64-byte messages over the socket, each on the disk before its reply, beside
+as many commits done bare: 512 bytes and a sync, twice for each.
+
+    python3 bench/serve.py PROGRAM [TURNS]
+
+In each turn every load (bench/serve_load.c) runs for a second on a server of its own, after bare
+commits (bench/bare.c) for half a second. What is printed are medians over the turns, and a ratio is
+always of numbers of one turn. The files are in a new folder in the repository, which should be on a
+real disk. Processor time is the server's, by /proc/PID/stat. Syncs are reckoned from its writes to
+files, by /proc/PID/io: a commit makes two, with a sync after each; so does a save of few objects.
+
+It needs a C compiler, and takes two minutes. The status is 1 if a bar is missed.
+"""
+
+from __future__ import annotations
+
+import os
+import subprocess
+import sys
+import tempfile
+import time
+from pathlib import Path
+from statistics import median
+from typing import NamedTuple
+
+# How many clients, and how many requests each has in flight.
+Load = tuple[int, int]
+LOADS: list[Load] = [(1, 1), (1, 16), (8, 1), (8, 16), (32, 1), (32, 16), (60, 1), (60, 16)]
+
+SECONDS = 1.0
+BARE_SECONDS = 0.5
+BENCH = Path(__file__).resolve().parent
+
+
+class Sample(NamedTuple):
+    """What is a load's: replies, bare commits and syncs a second, and microseconds a reply."""
+
+    replies: float
+    bare: float
+    microseconds: float
+    syncs: float
+
+    @property
+    def ratio(self) -> float:
+        return self.replies / self.bare
+
+
+# One of each load.
+Turn = dict[Load, Sample]
+
+
+def run(*words: str) -> str:
+    return subprocess.run(words, check=True, stdout=subprocess.PIPE, text=True).stdout
+
+
+def bare_rate(commits: int) -> float:
+    """Commits a second, done bare."""
+    begin = time.monotonic()
+    run("./bare", "bare_device", str(commits))
+    return commits / (time.monotonic() - begin)
+
+
+def processor_seconds(pid: int) -> float:
+    fields = Path(f"/proc/{pid}/stat").read_text().rpartition(")")[2].split()
+    return (int(fields[11]) + int(fields[12])) / os.sysconf("SC_CLK_TCK")
+
+
+def file_writes(pid: int) -> int:
+    return int(Path(f"/proc/{pid}/io").read_text().partition("syscw:")[2].split()[0])
+
+
+def sample(program: str, load: Load, bare: float) -> Sample:
+    """Runs a load on a new server."""
+    words = [program, "serve", "device", "socket"]
+    with subprocess.Popen(words, stdout=subprocess.PIPE) as server:
+        try:
+            server.stdout.readline()
+            spent = processor_seconds(server.pid)
+            writes = file_writes(server.pid)
+            said = run("./serve_load", "socket", *map(str, load), str(SECONDS))
+            spent = processor_seconds(server.pid) - spent
+            writes = file_writes(server.pid) - writes
+        finally:
+            server.terminate()
+    os.remove("socket")
+    replies, seconds = map(float, said.split())
+    return Sample(replies / seconds, bare, spent / replies * 1e6, writes / seconds)
+
+
+def measure(program: str, turns: int) -> list[Turn]:
+    taken = []
+    bare = bare_rate(100)
+    for _ in range(turns):
+        turn = {}
+        for load in LOADS:
+            bare = bare_rate(max(1, int(bare * BARE_SECONDS)))
+            turn[load] = sample(program, load, bare)
+        taken.append(turn)
+    return taken
+
+
+def print_rows(turns: list[Turn]) -> None:
+    print(
+        "| clients | in flight each | replies a second | bare commits a second | ratio | its range "
+        "| microseconds of processor a reply | syncs a second |"
+    )
+    print("|---|---|---|---|---|---|---|---|")
+    for load in LOADS:
+        samples = [turn[load] for turn in turns]
+        replies, bare, microseconds, syncs = map(median, zip(*samples))
+        ratios = sorted(sample.ratio for sample in samples)
+        print(
+            f"| {load[0]} | {load[1]} | {replies:.0f} | {bare:.0f} | {median(ratios):.2f} "
+            f"| {ratios[0]:.2f} to {ratios[-1]:.2f} | {microseconds:.1f} | {syncs:.0f} |"
+        )
+
+
+def bars_are_met(turns: list[Turn]) -> bool:
+    """Prints what is wanted of the medians, and what they are."""
+    one, ahead, sixty, all_ahead = (
+        [turn[load] for turn in turns] for load in ((1, 1), (1, 16), (60, 1), (60, 16))
+    )
+    gain = [many.replies / single.replies for many, single in zip(ahead, one)]
+    spent = median(sample.microseconds for sample in sixty)
+    at_least = [
+        ("1 client, of the bare rate", [sample.ratio for sample in one], 0.75),
+        ("1 client with 16 in flight, of the same with 1", gain, 10),
+        ("60 clients, of the bare rate", [sample.ratio for sample in sixty], 10),
+        ("60 clients with 16 in flight, of the bare rate", [s.ratio for s in all_ahead], 60),
+    ]
+    for what, values, bar in at_least:
+        print(f"{what}: {median(values):.2f}, and at least {bar} is wanted")
+    print(f"60 clients, microseconds of processor a reply: {spent:.1f}, and at most 8 is wanted")
+    return spent <= 8 and all(median(values) >= bar for _, values, bar in at_least)
+
+
+def main() -> int:
+    program = os.path.realpath(sys.argv[1])
+    turns = int(sys.argv[2]) if len(sys.argv) > 2 else 9
+    print(f"Medians of {turns} turns. The machine's load before is {os.getloadavg()[0]:.1f}.\n")
+    with tempfile.TemporaryDirectory(prefix="bench-", dir=BENCH.parent) as folder:
+        os.chdir(folder)
+        for name in ("bare", "serve_load"):
+            run("cc", "-O2", "-o", name, str(BENCH / f"{name}.c"))
+        for device in ("device", "bare_device"):
+            run(program, "format", device)
+        taken = measure(program, turns)
+        os.chdir(BENCH)
+    print_rows(taken)
+    print()
+    return 0 if bars_are_met(taken) else 1
+
+
+if __name__ == "__main__":
+    sys.exit(main())
