@@ -16,6 +16,7 @@ import select
 import signal
 import socket
 import struct
+import subprocess
 import sys
 import tempfile
 import threading
@@ -26,6 +27,7 @@ from pathlib import Path
 sys.dont_write_bytecode = True
 
 from server import (  # noqa: E402
+    PROGRAM,
     TIMEOUT,
     Client,
     Server,
@@ -77,6 +79,7 @@ def command_lines() -> None:
     refused(1, "ipcd: device fault", "serve", "folder", "socket")
     Path("empty").touch()
     refused(1, "ipcd: not formatted", "serve", "empty", "socket")
+    refused(1, "ipcd: socket fault", "serve", "device", "")
     refused(1, "ipcd: socket fault", "serve", "device", "missing/socket")
     refused(1, "ipcd: socket fault", "serve", "device", "folder")
     Path("file").write_text("kept")
@@ -95,6 +98,20 @@ def device_in_use() -> None:
             refused(1, "ipcd: device fault", *words)
         with Connection("other", TIMEOUT) as client:
             client.hello(1000, 100)
+
+
+def no_standard_output() -> None:
+    """The line cannot be printed. It does not get into the device, the first file that is opened."""
+    ended = subprocess.run(
+        [PROGRAM, "serve", "device", "socket"],
+        stderr=subprocess.PIPE,
+        text=True,
+        timeout=TIMEOUT,
+        preexec_fn=lambda: os.close(1),
+    )
+    check((ended.returncode, ended.stderr) == (1, "ipcd: output fault\n"), f"{ended}")
+    os.remove("socket")
+    check(printed("dump", "device") == "", "it is another device")
 
 
 def turns() -> None:
@@ -383,10 +400,11 @@ def left_over(senders: list[Sender]) -> dict[int, list[bytes]]:
 def sixty_clients() -> None:
     """Each message whose send was answered is received once, then or after a restart."""
     printed("format", "device")
-    with serving(), process() as client, process() as silent:
+    with serving() as server, process() as client, process() as silent:
         queues = [client.msgget(key, IPC_CREAT | 0o600) for key in range(1, 22)]
         deaf = Deaf(silent, queues.pop())
         deaf.send()
+        until(server.is_idle, "a client that reads nothing keeps the server busy")
         senders = [Sender(number, queues[number % 20]) for number in range(59)]
         for sender in senders:
             sender.start()
@@ -563,6 +581,7 @@ def failing_device() -> None:
 TESTS = [
     command_lines,
     device_in_use,
+    no_standard_output,
     turns,
     a_socket_that_was_left,
     exchanges,
