@@ -101,7 +101,7 @@ def device_in_use() -> None:
 
 
 def no_standard_output() -> None:
-    """The line cannot be printed. It does not get into the device, the first file that is opened."""
+    """The line cannot be printed, and does not get into the device, the first file that is open."""
     ended = subprocess.run(
         [PROGRAM, "serve", "device", "socket"],
         stderr=subprocess.PIPE,
@@ -262,7 +262,7 @@ def more_clients_than_descriptors() -> None:
 
 
 def many_connections() -> None:
-    """Neither 10,000 short connections nor 1,000 silent ones leave a megabyte in the server."""
+    """Neither 10,000 short connections nor 1,000 silent ones leave four megabytes in the server."""
     with serving() as server, process() as other:
         queue = other.msgget(1, IPC_CREAT | 0o600)
         quiet = server.descriptors()
@@ -285,7 +285,7 @@ def many_connections() -> None:
                     short.sendall(frame(1, HELLO))
         come_and_go()
         more = server.memory() - before
-        check(more < 1024, f"{more} kB more are in memory")
+        check(more < 4096, f"{more} kB more are in memory")
 
 
 # ---- messages under load
