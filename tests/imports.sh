@@ -12,7 +12,7 @@
 set -eu
 
 cd "${1:-.}"
-carriers="ipc_hub ipc_script"
+carriers="ipc_hub ipc_script ipc_server"
 calls="msgget msgsnd msgrcv msgctl semget semop semctl"
 
 fail() {

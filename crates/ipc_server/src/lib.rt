@@ -13,4 +13,6 @@ pub use laws::a_crash_takes_nothing_back_that_was_sent;
 pub use server::{Server, Unserved};
 
 #[cfg(test)]
+mod scripted;
+#[cfg(test)]
 mod tests;

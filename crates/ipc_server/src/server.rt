@@ -35,8 +35,8 @@ const LONGEST_WAIT: u64 = 100;
 /// A server on a Unix socket. A contract sees its hub.
 #[derive(Drop)]
 pub struct Server<D: SectorDisk> {
-    alloc: Global,
     hub: Hub<D>,
+    alloc: Global,
     clients: Slab<Client<UnixStream>>,
     listener: UnixListener,
     poll: Poll,
@@ -52,9 +52,31 @@ impl<D: SectorDisk> Model for Server<D> {
 /// What was to be served, and why it is not.
 #[derive(Drop)]
 pub struct Unserved<D: SectorDisk> {
-    pub error: ServerError,
+    // First, as the largest: clang takes many minutes over a value of this size that may stand at
+    // one offset or, in another variant of a result, some bytes behind it.
     pub hub: Hub<D>,
+    pub error: ServerError,
     pub listener: UnixListener,
+}
+
+// What waits for the sockets, with the listening one among them, and room for what it tells.
+fn watch<R: Net + AllocGlobal>(
+    rt: &R,
+    listener: &mut UnixListener,
+) -> Result<(Poll, Events), ServerError> {
+    let Ok(events) = Events::with_capacity(rt.alloc(), MOST_EVENTS) else {
+        return Err(ServerError::NoMemory);
+    };
+    let Ok(poll) = Poll::new(rt) else {
+        return Err(ServerError::Socket);
+    };
+    match poll
+        .registry()
+        .register(listener, LISTENER, Interest::READABLE)
+    {
+        Ok(()) => Ok((poll, events)),
+        Err(_) => Err(ServerError::Socket),
+    }
 }
 
 impl<D: SectorDisk> Server<D> {
@@ -67,43 +89,22 @@ impl<D: SectorDisk> Server<D> {
         ensures ok { IfOk result (λ server. server ≡ hub) }
         ensures err { IfErr result (λ unserved. unserved.hub ≡ hub) }
     {
-        let alloc = rt.alloc();
         let mut listener = listener;
-        let Ok(events) = Events::with_capacity(alloc, MOST_EVENTS) else {
-            let error = ServerError::NoMemory;
-            return Err(Unserved {
-                error,
+        match watch(rt, &mut listener) {
+            Ok((poll, events)) => Ok(Server {
                 hub,
+                alloc: rt.alloc(),
+                clients: Slab::new(rt.alloc()),
                 listener,
-            });
-        };
-        let error = ServerError::Socket;
-        let Ok(poll) = Poll::new(rt) else {
-            return Err(Unserved {
-                error,
+                poll,
+                events,
+            }),
+            Err(error) => Err(Unserved {
                 hub,
-                listener,
-            });
-        };
-        if poll
-            .registry()
-            .register(&mut listener, LISTENER, Interest::READABLE)
-            .is_err()
-        {
-            return Err(Unserved {
                 error,
-                hub,
                 listener,
-            });
+            }),
         }
-        Ok(Server {
-            alloc,
-            hub,
-            clients: Slab::new(alloc),
-            listener,
-            poll,
-            events,
-        })
     }
 
     /// One turn: waits for the sockets, lets time pass, takes new connections, feeds the hub what

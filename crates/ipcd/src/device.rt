@@ -10,6 +10,8 @@ ghost use Rattle.ipc_store.specs.Image.{IsNotFormatted, HasVersion, IsDamaged};
 ghost use Rattle.ipc_store.specs.Image.{IsFirstFault, IsAtEnd};
 ghost use Rattle.ipc_script.specs.declared.fault.ScriptFault.TheVariants.{NotFormatted};
 ghost use Rattle.ipc_script.specs.declared.fault.ScriptFault.TheVariants.{Version, Damaged};
+ghost use Rattle.ipc_store.specs.declared.fault.OpenError.{OpenError};
+ghost use Rattle.ipcd.specs.Ending.{of_open_error};
 ghost use Rattle.ipcd.specs.declared.ending.Fault.TheVariants.{Run};
 ghost use Rattle.ipcd.specs.Device.{sectors_given};
 
@@ -45,6 +47,7 @@ pub fn open_store<D: SectorDisk + Drop>(alloc: Global, disk: D) -> Result<Store<
     ensures ok { IfOk result (λ store. IsHonest (D.medium disk)
         → OpensOn (D.medium disk).contents (D.medium store.disk) store) }
     ensures confirmed { IfOk result (λ store. store.confirmed ≡ 1) }
+    ensures named { IfErr result (λ fault. (error : OpenError) × (fault ≡ of_open_error error)) }
     ensures not_formatted { IfErr result (λ fault. fault ≡ Run NotFormatted → IsHonest (D.medium disk)
         → IsNotFormatted (D.medium disk).contents) }
     ensures version { IfErr result (λ fault. (found : ℕ) → fault ≡ Run (Version found)

@@ -36,3 +36,6 @@ returns-in-Err-clause-version g c = λ found is. c.in-Err.ensures.version found 
 
 pub returns-in-Err-clause-damaged : goal.returns-in-Err-clause-damaged
 returns-in-Err-clause-damaged g c = λ sector is. c.in-Err.ensures.damaged sector (is_damaged _ sector (sym c.from.ensures ∙ is))
+
+pub returns-in-Err-clause-named : goal.returns-in-Err-clause-named
+returns-in-Err-clause-named g c = (c.in-Err.unopened.error, c.from.ensures)
