@@ -268,8 +268,11 @@ def many_connections() -> None:
         quiet = server.descriptors()
 
         def come_and_go() -> None:
+            begun = time.monotonic()
             silent = [Client() for _ in range(1000)]
             until(lambda: server.descriptors() == quiet + 1000, "not all of them are there")
+            # A turn takes 64 of them. Were there a wait of 100 ms after each, this would take 1.5 seconds.
+            check(time.monotonic() - begun < 1.4, "the server waits while clients do")
             other.msgsnd(queue, 1, b"served")
             check(drain(other, queue) == [b"served"], "another client is not served")
             for client in silent:

@@ -27,11 +27,11 @@ file_counts disk = record { failures = disk.failures; writes = disk.writes; sync
 
 -- the sectors that were written and are not put into the file yet
 abbrev pub waiting_range : FileDisk → Range
-waiting_range disk = disk.run.range
+waiting_range disk = disk.run.value.range
 
 -- their values
 abbrev pub waiting_values : FileDisk → Image
-waiting_values disk = run_values disk.run
+waiting_values disk = run_values disk.run.value
 
 -- a sync of the file has failed
 abbrev pub has_failed_sync : FileDisk → Bool

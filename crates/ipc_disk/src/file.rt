@@ -10,6 +10,7 @@ ghost use Rattle.ipc_disk.specs.Range.{IsInside, IsWithin};
 use crate::progress::Silent;
 use crate::run::Run;
 use crate::{DiskFault, Progress, SectorDisk};
+use std::alloc::Global;
 use std::fs::{File, OpenOptions};
 use std::io;
 use std::os::unix::fs::FileExt;
@@ -29,14 +30,14 @@ const STEP: u64 = 1 << 20;
 pub struct FileDisk {
     file: File,
     sectors: u32,
-    run: Run,
+    run: Box<Run>,
     // A sync has failed: the system may have forgotten writes, and a later sync would not tell.
     unsure: bool,
     failures: u64,
     writes: u64,
     syncs: u64,
     ghost few: { sectors < 2 ^ 32 },
-    ghost inside: { IsWithin run.range sectors },
+    ghost inside: { IsWithin run.value.range sectors },
     ghost failures_fit: { failures < 2 ^ 64 },
     ghost writes_fit: { writes < 2 ^ 64 },
     ghost syncs_fit: { syncs < 2 ^ 64 },
@@ -128,9 +129,9 @@ impl FileDisk {
 
     /// A disk of so many sectors, in a new file or in one that is there. A longer file is cut, a
     /// shorter one keeps its bytes and gets zeros behind them. Then the file is synced. `DiskFault`
-    /// if the system refuses a call, if it is no plain file, or if another has locked it; a file
-    /// that is locked stays as it is.
-    pub fn create<R: Files<File = File>, P: AsPath>(
+    /// if the system refuses a call or memory, if it is no plain file, or if another has locked it;
+    /// a file that is locked stays as it is.
+    pub fn create<R: Files<File = File> + AllocGlobal, P: AsPath>(
         rt: &R,
         path: P,
         sectors: u32,
@@ -147,7 +148,7 @@ impl FileDisk {
     /// As `create`. While zeros are written, `progress` hears how many sectors the file has by then:
     /// at each whole MiB of the file, and at its end, so `sectors` is the last number. Of a file that
     /// gets no zeros, since it is cut or has its length, it hears nothing.
-    pub fn create_with<R: Files<File = File>, P: AsPath, T: Progress>(
+    pub fn create_with<R: Files<File = File> + AllocGlobal, P: AsPath, T: Progress>(
         rt: &R,
         path: P,
         sectors: u32,
@@ -165,12 +166,15 @@ impl FileDisk {
         if resize(&file, offset(sectors), progress).is_err() {
             return Err(DiskFault);
         }
-        Ok(FileDisk::over(file, sectors))
+        FileDisk::over(rt.alloc(), file, sectors)
     }
 
     /// The disk in a file that is there, with its whole sectors, at most 4294967295. `DiskFault` if
-    /// the system refuses a call, if it is no plain file, or if another has locked it.
-    pub fn open<R: Files<File = File>, P: AsPath>(rt: &R, path: P) -> Result<FileDisk, DiskFault>
+    /// the system refuses a call or memory, if it is no plain file, or if another has locked it.
+    pub fn open<R: Files<File = File> + AllocGlobal, P: AsPath>(
+        rt: &R,
+        path: P,
+    ) -> Result<FileDisk, DiskFault>
         ensures unused { IfOk result (λ disk. file_counts disk
             ≡ record { failures = 0; writes = 0; syncs = 0 }) }
         ensures nothing_waits { IfOk result (λ disk. waiting_values disk ≡ []) }
@@ -182,25 +186,29 @@ impl FileDisk {
         let Ok(metadata) = file.metadata() else {
             return Err(DiskFault);
         };
-        Ok(FileDisk::over(file, whole_sectors(metadata.len())))
+        FileDisk::over(rt.alloc(), file, whole_sectors(metadata.len()))
     }
 
-    // A disk of so many sectors in an open file.
-    pub(crate) fn over(file: File, sectors: u32) -> FileDisk
-        ensures size { file_size result ≡ sectors }
-        ensures unused { file_counts result ≡ record { failures = 0; writes = 0; syncs = 0 } }
-        ensures nothing_waits { waiting_values result ≡ [] }
-        ensures sure { ¬ IsTrue (has_failed_sync result) }
+    // A disk of so many sectors in an open file. `DiskFault` if there is no memory for what waits.
+    pub(crate) fn over(alloc: Global, file: File, sectors: u32) -> Result<FileDisk, DiskFault>
+        ensures size { IfOk result (λ disk. file_size disk ≡ sectors) }
+        ensures unused { IfOk result (λ disk. file_counts disk
+            ≡ record { failures = 0; writes = 0; syncs = 0 }) }
+        ensures nothing_waits { IfOk result (λ disk. waiting_values disk ≡ []) }
+        ensures sure { IfOk result (λ disk. ¬ IsTrue (has_failed_sync disk)) }
     {
-        FileDisk {
+        let Ok(run) = Box::new(alloc, Run::new(0)) else {
+            return Err(DiskFault);
+        };
+        Ok(FileDisk {
             file,
             sectors,
-            run: Run::new(0),
+            run,
             unsure: false,
             failures: 0,
             writes: 0,
             syncs: 0,
-        }
+        })
     }
 
     /// Its failures so far, at most 18446744073709551615.

@@ -1,8 +1,7 @@
 //! The hub: connections by number, over one store.
 
 ghost use Rattle.std.specs.Prelude.{◌≡◌, ◌<◌, ◌≤◌, ◌↔◌, ℕ, List, [], true, false, length};
-ghost use Rattle.std.specs.Prelude.{drop, take, IfOk, IfErr, IsTrue, OnErr, OnOk, Err};
-ghost use Rattle.std.specs.Bool.{OnTrue};
+ghost use Rattle.std.specs.Prelude.{drop, take, slice_get, IfOk, IfErr, IsTrue, OnErr, OnOk, Some, Err};
 ghost use Rattle.ipc_base.specs.declared.limits.Limits.{Limits};
 ghost use Rattle.ipc_disk.specs.Medium.{IsHonest};
 ghost use Rattle.ipc_engine.specs.Event.{PlainEvent};
@@ -279,7 +278,8 @@ impl<D: SectorDisk> Hub<D> {
     /// Whether the connection at this place among them all has this number, and nothing to say: no byte that its client
     /// may see, and no end. Who walks all connections asks this first, since it takes no search.
     pub fn is_silent(&self, place: usize, conn: u32) -> bool
-        ensures { OnTrue result ((output_of self.now.hub conn ≡ []) × (ended_of self.now.hub conn ≡ false)) }
+        ensures { IsTrue result ↔ ((slice_get (keys_of self.now.hub.connections) place ≡ Some conn)
+            × (output_of self.now.hub conn ≡ []) × (ended_of self.now.hub conn ≡ false)) }
     {
         if place >= self.connections.len() {
             return false;

@@ -1,5 +1,5 @@
 -- Turns as calls on the hub, and the events that one turn accepts.
-use Rattle.std.proofs.Common.{List, [], ◌++◌, inl, inr, subst, append-nil}
+use Rattle.std.proofs.Common.{ℕ, List, [], ◌∷◌, ◌++◌, inl, inr, subst, append-nil}
 use Rattle.ipc_base.specs.declared.limits.Limits.{Limits}
 use Rattle.ipc_disk.specs.Counts.{Counts}
 use Rattle.ipc_disk.specs.Medium.{Image, Medium}
@@ -14,6 +14,7 @@ use Rattle.ipc_hub.specs.Relations.Faults.{Halts}
 use Rattle.ipc_hub.specs.Relations.Lives.{HubCalls}
 use Rattle.ipc_hub.specs.Relations.Lives.HubCalls.{None as no_call, More as more_calls}
 use Rattle.ipc_hub.specs.Relations.Matches.{StoredMatches}
+use Rattle.ipc_server.specs.Acts.Act.{Ticks}
 use Rattle.ipc_server.specs.Turns.{Turns, Turned, AreAccepted}
 use Rattle.ipc_server.specs.Turns.Turns.{None, More}
 
@@ -36,10 +37,10 @@ module _ {D : Type 0} (medium : D → Medium) where
     halted old new commit.Stopped (inl same) = rw same.1 (Takes-none medium law old.store)
     halted old new commit.Stopped (inr fails) = fails.0.takes
 
-    pub taken : (limits : Limits) (old new : StoredHub D) (h : Clients) → StoredMatches limits old h → Turned medium counts old new
+    pub taken : (moment : ℕ) (limits : Limits) (old new : StoredHub D) (h : Clients) → StoredMatches limits old h → Turned medium counts moment old new
         → (events : List PlainEvent) × AreAccepted limits h events × Takes medium old.store events new.store
-    taken limits old new h m (inl goes) = let a = goes limits h m in (a.1.events, (a.0, a.1.adds), a.1.takes)
-    taken limits old new h m (inr broken) =
+    taken moment limits old new h m (inl goes) = let a = goes limits h m in (a.2.events, (Ticks moment ∷ a.0, a.2.adds), a.2.takes)
+    taken moment limits old new h m (inr broken) =
         let b = broken.1 limits h m in
         let both : Takes medium old.store (b.comes.events ++ []) b.halted.store =
         Takes-both medium old.store b.before.store b.halted.store b.comes.events [] b.comes.takes (halted b.before b.halted broken.0 b.halts) in

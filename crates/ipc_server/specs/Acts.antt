@@ -1,5 +1,5 @@
 -- What a server does with its hub: calls of it, one after another, as the hub's definitions have them.
-use Rattle.std.specs.Prelude.{ℕ, ⊤, Bool, List, [], ◌∷◌, map}
+use Rattle.std.specs.Prelude.{◌≡◌, ℕ, ⊤, Bool, List, [], ◌∷◌, map}
 use Rattle.std.specs.List.{flat_map}
 use Rattle.ipc_base.specs.declared.limits.Limits.{Limits}
 use Rattle.ipc_hub.specs.Clients.{Clients, connect, consume, feed, hangup, tick}
@@ -24,6 +24,14 @@ after_one limits h (Consumes conn count) = consume h conn count
 abbrev pub after : Limits → Clients → List Act → Clients
 after limits h [] = h
 after limits h (act ∷ acts) = after limits (after_one limits h act) acts
+
+-- the call was made at this moment, if its moment matters
+abbrev pub IsAt : ℕ → Act → Type 0
+IsAt moment (Connects conn) = ⊤
+IsAt moment (Ticks at_moment) = at_moment ≡ moment
+IsAt moment (Feeds conn bytes at_moment refused) = at_moment ≡ moment
+IsAt moment (HangsUp conn at_moment) = at_moment ≡ moment
+IsAt moment (Consumes conn count) = ⊤
 
 -- a client was sent something, and nothing else
 abbrev pub IsConsuming : Act → Type 0

@@ -1,8 +1,9 @@
 //! The client of a connection: its socket, and what was read of it.
 
-ghost use Rattle.std.specs.Prelude.{◌≡◌, ◌≤◌, [], IfErr, OnOk};
+ghost use Rattle.std.specs.Prelude.{◌≡◌, ◌==◌, ◌&&◌, ◌||◌, not, true, false, length, []};
+ghost use Rattle.std.specs.Prelude.{IfErr, IfOk, OnOk};
 ghost use Rattle.std.specs.Io.KnownBytes.{Keeps, prepend_known};
-ghost use Rattle.ipc_hub.specs.View.{output_of};
+ghost use Rattle.ipc_hub.specs.View.{output_of, ended_of};
 ghost use Rattle.ipc_server.specs.Goes.{Goes, Hears, Sends, Tells, Breaks};
 
 use bytes::BytesMut;
@@ -10,6 +11,8 @@ use ipc_base::Moment;
 use ipc_disk::SectorDisk;
 use ipc_hub::{Hub, ServeError};
 use ipc_store::CommitError;
+use mio::event::Source;
+use mio::{Interest, Registry, Token};
 use std::alloc::{AllocError, Global};
 use std::io::{ErrorKind, Read, Write};
 
@@ -30,6 +33,8 @@ pub(crate) struct Client<S> {
     readable: bool,
     /// The socket took no more bytes when it was last written to.
     full: bool,
+    /// The system was asked to tell when the socket has room again.
+    asked: bool,
     /// The end of its input was read, or its socket has failed.
     over: bool,
 }
@@ -39,6 +44,11 @@ impl<S> Client<S> {
     pub fn new(alloc: Global, conn: u32, socket: S) -> Result<Client<S>, AllocError>
     where
         S: Drop,
+        ensures conn { IfOk result (λ client. client.conn ≡ conn) }
+        ensures socket { IfOk result (λ client. client.socket ≡ socket) }
+        ensures nothing { IfOk result (λ client. client.piece.items ≡ []) }
+        ensures ready { IfOk result (λ client. (client.readable ≡ true) × (client.over ≡ false)) }
+        ensures empty { IfOk result (λ client. (client.full ≡ false) × (client.asked ≡ false)) }
     {
         Ok(Client {
             conn,
@@ -46,6 +56,7 @@ impl<S> Client<S> {
             piece: BytesMut::with_capacity(alloc, PIECE)?,
             readable: true,
             full: false,
+            asked: false,
             over: false,
         })
     }
@@ -58,20 +69,52 @@ impl<S> Client<S> {
     }
 
     /// The system says that a read may give something.
-    pub fn wake(&mut self) {
+    pub fn wake(&mut self)
+        ensures { self.new ≡ record self.old { readable = true } }
+    {
         self.readable = true;
     }
 
     /// Whether it may have something for the hub already. One that does not read what it is sent has
     /// to wait.
-    pub fn is_waiting(&self) -> bool {
+    pub fn is_waiting(&self) -> bool
+        ensures { result ≡ (not self.now.over && not self.now.full
+            && (self.now.readable || not (length self.now.piece.items == 0))) }
+    {
         !self.over && !self.full && (self.readable || !self.piece.is_empty())
     }
 
     /// Whether its connection is to be hung up: it is over, or the server has ended it and all that
     /// it may see was written.
-    pub fn is_gone<D: SectorDisk>(&self, hub: &Hub<D>) -> bool {
+    pub fn is_gone<D: SectorDisk>(&self, hub: &Hub<D>) -> bool
+        ensures { result ≡ (self.now.over || (ended_of hub.now.hub self.now.conn
+            && (length (output_of hub.now.hub self.now.conn) == 0))) }
+    {
         self.over || (hub.ended(self.conn) && hub.output(self.conn).is_empty())
+    }
+}
+
+impl<S: Source> Client<S> {
+    /// Has the system tell when its socket, which is full, has room again. Only then: else each read
+    /// of the client would be told.
+    pub fn ask_for_room(&mut self, registry: &Registry, token: Token)
+        ensures conn { self.new.conn ≡ self.old.conn }
+        ensures piece { self.new.piece ≡ self.old.piece }
+        ensures full { self.new.full ≡ self.old.full }
+        ensures readable { self.new.readable ≡ self.old.readable }
+    {
+        if self.asked == self.full {
+            return;
+        }
+        let interests = if self.full {
+            Interest::READABLE | Interest::WRITABLE
+        } else {
+            Interest::READABLE
+        };
+        match registry.reregister(&mut self.socket, token, interests) {
+            Ok(()) => self.asked = self.full,
+            Err(_) => self.over = true,
+        }
     }
 }
 
@@ -86,7 +129,7 @@ impl<S: Read> Client<S> {
         ensures hears { OnOk result (Hears D.medium self.old.conn moment.0 hub.old hub.new
             (prepend_known self.old.piece.items (S.remaining self.old.socket))
             (prepend_known self.new.piece.items (S.remaining self.new.socket))) }
-        ensures breaks { IfErr result (λ e. Breaks D.medium D.counts hub.old hub.new e) }
+        ensures breaks { IfErr result (λ e. Breaks D.medium D.counts moment.0 hub.old hub.new e) }
         ensures conn { self.new.conn ≡ self.old.conn }
     {
         self.feed(hub, moment)?;
@@ -124,7 +167,7 @@ impl<S: Read> Client<S> {
         ensures hears { OnOk result (Hears D.medium self.old.conn moment.0 hub.old hub.new
             (prepend_known self.old.piece.items (S.remaining self.old.socket))
             (prepend_known self.new.piece.items (S.remaining self.new.socket))) }
-        ensures breaks { IfErr result (λ e. Breaks D.medium D.counts hub.old hub.new e) }
+        ensures breaks { IfErr result (λ e. Breaks D.medium D.counts moment.0 hub.old hub.new e) }
         ensures conn { self.new.conn ≡ self.old.conn }
     {
         if self.piece.is_empty() {

@@ -1,6 +1,6 @@
 //! What follows from what a turn promises. A call of it does nothing; its contract is the law.
 
-ghost use Rattle.std.specs.Prelude.{◌≡◌, ◌+◌, List, ◌++◌, length};
+ghost use Rattle.std.specs.Prelude.{◌≡◌, ◌+◌, ℕ, List, ◌++◌, length};
 ghost use Rattle.ipc_base.specs.declared.limits.Limits.{Limits};
 ghost use Rattle.ipc_disk.specs.Medium.{IsHonest};
 ghost use Rattle.ipc_engine.specs.Event.{PlainEvent};
@@ -21,10 +21,10 @@ use ipc_hub::a_crash_takes_no_answer_back;
 /// client is of another event.
 pub fn a_crash_takes_nothing_back_that_was_sent<D: SectorDisk>()
     ensures { (limits : Limits) (first last next : StoredHub D) (opened : StoreView D) (h now : Clients)
-        (before : History) (disk : D)
+        (before : History) (disk : D) (moment : ℕ)
         → Keeps (D.medium first.store.disk) first.store before → before.confirmed ++ before.waiting ≡ h.events
         → StoredMatches limits first h → Turns D.medium limits first h last now
-        → Turned D.medium D.counts last next
+        → Turned D.medium D.counts moment last next
         → (D.medium next.store.disk).images_since (D.medium last.store.disk).moment (D.medium disk).contents
         → IsHonest (D.medium disk) → OpensOn (D.medium disk).contents (D.medium opened.disk) opened
         → (others : List PlainEvent) × AreAccepted limits now others

@@ -1,6 +1,6 @@
 //! What is done with all clients, in rising number.
 
-ghost use Rattle.std.specs.Prelude.{IfErr, OnOk};
+ghost use Rattle.std.specs.Prelude.{◌≡◌, IfErr, OnOk};
 ghost use Rattle.ipc_server.specs.Goes.{Goes, Sends, Breaks};
 
 use crate::client::Client;
@@ -18,8 +18,9 @@ pub(crate) fn serve_all<D: SectorDisk, S: Read + Write + Drop>(
     clients: &mut Slab<Client<S>>,
     moment: Moment,
 ) -> Result<(), CommitError>
-    ensures goes { OnOk result (Goes D.medium hub.old hub.new) }
-    ensures breaks { IfErr result (λ e. Breaks D.medium D.counts hub.old hub.new e) }
+    ensures goes { OnOk result (Goes D.medium moment.0 hub.old hub.new) }
+    ensures settled { OnOk result (hub.new.store.waiting ≡ 0) }
+    ensures breaks { IfErr result (λ e. Breaks D.medium D.counts moment.0 hub.old hub.new e) }
 {
     take_in_all(hub, clients, moment)?;
     hub.release()?;
@@ -36,8 +37,8 @@ fn take_in_all<D: SectorDisk, S: Read>(
     clients: &mut Slab<Client<S>>,
     moment: Moment,
 ) -> Result<(), CommitError>
-    ensures goes { OnOk result (Goes D.medium hub.old hub.new) }
-    ensures breaks { IfErr result (λ e. Breaks D.medium D.counts hub.old hub.new e) }
+    ensures goes { OnOk result (Goes D.medium moment.0 hub.old hub.new) }
+    ensures breaks { IfErr result (λ e. Breaks D.medium D.counts moment.0 hub.old hub.new e) }
 {
     for key in 0..clients.capacity() {
         if let Some(client) = clients.get_mut(key) {
@@ -64,8 +65,8 @@ fn part_with_gone<D: SectorDisk, S: Drop>(
     clients: &mut Slab<Client<S>>,
     moment: Moment,
 ) -> Result<(), CommitError>
-    ensures goes { OnOk result (Goes D.medium hub.old hub.new) }
-    ensures breaks { IfErr result (λ e. Breaks D.medium D.counts hub.old hub.new e) }
+    ensures goes { OnOk result (Goes D.medium moment.0 hub.old hub.new) }
+    ensures breaks { IfErr result (λ e. Breaks D.medium D.counts moment.0 hub.old hub.new e) }
 {
     for key in 0..clients.capacity() {
         let Some(client) = clients.get(key) else {
@@ -81,8 +82,8 @@ fn part_with_gone<D: SectorDisk, S: Drop>(
 
 // Hangs up a connection.
 fn hang_up<D: SectorDisk>(hub: &mut Hub<D>, conn: u32, moment: Moment) -> Result<(), CommitError>
-    ensures goes { OnOk result (Goes D.medium hub.old hub.new) }
-    ensures breaks { IfErr result (λ e. Breaks D.medium D.counts hub.old hub.new e) }
+    ensures goes { OnOk result (Goes D.medium moment.0 hub.old hub.new) }
+    ensures breaks { IfErr result (λ e. Breaks D.medium D.counts moment.0 hub.old hub.new e) }
 {
     match hub.hangup(conn, moment) {
         Ok(()) => Ok(()),

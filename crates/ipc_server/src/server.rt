@@ -1,9 +1,9 @@
 //! The server: a hub, the sockets of its connections, and the socket on which new ones come.
 
-ghost use Rattle.std.specs.Prelude.{◌≡◌, IfErr, IfOk, OnErr, OnOk, Err};
+ghost use Rattle.std.specs.Prelude.{◌≡◌, ℕ, IfErr, IfOk, OnOk, Err};
 ghost use Rattle.ipc_disk.specs.Medium.{IsHonest};
 ghost use Rattle.ipc_hub.specs.View.{HasStopped, StoredHub};
-ghost use Rattle.ipc_server.specs.Goes.{Goes, Breaks, BreaksOff};
+ghost use Rattle.ipc_server.specs.Goes.{Goes, GoesRound, Breaks, BreaksOff};
 
 use crate::client::Client;
 use crate::fault::{ServeFault, ServerError};
@@ -29,7 +29,7 @@ const MOST_EVENTS: usize = 1024;
 /// What events of the listening socket are told by: no client has it.
 const LISTENER: Token = Token(usize::MAX);
 
-/// How many milliseconds a wait may take, if no client has something already.
+/// How many milliseconds a wait may take, if there is nothing to do already.
 const LONGEST_WAIT: u64 = 100;
 
 /// A server on a Unix socket. A contract sees its hub.
@@ -41,6 +41,8 @@ pub struct Server<D: SectorDisk> {
     listener: UnixListener,
     poll: Poll,
     events: Events,
+    /// More connections may have come than one turn takes.
+    crowded: bool,
 }
 
 impl<D: SectorDisk> Model for Server<D> {
@@ -98,6 +100,7 @@ impl<D: SectorDisk> Server<D> {
                 listener,
                 poll,
                 events,
+                crowded: false,
             }),
             Err(error) => Err(Unserved {
                 hub,
@@ -111,8 +114,11 @@ impl<D: SectorDisk> Server<D> {
     /// the clients have written, makes all of it last at once, writes what the clients may see, and
     /// parts with those that are gone.
     pub fn turn(&mut self, moment: Moment) -> Result<(), ServeFault>
-        ensures ok { OnOk result (Goes D.medium self.old self.new) }
-        ensures err { IfErr result (λ fault. BreaksOff D.medium D.counts self.old self.new fault) }
+        ensures ok { OnOk result (GoesRound D.medium moment.0 self.old self.new) }
+        // All of it lasts.
+        ensures settled { OnOk result (self.new.store.waiting ≡ 0) }
+        ensures err { IfErr result (λ fault.
+            BreaksOff D.medium D.counts moment.0 self.old self.new fault) }
         ensures stopped { HasStopped self.old → result ≡ Err ServeFault.Stopped }
     {
         if self.hub.has_stopped() {
@@ -128,19 +134,22 @@ impl<D: SectorDisk> Server<D> {
 
     // What a turn does after the wait.
     fn go_round(&mut self, moment: Moment) -> Result<(), CommitError>
-        ensures goes { OnOk result (Goes D.medium self.old self.new) }
-        ensures breaks { IfErr result (λ e. Breaks D.medium D.counts self.old self.new e) }
+        ensures goes { OnOk result (GoesRound D.medium moment.0 self.old self.new) }
+        ensures settled { OnOk result (self.new.store.waiting ≡ 0) }
+        ensures breaks { IfErr result (λ e.
+            Breaks D.medium D.counts moment.0 self.old self.new e) }
     {
         self.hub.tick(moment)?;
-        self.admit();
+        self.crowded = self.admit();
         serve_all(&mut self.hub, &mut self.clients, moment)
     }
 
-    // Waits until a socket is ready, or not at all if a client has something already.
+    // Waits until a socket is ready, or not at all if there is something to do already.
     fn wait(&mut self) -> Result<(), ServeFault>
         ensures same { self.new ≡ self.old }
         ensures err { IfErr result (λ fault. fault ≡ ServeFault.Socket) }
     {
+        self.ask_for_room();
         let longest = if self.is_busy() { 0 } else { LONGEST_WAIT };
         let longest = Duration::from_millis(longest);
         if self.poll.poll(&mut self.events, Some(longest)).is_err() {
@@ -157,8 +166,23 @@ impl<D: SectorDisk> Server<D> {
         Ok(())
     }
 
-    // Whether a client may have something already.
+    // Has the system tell when the sockets that are full have room again.
+    fn ask_for_room(&mut self)
+        ensures { self.new ≡ self.old }
+    {
+        for key in 0..self.clients.capacity() {
+            if let Some(client) = self.clients.get_mut(key) {
+                client.ask_for_room(self.poll.registry(), Token(key));
+            }
+        }
+    }
+
+    // Whether a client may have something already, or a new one has come. The system tells of a new one
+    // once, and not again in the next turn.
     fn is_busy(&self) -> bool {
+        if self.crowded {
+            return true;
+        }
         for (_, client) in self.clients.iter() {
             if client.is_waiting() {
                 return true;
@@ -167,21 +191,22 @@ impl<D: SectorDisk> Server<D> {
         false
     }
 
-    // Takes the connections that have come.
-    fn admit(&mut self)
-        ensures { Goes D.medium self.old self.new }
+    // Takes the connections that have come. Answers whether there may be more.
+    fn admit(&mut self) -> bool
+        ensures { (moment : ℕ) → Goes D.medium moment self.old self.new }
     {
         for _ in 0..MOST_ACCEPTS {
             let Ok((socket, _)) = self.listener.accept() else {
-                return;
+                return false;
             };
             self.take_client(socket);
         }
+        true
     }
 
     // Takes a new connection, or closes it if something that it needs is refused.
     fn take_client(&mut self, socket: UnixStream)
-        ensures { Goes D.medium self.old self.new }
+        ensures { (moment : ℕ) → Goes D.medium moment self.old self.new }
     {
         let mut socket = socket;
         let key = self.clients.vacant_key();
@@ -191,11 +216,10 @@ impl<D: SectorDisk> Server<D> {
         if self.clients.reserve(1).is_err() {
             return;
         }
-        let both = Interest::READABLE | Interest::WRITABLE;
         if self
             .poll
             .registry()
-            .register(&mut socket, Token(key), both)
+            .register(&mut socket, Token(key), Interest::READABLE)
             .is_err()
         {
             return;

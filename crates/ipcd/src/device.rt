@@ -1,6 +1,6 @@
 //! The device of a run, in memory or in a file.
 
-ghost use Rattle.std.specs.Prelude.{◌≡◌, ◌⊎◌, ℕ, Ok, IfOk, IfErr};
+ghost use Rattle.std.specs.Prelude.{◌≡◌, ◌⊎◌, ℕ, Ok, Err, IfOk, IfErr};
 ghost use Rattle.ipc_base.specs.Limits.{ArePassed};
 ghost use Rattle.ipc_disk.specs.Medium.{IsHonest};
 ghost use Rattle.ipc_image.specs.Sizes.{need_of};
@@ -11,7 +11,7 @@ ghost use Rattle.ipc_store.specs.Image.{IsFirstFault, IsAtEnd};
 ghost use Rattle.ipc_script.specs.declared.fault.ScriptFault.TheVariants.{NotFormatted};
 ghost use Rattle.ipc_script.specs.declared.fault.ScriptFault.TheVariants.{Version, Damaged};
 ghost use Rattle.ipc_store.specs.declared.fault.OpenError.{OpenError};
-ghost use Rattle.ipcd.specs.Ending.{of_open_error};
+ghost use Rattle.ipcd.specs.Ending.{device_fault, of_open_error};
 ghost use Rattle.ipcd.specs.declared.ending.Fault.TheVariants.{Run};
 ghost use Rattle.ipcd.specs.Device.{sectors_given};
 
@@ -34,6 +34,7 @@ pub fn new_store(alloc: Global, limits: &Limits) -> Result<Store<MemoryDisk>, Fa
     ensures limits { IfOk result (λ store. store.machine.limits ≡ limits.now) }
     ensures state { IfOk result (λ store. store.machine.state ≡ start) }
     ensures confirmed { IfOk result (λ store. store.confirmed ≡ 1) }
+    ensures named { IfErr result (λ fault. (error : OpenError) × (fault ≡ of_open_error error)) }
 {
     let Ok(mut memory) = MemoryDisk::new(alloc, need(limits)) else {
         return Err(Fault::Run(ScriptFault::NoMemory));
@@ -66,7 +67,7 @@ pub fn open_store<D: SectorDisk + Drop>(alloc: Global, disk: D) -> Result<Store<
 /// Makes a device in a file, of as many sectors as are asked for or as it needs, and answers how
 /// many. Too few are refused before the file is touched. How far it is, is said on `errors` if that is
 /// a terminal.
-pub fn format_file<R: Files<File = File>, E: Eprint + IsTerminal>(
+pub fn format_file<R: Files<File = File> + AllocGlobal, E: Eprint + IsTerminal>(
     rt: &R,
     errors: &E,
     path: &str,
@@ -74,7 +75,9 @@ pub fn format_file<R: Files<File = File>, E: Eprint + IsTerminal>(
     asked: Option<u32>,
 ) -> Result<u32, Fault>
     requires { ArePassed limits.now }
-    ensures { IfOk result (λ sectors. sectors_given (need_of limits.now) asked ≡ Ok sectors) }
+    ensures ok { IfOk result (λ sectors. sectors_given (need_of limits.now) asked ≡ Ok sectors) }
+    ensures err { IfErr result (λ fault. (fault ≡ device_fault)
+        ⊎ (sectors_given (need_of limits.now) asked ≡ Err fault)) }
 {
     let sectors = sectors_for(limits, asked)?;
     let mut meter = Meter::new(errors, sectors);
@@ -103,7 +106,8 @@ pub fn open_file<R: Files<File = File> + AllocGlobal>(
     rt: &R,
     path: &str,
 ) -> Result<Store<FileDisk>, Fault>
-    ensures { IfOk result (λ store. store.confirmed ≡ 1) }
+    ensures ok { IfOk result (λ store. store.confirmed ≡ 1) }
+    ensures named { IfErr result (λ fault. (error : OpenError) × (fault ≡ of_open_error error)) }
 {
     open_store(rt.alloc(), FileDisk::open(rt, path)?)
 }

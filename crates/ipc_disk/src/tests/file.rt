@@ -151,7 +151,7 @@ fn what_can_be_opened(rt: HostRuntime) -> Result<(), Fail> {
 fn failures_are_counted(rt: HostRuntime) -> Result<(), Fail> {
     let path = path_of(&rt, process::id(rt.process()), "failures")?;
     put_file(&rt, &path, 2560)?;
-    let mut read_only = FileDisk::over(File::open(&rt, &path)?, 5);
+    let mut read_only = FileDisk::over(rt.alloc(), File::open(&rt, &path)?, 5)?;
     assert_eq!(rt; fill(&mut read_only, &[0, 1], NEW), Ok(()));
     assert_eq!(rt; fill(&mut read_only, &[4], NEW), Err(DiskFault));
     assert_eq!(rt; read_only.sync(), Err(DiskFault));

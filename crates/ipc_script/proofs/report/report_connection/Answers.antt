@@ -22,11 +22,11 @@ returns-then-is_silent-clause-ok g c = λ limits r s u kept.
     let hub = c.args.hub.now.hub in
     let conn = c.args.connection.now.conn in
     let w = g.W.Write.contents c.args.writer.now in
-    let silent = rw c.if-is_silent.true at c.is_silent.ensures in
+    let silent = c.is_silent.ensures.0 c.if-is_silent.true in
     let frames = partly_done limits r.hub conn hub w w [] (partly_begun limits r.hub conn hub w s u)
-    (λ _ confirmed h m. sym silent.0 ∙ (shows _ confirmed hub h conn m).0) refl in
+    (λ _ confirmed h m. sym silent.1 ∙ (shows _ confirmed hub h conn m).0) refl in
     let ended : false ≡ ended_at (without_frames r.hub conn) conn =
-    sym silent.1 ∙ (shows limits (accepted r.hub) hub (without_frames r.hub conn) conn frames.0).1 in
+    sym silent.2 ∙ (shows limits (accepted r.hub) hub (without_frames r.hub conn) conn frames.0).1 in
     reports limits r conn hub w w w c.args.connection.now.told false frames.0 frames.1 (ap (λ (o : Opened). o.told) kept) ended _
     (ap (λ (b : Bool). record { conn = conn; told = b }) (or_false c.args.connection.now.told)) (Appends-nil w)
 

@@ -2,4 +2,4 @@ use Rattle.ipc_server.specs.Goes.{Goes}
 use Rattle.ipc_server.proofs.rounds.take_in_all.Given as goal
 
 abbrev pub invariant-loop-key : goal.invariant-loop-key
-invariant-loop-key g l = Goes g.D.SectorDisk.medium l.fn.hub l.hub
+invariant-loop-key g l = Goes g.D.SectorDisk.medium l.fn.moment.0 l.fn.hub l.hub

@@ -1,9 +1,9 @@
-use Rattle.std.proofs.Common.{◌≡◌, ◌<◌, ◌^◌, ◌∙◌, ℕ, ap, length, arith}
+use Rattle.std.proofs.Common.{Err, ◌≡◌, ◌<◌, ◌^◌, ◌∙◌, ℕ, ap, length, arith}
 use Rattle.ipc_base.specs.declared.limits.Limits.{Limits}
 use Rattle.ipc_disk.specs.declared.memory.MemoryDisk.{MemoryDisk}
 use Rattle.ipc_disk.specs.Medium.{Medium, IsHonest, Image}
 use Rattle.std.proofs.lemmas.List.{length-map}
-use Rattle.std.proofs.lemmas.Result.{IfOk-weaker}
+use Rattle.std.proofs.lemmas.Result.{IfOk-weaker, err_from_is_err_and}
 use Rattle.ipc_disk.specs.Memory.{memory_medium, memory_size}
 use Rattle.ipc_disk.specs.declared.memory.Slot.{Slot}
 use Rattle.ipc_state.specs.State.{start, restart}
@@ -11,6 +11,8 @@ use Rattle.ipc_store.specs.Histories.{OpensOn}
 use Rattle.ipc_store.specs.Image.{StandsFor}
 use Rattle.ipc_store.specs.View.{StoreView}
 use Rattle.ipc_store.proofs.CallerLemmas.{StandsFor-one}
+use Rattle.ipc_store.specs.declared.fault.OpenError.TheVariants as opening
+use Rattle.ipcd.proofs.Formatting.{refused}
 use Rattle.ipcd.proofs.device.new_store.Goals as goal
 
 -- what an open gives of a disk that stands for the first state
@@ -45,3 +47,12 @@ returns-clause-state c =
     IfOk-weaker c.open_store.result _ _
     (λ store opens. state c.args.limits.now image _ store few (c.in_ok-format.ensures.ok c.in-Ok.ensures.honest image honest.reads)
     (opens honest)) c.open_store.ensures.ok
+
+pub returns-in_err-format-clause-named : goal.returns-in_err-format-clause-named
+returns-in_err-format-clause-named c =
+    let q = err_from_is_err_and c.from_residual.result c.from_residual.ensures.1 in
+    let size = c.in-Ok.ensures.size ∙ c.need.ensures.exact in
+    rw (q.1, q.2) (
+      opening.Device,
+      refused c.in_err-format.field-0.0 _ _ (λ need is. (c.in_err-format.ensures.small need).0 (ap (λ e. Err e) is)) (omega (arith, size)),
+    )

@@ -8,13 +8,15 @@ returns-then-is_empty-clause-hears g c =
 
 pub returns-in-Err-Device-clause-breaks : goal.returns-in-Err-Device-clause-breaks
 returns-in-Err-Device-clause-breaks g c =
-    breaks-at g.D.SectorDisk.medium g.D.SectorDisk.counts c.args.hub.now c.args.hub.now _ _
-    (goes-none g.D.SectorDisk.medium g.met.D.SectorDisk.only_now c.args.hub.now) (rw c.in-Err-Device.field-0-is at c.in-Err-Device.ensures.refused)
+    breaks-at g.D.SectorDisk.medium g.D.SectorDisk.counts c.args.moment.0 c.args.hub.now c.args.hub.now _ _
+    (goes-none g.D.SectorDisk.medium g.met.D.SectorDisk.only_now c.args.moment.0 c.args.hub.now)
+    (rw c.in-Err-Device.field-0-is at c.in-Err-Device.ensures.refused)
 
 pub returns-in-Err-Stopped-clause-breaks : goal.returns-in-Err-Stopped-clause-breaks
 returns-in-Err-Stopped-clause-breaks g c =
-    breaks-at g.D.SectorDisk.medium g.D.SectorDisk.counts c.args.hub.now c.args.hub.now _ _
-    (goes-none g.D.SectorDisk.medium g.met.D.SectorDisk.only_now c.args.hub.now) (rw c.in-Err-Stopped.field-0-is at c.in-Err-Stopped.ensures.refused)
+    breaks-at g.D.SectorDisk.medium g.D.SectorDisk.counts c.args.moment.0 c.args.hub.now c.args.hub.now _ _
+    (goes-none g.D.SectorDisk.medium g.met.D.SectorDisk.only_now c.args.moment.0 c.args.hub.now)
+    (rw c.in-Err-Stopped.field-0-is at c.in-Err-Stopped.ensures.refused)
 
 pub returns-in-Ok-clause-hears : goal.returns-in-Ok-clause-hears
 returns-in-Ok-clause-hears g c =

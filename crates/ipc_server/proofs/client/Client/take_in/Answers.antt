@@ -9,7 +9,7 @@ pub returns-in_err-feed-2-clause-breaks : goal.returns-in_err-feed-2-clause-brea
 returns-in_err-feed-2-clause-breaks g c =
     let q = err_from_is_err_and c.from_residual-in_err-feed-2.result c.from_residual-in_err-feed-2.ensures.1 in
     let med = g.D.SectorDisk.medium in
-    rw (q.1, q.2) (breaks-later med g.D.SectorDisk.counts c.args.hub.now c.loop.hub c.feed-in-loop.new.hub _
+    rw (q.1, q.2) (breaks-later med g.D.SectorDisk.counts c.args.moment.0 c.args.hub.now c.loop.hub c.feed-in-loop.new.hub _
     (hears-goes med c.args.self.now.conn c.args.moment.0 _ _ _ _ c.loop.invariant.hears) c.in_err-feed-2.ensures.breaks)
 
 pub loop-preserved : goal.loop-preserved
