@@ -79,6 +79,13 @@ def command_lines() -> None:
     refused(1, "ipcd: device fault", "serve", "folder", "socket")
     Path("empty").touch()
     refused(1, "ipcd: not formatted", "serve", "empty", "socket")
+    printed("format", "changed", "--small")
+    device = Path("changed").read_bytes()
+    for place, said in ((11, "ipcd: version 1"), (12, "ipcd: damaged sector 0")):
+        changed = device[:place] + bytes([device[place] ^ 1]) + device[place + 1 :]
+        Path("changed").write_bytes(changed)
+        refused(1, said, "serve", "changed", "socket")
+        check(Path("changed").read_bytes() == changed, "a device that is refused is written to")
     refused(1, "ipcd: socket fault", "serve", "device", "")
     refused(1, "ipcd: socket fault", "serve", "device", "missing/socket")
     refused(1, "ipcd: socket fault", "serve", "device", "folder")
@@ -112,6 +119,16 @@ def no_standard_output() -> None:
     check((ended.returncode, ended.stderr) == (1, "ipcd: output fault\n"), f"{ended}")
     os.remove("socket")
     check(printed("dump", "device") == "", "it is another device")
+
+
+def an_interrupted_wait() -> None:
+    with serving() as server, process() as client:
+        for _ in range(5):
+            server.process.send_signal(signal.SIGSTOP)
+            time.sleep(0.02)
+            server.process.send_signal(signal.SIGCONT)
+            time.sleep(0.05)
+        client.msgget(1, IPC_CREAT | 0o600)
 
 
 def turns() -> None:
@@ -585,6 +602,7 @@ TESTS = [
     command_lines,
     device_in_use,
     no_standard_output,
+    an_interrupted_wait,
     turns,
     a_socket_that_was_left,
     exchanges,
