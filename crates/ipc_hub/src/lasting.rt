@@ -164,10 +164,12 @@ fn long_sends(alloc: Global, count: u8) -> Result<Vec<u8>, AllocError> {
 
 /// Whether these are so many answers to them in order, each EINVAL for its length.
 fn are_refused(output: &[u8], count: u8) -> bool {
+    for (frame, serial) in output.chunks(10).zip(1..) {
+        if frame != [0, 0, 0, 6, 0, 0, 0, serial, 0, 22].as_slice() {
+            return false;
+        }
+    }
     output.len() == count as usize * 10
-        && output.chunks(10).zip(1..).all(|(frame, serial)| {
-            frame == [0, 0, 0, 6, 0, 0, 0, serial, 0, 22].as_slice()
-        })
 }
 
 /// Feeds of connection 1, which has sent eight long requests: from which request on and up to which they are given, how

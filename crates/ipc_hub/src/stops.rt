@@ -113,7 +113,8 @@ const SCRIPT: [Line; 73] = [
 
 /// Adds a request for a queue.
 fn add_get(piece: &mut Vec<u8>, key: u8) -> Result<(), AllocError> {
-    piece.extend_from_slice(&[0, 0, 0, 13, 0, 0, 0, 2, 10, 0, 0, 0, key])?;
+    piece.extend_from_slice(&[0, 0, 0, 13, 0, 0, 0, 2])?;
+    piece.extend_from_slice(&[10, 0, 0, 0, key])?;
     piece.extend_from_slice(&[0, 0, 3, 0x80])
 }
 
@@ -399,14 +400,14 @@ fn probe(rt: &impl Abort, alloc: Global, disk: MemoryDisk) -> Result<Vec<u8>, Fa
 /// The choice of a crash after `before` other ones: each combination of up to four unsynced sectors, and of more none,
 /// all and each alone.
 fn choice(before: u32, unsynced: u32) -> Option<u64> {
-    if unsynced <= 4 {
-        return (before < 1 << unsynced).then_some(before as u64);
+    if let Some(combinations) = [1, 2, 4, 8, 16].get(unsynced as usize) {
+        return (before < *combinations).then_some(u64::from(before));
     }
-    match before {
-        0 => Some(0),
-        1 => Some(u64::MAX),
-        _ if before - 2 < unsynced && before < 66 => Some(1 << (before - 2)),
-        _ => None,
+    match before.checked_sub(2) {
+        Some(place) if place < unsynced => 1_u64.checked_shl(place),
+        Some(_) => None,
+        None if before == 0 => Some(0),
+        None => Some(u64::MAX),
     }
 }
 

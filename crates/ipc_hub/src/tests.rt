@@ -110,7 +110,12 @@ fn many_gets(alloc: Global, count: u32) -> Result<(Hub<MemoryDisk>, Vec<u8>), Fa
 
 /// Whether the output is as many answers as requests were taken.
 fn is_answered(output: &[u8], taken: usize) -> bool {
-    output.len() == taken / 17 * 14 && output.chunks(14).all(|frame| frame == GOT.as_slice())
+    for frame in output.chunks(14) {
+        if frame != GOT.as_slice() {
+            return false;
+        }
+    }
+    output.len() == taken / 17 * 14
 }
 
 #[test]
@@ -169,12 +174,16 @@ static LISTED: [Listed; 4] = [
 
 /// Whether the connections are these, in this order.
 fn are_listed(connections: &[Connection], listed: &[Listed]) -> bool {
+    for (connection, wanted) in connections.iter().zip(listed) {
+        let (number, output) = (connection.number(), connection.output());
+        if number != wanted.number
+            || output != wanted.output
+            || connection.ended() != wanted.ended
+        {
+            return false;
+        }
+    }
     connections.len() == listed.len()
-        && connections.iter().zip(listed).all(|(connection, wanted)| {
-            connection.number() == wanted.number
-                && connection.output() == wanted.output
-                && connection.ended() == wanted.ended
-        })
 }
 
 /// A hub whose connections were made in this order.
