@@ -19,8 +19,8 @@ use Rattle.ipc_image.proofs.CallerLemmas.{one-superblock, one-record, record-rea
 use Rattle.ipc_image.specs.Saved.{StandForState}
 use Rattle.ipc_store.specs.Batch.{records_of, batch_bytes, AreBatch}
 use Rattle.ipc_store.specs.Histories.{Takes}
-use Rattle.ipc_store.specs.Image.{journal_range, layout_of, events_of, HasObjects, HasBatches, HasBase, StandsFor}
-use Rattle.ipc_store.specs.View.{StoreView, HasRoom, IsReadyFor, events_left}
+use Rattle.ipc_store.specs.Image.{journal_range, layout_of, events_of, epoch_at, HasObjects, HasBatches, HasBase, StandsFor}
+use Rattle.ipc_store.specs.View.{StoreView, HasRoom, IsReadyFor, events_left, numbers_used}
 use Rattle.ipc_store.proofs.Batches.{record-length, record-most}
 use Rattle.ipc_store.specs.Relations.Matches.{StoreMatches}
 use Rattle.ipc_store.proofs.Committing as committing
@@ -97,6 +97,11 @@ StandsFor-one limits others s t image fits is also =
 pub StoreMatches-stands : {D : Type 0} (medium : Medium) (store : StoreView D) (base : State) (pending : List PlainEvent)
     → StoreMatches medium store base pending → (image : Image) → medium.images_now image → StandsFor store.machine.limits base image
 StoreMatches-stands = committing.stands_now
+
+-- the epoch of what its disk reads is among the numbers that it has used
+pub StoreMatches-epoch : {D : Type 0} (medium : Medium) (store : StoreView D) (base : State) (pending : List PlainEvent)
+    → StoreMatches medium store base pending → epoch_at medium.contents ≤ numbers_used store
+StoreMatches-epoch medium store base pending matches = omega (arith, committing.root-epoch medium store base pending matches)
 
 -- ---- what calls accept
 

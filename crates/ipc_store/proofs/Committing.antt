@@ -1,20 +1,21 @@
 -- A commit takes a store from its base to the state after what waits, by a batch more in the journal, or by a save.
-use Rattle.std.proofs.Common.{◌≡◌, inl, inr, ⊎_elim, ℕ, ◌+◌, ◌≤◌, ◌<◌, ◌++◌, List, [], ◌∷◌, length, refl, sym, ap, subst, ◌∙◌, arith}
+use Rattle.std.proofs.Common.{◌≡◌, inl, inr, ℕ, ◌+◌, ◌≤◌, ◌<◌, ◌++◌, List, [], ◌∷◌, length, refl, sym, ap, subst, ◌∙◌, arith}
 use Rattle.std.specs.Prelude.{map}
 use Rattle.std.proofs.lemmas.List.{map-append, length-append}
 use Rattle.std.proofs.lemmas.List.Elements.{All-nil}
 use Rattle.byteorder.specs.Endian.{big_bytes}
 use Rattle.byteorder.specs.Numbers.{big_number-reads_back}
-use Rattle.ipc_base.specs.declared.limits.Limits.{Limits}
 use Rattle.ipc_base.specs.Objects.{PlainObjects}
 use Rattle.ipc_checkpoint.specs.declared.checkpoint.Checkpoint.{Checkpoint}
-use Rattle.ipc_checkpoint.specs.Checkpoint.{IsElsewhere, Holds as HoldsObjects}
+use Rattle.ipc_checkpoint.specs.Checkpoint.{IsElsewhere, epoch_in, Holds as HoldsObjects}
+use Rattle.ipc_checkpoint.specs.declared.layout.Layout.{Layout}
 use Rattle.ipc_checkpoint.specs.Matches.{CheckpointMatches, HoldsEither}
 use Rattle.ipc_checkpoint.specs.View.{epoch_of as saved_epoch, layout_of as saved_layout}
 use Rattle.ipc_checkpoint.proofs.CallerLemmas.{Holds-since, CheckpointMatches-holds, CheckpointMatches-alone}
 use Rattle.ipc_disk.specs.Medium.{Image, Medium}
 use Rattle.ipc_disk.specs.Range.{IsOutside}
 use Rattle.ipc_disk.specs.Since.{EachImageSince, LeavesAlone}
+use Rattle.ipc_disk.specs.Standing.{sector_at}
 use Rattle.ipc_disk.proofs.CallerLemmas.{EachImageSince-start, EachImageSince-both, EachImageSince-weaken, EachImageSince-now}
 use Rattle.ipc_journal.specs.declared.journal.Journal.{Journal}
 use Rattle.ipc_journal.specs.Journal.{length_in, IsBatch, Holds}
@@ -27,7 +28,7 @@ use Rattle.ipc_engine.specs.Step.{run}
 use Rattle.ipc_image.specs.Records.{HasRecord}
 use Rattle.ipc_image.specs.Saved.{StandForState}
 use Rattle.ipc_store.specs.Batch.{most_bytes, batch_bytes, AreBatch}
-use Rattle.ipc_store.specs.Image.{StandsFor, LeadTo, layout_of}
+use Rattle.ipc_store.specs.Image.{StandsFor, LeadTo, epoch_at}
 use Rattle.ipc_store.specs.View.{StoreView, store_view}
 use Rattle.ipc_store.specs.Relations.Matches.{StoreMatches, StandsForEither}
 use Rattle.ipc_store.proofs.Devices.{IsPlace, IsPlace-since, stands-with, device-stands, objects-room, objects-outside}
@@ -54,6 +55,13 @@ module _ {D : Type 0} (medium : Medium) (store : StoreView D) (base : State) (pe
   -- each image now stands for the base
   pub stands_now : (image : Image) → medium.images_now image → StandsFor store.machine.limits base image
   stands_now = device-stands medium store.machine.limits store.checkpoint store.journal base at.device
+
+  -- the root of the disk has its epoch
+  pub root-epoch : epoch_at medium.contents ≡ saved_epoch store.checkpoint
+  root-epoch =
+      let reads = at.device.honest.reads in
+      ap (λ (l : Layout). epoch_in (sector_at medium.contents l.root)) (sym (at.device.device medium.contents reads).1)
+      ∙ (at.device.saved.images medium.contents reads).current
 
   -- what waits makes a batch
   waits-batch : 4 + length store.records ≤ most_bytes → AreBatch pending

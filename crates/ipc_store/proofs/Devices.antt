@@ -1,6 +1,6 @@
 -- What a device stands for, as the values of a store know it, and what calls leave alone that touch the journal or the
 -- objects.
-use Rattle.std.proofs.Common.{◌≡◌, ◌≢◌, inl, inr, ℕ, ◌+◌, ◌-◌, ◌*◌, ◌≤◌, List, length, refl, sym, subst, ◌∙◌, ap, arith}
+use Rattle.std.proofs.Common.{◌≡◌, inl, inr, ℕ, ◌*◌, ◌≤◌, List, length, sym, subst, ◌∙◌, ap, arith}
 use Rattle.std.specs.Prelude.{map}
 use Rattle.ipc_base.specs.declared.limits.Limits.{Limits}
 use Rattle.ipc_base.specs.Objects.{PlainObjects, Fit}

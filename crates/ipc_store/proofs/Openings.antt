@@ -7,7 +7,6 @@ use Rattle.ipc_disk.specs.Medium.{Image, Medium, IsHonest, Stays}
 use Rattle.ipc_disk.specs.Since.{EachImageSince}
 use Rattle.ipc_disk.proofs.CallerLemmas.{EachImageSince-weaken, EachImageSince-join}
 use Rattle.ipc_checkpoint.specs.declared.checkpoint.Checkpoint.{Checkpoint}
-use Rattle.ipc_checkpoint.specs.declared.layout.Layout.{Layout}
 use Rattle.ipc_checkpoint.specs.Checkpoint.{epoch_in}
 use Rattle.ipc_disk.specs.declared.range.Range.{Range}
 use Rattle.ipc_journal.specs.declared.journal.Journal.{Journal}
@@ -25,7 +24,7 @@ use Rattle.ipc_store.specs.Image.{journal_range, last_epoch, IsNotFormatted, Has
 use Rattle.ipc_store.specs.View.{StoreView, IsAtLastEpoch, store_view}
 use Rattle.ipc_store.specs.Relations.Matches.{DeviceMatches, StoreMatches, StandsForEither, OpensTo}
 use Rattle.ipc_store.proofs.Batches.{record-length}
-use Rattle.ipc_store.proofs.Committing.{stands_now}
+use Rattle.ipc_store.proofs.Committing.{stands_now, root-epoch}
 
 -- calls that only read leave what was there before
 pub only_read : (old new : Medium) → Stays old new
@@ -101,12 +100,10 @@ pub at_end : {D : Type 0} (medium : Medium) (store : StoreView D) (base : State)
     → (0 < used_of store.journal → used_of store.journal ≡ header_used journal_range image) → IsAtEnd image
 at_end medium store base image matches same last full used =
     let at = matches.device in
-    let is = at.device medium.contents at.honest.reads in
-    let there = at.saved.images medium.contents at.honest.reads in
     let count : used_of store.journal + 1 ≡ journal_range.count = full ∙ ap (λ (r : Range). r.count) at.range in
     record {
       epoch = subst (λ (i : Image). epoch_in (sector_at i 1) ≡ last_epoch) same
-          (ap (λ (l : Layout). epoch_in (sector_at medium.contents l.root)) (sym is.1) ∙ there.current ∙ last);
+          (root-epoch medium store base [] matches ∙ last);
       used = ap (λ (n : ℕ). n + 1) (sym (used (omega (arith, count)))) ∙ count;
     }
 

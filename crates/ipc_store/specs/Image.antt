@@ -100,9 +100,13 @@ pub record IsDamaged (image : Image) : Type 0 where
   pub version : version_in (sector_at image 0) ≡ 0
   pub stands_for_none : HasNoState image
 
+-- the epoch of its objects, which their root has
+abbrev pub epoch_at : Image → ℕ
+epoch_at image = epoch_in (sector_at image 1)
+
 -- The device stands for a state, at the last epoch, and its journal has no room for one batch more.
 pub record IsAtEnd (image : Image) : Type 0 where
-  pub epoch : epoch_in (sector_at image 1) ≡ last_epoch
+  pub epoch : epoch_at image ≡ last_epoch
   pub used : header_used journal_range image + 1 ≡ journal_range.count
 
 -- the header of the journal is of a later epoch than this, or is of this one and counts sectors past the end

@@ -1,6 +1,7 @@
 -- What a store shows.
 use Rattle.std.specs.Prelude.{◌≡◌, ◌≤◌, ◌+◌, ◌-◌, ◌*◌, ◌^◌, ℕ}
-use Rattle.std.specs.Prelude.{Bool, true, if◌then◌else◌, List, length}
+use Rattle.std.specs.Prelude.{Bool, true, false, if◌then◌else◌, List, length}
+use Rattle.ipc_disk.specs.Counts.{Counts}
 use Rattle.ipc_engine.specs.Engine.{Machine}
 use Rattle.ipc_checkpoint.specs.declared.checkpoint.Checkpoint.{Checkpoint}
 use Rattle.ipc_checkpoint.specs.declared.error.LoadError.{LoadError}
@@ -59,6 +60,17 @@ IsStopped store = store.stopped ≡ true
 -- how many more events it takes until it is opened again
 abbrev pub events_left : {D : Type 0} → StoreView D → ℕ
 events_left store = if store.stopped then 0 else 2 ^ 64 - 1 - (store.confirmed + store.waiting)
+
+-- how many of its numbers it has used: its epoch, and the events since it was opened
+abbrev pub numbers_used : {D : Type 0} → StoreView D → ℕ
+numbers_used store = epoch_of store.checkpoint + (store.confirmed + store.waiting)
+
+-- A call went well: the store has not stopped, the disk has counted no failure, and so many numbers more are used at
+-- most.
+pub record Spends {D : Type 0} (counts : D → Counts) (n : ℕ) (old new : StoreView D) : Type 0 where
+  pub goes_on : new.stopped ≡ false
+  pub failures : (counts new.disk).failures ≡ (counts old.disk).failures
+  pub numbers : numbers_used new ≤ numbers_used old + n
 
 -- the longest records of so many events fit into the batch, and it takes so many events more
 abbrev pub IsReadyFor : {D : Type 0} → StoreView D → ℕ → Type 0

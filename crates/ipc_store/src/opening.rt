@@ -1,6 +1,6 @@
 //! The opening of a device.
 
-ghost use Rattle.std.specs.Prelude.{◌≡◌, ◌⊎◌, ◌↔◌, ◌<◌, ◌+◌, ℕ, false, [], length};
+ghost use Rattle.std.specs.Prelude.{◌≡◌, ◌⊎◌, ◌↔◌, ◌<◌, ◌≤◌, ◌+◌, ℕ, false, [], length};
 ghost use Rattle.std.specs.Prelude.{Err, IfOk, IfErr, OnOk, OnErr};
 ghost use Rattle.ipc_base.specs.declared.limits.Limits.{Limits};
 ghost use Rattle.ipc_disk.specs.Counts.{counted};
@@ -19,8 +19,9 @@ ghost use Rattle.ipc_store.specs.Image.{
   IsDamaged,
   IsFirstFault,
   IsAtEnd,
+  epoch_at,
 };
-ghost use Rattle.ipc_store.specs.View.{IsAtLastEpoch};
+ghost use Rattle.ipc_store.specs.View.{IsAtLastEpoch, numbers_used};
 ghost use Rattle.ipc_store.specs.Histories.{OpensOn};
 ghost use Rattle.ipc_store.specs.Relations.Matches.{AreOnDisk, DeviceMatches, StoreMatches};
 ghost use Rattle.ipc_store.specs.Relations.Matches.{StandsForEither, OpensTo};
@@ -53,6 +54,9 @@ impl<D: SectorDisk> Store<D> {
         ensures ok { IfOk result (λ store. IsHonest (D.medium disk)
             → OpensOn (D.medium disk).contents (D.medium store.disk) store) }
         ensures confirmed { IfOk result (λ store. store.confirmed ≡ 1) }
+        // The epoch of the disk, or the next, and one event.
+        ensures numbers { IfOk result (λ store. IsHonest (D.medium disk)
+            → numbers_used store ≤ epoch_at (D.medium disk).contents + 2) }
         // A crash at any moment of the call, also of one that fails.
         ensures any_moment { IsHonest (D.medium disk)
             → (IfOk result (λ store. EachImageSince (D.medium disk) (D.medium store.disk) (OpensTo (D.medium disk))))
@@ -107,6 +111,7 @@ impl<D: SectorDisk> Store<D> {
         ensures matches { OnOk result ((base : State) → StoreMatches (D.medium self.old.disk) self.old base []
             → StoreMatches (D.medium self.new.disk) self.new (restart base) []) }
         ensures confirmed { OnOk result (self.new.confirmed ≡ 1) }
+        ensures numbers { OnOk result (numbers_used self.new ≤ numbers_used self.old + 2) }
         ensures limits { self.new.machine.limits ≡ self.old.machine.limits }
         ensures any_moment { (base : State) → StoreMatches (D.medium self.old.disk) self.old base []
             → EachImageSince (D.medium self.old.disk) (D.medium self.new.disk)

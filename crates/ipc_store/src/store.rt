@@ -15,7 +15,7 @@ ghost use Rattle.ipc_engine.specs.View.{plain_event};
 ghost use Rattle.ipc_image.specs.Records.{record_bytes, HasRecord};
 ghost use Rattle.ipc_store.specs.Histories.{Takes};
 ghost use Rattle.ipc_store.specs.View.{HasRoom, HasPlace, HasTurned, IsStopped, IsAtLastEpoch, IsReadyFor};
-ghost use Rattle.ipc_store.specs.View.{events_left, store_view};
+ghost use Rattle.ipc_store.specs.View.{events_left, store_view, Spends};
 ghost use Rattle.ipc_store.specs.Relations.Matches.{AreOnDisk, DeviceMatches, StoreMatches, StandsForEither};
 
 use crate::batch::Batch;
@@ -206,6 +206,7 @@ impl<D: SectorDisk> Store<D> {
         ensures counts { OnOk result (0 < self.old.waiting → HasPlace self.old → D.counts self.new.disk
             ≡ with_calls (sectors_for (4 + length self.old.records) + 1) 2 (D.counts self.old.disk)) }
         ensures turned { OnOk result (0 < self.old.waiting → ¬ HasPlace self.old → HasTurned self.old self.new) }
+        ensures spends { OnOk result (Spends D.counts 1 self.old self.new) }
         ensures honest { IsHonest (D.medium self.old.disk) → IsHonest (D.medium self.new.disk) }
         ensures size { D.size self.new.disk ≡ D.size self.old.disk }
     {
@@ -259,6 +260,7 @@ impl<D: SectorDisk> Store<D> {
             ≡ counted (D.counts self.old.disk).failures 1 }
         ensures no_failure { OnOk result ((D.counts self.new.disk).failures ≡ (D.counts self.old.disk).failures) }
         ensures turned { OnOk result (HasTurned self.old self.new) }
+        ensures spends { OnOk result (Spends D.counts 1 self.old self.new) }
         ensures honest { IsHonest (D.medium self.old.disk) → IsHonest (D.medium self.new.disk) }
         ensures size { D.size self.new.disk ≡ D.size self.old.disk }
     {
@@ -288,6 +290,7 @@ impl<D: SectorDisk> Store<D> {
         ensures still_waits { OnErr result (self.new.waiting ≡ self.old.waiting) }
         ensures unconfirmed { OnErr result (self.new.confirmed ≡ self.old.confirmed) }
         ensures goes_on { OnOk result (self.new.stopped ≡ false) }
+        ensures epoch { self.new.checkpoint ≡ self.old.checkpoint }
         ensures stopped { result ≢ Err CommitError.Stopped }
         ensures failure { result ≡ Err CommitError.Device → (D.counts self.new.disk).failures
             ≡ counted (D.counts self.old.disk).failures 1 }

@@ -1,7 +1,6 @@
 -- What a replay of a journal finds.
-use Rattle.std.specs.Prelude.{◌≡◌, ◌+◌, ◌<◌, ◌≤◌, ℕ, List, length, map, All}
+use Rattle.std.specs.Prelude.{◌≡◌, ◌+◌, ◌<◌, ◌≤◌, ℕ, List, map, All}
 use Rattle.ipc_base.specs.declared.limits.Limits.{Limits}
-use Rattle.ipc_disk.specs.declared.range.Range.{Range}
 use Rattle.ipc_disk.specs.Medium.{Image}
 use Rattle.ipc_journal.specs.Journal.{header_epoch, header_used, sectors_of, Fill}
 use Rattle.ipc_journal.specs.View.{range_of, epoch_of, used_of}

@@ -1,16 +1,15 @@
 -- Each exit: what was read is what stood there before.
-use Rattle.std.proofs.Common.{◌≡◌, inl, inr, ⊎_elim, ℕ, ◌<◌, ◌^◌, Err, length, refl, sym, ap, subst, ◌∙◌, arith}
+use Rattle.std.proofs.Common.{◌≡◌, inl, inr, ⊎_elim, ◌<◌, ◌^◌, Err, length, sym, ap, subst, ◌∙◌, arith}
 use Rattle.std.proofs.lemmas.Result.{err_from_is_err_and}
 use Rattle.ipc_base.specs.declared.limits.Limits.{Limits}
-use Rattle.ipc_checkpoint.specs.View.{epoch_of as saved_epoch, layout_of as saved_layout}
+use Rattle.ipc_checkpoint.specs.View.{epoch_of as saved_epoch}
 use Rattle.ipc_checkpoint.proofs.CallerLemmas.{CheckpointMatches-stays}
 use Rattle.ipc_disk.specs.Counts.{counted}
 use Rattle.ipc_disk.specs.Medium.{Image, Medium, IsHonest, IsDurable, Stays}
 use Rattle.ipc_journal.specs.Journal.{header_used}
 use Rattle.ipc_journal.specs.View.{used_of}
-use Rattle.ipc_image.specs.Saved.{StandForState}
 use Rattle.ipc_store.specs.declared.fault.OpenError.TheVariants as errors
-use Rattle.ipc_store.specs.Image.{journal_range, layout_of, IsDevice, HasBase, IsDamaged, IsFirstFault}
+use Rattle.ipc_store.specs.Image.{journal_range, IsDevice, HasBase, IsDamaged, IsFirstFault}
 use Rattle.ipc_store.proofs.Faults.{err-same, passed_on}
 use Rattle.ipc_store.proofs.Loaded.{chain, stays-durable, Kept, Led, has-base, loaded, on-disk}
 use Rattle.ipc_store.proofs.Opened.{base-damaged}

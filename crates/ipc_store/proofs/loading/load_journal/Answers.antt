@@ -1,21 +1,19 @@
 -- Each exit: the journal that was opened, and what its batches lead to.
-use Rattle.std.proofs.Common.{◌≡◌, inl, inr, ⊎_elim, ℕ, ◌<◌, ◌^◌, List, Err, length, refl, sym, ap, subst, ◌∙◌, arith}
+use Rattle.std.proofs.Common.{inl, inr, ⊎_elim, ℕ, ◌<◌, ◌^◌, List, Err, length, refl, sym, ap, subst, ◌∙◌, arith}
 use Rattle.std.specs.Prelude.{map}
-use Rattle.std.proofs.lemmas.Result.{err_from_is_err_and}
 use Rattle.ipc_disk.specs.declared.range.Range.{Range}
 use Rattle.ipc_disk.specs.Medium.{Image, Medium, IsHonest}
-use Rattle.ipc_disk.proofs.CallerLemmas.{Stays-join}
 use Rattle.ipc_checkpoint.specs.View.{epoch_of as saved_epoch}
-use Rattle.ipc_journal.specs.Journal.{Holds, header_used}
-use Rattle.ipc_journal.specs.View.{epoch_of, used_of}
+use Rattle.ipc_journal.specs.Journal.{Holds}
+use Rattle.ipc_journal.specs.View.{epoch_of}
 use Rattle.ipc_journal.proofs.CallerLemmas.{JournalMatches-stays}
 use Rattle.ipc_store.specs.declared.fault.OpenError.TheVariants as errors
 use Rattle.ipc_store.specs.Batch.{batch_bytes}
 use Rattle.ipc_store.specs.Image.{journal_range, HasNoHeader}
 use Rattle.ipc_store.specs.View.{of_journal_error}
 use Rattle.ipc_store.specs.Relations.Replay.{IsOpened, Replays, IsGoodUpTo}
-use Rattle.ipc_store.proofs.Faults.{err-same, passed_on, journal-fault}
-use Rattle.ipc_store.proofs.Opened.{header-damaged, is_opened, batch-damaged, used-is, holds}
+use Rattle.ipc_store.proofs.Faults.{passed_on, journal-fault}
+use Rattle.ipc_store.proofs.Opened.{header-damaged, is_opened, batch-damaged, holds}
 use Rattle.ipc_store.proofs.loading.load_journal.Given.{Over}
 use Rattle.ipc_store.proofs.loading.load_journal.Goals as goal
 use Rattle.ipc_store.proofs.loading.load_journal.Goals.{In_ok-journal}

@@ -1,4 +1,4 @@
-use Rattle.std.proofs.Common.{[], sym, ap, arith}
+use Rattle.std.proofs.Common.{[], ap, arith}
 use Rattle.ipc_store.proofs.Openings.{new-matches}
 use Rattle.ipc_store.proofs.store.Store.new.Goals as goal
 

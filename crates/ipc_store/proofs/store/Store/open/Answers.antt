@@ -1,5 +1,6 @@
 -- Each exit: what a crash leaves, and what was read.
-use Rattle.std.proofs.Common.{◌≡◌, ◌<◌, inl, inr, ⊎_elim, Err, sym, ap, subst, ◌∙◌}
+use Rattle.std.proofs.Common.{◌≡◌, ◌<◌, inl, inr, ⊎_elim, [], Err, sym, ap, subst, ◌∙◌, arith}
+use Rattle.ipc_checkpoint.specs.View.{epoch_of}
 use Rattle.ipc_disk.specs.Medium.{IsHonest}
 use Rattle.ipc_journal.specs.View.{used_of}
 use Rattle.std.specs.Prelude.{⊤, Result}
@@ -7,9 +8,10 @@ use Rattle.ipc_store.specs.declared.fault.OpenError.{OpenError}
 use Rattle.ipc_store.specs.declared.fault.OpenError.TheVariants as errors
 use Rattle.ipc_base.specs.declared.limits.Limits.{Limits}
 use Rattle.ipc_disk.specs.Since.{EachImageSince}
-use Rattle.ipc_store.specs.Image.{StandsFor, IsAtEnd}
+use Rattle.ipc_store.specs.Image.{StandsFor, IsAtEnd, epoch_at}
 use Rattle.ipc_store.specs.Relations.Matches.{OpensTo}
 use Rattle.ipc_store.proofs.Openings.{refused_by, only_read, begins, stood, restart_leaves, at_end}
+use Rattle.ipc_store.proofs.Committing.{root-epoch}
 use Rattle.ipc_store.proofs.store.Store.open.Given.{Over}
 use Rattle.ipc_store.proofs.store.Store.open.Goals as goal
 use Rattle.ipc_store.proofs.store.Store.open.Goals.{In-Err-restart}
@@ -72,6 +74,18 @@ returns-in-Ok-restart-clause-ok g c = λ honest.
       );
       confirmed = c.in-Ok-restart.ensures.confirmed;
     }
+
+pub returns-in-Ok-restart-clause-numbers : goal.returns-in-Ok-restart-clause-numbers
+returns-in-Ok-restart-clause-numbers g c = λ honest.
+    let m = g.D.SectorDisk.medium in
+    let store = c.new-store.result in
+    let over = c.new-store.ensures in
+    let epoch =
+    root-epoch (m store.disk) store c.in-Ok.found.2.state []
+    (begins m c.read_device.new.disk c.in-Ok.found.0 c.in-Ok.found.1 c.in-Ok.found.2 (c.in-Ok.ensures.matches honest) store over) in
+    let same = ap (λ v. (m v.disk).contents) over ∙ (c.read_device.ensures.reads honest).contents honest in
+    let at : epoch_at (m c.args.disk).contents ≡ epoch_of store.checkpoint = ap epoch_at (sym same) ∙ epoch in
+    omega (arith, c.in-Ok-restart.ensures.numbers, at, ap (λ v. v.confirmed) over, ap (λ v. v.waiting) over)
 
 pub returns-in-Ok-restart-clause-any_moment : goal.returns-in-Ok-restart-clause-any_moment
 returns-in-Ok-restart-clause-any_moment g c = λ honest.
