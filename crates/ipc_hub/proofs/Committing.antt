@@ -1,5 +1,5 @@
 -- A commit of the store: the frames that waited are seen, or it has failed and they are dropped.
-use Rattle.std.proofs.Common.{◌≡◌, ℕ, ◌+◌, ◌-◌, ◌<◌, ◌^◌, Bool, true, false, List, [], ◌∷◌, ◌⊎◌, inl, inr, Ok, Err, refl, sym, ap, subst, ◌∙◌, arith}
+use Rattle.std.proofs.Common.{◌≡◌, ℕ, ◌+◌, ◌-◌, ◌<◌, ◌≤◌, ◌^◌, Bool, true, false, List, [], ◌∷◌, ◌⊎◌, inl, inr, Ok, Err, refl, sym, ap, subst, ◌∙◌, arith}
 use Rattle.std.specs.Prelude.{if◌then◌else◌, ⊤, Vec, Result, OnOk, OnErr, IfErr}
 use Rattle.std.specs.Vec.{with_items}
 use Rattle.ipc_base.specs.declared.limits.Limits.{Limits}
@@ -11,14 +11,14 @@ use Rattle.ipc_engine.specs.Engine.{Machine}
 use Rattle.ipc_store.specs.declared.fault.CommitError.{CommitError}
 use Rattle.ipc_store.specs.declared.fault.CommitError.TheVariants as commit
 use Rattle.ipc_store.specs.Histories.{Takes}
-use Rattle.ipc_store.specs.View.{StoreView, IsAtLastEpoch, IsStopped}
+use Rattle.ipc_store.specs.View.{StoreView, IsAtLastEpoch, IsStopped, Spends, numbers_used}
 use Rattle.ipc_hub.specs.declared.connection.Connection.{Connection}
 use Rattle.ipc_hub.specs.Clients.{Clients, accepted}
 use Rattle.ipc_hub.specs.View.{ConnectionView, HubView, StoredHub, HasStopped}
 use Rattle.ipc_hub.specs.Relations.Delivery.{released, failed, HasSpare}
 use Rattle.ipc_hub.specs.Relations.Faults.{Fails, Halts}
 use Rattle.ipc_hub.specs.Relations.Invariant.{IsKept, HubInvariant, StoredInvariant}
-use Rattle.ipc_hub.specs.Relations.Matches.{StoredMatches}
+use Rattle.ipc_hub.specs.Relations.Matches.{Adds, StoredMatches}
 use Rattle.ipc_hub.specs.Relations.Rows.{rows, hub_view, stored_view}
 use Rattle.ipc_hub.proofs.Changes.{released-invariant, release-matches}
 use Rattle.ipc_hub.proofs.Failing.{fail-matches}
@@ -39,6 +39,27 @@ some-left now told stops = let never : false ≡ true = told stops in cc
 -- so it has not stopped
 pub going-told : {D : Type 0} (v now : StoredHub D) → v ≡ now → (HasStopped now → false ≡ true) → v.store.stopped ≡ false
 going-told v now is told = ap (λ w. w.store.stopped) is ∙ going now (some-left now told)
+
+-- events have come, and then more
+pub adds-both : {D : Type 0} {i k : ℕ} (n : ℕ) {old mid new : StoreView D} → Adds i old mid → Adds k mid new → i + k ≤ n → Adds n old new
+adds-both n first next fits = record {
+  disk = next.disk ∙ first.disk;
+  stopped = next.stopped ∙ first.stopped;
+  checkpoint = next.checkpoint ∙ first.checkpoint;
+  confirmed = next.confirmed ∙ first.confirmed;
+  waiting = omega (arith, first.waiting, next.waiting, fits);
+}
+
+-- what a call has spent when events have come behind a commit
+pub spends-adds : {D : Type 0} (counts : D → Counts) (n k : ℕ) (old new : StoreView D) (v now : StoredHub D) → v ≡ now → Spends counts n old now.store
+    → Adds k v.store new → Spends counts (n + k) old new
+spends-adds counts n k old new v now is spent adds =
+    let here : Spends counts n old v.store = subst (λ w. Spends counts n old w.store) (sym is) spent in
+    record {
+      goes_on = adds.stopped ∙ here.goes_on;
+      failures = ap (λ d. (counts d).failures) adds.disk ∙ here.failures;
+      numbers = omega (arith, here.numbers, adds.waiting, adds.confirmed, ap (λ c. numbers_used (record v.store { checkpoint = c })) adds.checkpoint);
+    }
 
 -- each connection has room for an EIO frame
 pub spare : (h : HubView) → HubInvariant h → EachValue HasSpare h.connections

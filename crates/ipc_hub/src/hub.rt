@@ -6,7 +6,7 @@ ghost use Rattle.ipc_base.specs.declared.limits.Limits.{Limits};
 ghost use Rattle.ipc_disk.specs.Medium.{IsHonest};
 ghost use Rattle.ipc_engine.specs.Event.{PlainEvent};
 ghost use Rattle.ipc_store.specs.Histories.{Takes};
-ghost use Rattle.ipc_store.specs.View.{HasTurned, IsReadyFor};
+ghost use Rattle.ipc_store.specs.View.{HasTurned, IsReadyFor, Spends};
 ghost use Rattle.ipc_hub.specs.Clients.{Clients, no_clients, connect, hangup, tick, consume, shown_at, ended_at};
 ghost use Rattle.ipc_hub.specs.View.{HasNoFrame, HasStopped, is_connected, output_of, ended_of, of_commit_error};
 ghost use Rattle.ipc_hub.specs.Relations.Matches.{HubMatches, StoredMatches, Simulates, Serves, ServesFeed};
@@ -121,6 +121,7 @@ impl<D: SectorDisk> Hub<D> {
         ensures stopped { HasStopped self.old → result ≡ Err ServeError.Stopped }
         ensures unknown { ¬ HasStopped self.old → is_connected self.old.hub conn ≡ false
             → result ≡ Err ServeError.Unknown }
+        ensures spends { IfOk result (λ taken. Spends D.counts (2 + taken) self.old.store self.new.store) }
         ensures honest { IsHonest (D.medium self.old.store.disk) → IsHonest (D.medium self.new.store.disk) }
     {
         if self.has_stopped() {
@@ -143,6 +144,7 @@ impl<D: SectorDisk> Hub<D> {
         ensures stopped { HasStopped self.old → result ≡ Err ServeError.Stopped }
         ensures unknown { ¬ HasStopped self.old → is_connected self.old.hub conn ≡ false
             → result ≡ Err ServeError.Unknown }
+        ensures spends { OnOk result (Spends D.counts 3 self.old.store self.new.store) }
         ensures honest { IsHonest (D.medium self.old.store.disk) → IsHonest (D.medium self.new.store.disk) }
     {
         if self.has_stopped() {
@@ -169,6 +171,7 @@ impl<D: SectorDisk> Hub<D> {
         ensures ok { OnOk result (Serves D.medium self.old self.new (λ limits h. tick limits h moment.0)) }
         ensures refused { IfErr result (λ e. Halts D.medium D.counts self.old self.new e) }
         ensures stopped { HasStopped self.old → result ≡ Err CommitError.Stopped }
+        ensures spends { OnOk result (Spends D.counts 2 self.old.store self.new.store) }
         ensures honest { IsHonest (D.medium self.old.store.disk) → IsHonest (D.medium self.new.store.disk) }
     {
         if self.has_stopped() {
@@ -185,6 +188,7 @@ impl<D: SectorDisk> Hub<D> {
         ensures later { OnOk result (0 < self.new.store.waiting) }
         ensures same { OnOk result (SameButSeen self.old.hub self.new.hub) }
         ensures refused { IfErr result (λ e. Halts D.medium D.counts self.old self.new e) }
+        ensures spends { OnOk result (Spends D.counts 2 self.old.store self.new.store) }
         ensures honest { IsHonest (D.medium self.old.store.disk) → IsHonest (D.medium self.new.store.disk) }
     {
         if let Err(error) = self.make_room() {
@@ -209,6 +213,7 @@ impl<D: SectorDisk> Hub<D> {
         ensures nothing { self.old.store.waiting ≡ 0 → self.new.store ≡ self.old.store }
         ensures refused { IfErr result (λ e. Halts D.medium D.counts self.old self.new e) }
         ensures stopped { HasStopped self.old → result ≡ Err CommitError.Stopped }
+        ensures spends { OnOk result (Spends D.counts 1 self.old.store self.new.store) }
         ensures honest { IsHonest (D.medium self.old.store.disk) → IsHonest (D.medium self.new.store.disk) }
     {
         if self.has_stopped() {
@@ -233,6 +238,7 @@ impl<D: SectorDisk> Hub<D> {
         ensures turned { OnOk result (HasTurned self.old.store self.new.store) }
         ensures refused { IfErr result (λ e. Halts D.medium D.counts self.old self.new e) }
         ensures stopped { HasStopped self.old → result ≡ Err CommitError.Stopped }
+        ensures spends { OnOk result (Spends D.counts 1 self.old.store self.new.store) }
         ensures honest { IsHonest (D.medium self.old.store.disk) → IsHonest (D.medium self.new.store.disk) }
     {
         if self.has_stopped() {
@@ -259,6 +265,7 @@ impl<D: SectorDisk> Hub<D> {
         ensures ready { OnOk result (IsReadyFor self.new.store 2) }
         ensures same { OnOk result (SameButSeen self.old.hub self.new.hub) }
         ensures refused { IfErr result (λ e. Halts D.medium D.counts self.old self.new e) }
+        ensures spends { OnOk result (Spends D.counts 1 self.old.store self.new.store) }
         ensures honest { IsHonest (D.medium self.old.store.disk) → IsHonest (D.medium self.new.store.disk) }
     {
         if self.store.is_ready_for(MOST_EVENTS) {

@@ -17,7 +17,7 @@ ghost use Rattle.ipc_hub.specs.Relations.Rows.{pid_of, view_of, rows, row, hub_v
 ghost use Rattle.ipc_hub.specs.Relations.Delivery.{last_frame, last_frames, pushed, put_for, put_all, with_answer};
 ghost use Rattle.ipc_hub.specs.Relations.Delivery.{IsShort, HasRoomIn, HaveRoom, HasRoomToAnswer};
 ghost use Rattle.ipc_hub.specs.Relations.Invariant.{HubInvariant, GoesOn, IsConnected, IsNobodys, LeavesOthers};
-ghost use Rattle.ipc_hub.specs.Relations.Matches.{Simulates, SimulatesAt, TakesIn, Waits};
+ghost use Rattle.ipc_hub.specs.Relations.Matches.{Adds, Simulates, SimulatesAt, TakesIn, Waits};
 ghost use Rattle.ipc_hub.specs.Relations.Requests.{ComesTo, exit_of, taken_off, Closed, Received, Took};
 ghost use Rattle.ipc_image.specs.Records.{HasRecord};
 ghost use Rattle.ipc_store.specs.View.{IsReadyFor};
@@ -97,7 +97,7 @@ pub(crate) fn tick<D: SectorDisk>(
     ensures ticks { Simulates (hub_view store.old.machine connections.old) (hub_view store.new.machine connections.new)
         (λ limits h. ticks limits h moment.0) }
     ensures quiet { rows connections.new ≡ rows connections.old }
-    ensures disk { store.new.disk ≡ store.old.disk }
+    ensures adds { Adds 1 store.old store.new }
 {
     store.step(Event::Tick { moment }).unwrap();
     deliver(connections, store.engine().outcomes());
@@ -119,7 +119,7 @@ pub(crate) fn leave<D: SectorDisk>(
     ensures leaves { Simulates (hub_view store.old.machine connections.old) (hub_view store.new.machine connections.new)
         (λ limits h. leaves limits h (pid_of process) moment.0) }
     ensures others { LeavesOthers (rows connections.old) (rows connections.new) }
-    ensures disk { store.new.disk ≡ store.old.disk }
+    ensures adds { Adds 1 store.old store.new }
 {
     if let Some(pid) = process {
         store.step(Event::Exit { pid, moment }).unwrap();
@@ -135,7 +135,7 @@ fn ask<D: SectorDisk>(store: &mut Store<D>, connection: &mut Connection, moment:
         (first connection.old.input.items) moment.0 result }
     ensures number { connection.new.number ≡ connection.old.number }
     ensures view { view_of connection.new ≡ taken_off result (view_of connection.old) }
-    ensures disk { store.new.disk ≡ store.old.disk }
+    ensures adds { Adds 1 store.old store.new }
 {
     let asked = come_to(store, connection, moment);
     match asked {
@@ -151,7 +151,7 @@ fn come_to<D: SectorDisk>(store: &mut Store<D>, connection: &Connection, moment:
     requires connected { IsConnected store.old.machine.state (pid_of connection.now.process) }
     ensures comes { ComesTo D.medium store.old store.new (pid_of connection.now.process)
         (first connection.now.input.items) moment.0 result }
-    ensures disk { store.new.disk ≡ store.old.disk }
+    ensures adds { Adds 1 store.old store.new }
 {
     let request = match read_frame(&connection.input) {
         Frame::More => return Asked::More,
@@ -227,7 +227,7 @@ fn break_off<D: SectorDisk>(
         (hub_view store.new.machine connections.new)
         (λ limits h. breaks_off limits h c.number client serial moment.0) }
     ensures answers { (c : Connection) → IsThere connections.new place c → kept c.outbox ≢ [] }
-    ensures disk { store.new.disk ≡ store.old.disk }
+    ensures adds { Adds 1 store.old store.new }
 {
     let process = close(connections, place);
     leave(store, connections, process, moment);
@@ -255,7 +255,7 @@ fn receive<D: SectorDisk>(
     ensures count { length connections.new ≡ length connections.old }
     ensures within { result.0 ≤ length piece.now }
     ensures some { 0 < length piece.now → 0 < result.0 }
-    ensures disk { store.new.disk ≡ store.old.disk }
+    ensures adds { Adds 1 store.old store.new }
 {
     let connection = &mut connections[place];
     let count = connection.fill(piece);
@@ -282,7 +282,7 @@ fn take<D: SectorDisk>(
         moment.0 }
     ensures within { result ≤ length piece.now }
     ensures some { 0 < length piece.now → 0 < result }
-    ensures disk { store.new.disk ≡ store.old.disk }
+    ensures adds { Adds 1 store.old store.new }
 {
     let connection = &connections[place];
     if connection.ended {
@@ -321,7 +321,7 @@ pub(crate) fn take_in<D: SectorDisk>(
         → kept c.outbox ≡ [] → 0 < length piece.now → 0 < result }
     ensures dropped { (c : Connection) → IsThere connections.old place c
         → c.ended ≡ true → result ≡ length piece.now }
-    ensures disk { store.new.disk ≡ store.old.disk }
+    ensures adds { Adds result store.old store.new }
 {
     let connection = &connections[place];
     if connection.ended {

@@ -82,6 +82,14 @@ pub record Waits {D : Type 0} (medium : D → Medium) (old : StoreView D) (event
   pub waiting : new.waiting ≡ old.waiting + length events
   pub takes : Takes medium old events new
 
+-- At most so many events more wait in a store, and nothing else of its numbers or of its disk has changed.
+pub record Adds {D : Type 0} (n : ℕ) (old new : StoreView D) : Type 0 where
+  pub disk : new.disk ≡ old.disk
+  pub stopped : new.stopped ≡ old.stopped
+  pub checkpoint : new.checkpoint ≡ old.checkpoint
+  pub confirmed : new.confirmed ≡ old.confirmed
+  pub waiting : new.waiting ≤ old.waiting + n
+
 -- the hub of the definitions accepts events, and they wait in the store
 pub record Accepts {D : Type 0} (medium : D → Medium) (old new : StoreView D) (h next : Clients) : Type 0 where
   pub events : List PlainEvent

@@ -6,6 +6,7 @@ use Rattle.ipc_store.specs.View.{StoreView, IsReadyFor}
 use Rattle.ipc_hub.specs.declared.connection.Connection.{Connection}
 use Rattle.ipc_hub.specs.Relations.Rows.{view_of, row, rows, hub_view, stored_view, IsThere}
 use Rattle.ipc_hub.specs.Relations.Delivery.{HasRoomToAnswer}
+use Rattle.ipc_hub.specs.Relations.Matches.{Adds}
 use Rattle.ipc_hub.proofs.Rows.{at-there, the-same}
 use Rattle.ipc_hub.proofs.Taking.{ended-takes}
 use Rattle.ipc_hub.proofs.Receiving.{goes-same, more-took, served-room, served-took, refused-room, refused-took, broken-live, broken-took}
@@ -91,3 +92,8 @@ pub returns-in-Broken-clause-took : goal.returns-in-Broken-clause-took
 returns-in-Broken-clause-took g c =
     broken-took (rw c.in-Broken.is at c.receive-count.ensures.received) c.break_off.new.store c.break_off.new.connections
     c.break_off.ensures.goes_on c.break_off.ensures.ends c.break_off.ensures.accepts c.break_off.ensures.answers
+
+pub returns-in-Broken-clause-adds : goal.returns-in-Broken-clause-adds
+returns-in-Broken-clause-adds g c =
+    let r = rw c.in-Broken.is at c.receive-count.ensures.received in
+    subst (λ (s : StoreView g.row.D.Denot). Adds 1 s c.break_off.new.store) r.comes.0 c.break_off.ensures.adds

@@ -12,6 +12,7 @@ use Rattle.ipc_engine.specs.Engine.{Machine}
 use Rattle.ipc_store.specs.View.{StoreView, IsReadyFor}
 use Rattle.ipc_hub.specs.Relations.Rows.{view_of, stored_view, IsThere}
 use Rattle.ipc_hub.specs.Relations.Matches.{TakesIn}
+use Rattle.ipc_hub.proofs.Committing.{adds-both}
 use Rattle.ipc_hub.proofs.Rows.{there, at-there, the-same, same-number, same-length}
 use Rattle.ipc_hub.proofs.Receiving.{kept, goes-further}
 use Rattle.ipc_hub.proofs.Taking.{nothing-takes, ended-takes, takes-then}
@@ -39,7 +40,7 @@ loop-taken-init g c =
           (at-there c.args.connections.now c.args.place d it)
           (kept c.args.store.now.machine c.args.connections.now c.args.place d c.requires.hub it).input;
       first = λ _. (refl, refl);
-      disk = refl;
+      adds = record { disk = refl; stopped = refl; checkpoint = refl; confirmed = refl; waiting = omega arith };
       ready = λ _ _ _. c.requires.ready;
     }
 
@@ -115,7 +116,8 @@ loop-taken-preserved g c =
           (sym (take-add i n piece ∙ ap (λ (r : List ℕ). take i piece ++ take n r) (sym whole)))
           (takes-then med g.met.D.SectorDisk.only_now old mid new d.number c.args.moment.0 (take i piece) (take n rest) (held.bytes d it) next);
       first = λ none. absurd (omega (arith, none, c.take-taken.ensures.some (omega (arith, ap length whole, length-drop i piece))));
-      disk = c.take-taken.ensures.disk ∙ held.disk;
+      adds = adds-both (i + n) held.adds c.take-taken.ensures.adds
+          (omega (arith, c.take-taken.ensures.some (omega (arith, ap length whole, length-drop i piece))));
       ready = λ d it none. subst (λ (s : StoreView g.row.D.Denot). IsReadyFor s 1) (sym (took.answers d it none))
           (c.is_ready_for.ensures.0 c.if-not-is_ready_for.false);
     }

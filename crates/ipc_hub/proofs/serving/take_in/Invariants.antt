@@ -5,7 +5,7 @@ use Rattle.ipc_hub.specs.Relations.Rows.{hub_view, stored_view, IsThere}
 use Rattle.ipc_store.specs.View.{IsReadyFor}
 use Rattle.ipc_hub.specs.View.{kept}
 use Rattle.ipc_hub.specs.Relations.Invariant.{GoesOn}
-use Rattle.ipc_hub.specs.Relations.Matches.{TakesIn}
+use Rattle.ipc_hub.specs.Relations.Matches.{Adds, TakesIn}
 use Rattle.ipc_hub.proofs.serving.take_in.Given as goal
 
 -- The hub goes on and has taken in the bytes so far; before the first it is as it was. While the connection keeps no
@@ -18,7 +18,7 @@ invariant-loop-taken g l = record {
   bytes : (c : Connection) → IsThere l.fn.connections l.place c
       → TakesIn g.D.SectorDisk.medium (stored_view l.fn.store l.fn.connections) (stored_view l.store l.connections) c.number (take l.taken l.piece) l.moment.0;
   first : l.taken ≡ 0 → (l.connections ≡ l.fn.connections) × (l.store ≡ l.fn.store);
-  disk : l.store.disk ≡ l.fn.store.disk;
+  adds : Adds l.taken l.fn.store l.store;
   ready : (c : Connection) → IsThere l.connections l.place c → kept c.outbox ≡ [] → IsReadyFor l.store 1;
 }
 

@@ -3,9 +3,9 @@ use Rattle.std.specs.Prelude.{nat_eq}
 use Rattle.ipc_base.specs.Table.{value_at, keys_of, IsRising}
 use Rattle.ipc_hub.specs.declared.connection.Connection.{Connection}
 use Rattle.ipc_hub.specs.View.{HasNoFrame}
-use Rattle.ipc_hub.specs.Relations.Rows.{view_of, rows, hub_view}
+use Rattle.ipc_hub.specs.Relations.Rows.{view_of, rows, hub_view, stored_view}
 use Rattle.ipc_hub.proofs.Coming.{comes-fed}
-use Rattle.ipc_hub.proofs.Committing.{some-left}
+use Rattle.ipc_hub.proofs.Committing.{some-left, spends-adds}
 use Rattle.ipc_hub.proofs.Naming.{not-there, not-missing, kept-keys, Named, named, still-empty, still-ended}
 use Rattle.ipc_hub.proofs.Rows.{sliced}
 use Rattle.ipc_hub.proofs.hub.Hub.feed.Given.{Over}
@@ -75,3 +75,9 @@ returns-clause-starts g c = λ none. c.take_in-taken.ensures.starts (before g c)
 pub returns-clause-dropped : goal.returns-clause-dropped
 returns-clause-dropped g c = λ over. c.take_in-taken.ensures.dropped (before g c).one (before g c).there
     (still-ended c.args.self.now.hub c.pass.new.self.hub c.in_default-pass.ensures.same c.args.conn (view_of (before g c).one) (there g c) over)
+
+pub returns-clause-spends : goal.returns-clause-spends
+returns-clause-spends g c =
+    spends-adds g.D.SectorDisk.counts 2 c.take_in-taken.result c.args.self.now.store c.take_in-taken.new.store
+    (stored_view c.self-2.inside.store c.self-2.inside.connections.items) c.pass.new.self c.self-2.view_is c.in_default-pass.ensures.spends
+    c.take_in-taken.ensures.adds

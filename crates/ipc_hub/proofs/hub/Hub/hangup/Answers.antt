@@ -1,8 +1,8 @@
 use Rattle.std.proofs.Common.{refl, sym, ap, ◌∙◌, arith}
 use Rattle.ipc_store.proofs.CallerLemmas.{ready-goes-on}
 use Rattle.ipc_hub.specs.Relations.Invariant.{HubInvariant}
-use Rattle.ipc_hub.specs.Relations.Rows.{hub_view}
-use Rattle.ipc_hub.proofs.Committing.{some-left}
+use Rattle.ipc_hub.specs.Relations.Rows.{hub_view, stored_view}
+use Rattle.ipc_hub.proofs.Committing.{some-left, spends-adds}
 use Rattle.ipc_hub.proofs.Leaving.{TakenOut, taken-out, out-invariant, out-connected, out-nobodys, comes-gone}
 use Rattle.ipc_hub.proofs.Naming.{not-there, not-missing}
 use Rattle.ipc_hub.proofs.hub.Hub.hangup.Given.{Over}
@@ -60,3 +60,8 @@ returns-clause-ok g c limits h m =
     c.deref_mut.result.now c.leave.new.connections c.remove-connection.new.self c.args.conn c.args.moment.0 c.remove-connection.result h gone
     c.deref_mut.ensures.value c.leave.ensures.goes_on.numbers (rw c.self-2.view_is (c.in_default-pass.ensures.ok limits h m))
     c.leave.ensures.leaves c.leave.ensures.accepts
+
+pub returns-clause-spends : goal.returns-clause-spends
+returns-clause-spends g c =
+    spends-adds g.D.SectorDisk.counts 2 1 c.args.self.now.store c.leave.new.store (stored_view c.self-2.inside.store c.self-2.inside.connections.items)
+    c.pass.new.self c.self-2.view_is c.in_default-pass.ensures.spends c.leave.ensures.adds
