@@ -18,3 +18,5 @@ pub mod LineForms
 pub mod ScriptLines
 pub mod OpenedAgain
 pub mod DumpText
+mod LineLengths
+mod NumbersSpent

@@ -2,6 +2,7 @@
 pub mod Lines
 pub mod Input
 pub mod Faults
+pub mod Numbers
 pub mod Matches
 pub mod Report
 pub mod Pieces

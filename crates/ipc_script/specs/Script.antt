@@ -1,7 +1,7 @@
 -- The run of a script: what its lines do to the server and its clients, and what is written. After
 -- each line all that was accepted is confirmed, so that each frame that waits is written and taken.
 -- What is promised of a run stands last.
-use Rattle.std.specs.Prelude.{◌≡◌, ◌≢◌, ◌⊎◌, ◌<◌, ◌≤◌, ⊤, ℕ, ◌+◌, Bool, false, ◌&&◌, ◌||◌}
+use Rattle.std.specs.Prelude.{◌≡◌, ◌≢◌, ◌⊎◌, ◌<◌, ◌≤◌, ⊤, ℕ, ◌+◌, ◌^◌, Bool, false, ◌&&◌, ◌||◌}
 use Rattle.std.specs.Prelude.{not, All, nat_eq, nat_lt, if◌then◌else◌, List, [], ◌∷◌, ◌++◌, length}
 use Rattle.std.specs.Prelude.{map, take, drop, codes, Option, Some, None, is_some, Result, Ok, Err}
 use Rattle.std.specs.List.{flat_map}
@@ -10,9 +10,11 @@ use Rattle.std.specs.Io.KnownBytes.{Appends}
 use Rattle.hex.specs.Hex.{encode_lower}
 use Rattle.ipc_base.specs.declared.limits.Limits.{Limits}
 use Rattle.ipc_base.specs.Table.{keys_of}
+use Rattle.ipc_disk.specs.Counts.{counted}
 use Rattle.ipc_disk.specs.Medium.{Medium, IsHonest}
 use Rattle.ipc_state.specs.State.{restart}
 use Rattle.ipc_engine.specs.Event.{Restart}
+use Rattle.ipc_store.specs.View.{StoreView, numbers_used}
 use Rattle.ipc_hub.specs.Clients.{Client, Clients, client_at, ended_at, no_clients}
 use Rattle.ipc_hub.specs.Clients.{connect, feed, hangup, tick}
 use Rattle.ipc_script.specs.declared.fault.ScriptFault.{ScriptFault}
@@ -213,6 +215,26 @@ HasNoStop script = All (λ line. line_of line ≢ Some Stop) (lines_of script)
 -- a device that is opened again is known from its disk, if that is honest
 abbrev pub MayStop : Medium → List ℕ → Type 0
 MayStop medium script = HasNoStop script ⊎ IsHonest medium
+
+-- The store goes on, and has used so few of its numbers that no script comes to their end.
+pub record IsYoung {D : Type 0} (store : StoreView D) : Type 0 where
+  pub goes_on : store.stopped ≡ false
+  pub numbers : numbers_used store < 2 ^ 63
+
+-- A fault of the disk comes of a failure that the disk has counted, and what stands there is no
+-- fault. Of the other faults it says nothing.
+abbrev pub DiskFailed : ScriptFault → ℕ → ℕ → Type 0
+DiskFailed NoMemory before after = ⊤
+DiskFailed Input before after = ⊤
+DiskFailed Output before after = ⊤
+DiskFailed Device before after = after ≡ counted before 1
+DiskFailed NotFormatted before after = ⊥
+DiskFailed (Version found) before after = ⊥
+DiskFailed (Damaged sector) before after = ⊥
+DiskFailed TooLong before after = ⊤
+DiskFailed (BadLine number) before after = ⊤
+DiskFailed (InUse number) before after = ⊤
+DiskFailed (Unknown number) before after = ⊤
 
 -- a script that is not too long has run
 abbrev pub HasRun : Limits → Clients → List ℕ → Option (List ℕ) → Option (List ℕ)

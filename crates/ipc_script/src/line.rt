@@ -1,6 +1,6 @@
 //! The lines of a script.
 
-ghost use Rattle.std.specs.Prelude.{◌≡◌, ◌<◌, ◌==◌, [], ◌∷◌, length, position, option_map};
+ghost use Rattle.std.specs.Prelude.{◌≡◌, ◌<◌, ◌≤◌, ◌+◌, ◌==◌, [], ◌∷◌, length, position, option_map};
 ghost use Rattle.ipc_script.specs.Line.{line_of, lines_of, words_of, line_of_words};
 ghost use Rattle.ipc_script.specs.Line.{moment_of, conn_of};
 ghost use Rattle.ipc_script.specs.Relations.Lines.{plain_line, words_after};
@@ -147,6 +147,7 @@ pub fn first_line(text: &[u8]) -> (&[u8], &[u8])
     requires { 0 < length text.now }
     ensures lines { lines_of text.now ≡ result.0.now ∷ lines_of result.1.now }
     ensures shorter { length result.1.now < length text.now }
+    ensures parts { length result.0.now + length result.1.now ≤ length text.now }
 {
     match place_of(b'\n', text) {
         Some(end) => (&text[..end], &text[end + 1..]),

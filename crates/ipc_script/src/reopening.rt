@@ -1,13 +1,16 @@
 //! A server that is stopped, and its device opened again.
 
-ghost use Rattle.std.specs.Prelude.{⊤, [], ◌∷◌, IfOk, IfErr};
+ghost use Rattle.std.specs.Prelude.{◌≡◌, ⊤, [], ◌∷◌, IfOk, IfErr};
 ghost use Rattle.ipc_base.specs.declared.limits.Limits.{Limits};
 ghost use Rattle.ipc_disk.specs.Medium.{IsHonest};
 ghost use Rattle.ipc_state.specs.State.{restart};
 ghost use Rattle.ipc_engine.specs.Event.{Restart};
+ghost use Rattle.ipc_store.specs.View.{Spends};
 ghost use Rattle.ipc_hub.specs.Clients.{Clients, no_clients};
 ghost use Rattle.ipc_hub.specs.Relations.Matches.{StoredMatches};
+ghost use Rattle.ipc_script.specs.Script.{DiskFailed};
 ghost use Rattle.ipc_script.specs.Relations.Faults.{ByFault};
+ghost use Rattle.ipc_script.specs.Relations.Numbers.{HasNumbers};
 
 use crate::fault::ScriptFault;
 use ipc_disk::SectorDisk;
@@ -27,6 +30,11 @@ pub(crate) fn reopened<D: SectorDisk>(
     ensures honest { IfOk result (λ next.
         IsHonest (D.medium hub.store.disk) → IsHonest (D.medium next.store.disk)) }
     ensures err { IfErr result (λ e. ByFault e.0 ⊤ ⊤ ⊥) }
+    ensures spends { IfOk result (λ next. IsHonest (D.medium hub.store.disk) →
+        HasNumbers 3 hub.store → Spends D.counts 3 hub.store next.store) }
+    ensures disk { IfErr result (λ e. IsHonest (D.medium hub.store.disk) →
+        HasNumbers 3 hub.store → DiskFailed e.0 (D.counts hub.store.disk).failures
+        (D.counts e.1).failures) }
 {
     let mut hub = hub;
     // After a line no event waits, and this does nothing. What came before the first may wait.
@@ -41,7 +49,9 @@ pub(crate) fn reopened<D: SectorDisk>(
 
 /// The fault of a script whose device was not opened again.
 fn fault_of(error: OpenError) -> ScriptFault
-    ensures { ByFault result ⊤ ⊤ ⊥ }
+    ensures fault { ByFault result ⊤ ⊤ ⊥ }
+    ensures device { error ≡ OpenError.Device → result ≡ ScriptFault.Device }
+    ensures memory { error ≡ OpenError.NoMemory → result ≡ ScriptFault.NoMemory }
 {
     match error {
         OpenError::NoMemory => ScriptFault::NoMemory,

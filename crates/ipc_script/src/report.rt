@@ -13,6 +13,7 @@ ghost use Rattle.ipc_script.specs.Script.{frame_line as frame_text, end_line as 
 ghost use Rattle.ipc_script.specs.Relations.Faults.{ByFault, WorldFailed};
 ghost use Rattle.ipc_script.specs.Relations.Matches.{RunMatches, ProgressMatches, HasWholeFrames};
 ghost use Rattle.ipc_script.specs.Relations.Matches.{opened_of};
+ghost use Rattle.ipc_script.specs.Relations.Numbers.{Costs};
 ghost use Rattle.ipc_script.specs.Relations.Report.{without_frames, frames_text, SimulatesReportAt};
 
 use crate::fault::ScriptFault;
@@ -47,6 +48,7 @@ pub fn report<D: SectorDisk, W: Write>(
         (Appends (W.contents writer.old) (W.contents writer.new) []) ⊥) }
     ensures honest { IsHonest (D.medium hub.old.store.disk)
         → IsHonest (D.medium hub.new.store.disk) }
+    ensures costs { Costs D.counts 1 hub.old.store hub.new.store result }
 {
     match hub.release() {
         Ok(()) => report_all(alloc, hub, opened, writer),

@@ -1,21 +1,23 @@
 //! A script: lines of what connections do and when, run on a hub.
 
-ghost use Rattle.std.specs.Prelude.{◌≡◌, ◌≢◌, ◌<◌, ◌≤◌, ◌+◌, ℕ, true, false, List, [], length, position};
+ghost use Rattle.std.specs.Prelude.{◌≡◌, ◌≢◌, ◌<◌, ◌≤◌, ◌+◌, ◌*◌, ℕ, true, false, List, [], length, position};
 ghost use Rattle.std.specs.Prelude.{nat_eq, nat_lt, IfOk, IfErr, IfSome, OnOk};
 ghost use Rattle.std.specs.List.{prefix_len};
 ghost use Rattle.std.specs.Io.KnownBytes.{Appends};
 ghost use Rattle.ipc_base.specs.declared.limits.Limits.{Limits};
 ghost use Rattle.ipc_disk.specs.Medium.{IsHonest};
 ghost use Rattle.ipc_engine.specs.Event.{PlainEvent};
+ghost use Rattle.ipc_store.specs.View.{Spends};
 ghost use Rattle.ipc_hub.specs.Clients.{Clients, no_clients, hangup};
 ghost use Rattle.ipc_hub.specs.Relations.Matches.{StoredMatches};
 ghost use Rattle.ipc_script.specs.Line.{longest_script};
 ghost use Rattle.ipc_script.specs.Line.PlainLine.{Data, Stop};
-ghost use Rattle.ipc_script.specs.Script.{Run, Runs, MayStop, WritesMore};
+ghost use Rattle.ipc_script.specs.Script.{Run, Runs, MayStop, WritesMore, IsYoung, DiskFailed};
 ghost use Rattle.ipc_script.specs.Script.{is_open, line_done, opened as opened_run};
 ghost use Rattle.ipc_script.specs.Relations.Lines.{plain_line};
 ghost use Rattle.ipc_script.specs.Relations.Faults.{ByFault, IfRefused, of_serve_error};
 ghost use Rattle.ipc_script.specs.Relations.Matches.{RunMatches, RunMatchesBetween};
+ghost use Rattle.ipc_script.specs.Relations.Numbers.{HasNumbers, Costs, line_cost};
 ghost use Rattle.ipc_script.specs.Relations.Pieces.{SimulatesPiece, PieceBreaksOff};
 ghost use Rattle.ipc_script.specs.Relations.Simulation.{SimulatesLine, SimulatesScript};
 
@@ -35,9 +37,10 @@ use std::io::{Read, Write};
 /// are written. The run stops at the first line that is refused; what the lines before it did
 /// stands. If memory or a write failed, what was written is a beginning of the run's text; if the
 /// disk failed, it begins with the text of the lines before; after a read that failed nothing was
-/// written. Gives back the disk in every case. The script is all that the reader gives; of a reader
-/// that does not tell its bytes the clause says that there is one. Of a script with a line `stop`
-/// it says something if the disk is honest.
+/// written. A fault of the disk is answered only if the disk has counted a failure, or if the store
+/// had stopped or was near the end of its numbers. Gives back the disk in every case. The script is
+/// all that the reader gives; of a reader that does not tell its bytes the clause says that there is
+/// one. Of a script with a line `stop` it says something if the disk is honest.
 pub fn run_script<D: SectorDisk, R: Read, W: Write>(
     alloc: Global,
     store: Store<D>,
@@ -48,7 +51,9 @@ pub fn run_script<D: SectorDisk, R: Read, W: Write>(
         × ((events : List PlainEvent) → length events ≡ store.confirmed + store.waiting →
         MayStop (D.medium store.disk) script →
         Runs store.machine.limits (no_clients store.machine.state events) script
-        (W.contents writer.old) (W.contents writer.new) result.0) }
+        (W.contents writer.old) (W.contents writer.new) result.0)
+        × (IsYoung store → MayStop (D.medium store.disk) script → IfErr result.0 (λ e.
+        DiskFailed e (D.counts store.disk).failures (D.counts result.1).failures)) }
 {
     match read_script(alloc, reader) {
         Ok(script) => run_lines(alloc, Hub::new(alloc, store), &script, writer),
@@ -64,10 +69,14 @@ fn run_lines<D: SectorDisk, W: Write>(
     writer: &mut W,
 ) -> (Result<(), ScriptFault>, D)
     requires { length script.now ≤ longest_script }
-    ensures { (limits : Limits) (h : Clients) → StoredMatches limits hub h → h.clients ≡ [] →
+    ensures runs { (limits : Limits) (h : Clients) → StoredMatches limits hub h → h.clients ≡ [] →
         MayStop (D.medium hub.store.disk) script.now →
         SimulatesScript limits h script.now
         (W.contents writer.old) (W.contents writer.new) result.0 }
+    ensures disk { HasNumbers (8 * length script.now) hub.store →
+        MayStop (D.medium hub.store.disk) script.now →
+        IfErr result.0 (λ e. DiskFailed e (D.counts hub.store.disk).failures
+        (D.counts result.1).failures) }
 {
     let mut hub = hub;
     let mut opened = Vec::new(alloc);
@@ -110,6 +119,8 @@ fn run_line<D: SectorDisk, W: Write>(
         hub.new opened.new.items (W.contents writer.old) (W.contents writer.new) result }
     ensures honest { OnOk result (IsHonest (D.medium hub.old.store.disk)
         → IsHonest (D.medium hub.new.store.disk)) }
+    ensures costs { Costs D.counts (line_cost (plain_line line.entry))
+        hub.old.store hub.new.store result }
 {
     match serve_line(alloc, hub, opened, line, number, writer) {
         Err(ScriptFault::Device) => {
@@ -136,6 +147,8 @@ fn serve_line<D: SectorDisk, W: Write>(
         hub.new opened.new.items (W.contents writer.old) (W.contents writer.new) result }
     ensures honest { IsHonest (D.medium hub.old.store.disk)
         → IsHonest (D.medium hub.new.store.disk) }
+    ensures costs { Costs D.counts (line_cost (plain_line line.entry))
+        hub.old.store hub.new.store result }
 {
     match line {
         Line::Open { conn } => open(hub, opened, conn, number)?,
@@ -170,7 +183,8 @@ fn last_words<D: SectorDisk, W: Write>(
     opened: &mut [Opened],
     writer: &mut W,
 )
-    ensures { WritesMore (W.contents writer.old) (W.contents writer.new) [] }
+    ensures grows { WritesMore (W.contents writer.old) (W.contents writer.new) [] }
+    ensures store { hub.new.store ≡ hub.old.store }
 {
     match report_all(alloc, hub, opened, writer) {
         Ok(()) | Err(_) => {}
@@ -192,6 +206,7 @@ fn open<D: SectorDisk>(
         RunMatchesBetween limits hub.old opened.old.items r → is_open r conn ≡ true)) }
     ensures honest { IsHonest (D.medium hub.old.store.disk)
         → IsHonest (D.medium hub.new.store.disk) }
+    ensures costs { Costs D.counts 0 hub.old.store hub.new.store result }
 {
     opened.reserve(1)?;
     match hub.connect(conn) {
@@ -230,6 +245,7 @@ fn close<D: SectorDisk>(
         RunMatchesBetween limits hub.old opened.old.items r → is_open r conn ≡ false)) }
     ensures honest { IsHonest (D.medium hub.old.store.disk)
         → IsHonest (D.medium hub.new.store.disk) }
+    ensures costs { Costs D.counts 3 hub.old.store hub.new.store result }
 {
     match hub.hangup(conn, moment) {
         Ok(()) => {}
@@ -273,6 +289,7 @@ fn feed<D: SectorDisk, W: Write>(
         hub.new opened.new (W.contents writer.old) (W.contents writer.new) result }
     ensures honest { IsHonest (D.medium hub.old.store.disk)
         → IsHonest (D.medium hub.new.store.disk) }
+    ensures costs { Costs D.counts (4 * length bytes.now) hub.old.store hub.new.store result }
 {
     let mut rest = bytes;
     // A round takes at least one byte, since no frame waits as it begins.
@@ -311,6 +328,11 @@ fn feed_some<D: SectorDisk, W: Write>(
         RunMatchesBetween limits hub.old opened.old r → is_open r sender.conn ≡ false)) }
     ensures honest { IsHonest (D.medium hub.old.store.disk)
         → IsHonest (D.medium hub.new.store.disk) }
+    ensures spends { HasNumbers (3 + length bytes.now) hub.old.store → IfOk result (λ taken.
+        Spends D.counts (3 + taken) hub.old.store hub.new.store) }
+    ensures disk { HasNumbers (3 + length bytes.now) hub.old.store → IfErr result (λ e.
+        DiskFailed e (D.counts hub.old.store.disk).failures
+        (D.counts hub.new.store.disk).failures) }
 {
     match hub.feed(sender.conn, bytes, sender.moment) {
         Ok(taken) => {

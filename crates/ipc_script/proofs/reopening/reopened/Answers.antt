@@ -1,22 +1,76 @@
-use Rattle.std.proofs.Common.{◌≡◌, ◌<◌, ◌^◌, false, length, sym, ap, subst, ◌∙◌, arith}
+-- The store is closed when nothing waits, and its disk is opened again.
+use Rattle.std.proofs.Common.{◌≡◌, ⊎_elim, ℕ, ◌<◌, ◌^◌, List, length, sym, ap, subst, ◌∙◌, arith}
+use Rattle.ipc_disk.specs.Counts.{counted}
 use Rattle.ipc_disk.specs.Medium.{IsHonest}
+use Rattle.ipc_engine.specs.Event.{PlainEvent}
+use Rattle.ipc_state.specs.State.{State}
 use Rattle.ipc_store.proofs.CallerLemmas.{ready-goes-on}
-use Rattle.ipc_script.proofs.OpenedAgain.{reopens}
+use Rattle.ipc_store.specs.Relations.Matches.{StoreMatches}
+use Rattle.ipc_store.specs.View.{numbers_used}
+use Rattle.ipc_script.proofs.OpenedAgain.{reopens, stood, root}
+use Rattle.ipc_script.proofs.reopening.reopened.Given.{Over}
+use Rattle.ipc_script.proofs.reopening.reopened.Goals.{After-close-3}
 use Rattle.ipc_script.proofs.reopening.reopened.Goals as goal
+
+-- the store that is closed, on an honest disk
+still : (g : Over) (c : After-close-3 g) → IsHonest (g.D.SectorDisk.medium c.args.hub.store.disk)
+    → IsHonest (g.D.SectorDisk.medium c.close-2.result.disk)
+still g c honest = subst (λ s. IsHonest (g.D.SectorDisk.medium s.disk)) (sym c.close-2.ensures.store) (c.in_default.ensures.honest honest)
+
+there : (g : Over) (c : After-close-3 g) → IsHonest (g.D.SectorDisk.medium c.args.hub.store.disk) → (base : State)
+    × ((pending : List PlainEvent) × StoreMatches (g.D.SectorDisk.medium c.close-2.result.disk) c.close-2.result base pending)
+there g c honest =
+    c.close-3.ensures.matches
+    (ap (λ s. s.stopped) c.close-2.ensures.store ∙ ready-goes-on c.release.new.self.store 2 (omega arith) c.in_default.ensures.ready) (still g c honest)
+
+-- and its disk
+here : (g : Over) (c : After-close-3 g) → IsHonest (g.D.SectorDisk.medium c.args.hub.store.disk) → IsHonest (g.D.SectorDisk.medium c.close-3.result)
+here g c honest = subst (λ d. IsHonest (g.D.SectorDisk.medium d)) (sym c.close-3.ensures.disk) (still g c honest)
+
+fits : (g : Over) (c : After-close-3 g) → IsHonest (g.D.SectorDisk.medium c.args.hub.store.disk)
+    → length (g.D.SectorDisk.medium c.close-3.result).contents < 2 ^ 32
+fits g c honest =
+    let disk = c.close-3.result in
+    omega (arith, (g.met.D.SectorDisk.shaped disk (g.D.SectorDisk.medium disk).contents (here g c honest).reads).count, g.met.D.SectorDisk.fits disk)
+
+none : (g : Over) (c : After-close-3 g) → c.close-2.result.waiting ≡ 0
+none g c = ap (λ s. s.waiting) c.close-2.ensures.store ∙ c.in_default.ensures.waiting
+
+-- no failure was counted until then
+failures : (g : Over) (c : After-close-3 g) → (g.D.SectorDisk.counts c.close-3.result).failures ≡ (g.D.SectorDisk.counts c.args.hub.store.disk).failures
+failures g c =
+    ap (λ d. (g.D.SectorDisk.counts d).failures) c.close-3.ensures.disk ∙ ap (λ s. (g.D.SectorDisk.counts s.disk).failures) c.close-2.ensures.store
+    ∙ c.in_default.ensures.spends.failures
 
 pub returns-in-Ok-clause-ok : goal.returns-in-Ok-clause-ok
 returns-in-Ok-clause-ok g c limits h m honest =
-    let med = g.D.SectorDisk.medium in
-    let mid = c.release.new.self in
-    let old = c.close-2.result in
-    let disk = c.close-3.result in
-    let still : IsHonest (med old.disk) =
-    subst (λ s. IsHonest (med s.disk)) (sym c.close-2.ensures.store) (c.in_default.ensures.honest honest) in
-    let goes : old.stopped ≡ false =
-    ap (λ s. s.stopped) c.close-2.ensures.store ∙ ready-goes-on mid.store 2 (omega arith) c.in_default.ensures.ready in
-    let here : IsHonest (med disk) = subst (λ d. IsHonest (med d)) (sym c.close-3.ensures.disk) still in
-    let fits : length (med disk).contents < 2 ^ 32 =
-    omega (arith, (g.met.D.SectorDisk.shaped disk (med disk).contents here.reads).count, g.met.D.SectorDisk.fits disk) in
-    reopens med old c.in-Ok.store disk c.close-3.ensures.disk fits still (ap (λ s. s.waiting) c.close-2.ensures.store ∙ c.in_default.ensures.waiting)
-    (c.close-3.ensures.matches goes still) (c.in-Ok.ensures.ok here) limits h mid c.new.result (c.in_default.ensures.ok limits h m)
+    let d = (goal.at.returns-in-Ok-clause-ok g c).After-close-3 in
+    reopens g.D.SectorDisk.medium c.close-2.result c.in-Ok.store c.close-3.result c.close-3.ensures.disk (fits g d honest) (still g d honest) (none g d)
+    (there g d honest) (c.in-Ok.ensures.ok (here g d honest)) limits h c.release.new.self c.new.result (c.in_default.ensures.ok limits h m)
     c.close-2.ensures.limits c.close-2.ensures.state c.in-Ok.ensures.confirmed c.new.ensures.matches
+
+pub returns-in-Ok-clause-spends : goal.returns-in-Ok-clause-spends
+returns-in-Ok-clause-spends g c honest has =
+    let d = (goal.at.returns-in-Ok-clause-spends g c).After-close-3 in
+    let is = here g d honest in
+    let epoch = root g.D.SectorDisk.medium c.close-2.result c.in-Ok.store c.close-3.result c.close-3.ensures.disk (fits g d honest) (still g d honest)
+    (none g d) (there g d honest) in
+    rw c.new.ensures.store (record {
+      goes_on = (c.in-Ok.ensures.ok is).found.2.goes_on;
+      failures = c.in-Ok.ensures.no_failure.0 ∙ failures g d;
+      numbers = omega (arith, c.in-Ok.ensures.numbers is, epoch, ap numbers_used c.close-2.ensures.store, c.in_default.ensures.spends.numbers);
+    })
+
+pub returns-in-Err-open-clause-disk : goal.returns-in-Err-open-clause-disk
+returns-in-Err-open-clause-disk g c honest has =
+    let d = (goal.at.returns-in-Err-open-clause-disk g c).After-close-3 in
+    let old = c.close-2.result in
+    let epoch = root g.D.SectorDisk.medium old old c.close-3.result c.close-3.ensures.disk (fits g d honest) (still g d honest) (none g d)
+    (there g d honest) in
+    let stands = stood g.D.SectorDisk.medium old old c.close-3.result c.close-3.ensures.disk (fits g d honest) (still g d honest) (none g d)
+    (there g d honest) in
+    ⊎_elim (λ device. rw (c.fault_of.ensures.device device)
+    (c.in-Err-open.ensures.failure device ∙ ap (λ (n : ℕ). counted n 1) (failures g d)))
+    (λ other. ⊎_elim (λ memory. rw (c.fault_of.ensures.memory memory) tt)
+    (λ end. absurd (omega (arith, end.epoch, epoch, ap numbers_used c.close-2.ensures.store, c.in_default.ensures.spends.numbers, has.left))) other)
+    (c.in-Err-open.ensures.refusals old.machine.limits old.machine.state (here g d honest) stands)

@@ -1,14 +1,17 @@
-use Rattle.std.proofs.Common.{◌≡◌, ◌<◌, ◌-◌, true, length, take, drop, ap, sym, ◌∙◌, arith}
+use Rattle.std.proofs.Common.{◌≡◌, ◌<◌, ◌+◌, ◌-◌, true, length, take, drop, ap, sym, ◌∙◌, arith}
 use Rattle.std.proofs.lemmas.Bool.Decides.{nat_tests}
 use Rattle.std.proofs.lemmas.Result.{err_from_is_err_and}
 use Rattle.std.specs.Prelude.{Ok}
 use Rattle.ipc_script.specs.Script.{Progress, is_open}
 use Rattle.ipc_script.proofs.FedPieces.{fed_begun, fed_more, fed_all, fed_refused, all_taken, rest_length}
+use Rattle.ipc_script.proofs.NumbersSpent.{spends-none, spends-both, spends-more, left-behind, failed-behind}
 use Rattle.ipc_script.proofs.script.feed.Goals as goal
 
 pub pieces-init : goal.pieces-init
 pieces-init g c = record {
   honest = λ honest. honest;
+  left = omega arith;
+  spends = spends-none;
   runs = λ limits r b.
       (omega arith, c.requires, fed_begun limits r c.args.sender c.args.bytes.now c.args.hub.now c.args.opened.now _ b);
 }
@@ -34,6 +37,12 @@ returns-then-is_empty-clause-line g c = λ limits r b.
 pub pieces-preserved : goal.pieces-preserved
 pieces-preserved g c = record {
   honest = λ honest. c.feed_some.ensures.honest (c.pieces.invariant.honest honest);
+  left = omega (arith, c.pieces.invariant.left, rest_length c.pieces.rest.now c.in_ok-taken.taken);
+  spends = λ has.
+      let before = c.pieces.invariant.spends has in
+      let here = left-behind (3 + length c.pieces.rest.now) has before (omega (arith, c.pieces.invariant.left)) in
+      spends-both _ before (c.in_ok-taken.ensures.spends here)
+      (omega (arith, c.pieces.invariant.left, c.in_ok-taken.ensures.within, rest_length c.pieces.rest.now c.in_ok-taken.taken));
   runs = λ limits r b.
       let p = c.pieces.invariant.runs limits r b in
       let s = c.in_ok-taken.ensures.ok limits p.2.now p.2.at in
@@ -53,3 +62,19 @@ pub returns-clause-line : goal.returns-clause-line
 returns-clause-line g c = λ limits r b.
     let p = c.pieces.invariant.runs limits r b in
     absurd (omega (arith, p.0, p.1))
+
+pub returns-in_err-taken-clause-costs : goal.returns-in_err-taken-clause-costs
+returns-in_err-taken-clause-costs g c = λ has.
+    let q = err_from_is_err_and c.from_residual.result c.from_residual.ensures.1 in
+    let before = c.pieces.invariant.spends has in
+    let here = left-behind (3 + length c.pieces.rest.now) has before (omega (arith, c.pieces.invariant.left)) in
+    rw (q.1, q.2) (failed-behind c.in_err-taken.field-0.0 _ before (c.in_err-taken.ensures.disk here))
+
+pub returns-then-is_empty-clause-costs : goal.returns-then-is_empty-clause-costs
+returns-then-is_empty-clause-costs g c = λ has.
+    let before = c.pieces.invariant.spends has in
+    let here = left-behind (3 + length c.pieces.rest.now) has before (omega (arith, c.pieces.invariant.left)) in
+    spends-both _ before (c.in_ok-taken.ensures.spends here) (omega (arith, c.pieces.invariant.left, c.in_ok-taken.ensures.within))
+
+pub returns-clause-costs : goal.returns-clause-costs
+returns-clause-costs g c = λ has. spends-more _ (c.pieces.invariant.spends has) (omega (arith, c.pieces.invariant.left))

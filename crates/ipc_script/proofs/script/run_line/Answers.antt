@@ -11,4 +11,4 @@ returns-in-Err-Device-clause-line g c = λ limits r b.
     let then = g.W.Write.contents c.serve_line.new.writer in
     let more : LineStops (line_done limits c.args.number r (plain_line c.args.line)) before then Device =
     rw c.in-Err-Device.field-0-is at (c.in-Err-Device.ensures.line limits r b) in
-    grown_more before then _ more c.last_words.ensures
+    grown_more before then _ more c.last_words.ensures.grows

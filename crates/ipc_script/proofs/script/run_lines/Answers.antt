@@ -11,25 +11,29 @@ use Rattle.ipc_script.specs.Relations.Simulation.{text_of}
 use Rattle.ipc_script.proofs.FaultCases.{by_fault}
 use Rattle.ipc_script.proofs.ScriptLines.{run_begun, run_more, run_stopped, run_refused, run_broken, run_halted, run_ended, no_lines, may-here, may-behind}
 use Rattle.ipc_script.proofs.WrittenText.{part_none, grown_none}
+use Rattle.ipc_script.proofs.LineLengths.{cost-fits}
+use Rattle.ipc_script.proofs.NumbersSpent.{spends-none, spends-both, left-behind, failed-behind}
 use Rattle.ipc_script.proofs.script.run_lines.Goals as goal
 
 pub lines-init : goal.lines-init
 lines-init g c = record {
   few = omega arith;
   may = λ may. may;
+  left = omega arith;
+  spends = λ has may. spends-none has;
   runs = λ limits h matches none may. rw c.new-opened.ensures.items (run_begun limits h c.args.script.now c.args.hub _ matches none);
 }
 
-pub returns-in_default : goal.returns-in_default
-returns-in_default g c = λ limits h matches none may.
+pub returns-in_default-clause-runs : goal.returns-in_default-clause-runs
+returns-in_default-clause-runs g c = λ limits h matches none may.
     let p = c.lines.invariant.runs limits h matches none may in
     run_refused limits h c.args.script.now (c.lines.number + 1) c.lines.hub c.lines.opened.items c.lines.rest.now _ _ p
     c.first_line.result.0.now c.first_line.result.1.now c.first_line.ensures.lines (BadLine (c.lines.number + 1))
     (λ cut. ap (λ (o : Option PlainLine). text_done limits (c.lines.number + 1) p.now o cut) (sym c.line_of.ensures
     ∙ ap (option_map plain_line) c.in_default.is)) _ (Appends-nil _)
 
-pub returns-in-Err : goal.returns-in-Err
-returns-in-Err g c = λ limits h matches none may.
+pub returns-in-Err-clause-runs : goal.returns-in-Err-clause-runs
+returns-in-Err-clause-runs g c = λ limits h matches none may.
     let p = c.lines.invariant.runs limits h matches none may in
     let n = c.lines.number + 1 in
     by_fault _ _ _ _ _ _ c.in-Err.fault
@@ -39,8 +43,8 @@ returns-in-Err g c = λ limits h matches none may.
     (λ _. run_halted limits h c.args.script.now n c.lines.hub c.lines.opened.items c.lines.rest.now _ _ p _ (grown_none _))
     (λ never. absurd never) c.in-Err.ensures.err
 
-pub returns-in-Err-run_line : goal.returns-in-Err-run_line
-returns-in-Err-run_line g c = λ limits h matches none may.
+pub returns-in-Err-run_line-clause-runs : goal.returns-in-Err-run_line-clause-runs
+returns-in-Err-run_line-clause-runs g c = λ limits h matches none may.
     let p = c.lines.invariant.runs limits h matches none may in
     let e = c.in-Err-run_line.fault in
     let n = c.lines.number + 1 in
@@ -69,6 +73,12 @@ lines-preserved-in-Ok g c =
       few = omega (arith, c.lines.invariant.few, c.first_line.ensures.shorter);
       may = λ may. may-behind rest text behind c.first_line.ensures.lines old (g.D.SectorDisk.medium c.in-Ok.next.store.disk)
           (c.lines.invariant.may may) c.in-Ok.ensures.honest;
+      left = omega (arith, c.lines.invariant.left, c.first_line.ensures.shorter);
+      spends = λ has may.
+          let honest = may-here rest text behind c.first_line.ensures.lines old (c.lines.invariant.may may) stop in
+          let before = c.lines.invariant.spends has may in
+          let here = left-behind 3 has before (omega (arith, c.lines.invariant.left, c.first_line.ensures.shorter)) in
+          spends-both _ before (c.in-Ok.ensures.spends honest here) (omega (arith, c.lines.invariant.left, c.first_line.ensures.shorter));
       runs = λ limits h matches none may.
           let p = c.lines.invariant.runs limits h matches none may in
           let honest = may-here rest text behind c.first_line.ensures.lines old (c.lines.invariant.may may) stop in
@@ -84,6 +94,13 @@ lines-preserved g c = record {
   may = λ may. may-behind c.lines.rest.now c.first_line.result.0.now c.first_line.result.1.now c.first_line.ensures.lines
       (g.D.SectorDisk.medium c.lines.hub.store.disk) (g.D.SectorDisk.medium c.run_line.new.hub.store.disk)
       (c.lines.invariant.may may) c.in_default-run_line.ensures.honest;
+  left = omega (arith, c.lines.invariant.left, c.first_line.ensures.shorter);
+  spends = λ has may.
+      let cost = cost-fits c.first_line.result.0.now (plain_line c.in-Some.line) (sym c.line_of.ensures ∙ ap (option_map plain_line) c.in-Some.is)
+      c.first_line.ensures.parts c.first_line.ensures.shorter in
+      let before = c.lines.invariant.spends has may in
+      let here = left-behind _ has before (omega (arith, c.lines.invariant.left, cost)) in
+      spends-both _ before (c.in_default-run_line.ensures.costs here) (omega (arith, c.lines.invariant.left, c.first_line.ensures.shorter, cost));
   runs = λ limits h matches none may.
       let p = c.lines.invariant.runs limits h matches none may in
       let n = c.lines.number + 1 in
@@ -94,8 +111,29 @@ lines-preserved g c = record {
       c.run_line.new.hub c.run_line.new.opened.items _ s.3.0 s.3.1;
 }
 
-pub returns : goal.returns
-returns g c = λ limits h matches nobody may.
+pub returns-clause-runs : goal.returns-clause-runs
+returns-clause-runs g c = λ limits h matches nobody may.
     let none : length c.lines.rest.now ≡ 0 = grind (arith, nat_tests, c.lines-test.ensures) in
     run_ended limits h c.args.script.now (c.lines.number + 1) c.lines.hub c.lines.opened.items c.lines.rest.now
     _ _ (c.lines.invariant.runs limits h matches nobody may) (no_lines c.lines.rest.now none)
+
+-- the device was not opened again
+pub returns-in-Err-clause-disk : goal.returns-in-Err-clause-disk
+returns-in-Err-clause-disk g c has may =
+    let stop : line_of c.first_line.result.0.now ≡ Some Stop =
+    sym c.line_of.ensures ∙ ap (option_map plain_line) (c.in-Some.is ∙ ap Some c.in-Stop.is) in
+    let honest = may-here c.lines.rest.now c.first_line.result.0.now c.first_line.result.1.now c.first_line.ensures.lines
+    (g.D.SectorDisk.medium c.lines.hub.store.disk) (c.lines.invariant.may may) stop in
+    let before = c.lines.invariant.spends has may in
+    failed-behind c.in-Err.fault _ before
+    (c.in-Err.ensures.disk honest (left-behind 3 has before (omega (arith, c.lines.invariant.left, c.first_line.ensures.shorter))))
+
+-- a line was not run
+pub returns-in-Err-run_line-clause-disk : goal.returns-in-Err-run_line-clause-disk
+returns-in-Err-run_line-clause-disk g c has may =
+    let cost = cost-fits c.first_line.result.0.now (plain_line c.in-Some.line) (sym c.line_of.ensures ∙ ap (option_map plain_line) c.in-Some.is)
+    c.first_line.ensures.parts c.first_line.ensures.shorter in
+    let before = c.lines.invariant.spends has may in
+    let here = left-behind _ has before (omega (arith, c.lines.invariant.left, cost)) in
+    rw (c.close-in-Err-run_line-2.ensures.disk, c.close-in-Err-run_line.ensures.store)
+    (failed-behind c.in-Err-run_line.fault _ before (c.in-Err-run_line.ensures.costs here))
