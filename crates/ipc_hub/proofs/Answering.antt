@@ -4,6 +4,7 @@ use Rattle.std.proofs.Common.{refl, sym, ap, ◌∙◌, subst, arith, ◌⊎◌,
 use Rattle.std.specs.Prelude.{nat_eq, option_and_then, if◌then◌else◌}
 use Rattle.std.proofs.lemmas.Bool.{cases_eq, eqb-true}
 use Rattle.std.proofs.lemmas.List.{length-append}
+use Rattle.ipc_hub.proofs.Rows.{same_value}
 use Rattle.ipc_base.specs.Limits.{longest_reply}
 use Rattle.ipc_base.specs.Table.{value_at, with_value, keys_of, EachValue, ArePaired}
 use Rattle.ipc_base.specs.declared.limits.Limits.{Limits}
@@ -19,54 +20,37 @@ use Rattle.ipc_hub.specs.Relations.Delivery.{HasRoom, HasRoomIn, HaveRoom, HasRo
 use Rattle.ipc_hub.specs.Relations.Invariant.{process_in, AreOwn, IsKept, HubInvariant, GoesOn}
 use Rattle.ipc_hub.specs.Relations.Matches.{ClientMatches, HubMatches, IsAhead}
 use Rattle.ipc_hub.proofs.Deliveries.{push-matches, matches-later, accept-matches}
-use Rattle.ipc_hub.proofs.Keeping.{kept-pushed, put-each, put-keys, put-processes, process-with}
+use Rattle.ipc_hub.proofs.Keeping.{kept-pushed, delivery-goes-on, process-with}
 use Rattle.ipc_hub.proofs.Ending.{client-there}
 use Rattle.ipc_hub.proofs.Requests.{Answers}
 
 -- ---- the connection that asked
 
+-- When it is told the reply to its request: with no process, it has the reply, or the process that this names; else it is as it was.
+pub by-told : (o : PlainOutcome) (v : ConnectionView) (P : ConnectionView → Type 0) → (v.process ≡ None → P (pushed (reply_of o) v))
+    → (v.process ≡ None → nat_eq o.pid 0 ≡ false → P (record v { process = Some o.pid })) → ((pid : ℕ) → v.process ≡ Some pid → P v) → P (answered (Some o) v)
+by-told o v P = by_process v.process
+  where
+    by_process : (p : Option ℕ) → (p ≡ None → P (pushed (reply_of o) (record v { process = p })))
+        → (p ≡ None → nat_eq o.pid 0 ≡ false → P (record v { process = Some o.pid })) → ((pid : ℕ) → p ≡ Some pid → P (record v { process = p }))
+        → P (answered (Some o) (record v { process = p }))
+    by_process None none new same = choice P (nat_eq o.pid 0) _ _ (λ _. none refl) (new refl)
+    by_process (Some pid) none new same = same pid refl
+
 -- the process that it has after the reply
 told-process : (o : PlainOutcome) (v : ConnectionView) (pid : ℕ) → (answered (Some o) v).process ≡ Some pid
     → (v.process ≡ Some pid) ⊎ ((v.process ≡ None) × ((o.pid ≡ pid) × (nat_eq o.pid 0 ≡ false)))
-told-process o v pid = by_process v.process
-  where
-    by_test : (b : Bool) → nat_eq o.pid 0 ≡ b → (if b then None else Some o.pid) ≡ Some pid → (o.pid ≡ pid) × (nat_eq o.pid 0 ≡ false)
-    by_test true t never = cc
-    by_test false t same = (cc, t)
-
-    by_process : (p : Option ℕ) → (answered (Some o) (record v { process = p })).process ≡ Some pid
-        → (p ≡ Some pid) ⊎ ((p ≡ None) × ((o.pid ≡ pid) × (nat_eq o.pid 0 ≡ false)))
-    by_process (Some q) is = inl is
-    by_process None is =
-        inr (
-          refl,
-          by_test (nat_eq o.pid 0) refl
-              (choice_field (nat_eq o.pid 0) ∙ is),
-        )
-      where
-        choice_field : (b : Bool) → (if b then None else Some o.pid)
-            ≡ (if b then pushed (reply_of o) (record v { process = None }) else record v { process = Some o.pid }).process
-        choice_field true = refl
-        choice_field false = refl
+told-process o v pid =
+    by-told o v (λ (w : ConnectionView). w.process ≡ Some pid → (v.process ≡ Some pid) ⊎ ((v.process ≡ None) × ((o.pid ≡ pid) × (nat_eq o.pid 0 ≡ false))))
+    (λ _ is. inl is) (λ none t is. inr (none, (same_value o.pid pid is, t))) (λ _ _ is. inl is)
 
 told-kept : (limits : Limits) (o : PlainOutcome) (v : ConnectionView) → IsKept limits v → HasRoom o v → IsKept limits (answered (Some o) v)
-told-kept limits o v k room = by_process v.process
-  where
-    by_process : (p : Option ℕ) → IsKept limits (answered (Some o) (record v { process = p }))
-    by_process None =
-        choice (IsKept limits) (nat_eq o.pid 0) _ _ (λ _. kept-pushed limits o (record v { process = None })
-        (record { input = k.input; last = k.last; spare = k.spare; size = k.size }) (omega (arith, room)) (λ _. room))
-        (λ _. record { input = k.input; last = k.last; spare = k.spare; size = k.size })
-    by_process (Some pid) = record { input = k.input; last = k.last; spare = k.spare; size = k.size }
+told-kept limits o v k room =
+    by-told o v (IsKept limits) (λ _. kept-pushed limits o v k (omega (arith, room)) (λ _. room))
+    (λ _ _. record { input = k.input; last = k.last; spare = k.spare; size = k.size }) (λ _ _. k)
 
 told-room : (o : PlainOutcome) (v : ConnectionView) → HasRoom o v → HasRoomIn o (answered (Some o) v)
-told-room o v room = by_process v.process
-  where
-    by_process : (p : Option ℕ) → HasRoomIn o (answered (Some o) (record v { process = p }))
-    by_process None =
-        choice (HasRoomIn o) (nat_eq o.pid 0) (pushed (reply_of o) (record v { process = None })) (record v { process = Some o.pid })
-        (λ _ never. let bad : false ≡ true = never in cc) (λ _ _. room)
-    by_process (Some pid) = λ _. room
+told-room o v room = by-told o v (HasRoomIn o) (λ none for. let bad : false ≡ true = rw none at for in cc) (λ _ _ _. room) (λ _ _ _. room)
 
 for-process : (pid : ℕ) (p : Option ℕ) → is_for pid p ≡ true → p ≡ Some pid
 for-process pid None is = cc
@@ -99,15 +83,13 @@ module _ (h : HubView) (conn : ℕ) (v : ConnectionView) (now : Step) (inv : Hub
   each-room : EachValue (HasRoomIn a.o) table
   each-room = each-by_key (HasRoomIn a.o) 0 table (2 ^ 32) (rw rising inv.rising) (λ k x is.
       elim (cases_eq k conn) [
-        | inl same ↦ subst (HasRoomIn a.o) (one (answered (Some a.o) v) x (sym (at-with h.connections conn (answered (Some a.o) v) v found) ∙ (rw same at is)))
-            (told-room a.o v has)
+        | inl same ↦
+            let one = same_value (answered (Some a.o) v) x (sym (at-with h.connections conn (answered (Some a.o) v) v found) ∙ (rw same at is)) in
+            subst (HasRoomIn a.o) one (told-room a.o v has)
         | inr apart ↦ λ for. absurd (apart-from k apart
             (ap (option_and_then (λ (c : ConnectionView). c.process)) (sym (other-with h.connections conn k (answered (Some a.o) v) apart) ∙ is)
             ∙ for-process a.o.pid x.process for))
       ])
-    where
-      one : (x y : ConnectionView) → Some x ≡ Some y → x ≡ y
-      one x y is = cc
 
   all-room : HaveRoom (a.o ∷ []) table
   all-room = (a.short, (each-room, tt))
@@ -149,25 +131,17 @@ module _ (h : HubView) (conn : ℕ) (v : ConnectionView) (now : Step) (inv : Hub
   pub answer-goes-on : (new : HubView) → new.limits ≡ h.limits → new.state ≡ now.state
       → new.connections ≡ put_all now.outcomes (with_answer now.outcomes (conn, v) h.connections) → GoesOn h new
   answer-goes-on new limits state rows =
-      let rows' : new.connections ≡ put_all (a.o ∷ []) table =
-      rows ∙ ap (λ (os : List PlainOutcome). put_all os (with_answer os (conn, v) h.connections)) a.one in
       let kept : IsKept h.limits v = each-at (IsKept h.limits) h.connections conn v inv.each found in
-      let processes : (k : ℕ) → process_in new.connections k ≡ process_in table k =
-      λ k. ap (λ (t : List (ℕ × ConnectionView)). process_in t k) rows' ∙ put-processes (a.o ∷ []) table k in
-      let keys : keys_of new.connections ≡ keys_of h.connections = ap keys_of rows' ∙ put-keys (a.o ∷ []) table ∙ rising in
-      record {
-        limits = limits;
-        numbers = keys;
-        invariant = record {
-          own = record {
-            connected = λ k pid is. ap (λ (s : State). is_process s pid) state ∙ own.connected k pid (sym (processes k) ∙ is);
-            one = λ k j pid is too. own.one k j pid (sym (processes k) ∙ is) (sym (processes j) ∙ too);
-          };
-          each = rw limits (rw rows' (put-each h.limits (a.o ∷ []) table
-              (each-with (IsKept h.limits) h.connections conn (answered (Some a.o) v) inv.each (told-kept h.limits a.o v kept has)) all-room));
-          rising = rw keys inv.rising;
-        };
-      }
+      let mid : HubView = record h { state = now.state; connections = table } in
+      let held : HubInvariant mid = record {
+        own = own;
+        each = each-with (IsKept h.limits) h.connections conn (answered (Some a.o) v) inv.each (told-kept h.limits a.o v kept has);
+        rising = rw rising inv.rising;
+      } in
+      let goes : GoesOn mid new = delivery-goes-on mid new (a.o ∷ []) held all-room limits
+      (rows ∙ ap (λ (os : List PlainOutcome). put_all os (with_answer os (conn, v) h.connections)) a.one)
+      (λ k pid is. ap (λ (s : State). is_process s pid) state ∙ own.connected k pid is) in
+      record { limits = goes.limits; numbers = goes.numbers ∙ rising; invariant = goes.invariant }
 
 -- ---- the clients
 
@@ -181,23 +155,15 @@ told-matches confirmed accepted mark o v c later le short m =
         → ClientMatches confirmed mark (answered (Some o) (record v { process = p })) (welcomed mark (Some o) (record c { process = p }))
     by_process None was = by_test (nat_eq o.pid 0)
       where
-        after : ClientMatches confirmed mark (record v { process = None }) (record c { process = None })
-        after = matches-later confirmed accepted mark _ _ le was
+        m' : ClientMatches confirmed mark (record v { process = None }) (record c { process = None })
+        m' = matches-later confirmed accepted mark _ _ le was
 
         by_test : (b : Bool) → ClientMatches confirmed mark
             (if b then pushed (reply_of o) (record v { process = None }) else record v { process = Some o.pid })
             (if b then with_frame (record c { process = None }) mark o else record c { process = Some o.pid })
         by_test true = push-matches confirmed accepted mark _ _ o later le short was
         by_test false =
-            record {
-              process = refl;
-              input = after.input;
-              ended = after.ended;
-              kept = after.kept;
-              visible = after.visible;
-              seen = after.seen;
-              frames = after.frames;
-            }
+            record { process = refl; input = m'.input; ended = m'.ended; kept = m'.kept; visible = m'.visible; seen = m'.seen; frames = m'.frames }
     by_process (Some pid) was = matches-later confirmed accepted mark _ _ le was
 
 -- an event of a connection

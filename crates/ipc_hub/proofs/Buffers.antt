@@ -1,11 +1,16 @@
 -- The front of a buffer: what stands there, what is written behind it, and what is taken off it.
-use Rattle.std.proofs.Common.{◌≡◌, ℕ, [], ◌∷◌, ◌+◌, ◌-◌, ◌≤◌, List, ◌++◌, length, take, drop, refl, sym, ap, ◌∙◌, arith, append_assoc}
+use Rattle.std.proofs.Common.{◌≡◌, ℕ, [], ◌+◌, ◌-◌, ◌≤◌, List, ◌++◌, length, take, drop, sym, ap, ◌∙◌, arith, append_assoc}
 use Rattle.std.specs.Prelude.{Vec}
 use Rattle.std.specs.List.{copy_within}
 use Rattle.std.specs.Vec.{with_items}
 use Rattle.std.proofs.Math.Seq.{take-append_seam}
-use Rattle.std.proofs.lemmas.List.{drop-take, length-drop, length-take-le, length-append}
+use Rattle.std.proofs.lemmas.List.{drop-take, length-drop, length-take-le, length-append, drop_all}
 use Rattle.std.proofs.lemmas.List.{take-append-le, take-take, take-append-drop, with_items_is}
+use Rattle.ipc_hub.specs.View.{Outgoing}
+
+-- views that are the same in each part
+pub same-outgoing : (a b : Outgoing) → a.visible ≡ b.visible → a.waiting ≡ b.waiting → a.free ≡ b.free → a ≡ b
+same-outgoing a b v w f = λ i. record { visible = v i; waiting = w i; free = f i }
 
 -- a front is its own front and the rest of it
 pub front-parts : (xs : List ℕ) (n end : ℕ) → n ≤ end → take n xs ++ drop n (take end xs) ≡ take end xs
@@ -14,17 +19,12 @@ front-parts xs n end le =
 
 -- nothing of a front stands behind it
 pub front-rest : (xs : List ℕ) (end : ℕ) → end ≤ length xs → drop end (take end xs) ≡ []
-front-rest xs end long = none (drop end (take end xs)) (omega (arith, length-drop end (take end xs), length-take-le end xs long))
-  where
-    none : (ys : List ℕ) → length ys ≡ 0 → ys ≡ []
-    none [] is = refl
-    none (y ∷ ys) is = absurd (omega (arith, is))
+front-rest xs end long = drop_all end (take end xs) (omega (arith, length-take-le end xs long))
 
 -- a front of which so many bytes were copied down
 pub front-copied : (xs : List ℕ) (n m end : ℕ) → n + m ≤ end → end ≤ length xs → take m (copy_within xs n end 0) ≡ drop n (take (n + m) xs)
 front-copied xs n m end le long =
-    let part : List ℕ = take (end - n) (drop n xs) in
-    take-append-le m part (drop (0 + (end - n)) xs)
+    take-append-le m (take (end - n) (drop n xs)) (drop (0 + (end - n)) xs)
     (omega (arith, length-take-le (end - n) (drop n xs) (omega (arith, length-drop n xs))))
     ∙ take-take m (end - n) (drop n xs) (omega arith)
     ∙ sym (drop-take n m xs)
@@ -58,13 +58,11 @@ written v xs out bytes end same long room is =
       v.ok.0,
       ap length same,
       length-append (take end xs) ((bytes ++ rest) ++ behind),
-      length-append
-          (bytes ++ rest) behind,
+      length-append (bytes ++ rest) behind,
       length-append bytes rest,
       length-take-le end xs long,
       length-drop end xs,
-      length-drop (length bytes)
-          (take (length xs - end) free),
+      length-drop (length bytes) (take (length xs - end) free),
       length-take-le (length xs - end) free (omega (arith, length-drop end xs)),
       length-drop (length xs - end) free,
     ) in

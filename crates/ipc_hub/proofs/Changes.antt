@@ -1,27 +1,31 @@
--- The calls of the hub over its rows: a connection comes, goes, is released, or has its output consumed.
-use Rattle.std.proofs.Common.{◌≡◌, ◌≢◌, ℕ, ◌+◌, ◌<◌, ◌≤◌, ◌^◌, false, List, [], ◌++◌, length, drop, Option, Some, None, refl}
-use Rattle.std.proofs.Common.{sym, ap, ◌∙◌, subst, arith, inl, inr, ◌∷◌, append-nil, zero, suc}
-use Rattle.std.specs.Prelude.{nat_eq, option_and_then, option_map}
+-- The calls of the hub over its rows: a connection comes, goes, is released, or has its output consumed, and the disk has failed.
+use Rattle.std.proofs.Common.{◌≡◌, ◌≢◌, ℕ, ◌+◌, ◌<◌, ◌≤◌, ◌^◌, false, List, [], ◌++◌, length, drop, Option, Some, None, refl, sym, ap, ◌∙◌, subst, arith, inl}
+use Rattle.std.proofs.Common.{inr, ◌∷◌, append-nil}
+use Rattle.std.specs.Prelude.{nat_eq, option_and_then, option_map, nat_le}
 use Rattle.std.proofs.lemmas.Bool.{cases_eq}
 use Rattle.std.proofs.lemmas.List.{length-append, drop-drop, drop-append-le, length-drop}
-use Rattle.std.proofs.lemmas.List.Elements.{All-weaker}
+use Rattle.std.proofs.lemmas.List.Elements.{All-weaker, All-cons, All-head, All-tail, All-push}
 use Rattle.ipc_base.specs.Limits.{longest_reply}
 use Rattle.ipc_base.specs.Table.{value_at, with_value, with_entry, without, seen_as, ArePaired}
 use Rattle.ipc_base.specs.declared.limits.Limits.{Limits}
-use Rattle.ipc_base.proofs.CallerLemmas.{nobody, each-entry, each-without, each-seen, entry-at, entry-other}
-use Rattle.ipc_base.proofs.CallerLemmas.{rising-entry, rising-without, rising-gone, value_at-without}
-use Rattle.ipc_base.proofs.CallerLemmas.{paired-entry, paired-without, paired-seen, paired-none, paired-at, at-map, keys-map}
+use Rattle.ipc_base.proofs.CallerLemmas.{nobody, each-entry, each-without, each-seen, entry-at, entry-other, rising-entry, rising-without, rising-gone}
+use Rattle.ipc_base.proofs.CallerLemmas.{value_at-without, paired-entry, paired-without, paired-seen, paired-none, paired-at, at-map, keys-map, choice}
+use Rattle.ipc_base.proofs.CallerLemmas.{test_cases}
 use Rattle.ipc_wire.proofs.CallerLemmas.{first_short, length-reply_bytes}
-use Rattle.ipc_hub.specs.Clients.{accepted, Frame, Client, Clients, client_at, start_client, with_client, all_bytes}
-use Rattle.ipc_hub.specs.Clients.{confirmed_bytes, consumed_from, shown_at, ended_at, connect, consume}
+use Rattle.ipc_hub.specs.Clients.{accepted, Frame, Client, Clients, client_at, start_client, with_client, all_bytes, confirmed_bytes, consumed_from, shown_at}
+use Rattle.ipc_hub.specs.Clients.{ended_at, connect, consume, refusal, confirmed_frames, cut_off, fail}
 use Rattle.ipc_hub.specs.View.{ConnectionView, HubView, kept}
-use Rattle.ipc_hub.specs.Relations.Delivery.{released, consumed}
+use Rattle.ipc_hub.specs.Relations.Delivery.{released, consumed, failed}
 use Rattle.ipc_hub.specs.Relations.Invariant.{process_in, IsKept, IsNew, HubInvariant, IsNobodys}
-use Rattle.ipc_hub.specs.Relations.Matches.{IsFrame, ClientMatches, HubMatches}
-use Rattle.ipc_hub.proofs.Frames.{all-confirmed, confirmed-short, consumed-bytes, consumed-shown, consumed-all}
+use Rattle.ipc_hub.specs.Relations.Matches.{IsFrame, ClientMatches, HubMatches, AreFrames}
+use Rattle.ipc_hub.proofs.Deliveries.{IsOf, all-confirmed, confirmed-short, consumed-bytes, consumed-shown, consumed-all, table-matches, frames-later}
 use Rattle.ipc_hub.proofs.Keeping.{table-invariant}
-use Rattle.ipc_hub.proofs.Deliveries.{table-matches}
 use Rattle.ipc_hub.proofs.Ending.{change-matches}
+use Rattle.std.proofs.lemmas.Bool.Decides.{nat_tests}
+use Rattle.std.proofs.lemmas.Grind.{flat_map-append}
+use Rattle.ipc_base.specs.declared.errno.Errno.TheVariants.{EIO}
+use Rattle.ipc_wire.specs.Reply.{reply_bytes}
+use Rattle.ipc_engine.specs.View.{reply_of}
 
 abbrev process_of : Option ConnectionView → Option ℕ
 process_of r = option_and_then (λ (c : ConnectionView). c.process) r
@@ -115,8 +119,7 @@ released-invariant h inv =
 released-matches : (confirmed accepted : ℕ) (v : ConnectionView) (c : Client) → ClientMatches confirmed accepted v c
     → ClientMatches accepted accepted (released v) c
 released-matches confirmed accepted v c m =
-    let all = all-confirmed accepted c.frames (All-weaker (λ (f : Frame). (f.mark ≤ accepted) × IsFrame f.bytes) (λ (f : Frame). f.mark ≤ accepted)
-    (λ f is. is.0) c.frames m.frames) in
+    let all = all-confirmed accepted c.frames m.frames in
     record {
       process = m.process;
       input = m.input;
@@ -170,8 +173,8 @@ consumed-matches confirmed accepted v c n within m =
     let most : n ≤ length (drop c.consumed (confirmed_bytes confirmed c.frames)) = omega (arith, within, ap length m.visible) in
     let fits : c.consumed + n ≤ length (confirmed_bytes confirmed c.frames) = omega
     (arith, most, m.seen, length-drop c.consumed (confirmed_bytes confirmed c.frames)) in
-    let shows = consumed-shown confirmed c.frames (c.consumed + n) (All-weaker (λ (f : Frame). (f.mark ≤ accepted) × IsFrame f.bytes)
-    (λ (f : Frame). 0 < length f.bytes) (λ f is. has-bytes f is.1) c.frames m.frames) fits in
+    let shows = consumed-shown confirmed c.frames (c.consumed + n) (All-weaker (IsOf accepted) (λ (f : Frame). 0 < length f.bytes)
+    (λ f is. has-bytes f is.1) c.frames m.frames) fits in
     record {
       process = m.process;
       input = m.input;
@@ -180,7 +183,7 @@ consumed-matches confirmed accepted v c n within m =
           ∙ drop-drop n c.consumed (all_bytes c.frames) ∙ sym (consumed-bytes c.frames (c.consumed + n));
       visible = ap (drop n) m.visible ∙ drop-drop n c.consumed (confirmed_bytes confirmed c.frames) ∙ sym shows.0;
       seen = shows.1;
-      frames = consumed-all (λ (f : Frame). (f.mark ≤ accepted) × IsFrame f.bytes) c.frames (c.consumed + n) m.frames;
+      frames = consumed-all (IsOf accepted) c.frames (c.consumed + n) m.frames;
     }
 
 pub consume-matches : (limits : Limits) (confirmed : ℕ) (old new : HubView) (h : Clients) (conn n : ℕ) (v : ConnectionView) → HubMatches limits confirmed old h
@@ -211,9 +214,58 @@ shown-there limits confirmed old h conn v m found =
 pub shown-nowhere : (limits : Limits) (confirmed : ℕ) (old : HubView) (h : Clients) (conn : ℕ) → HubMatches limits confirmed old h
     → value_at nat_eq old.connections conn ≡ None → ([] ≡ shown_at confirmed h conn) × (false ≡ ended_at h conn)
 shown-nowhere limits confirmed old h conn m none =
-    let no : client_at h conn ≡ None = paired-none (ClientMatches confirmed (accepted h)) old.connections h.clients conn m.clients none in
-    rw no (refl, refl)
+    rw (paired-none (ClientMatches confirmed (accepted h)) old.connections h.clients conn m.clients none) (refl, refl)
 
-pub drop-empty : (n : ℕ) → drop {A = ℕ} n [] ≡ []
-drop-empty zero = refl
-drop-empty (suc n) = refl
+-- ---- the disk has failed: what the clients could see stays, and an EIO frame is the last of each
+
+confirmed-all : (confirmed : ℕ) (frames : List Frame) → all_bytes (confirmed_frames confirmed frames) ≡ confirmed_bytes confirmed frames
+confirmed-all confirmed [] = refl
+confirmed-all confirmed (f ∷ fs) =
+    elim (test_cases (nat_le f.mark confirmed)) [
+      | inl t ↦ rw t (ap (λ bytes. f.bytes ++ bytes) (confirmed-all confirmed fs))
+      | inr t ↦ rw t refl
+    ]
+
+-- the marks of these are not above
+confirmed-frames : (confirmed accepted : ℕ) (frames : List Frame) → AreFrames accepted frames → AreFrames confirmed (confirmed_frames confirmed frames)
+confirmed-frames confirmed accepted [] all = λ k d none. absurd (omega (arith, none))
+confirmed-frames confirmed accepted (f ∷ fs) all =
+    choice (AreFrames confirmed) (nat_le f.mark confirmed) (f ∷ confirmed_frames confirmed fs) []
+    (λ t. All-cons (IsOf confirmed) f (confirmed_frames confirmed fs) (grind (arith, nat_tests, t), (All-head (IsOf accepted) f fs all).1)
+    (confirmed-frames confirmed accepted fs (All-tail (IsOf accepted) f fs all)))
+    (λ _ k d none. absurd (omega (arith, none)))
+
+failed-matches : (confirmed accepted : ℕ) → confirmed ≤ accepted → (v : ConnectionView) (c : Client) → ClientMatches confirmed accepted v c
+    → ClientMatches confirmed accepted (failed v) (cut_off confirmed c)
+failed-matches confirmed accepted known v c m =
+    let bytes : List ℕ = reply_bytes (reply_of (refusal 0 EIO)) in
+    let last : Frame = record { mark = confirmed; bytes = bytes } in
+    let left : List Frame = confirmed_frames confirmed c.frames in
+    let frames : AreFrames confirmed (left ++ last ∷ []) =
+    All-push (IsOf confirmed) left last (confirmed-frames confirmed accepted c.frames m.frames)
+    (omega arith, (reply_of (refusal 0 EIO), (refl, omega arith))) in
+    let all : all_bytes (left ++ last ∷ []) ≡ confirmed_bytes confirmed c.frames ++ bytes =
+    flat_map-append (λ (f : Frame). f.bytes) left (last ∷ [])
+    ∙ ap (λ (bs : List ℕ). bs ++ (bytes ++ [])) (confirmed-all confirmed c.frames)
+    ∙ ap (λ (bs : List ℕ). confirmed_bytes confirmed c.frames ++ bs) (append-nil bytes) in
+    let known_all : confirmed_bytes confirmed (left ++ last ∷ []) ≡ all_bytes (left ++ last ∷ []) = all-confirmed confirmed (left ++ last ∷ []) frames in
+    let shows : v.outbox.visible ++ bytes ≡ drop c.consumed (all_bytes (left ++ last ∷ [])) =
+    ap (λ (bs : List ℕ). bs ++ bytes) m.visible ∙ sym (drop-append-le c.consumed (confirmed_bytes confirmed c.frames) bytes m.seen)
+    ∙ ap (drop c.consumed) (sym all) in
+    record {
+      process = refl;
+      input = refl;
+      ended = refl;
+      kept = append-nil (v.outbox.visible ++ bytes) ∙ shows;
+      visible = shows ∙ ap (drop c.consumed) (sym known_all);
+      seen = omega (arith, m.seen, ap length known_all, ap length all, length-append (confirmed_bytes confirmed c.frames) bytes);
+      frames = frames-later confirmed accepted (left ++ last ∷ []) known frames;
+    }
+
+-- the disk has failed
+pub fail-matches : (limits : Limits) (confirmed : ℕ) (old new : HubView) (h : Clients) → HubMatches limits confirmed old h → new.limits ≡ old.limits
+    → new.state ≡ old.state → new.connections ≡ seen_as failed old.connections → HubMatches limits confirmed new (fail confirmed h)
+fail-matches limits confirmed old new h m same state rows =
+    table-matches limits confirmed confirmed old new h (seen_as failed old.connections) (seen_as (cut_off confirmed) h.clients) m same state rows m.known
+    (paired-seen (ClientMatches confirmed (accepted h)) (ClientMatches confirmed (accepted h)) old.connections h.clients failed
+    (cut_off confirmed) m.clients (failed-matches confirmed (accepted h) m.known))

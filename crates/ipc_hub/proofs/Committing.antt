@@ -11,7 +11,7 @@ use Rattle.ipc_engine.specs.Engine.{Machine}
 use Rattle.ipc_store.specs.declared.fault.CommitError.{CommitError}
 use Rattle.ipc_store.specs.declared.fault.CommitError.TheVariants as commit
 use Rattle.ipc_store.specs.Histories.{Takes}
-use Rattle.ipc_store.specs.View.{StoreView, IsAtLastEpoch, IsStopped, Spends, numbers_used}
+use Rattle.ipc_store.specs.View.{StoreView, IsAtLastEpoch, IsStopped}
 use Rattle.ipc_hub.specs.declared.connection.Connection.{Connection}
 use Rattle.ipc_hub.specs.Clients.{Clients, accepted}
 use Rattle.ipc_hub.specs.View.{ConnectionView, HubView, StoredHub, HasStopped}
@@ -20,8 +20,7 @@ use Rattle.ipc_hub.specs.Relations.Faults.{Fails, Halts}
 use Rattle.ipc_hub.specs.Relations.Invariant.{IsKept, HubInvariant, StoredInvariant}
 use Rattle.ipc_hub.specs.Relations.Matches.{Adds, StoredMatches}
 use Rattle.ipc_hub.specs.Relations.Rows.{rows, hub_view, stored_view}
-use Rattle.ipc_hub.proofs.Changes.{released-invariant, release-matches}
-use Rattle.ipc_hub.proofs.Failing.{fail-matches}
+use Rattle.ipc_hub.proofs.Changes.{released-invariant, release-matches, fail-matches}
 use Rattle.ipc_hub.proofs.Rows.{sliced}
 
 -- a store of which events are left has not stopped
@@ -49,17 +48,6 @@ adds-both n first next fits = record {
   confirmed = next.confirmed ∙ first.confirmed;
   waiting = omega (arith, first.waiting, next.waiting, fits);
 }
-
--- what a call has spent when events have come behind a commit
-pub spends-adds : {D : Type 0} (counts : D → Counts) (n k : ℕ) (old new : StoreView D) (v now : StoredHub D) → v ≡ now → Spends counts n old now.store
-    → Adds k v.store new → Spends counts (n + k) old new
-spends-adds counts n k old new v now is spent adds =
-    let here : Spends counts n old v.store = subst (λ w. Spends counts n old w.store) (sym is) spent in
-    record {
-      goes_on = adds.stopped ∙ here.goes_on;
-      failures = ap (λ d. (counts d).failures) adds.disk ∙ here.failures;
-      numbers = omega (arith, here.numbers, adds.waiting, adds.confirmed, ap (λ c. numbers_used (record v.store { checkpoint = c })) adds.checkpoint);
-    }
 
 -- each connection has room for an EIO frame
 pub spare : (h : HubView) → HubInvariant h → EachValue HasSpare h.connections

@@ -1,23 +1,90 @@
--- Replies that are delivered: the connections match the clients of the definitions as they did before.
-use Rattle.std.proofs.Common.{◌≡◌, ℕ, ◌+◌, ◌<◌, ◌≤◌, Bool, true, false, List, [], ◌∷◌, ◌++◌, length, drop, refl, sym, ap, ◌∙◌, subst, arith}
+-- The frames of a client, all confirmed or some consumed, and replies that are delivered: the connections match the clients
+-- of the definitions as they did before.
+use Rattle.std.proofs.Common.{◌≡◌, ℕ, ◌+◌, ◌-◌, ◌<◌, ◌≤◌, true, List, [], ◌∷◌, ◌++◌, length, drop, refl, sym, ap, ◌∙◌, arith, inl, inr, false, subst}
 use Rattle.std.proofs.Common.{append_assoc, append-nil}
-use Rattle.std.specs.Prelude.{nat_le, if◌then◌else◌}
+use Rattle.std.specs.Prelude.{nat_le, All, if◌then◌else◌}
+use Rattle.std.proofs.Math.Seq.{drop-append-add}
+use Rattle.std.proofs.lemmas.List.{length-append, drop_all, drop-append-le}
+use Rattle.std.proofs.lemmas.List.Elements.{All-head, All-tail, All-weaker, All-push}
 use Rattle.std.proofs.lemmas.Bool.Decides.{nat_tests}
-use Rattle.std.proofs.lemmas.List.{drop-append-le, length-append}
-use Rattle.std.proofs.lemmas.List.Elements.{All-weaker, All-push}
+use Rattle.ipc_base.proofs.CallerLemmas.{choice, test_cases, paired-seen, paired-weaker}
+use Rattle.ipc_hub.specs.Clients.{Frame, all_bytes, confirmed_bytes, consumed_from, accepted, Client, Clients, with_frame, is_for, delivered, deliver_all}
+use Rattle.ipc_hub.specs.Clients.{accept}
+use Rattle.ipc_hub.specs.Relations.Matches.{IsFrame, AreFrames, ClientMatches, HubMatches, IsAhead}
 use Rattle.std.proofs.lemmas.Grind.{flat_map-append}
 use Rattle.ipc_base.specs.Table.{seen_as, ArePaired}
-use Rattle.ipc_base.proofs.CallerLemmas.{paired-seen, paired-weaker}
 use Rattle.ipc_base.specs.declared.limits.Limits.{Limits}
 use Rattle.ipc_wire.specs.Reply.{reply_bytes}
 use Rattle.ipc_engine.specs.Event.{PlainEvent, PlainOutcome}
 use Rattle.ipc_engine.specs.Step.{Step, step}
 use Rattle.ipc_engine.specs.View.{reply_of}
-use Rattle.ipc_hub.specs.Clients.{accepted, Frame, Client, Clients, all_bytes, confirmed_bytes, with_frame, is_for, delivered, deliver_all, accept}
 use Rattle.ipc_hub.specs.View.{ConnectionView, HubView}
 use Rattle.ipc_hub.specs.Relations.Delivery.{pushed, put_for, put_all, IsShort, AllShort}
-use Rattle.ipc_hub.specs.Relations.Matches.{IsFrame, AreFrames, ClientMatches, HubMatches, IsAhead}
-use Rattle.ipc_hub.proofs.Frames.{confirmed-short}
+
+-- a frame is a reply, and belongs to one of so many events
+abbrev pub IsOf : ℕ → Frame → Type 0
+IsOf accepted f = (f.mark ≤ accepted) × IsFrame f.bytes
+
+-- when all is confirmed all is seen
+pub all-confirmed : (confirmed : ℕ) (frames : List Frame) → AreFrames confirmed frames → confirmed_bytes confirmed frames ≡ all_bytes frames
+all-confirmed confirmed [] all = refl
+all-confirmed confirmed (f ∷ fs) all =
+    let le : f.mark ≤ confirmed = (All-head (IsOf confirmed) f fs all).0 in
+    let known : nat_le f.mark confirmed ≡ true = grind (arith, nat_tests, le) in
+    rw known (ap (λ (bytes : List ℕ). f.bytes ++ bytes) (all-confirmed confirmed fs (All-tail (IsOf confirmed) f fs all)))
+
+-- those that are seen are no more than all
+pub confirmed-short : (confirmed : ℕ) (frames : List Frame) → length (confirmed_bytes confirmed frames) ≤ length (all_bytes frames)
+confirmed-short confirmed [] = omega arith
+confirmed-short confirmed (f ∷ fs) =
+    choice (λ (bytes : List ℕ). length bytes ≤ length (all_bytes (f ∷ fs))) (nat_le f.mark confirmed) (f.bytes ++ confirmed_bytes confirmed fs) []
+    (λ _. omega (arith, confirmed-short confirmed fs, length-append f.bytes (confirmed_bytes confirmed fs), length-append f.bytes (all_bytes fs)))
+    (λ _. omega arith)
+
+-- what is left of bytes in front of others, when more than they are goes
+past : (xs ys : List ℕ) (n : ℕ) → length xs ≤ n → drop (n - length xs) ys ≡ drop n (xs ++ ys)
+past xs ys n le =
+    let split : n ≡ length xs + (n - length xs) = omega arith in
+    sym (ap (λ (k : ℕ). drop k (xs ++ ys)) split ∙ drop-append-add xs ys (n - length xs))
+
+-- what is left of all bytes when some are consumed
+pub consumed-bytes : (frames : List Frame) (n : ℕ) → drop (consumed_from frames n).1 (all_bytes (consumed_from frames n).0) ≡ drop n (all_bytes frames)
+consumed-bytes [] n = sym (drop_all n [] (omega arith))
+consumed-bytes (f ∷ fs) n =
+    elim (test_cases (nat_le (length f.bytes) n)) [
+      | inl t ↦ rw t (consumed-bytes fs (n - length f.bytes) ∙ past f.bytes (all_bytes fs) n (grind (arith, nat_tests, t)))
+      | inr t ↦ rw t refl
+    ]
+
+module _ (confirmed : ℕ) where
+  -- the same of those that are seen
+  pub consumed-shown : (frames : List Frame) (n : ℕ) → All (λ f. 0 < length f.bytes) frames → n ≤ length (confirmed_bytes confirmed frames)
+      → (drop (consumed_from frames n).1 (confirmed_bytes confirmed (consumed_from frames n).0) ≡ drop n (confirmed_bytes confirmed frames))
+      × ((consumed_from frames n).1 ≤ length (confirmed_bytes confirmed (consumed_from frames n).0))
+  consumed-shown [] n some le = let none : n ≡ 0 = omega (arith, le) in (rw none refl, omega arith)
+  consumed-shown (f ∷ fs) n some le =
+      elim (test_cases (nat_le (length f.bytes) n)) [
+        | inr t ↦ rw t (refl, le)
+        | inl t ↦
+            let most : length f.bytes ≤ n = grind (arith, nat_tests, t) in
+            elim (test_cases (nat_le f.mark confirmed)) [
+              | inl m ↦
+                  let le' : n ≤ length (f.bytes ++ confirmed_bytes confirmed fs) = rw m at le in
+                  let done = consumed-shown fs (n - length f.bytes) (All-tail (λ (g : Frame). 0 < length g.bytes) f fs some)
+                  (omega (arith, le', length-append f.bytes (confirmed_bytes confirmed fs))) in
+                  rw t (rw m (done.0 ∙ past f.bytes (confirmed_bytes confirmed fs) n most, done.1))
+              | inr m ↦ let le' : n ≤ 0 = rw m at le in absurd (omega (arith, le', most, All-head (λ (g : Frame). 0 < length g.bytes) f fs some))
+            ]
+      ]
+
+-- what all frames are, those that are left are
+pub consumed-all : (P : Frame → Type 0) (frames : List Frame) (n : ℕ) → All P frames → All P (consumed_from frames n).0
+consumed-all P [] n all = all
+consumed-all P (f ∷ fs) n all =
+    choice (λ (r : List Frame × ℕ). All P r.0) (nat_le (length f.bytes) n) (consumed_from fs (n - length f.bytes)) (f ∷ fs, n)
+    (λ _. consumed-all P fs (n - length f.bytes) (All-tail P f fs all)) (λ _. all)
+
+-- ---- what matches
 
 -- other connections and clients of the same hub, of which more may be confirmed
 pub table-matches : (limits : Limits) (confirmed now : ℕ) (old new : HubView) (h : Clients) (table : List (ℕ × ConnectionView)) (clients : List (ℕ × Client))
@@ -35,23 +102,14 @@ not_yet confirmed [] f later =
 not_yet confirmed (g ∷ gs) f later = ap (λ (bytes : List ℕ). if nat_le g.mark confirmed then g.bytes ++ bytes else []) (not_yet confirmed gs f later)
 
 pub frames-later : (accepted mark : ℕ) (frames : List Frame) → accepted ≤ mark → AreFrames accepted frames → AreFrames mark frames
-frames-later accepted mark frames le =
-    All-weaker (λ (f : Frame). (f.mark ≤ accepted) × IsFrame f.bytes) (λ (f : Frame). (f.mark ≤ mark) × IsFrame f.bytes)
-    (λ f is. (omega (arith, is.0, le), is.1)) frames
+frames-later accepted mark frames le = All-weaker (IsOf accepted) (IsOf mark) (λ f is. (omega (arith, is.0, le), is.1)) frames
 
 -- more events were accepted
 pub matches-later : (confirmed accepted mark : ℕ) (v : ConnectionView) (c : Client) → accepted ≤ mark → ClientMatches confirmed accepted v c
     → ClientMatches confirmed mark v c
 matches-later confirmed accepted mark v c le m =
-    record {
-      process = m.process;
-      input = m.input;
-      ended = m.ended;
-      kept = m.kept;
-      visible = m.visible;
-      seen = m.seen;
-      frames = frames-later accepted mark c.frames le m.frames;
-    }
+    let all = frames-later accepted mark c.frames le m.frames in
+    record { process = m.process; input = m.input; ended = m.ended; kept = m.kept; visible = m.visible; seen = m.seen; frames = all }
 
 -- a reply was put into the outbox: the client has a frame more
 pub push-matches : (confirmed accepted mark : ℕ) (v : ConnectionView) (c : Client) (o : PlainOutcome) → confirmed < mark → accepted ≤ mark → IsShort o
@@ -71,7 +129,7 @@ push-matches confirmed accepted mark v c o later le short m =
           ∙ ap (drop c.consumed) (sym (flat_map-append (λ (g : Frame). g.bytes) c.frames (f ∷ [])));
       visible = m.visible ∙ ap (drop c.consumed) (sym (not_yet confirmed c.frames f later));
       seen = omega (arith, m.seen, ap length (not_yet confirmed c.frames f later));
-      frames = All-push (λ (g : Frame). (g.mark ≤ mark) × IsFrame g.bytes) c.frames f
+      frames = All-push (IsOf mark) c.frames f
           (frames-later accepted mark c.frames le m.frames) (omega arith, (reply_of o, (refl, short)));
     }
 
@@ -79,12 +137,9 @@ push-matches confirmed accepted mark v c o later le short m =
 put-matches : (confirmed accepted mark : ℕ) (v : ConnectionView) (c : Client) (o : PlainOutcome) → confirmed < mark → accepted ≤ mark → IsShort o
     → ClientMatches confirmed accepted v c → ClientMatches confirmed mark (put_for o v) (delivered mark o c)
 put-matches confirmed accepted mark v c o later le short m =
-    by_test (is_for o.pid c.process) (ap (is_for o.pid) m.process)
-  where
-    by_test : (b : Bool) → is_for o.pid v.process ≡ b
-        → ClientMatches confirmed mark (if is_for o.pid v.process then pushed (reply_of o) v else v) (if b then with_frame c mark o else c)
-    by_test true is = rw is (push-matches confirmed accepted mark v c o later le short m)
-    by_test false is = rw is (matches-later confirmed accepted mark v c le m)
+    choice (ClientMatches confirmed mark (put_for o v)) (is_for o.pid c.process) (with_frame c mark o) c
+    (λ t. rw (ap (is_for o.pid) m.process ∙ t) (push-matches confirmed accepted mark v c o later le short m))
+    (λ t. rw (ap (is_for o.pid) m.process ∙ t) (matches-later confirmed accepted mark v c le m))
 
 -- all replies of an event
 pub put-pairs : (confirmed accepted mark : ℕ) (os : List PlainOutcome) (table : List (ℕ × ConnectionView)) (clients : List (ℕ × Client))
@@ -117,8 +172,7 @@ accept-matches limits confirmed base old new h e table clients m le paired same 
       matches = record {
         same = same ∙ m.same;
         state = state ∙ ap (λ (s : Step). s.state) at;
-        clients = subst (λ (t : List (ℕ × ConnectionView)). ArePaired (ClientMatches confirmed mark) t (deliver_all mark clients now.outcomes))
-            (sym connections)
+        clients = rw connections
             (subst (λ (s : Step). ArePaired (ClientMatches confirmed mark) (put_all was.outcomes table) (deliver_all mark clients s.outcomes)) at put);
         known = omega (arith, m.known, more);
       };

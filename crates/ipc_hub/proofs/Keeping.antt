@@ -8,6 +8,8 @@ use Rattle.ipc_base.specs.Table.{value_at, with_value, keys_of, seen_as, EachVal
 use Rattle.ipc_base.specs.declared.limits.Limits.{Limits}
 use Rattle.ipc_base.proofs.CallerLemmas.{choice, each-seen, each-with, at-map, keys-map, at-with, other-with, keys_of-with_value}
 use Rattle.ipc_wire.specs.Reply.{reply_bytes}
+use Rattle.ipc_wire.specs.Reply.{PlainReply}
+use Rattle.ipc_wire.proofs.CallerLemmas.{length-reply_bytes}
 use Rattle.ipc_engine.specs.Event.{PlainOutcome}
 use Rattle.ipc_engine.specs.View.{reply_of}
 use Rattle.ipc_state.specs.State.{State, is_process}
@@ -35,6 +37,17 @@ kept-pushed limits o v k fits room =
         length-append v.outbox.waiting bytes,
       );
     }
+
+-- a connection that has a reply keeps something
+pub pushed-some : (reply : PlainReply) (v : ConnectionView) → kept (pushed reply v).outbox ≡ [] → ⊥
+pushed-some reply v none =
+    omega (
+      arith,
+      ap length none,
+      length-append v.outbox.visible (v.outbox.waiting ++ reply_bytes reply),
+      length-append v.outbox.waiting (reply_bytes reply),
+      length-reply_bytes reply,
+    )
 
 put-kept : (limits : Limits) (o : PlainOutcome) (v : ConnectionView) → IsKept limits v → HasRoomIn o v → IsKept limits (put_for o v)
 put-kept limits o v k room =

@@ -1,6 +1,6 @@
 -- Bytes taken in at once, and in pieces.
 use Rattle.std.proofs.Common.{◌≡◌, ℕ, zero, suc, Bool, true, false, ◌&&◌, List, [], ◌∷◌, ◌++◌, length, drop, Option, Some, None, refl, sym, ap, ◌∙◌}
-use Rattle.std.proofs.Common.{subst, arith, append_assoc, append-nil}
+use Rattle.std.proofs.Common.{◌⊎◌, inl, inr, subst, arith, append_assoc, append-nil}
 use Rattle.std.specs.Prelude.{nat_eq, if◌then◌else◌, option_map}
 use Rattle.ipc_base.specs.declared.limits.Limits.{Limits}
 use Rattle.ipc_wire.specs.Request.{PlainRequest}
@@ -15,18 +15,37 @@ use Rattle.ipc_engine.specs.Engine.{takes_memory}
 use Rattle.ipc_hub.specs.Clients.{Client, Clients, client_at, with_client, with_frame, delivered, deliver, deliver_all, is_for, leave, over, break_off}
 use Rattle.ipc_hub.specs.Clients.{refuse, event_of, last_reply, greeted, welcomed, serve, on_request, unless_ended, on_requests, on_ending, first_of, take_in}
 use Rattle.ipc_hub.specs.Clients.{fitted, arriving}
-use Rattle.ipc_base.proofs.CallerLemmas.{choice, at-with, twice, own, at-map}
+use Rattle.ipc_base.proofs.CallerLemmas.{choice, test_cases, at-with, twice, own, at-map}
 
 -- ---- a connection that has ended, and one that has not
 
 pub ended-stays : (h : Clients) (conn : ℕ) (act : Client → Clients) (c : Client) → client_at h conn ≡ Some c → c.ended ≡ true → unless_ended h conn act ≡ h
 ended-stays h conn act c here over = rw here (rw over refl)
 
-pub gone-stays : (h : Clients) (conn : ℕ) (act : Client → Clients) → client_at h conn ≡ None → unless_ended h conn act ≡ h
-gone-stays h conn act none = rw none refl
-
 pub acts : (h : Clients) (conn : ℕ) (act : Client → Clients) (c : Client) → client_at h conn ≡ Some c → c.ended ≡ false → unless_ended h conn act ≡ act c
 acts h conn act c here live = rw here (rw live refl)
+
+-- nothing happens on a connection that has ended, or is not there
+abbrev pub IsOver : Clients → ℕ → Type 0
+IsOver h conn = (act : Client → Clients) → unless_ended h conn act ≡ h
+
+-- the client of a connection that goes on
+pub record Live (h : Clients) (conn : ℕ) : Type 0 where
+  pub c : Client
+  pub here : client_at h conn ≡ Some c
+  pub live : c.ended ≡ false
+
+-- a connection is over, or it goes on
+pub over_or_live : (h : Clients) (conn : ℕ) → IsOver h conn ⊎ Live h conn
+over_or_live h conn = by_client (client_at h conn) refl
+  where
+    by_client : (r : Option Client) → client_at h conn ≡ r → IsOver h conn ⊎ Live h conn
+    by_client None is = inl (λ act. rw is refl)
+    by_client (Some c) is =
+        elim (test_cases c.ended) [
+          | inl done ↦ inl (λ act. ended-stays h conn act c is done)
+          | inr live ↦ inr (record { c = c; here = is; live = live })
+        ]
 
 -- ---- the bytes kept are out of the way while requests are answered
 
@@ -34,29 +53,21 @@ acts h conn act c here live = rw here (rw live refl)
 abbrev pub KeepsNone : Clients → ℕ → Type 0
 KeepsNone h conn = (c : Client) → client_at h conn ≡ Some c → c.input ≡ []
 
-put-is_by : (e : ℕ × Client) (es : List (ℕ × Client)) (k : ℕ) (d x : Client) (b : Bool) → nat_eq e.0 k ≡ b
-    → value_at nat_eq (with_value nat_eq (e ∷ es) k d) k ≡ Some x
-    → (value_at nat_eq (with_value nat_eq es k d) k ≡ Some x → d ≡ x) → d ≡ x
-put-is_by e es k d x true t is rest = let same : Some d ≡ Some x = rw t at (rw t at is) in cc
-put-is_by e es k d x false t is rest = rest (rw t at (rw t at is))
-
--- what is found at a key where a value was put is this value
-put-is : (es : List (ℕ × Client)) (k : ℕ) (d x : Client) → value_at nat_eq (with_value nat_eq es k d) k ≡ Some x → d ≡ x
-put-is [] k d x is = cc
-put-is (e ∷ es) k d x is = put-is_by e es k d x (nat_eq e.0 k) refl is (put-is es k d x)
-
 put-keeps : (es : List (ℕ × Client)) (k : ℕ) (d : Client) → d.input ≡ [] → (x : Client) → value_at nat_eq (with_value nat_eq es k d) k ≡ Some x → x.input ≡ []
-put-keeps es k d none x is = subst (λ (y : Client). y.input ≡ []) (put-is es k d x is) none
+put-keeps [] k d none x is = cc
+put-keeps (e ∷ es) k d none x is =
+    elim (test_cases (nat_eq e.0 k)) [
+      | inl t ↦ let same : Some d ≡ Some x = rw t at (rw t at is) in let one : x ≡ d = cc in ap (λ (y : Client). y.input) one ∙ none
+      | inr f ↦ put-keeps es k d none x (rw f at (rw f at is))
+    ]
 
 delivered-keeps : (mark : ℕ) (o : PlainOutcome) (r : Option Client) → ((c : Client) → r ≡ Some c → c.input ≡ [])
     → (d : Client) → option_map (delivered mark o) r ≡ Some d → d.input ≡ []
 delivered-keeps mark o None none d is = cc
 delivered-keeps mark o (Some c) none d is =
-    let same : delivered mark o c ≡ d = cc in
-    subst (λ (x : Client). x.input ≡ []) same (input_kept c (none c refl))
-  where
-    input_kept : (c : Client) → c.input ≡ [] → (delivered mark o c).input ≡ []
-    input_kept c none = choice (λ (x : Client). x.input ≡ []) (is_for o.pid c.process) (with_frame c mark o) c (λ _. none) (λ _. none)
+    let same : d ≡ delivered mark o c = cc in
+    ap (λ (x : Client). x.input) same
+    ∙ choice (λ (x : Client). x.input ≡ []) (is_for o.pid c.process) (with_frame c mark o) c (λ _. none c refl) (λ _. none c refl)
 
 delivers-keep : (mark conn : ℕ) (os : List PlainOutcome) (clients : List (ℕ × Client))
     → ((c : Client) → value_at nat_eq clients conn ≡ Some c → c.input ≡ [])
@@ -103,21 +114,20 @@ module _ (limits : Limits) where
       by_event None = put-keeps _ conn _ refl
       by_event (Some e) = event-keeps h conn request.serial c e (refused && takes_memory limits h.state e) none
 
-  unless-keeps : (h : Clients) (conn : ℕ) (act : Client → Clients) (r : Option Client) → KeepsNone h conn → client_at h conn ≡ r
+  unless-keeps : (h : Clients) (conn : ℕ) (act : Client → Clients) → KeepsNone h conn
       → ((c : Client) → client_at h conn ≡ Some c → KeepsNone (act c) conn) → KeepsNone (unless_ended h conn act) conn
-  unless-keeps h conn act None all is does = rw is all
-  unless-keeps h conn act (Some c) all is does = rw is (if_ended c.ended)
-    where
-      if_ended : (b : Bool) → KeepsNone (if b then h else act c) conn
-      if_ended true = all
-      if_ended false = does c is
+  unless-keeps h conn act all does =
+      elim (over_or_live h conn) [
+        | inl done ↦ subst (λ (t : Clients). KeepsNone t conn) (sym (done act)) all
+        | inr l ↦ subst (λ (t : Clients). KeepsNone t conn) (sym (acts h conn act l.c l.here l.live)) (does l.c l.here)
+      ]
 
   pub requests-keep : (h : Clients) (conn moment : ℕ) (requests : List PlainRequest) (refused : List Bool) → KeepsNone h conn
       → KeepsNone (on_requests limits h conn moment requests refused) conn
   requests-keep h conn moment [] refused all = all
   requests-keep h conn moment (r ∷ rs) refused all =
       requests-keep (unless_ended h conn (λ c. on_request limits h conn c moment r (first_of refused))) conn moment rs (drop 1 refused)
-      (unless-keeps h conn (λ c. on_request limits h conn c moment r (first_of refused)) (client_at h conn) all refl
+      (unless-keeps h conn (λ c. on_request limits h conn c moment r (first_of refused)) all
       (λ c is. request-keeps h conn moment c r (first_of refused) (all c is)))
 
   -- ---- requests one after the other
@@ -137,10 +147,6 @@ module _ (limits : Limits) where
   requests-fitted h conn moment (r ∷ rs) xs =
       requests-fitted (unless_ended h conn (λ c. on_request limits h conn c moment r (first_of xs))) conn moment rs (drop 1 xs)
 
-  -- nothing happens on a connection that has ended, or is not there
-  abbrev pub IsOver : Clients → ℕ → Type 0
-  IsOver h conn = (act : Client → Clients) → unless_ended h conn act ≡ h
-
   pub requests-over : (h : Clients) (conn moment : ℕ) (rs : List PlainRequest) (xs : List Bool) → IsOver h conn → on_requests limits h conn moment rs xs ≡ h
   requests-over h conn moment [] xs over = refl
   requests-over h conn moment (r ∷ rs) xs over =
@@ -154,6 +160,11 @@ module _ (limits : Limits) where
   -- how a stream goes on with a client of which the requests so far are answered
   abbrev pub settled : Clients → ℕ → ℕ → Stream → List Bool → Clients
   settled h conn moment s refused = on_ending limits (on_requests limits h conn moment s.requests refused) conn moment s.ending
+
+  settled-over : (h : Clients) (conn moment : ℕ) (s : Stream) (refused : List Bool) → IsOver h conn → settled h conn moment s refused ≡ h
+  settled-over h conn moment s refused done =
+      ap (λ (t : Clients). on_ending limits t conn moment s.ending) (requests-over h conn moment s.requests refused done)
+      ∙ ending-over h conn moment s.ending done
 
   -- the hub with the bytes kept by a client taken out
   abbrev pub emptied : Clients → ℕ → Client → Clients
@@ -170,116 +181,91 @@ module _ (limits : Limits) where
   left_at h conn moment (Some pid) = refl
 
   -- a stream that broke: the connection is over
-  broken-over : (h : Clients) (conn moment serial : ℕ) (r : Option Client) → client_at h conn ≡ r → IsOver (on_ending limits h conn moment (Broken serial)) conn
-  broken-over h conn moment serial None is act =
-      let same : on_ending limits h conn moment (Broken serial) ≡ h = gone-stays h conn (λ c. break_off limits h conn c serial moment) is in
-      subst (λ (t : Clients). unless_ended t conn act ≡ t) (sym same) (gone-stays h conn act is)
-  broken-over h conn moment serial (Some c) is act = by_end c.ended refl
-    where
-      by_end : (b : Bool) → c.ended ≡ b
-          → unless_ended (on_ending limits h conn moment (Broken serial)) conn act ≡ on_ending limits h conn moment (Broken serial)
-      by_end true over =
-          let same : on_ending limits h conn moment (Broken serial) ≡ h = ended-stays h conn (λ d. break_off limits h conn d serial moment) c is over in
-          subst (λ (t : Clients). unless_ended t conn act ≡ t) (sym same) (ended-stays h conn act c is over)
-      by_end false live =
-          let same : on_ending limits h conn moment (Broken serial) ≡ break_off limits h conn c serial moment = acts h conn
-          (λ d. break_off limits h conn d serial moment) c is live in
-          let bare : Clients = with_client h conn (over c) in
-          let left : Clients = leave limits bare c.process moment in
-          let there : client_at left conn ≡ Some (over c) = left_at bare conn moment c.process ∙ at-with h.clients conn (over c) c is in
-          subst (λ (t : Clients). unless_ended t conn act ≡ t) (sym same)
-          (ended-stays (break_off limits h conn c serial moment) conn act _ (at-with left.clients conn _ (over c) there) refl)
+  broken-over : (h : Clients) (conn moment serial : ℕ) → IsOver (on_ending limits h conn moment (Broken serial)) conn
+  broken-over h conn moment serial act =
+      let does : Client → Clients = λ d. break_off limits h conn d serial moment in
+      elim (over_or_live h conn) [
+        | inl done ↦ subst (λ (t : Clients). unless_ended t conn act ≡ t) (sym (done does)) (done act)
+        | inr l ↦
+            let gone : Client = over l.c in
+            let left : Clients = leave limits (with_client h conn gone) l.c.process moment in
+            let there : client_at left conn ≡ Some gone = left_at (with_client h conn gone) conn moment l.c.process ∙ at-with h.clients conn gone l.c l.here in
+            subst (λ (t : Clients). unless_ended t conn act ≡ t) (sym (acts h conn does l.c l.here l.live))
+            (ended-stays (does l.c) conn act _ (at-with left.clients conn _ gone there) refl)
+      ]
 
   -- the rest of a stream that did not break, with more bytes
-  rest-more : (h : Clients) (conn moment : ℕ) (bytes more : List ℕ) (refused : List Bool) (r : Option Client) → KeepsNone h conn → client_at h conn ≡ r
+  rest-more : (h : Clients) (conn moment : ℕ) (bytes more : List ℕ) (refused : List Bool) → KeepsNone h conn
       → take_in limits (on_ending limits h conn moment (Rest bytes)) conn more moment refused ≡ settled h conn moment (stream_of (bytes ++ more)) refused
-  rest-more h conn moment bytes more refused None none is =
-      let over : IsOver h conn = λ act. gone-stays h conn act is in
-      let s : Stream = stream_of (bytes ++ more) in
-      ap (λ (t : Clients). take_in limits t conn more moment refused) (ending-over h conn moment (Rest bytes) over)
-      ∙ over (λ d. settled (emptied h conn d) conn moment (stream_of (d.input ++ more)) refused)
-      ∙ sym (ap (λ (t : Clients). on_ending limits t conn moment s.ending) (requests-over h conn moment s.requests refused over)
-      ∙ ending-over h conn moment s.ending over)
-  rest-more h conn moment bytes more refused (Some c) none is = by_end c.ended refl
-    where
-      s : Stream
-      s = stream_of (bytes ++ more)
-
-      by_end : (b : Bool) → c.ended ≡ b
-          → take_in limits (on_ending limits h conn moment (Rest bytes)) conn more moment refused ≡ settled h conn moment (stream_of (bytes ++ more)) refused
-      by_end true ended =
-          let over : IsOver h conn = λ act. ended-stays h conn act c is ended in
-          ap (λ (t : Clients). take_in limits t conn more moment refused) (ending-over h conn moment (Rest bytes) over)
-          ∙ over (λ d. settled (emptied h conn d) conn moment (stream_of (d.input ++ more)) refused)
-          ∙ sym (ap (λ (t : Clients). on_ending limits t conn moment s.ending) (requests-over h conn moment s.requests refused over)
-          ∙ ending-over h conn moment s.ending over)
-      by_end false live =
-          let kept : Client = record c { input = bytes } in
-          let same : on_ending limits h conn moment (Rest bytes) ≡ with_client h conn kept = acts h conn
-          (λ d. with_client h conn (record d { input = bytes })) c is live in
-          let empty : record c { input = [] } ≡ c = ap (λ (i : List ℕ). record c { input = i }) (sym (none c is)) in
-          let back : emptied (with_client h conn kept) conn kept ≡ h =
-          ap (λ (es : List (ℕ × Client)). record h { clients = es }) (twice h.clients conn kept (record c { input = [] })
-          ∙ ap (λ (d : Client). with_value nat_eq h.clients conn d) empty ∙ own h.clients conn c is) in
-          ap (λ (t : Clients). take_in limits t conn more moment refused) same
-          ∙ take_in-acts (with_client h conn kept) conn moment kept more refused (at-with h.clients conn kept c is) live
-          ∙ ap (λ (t : Clients). settled t conn moment (stream_of (bytes ++ more)) refused) back
+  rest-more h conn moment bytes more refused none =
+      elim (over_or_live h conn) [
+        | inl done ↦
+            ap (λ (t : Clients). take_in limits t conn more moment refused) (ending-over h conn moment (Rest bytes) done)
+            ∙ done (λ d. settled (emptied h conn d) conn moment (stream_of (d.input ++ more)) refused)
+            ∙ sym (settled-over h conn moment (stream_of (bytes ++ more)) refused done)
+        | inr l ↦
+            let kept : Client = record (l.c) { input = bytes } in
+            let bare : Client = record (l.c) { input = [] } in
+            let same : bare ≡ l.c = ap (λ (i : List ℕ). record (l.c) { input = i }) (sym (none l.c l.here)) in
+            let back : emptied (with_client h conn kept) conn kept ≡ h =
+            ap (λ (es : List (ℕ × Client)). record h { clients = es })
+            (twice h.clients conn kept bare ∙ ap (with_value nat_eq h.clients conn) same ∙ own h.clients conn l.c l.here) in
+            ap (λ (t : Clients). take_in limits t conn more moment refused)
+            (acts h conn (λ d. with_client h conn (record d { input = bytes })) l.c l.here l.live)
+            ∙ take_in-acts (with_client h conn kept) conn moment kept more refused (at-with h.clients conn kept l.c l.here) l.live
+            ∙ ap (λ (t : Clients). settled t conn moment (stream_of (bytes ++ more)) refused) back
+      ]
 
   goes-on : (h : Clients) (conn moment : ℕ) (rs : List PlainRequest) (ending : Ending) (more : List ℕ) (xs ys : List Bool) → KeepsNone h conn
       → length xs ≡ length rs
       → take_in limits (on_ending limits (on_requests limits h conn moment rs xs) conn moment ending) conn more moment ys
       ≡ settled h conn moment (continued rs ending more) (xs ++ ys)
   goes-on h conn moment rs (Rest bytes) more xs ys none same =
-      let now : Clients = on_requests limits h conn moment rs xs in
-      rest-more now conn moment bytes more ys (client_at now conn) (requests-keep h conn moment rs xs none) refl
+      rest-more (on_requests limits h conn moment rs xs) conn moment bytes more ys (requests-keep h conn moment rs xs none)
       ∙ ap (λ (t : Clients). on_ending limits t conn moment (stream_of (bytes ++ more)).ending)
       (sym (requests-append h conn moment rs (stream_of (bytes ++ more)).requests xs ys same))
   goes-on h conn moment rs (Broken serial) more xs ys none same =
       let now : Clients = on_requests limits h conn moment rs xs in
-      broken-over now conn moment serial (client_at now conn) refl (λ d. settled (emptied (on_ending limits now conn moment (Broken serial)) conn d) conn moment
+      broken-over now conn moment serial (λ d. settled (emptied (on_ending limits now conn moment (Broken serial)) conn d) conn moment
       (stream_of (d.input ++ more)) ys)
       ∙ ap (λ (t : Clients). on_ending limits t conn moment (Broken serial))
       (sym (ap (λ (qs : List PlainRequest). on_requests limits h conn moment qs (xs ++ ys)) (sym (append-nil rs))
       ∙ requests-append h conn moment rs [] xs ys same))
 
   -- bytes taken in in two pieces are taken in at once
-  pub take_in-pieces : (h : Clients) (conn moment : ℕ) (bytes more : List ℕ) (xs ys : List Bool) (r : Option Client) → client_at h conn ≡ r
+  pub take_in-pieces : (h : Clients) (conn moment : ℕ) (bytes more : List ℕ) (xs ys : List Bool)
       → take_in limits (take_in limits h conn bytes moment xs) conn more moment ys
-      ≡ take_in limits h conn (bytes ++ more) moment (fitted (length (arriving r bytes)) xs ++ ys)
-  take_in-pieces h conn moment bytes more xs ys None is =
-      let over : IsOver h conn = λ act. gone-stays h conn act is in
-      ap (λ (t : Clients). take_in limits t conn more moment ys) (over _) ∙ over _ ∙ sym (over _)
-  take_in-pieces h conn moment bytes more xs ys (Some c) is = by_end c.ended refl
-    where
-      by_end : (b : Bool) → c.ended ≡ b → take_in limits (take_in limits h conn bytes moment xs) conn more moment ys
-          ≡ take_in limits h conn (bytes ++ more) moment (fitted (length (if b then [] else (stream_of (c.input ++ bytes)).requests)) xs ++ ys)
-      by_end true ended =
-          let over : IsOver h conn = λ act. ended-stays h conn act c is ended in
-          ap (λ (t : Clients). take_in limits t conn more moment ys) (over _) ∙ over _ ∙ sym (over _)
-      by_end false live =
-          let s : Stream = stream_of (c.input ++ bytes) in
-          let zs : List Bool = fitted (length s.requests) xs in
-          ap (λ (t : Clients). take_in limits t conn more moment ys)
-          (take_in-acts h conn moment c bytes xs is live ∙ ap (λ (t : Clients). on_ending limits t conn moment s.ending)
-          (sym (requests-fitted (emptied h conn c) conn moment s.requests xs)))
-          ∙ goes-on (emptied h conn c) conn moment s.requests s.ending more zs ys (put-keeps h.clients conn _ refl) (length-fitted (length s.requests) xs)
-          ∙ ap (λ (t : Stream). settled (emptied h conn c) conn moment t (zs ++ ys))
-          (sym (pieces (c.input ++ bytes) more) ∙ ap stream_of (append_assoc c.input bytes more))
-          ∙ sym (take_in-acts h conn moment c (bytes ++ more) (zs ++ ys) is live)
+      ≡ take_in limits h conn (bytes ++ more) moment (fitted (length (arriving (client_at h conn) bytes)) xs ++ ys)
+  take_in-pieces h conn moment bytes more xs ys =
+      elim (over_or_live h conn) [
+        | inl done ↦ ap (λ (t : Clients). take_in limits t conn more moment ys) (done _) ∙ done _ ∙ sym (done _)
+        | inr l ↦
+            let s : Stream = stream_of (l.c.input ++ bytes) in
+            let zs : List Bool = fitted (length s.requests) xs in
+            let bare : Clients = emptied h conn l.c in
+            let came : arriving (client_at h conn) bytes ≡ s.requests = rw l.here (rw l.live refl) in
+            ap (λ (t : Clients). take_in limits t conn more moment ys)
+            (take_in-acts h conn moment l.c bytes xs l.here l.live
+            ∙ ap (λ (t : Clients). on_ending limits t conn moment s.ending) (sym (requests-fitted bare conn moment s.requests xs)))
+            ∙ goes-on bare conn moment s.requests s.ending more zs ys (put-keeps h.clients conn _ refl) (length-fitted (length s.requests) xs)
+            ∙ ap (λ (t : Stream). settled bare conn moment t (zs ++ ys))
+            (sym (pieces (l.c.input ++ bytes) more) ∙ ap stream_of (append_assoc l.c.input bytes more))
+            ∙ sym (take_in-acts h conn moment l.c (bytes ++ more) (zs ++ ys) l.here l.live)
+            ∙ ap (λ (rs : List PlainRequest). take_in limits h conn (bytes ++ more) moment (fitted (length rs) xs ++ ys)) (sym came)
+      ]
 
   -- taking in nothing does nothing
-  pub take_in-nothing : (h : Clients) (conn moment : ℕ) (r : Option Client) → client_at h conn ≡ r → ((c : Client) → r ≡ Some c → first c.input ≡ More)
+  pub take_in-nothing : (h : Clients) (conn moment : ℕ) → ((c : Client) → client_at h conn ≡ Some c → first c.input ≡ More)
       → take_in limits h conn [] moment [] ≡ h
-  take_in-nothing h conn moment None is waits = gone-stays h conn _ is
-  take_in-nothing h conn moment (Some c) is waits = by_end c.ended refl
-    where
-      by_end : (b : Bool) → c.ended ≡ b → take_in limits h conn [] moment [] ≡ h
-      by_end true ended = ended-stays h conn _ c is ended
-      by_end false live =
-          let e : Client = record c { input = [] } in
-          let s : stream_of (c.input ++ []) ≡ record { requests = []; ending = Rest c.input } = ap stream_of (append-nil c.input)
-          ∙ stream_begun c.input More (waits c refl) in
-          take_in-acts h conn moment c [] [] is live
-          ∙ ap (λ (t : Stream). settled (emptied h conn c) conn moment t []) s
-          ∙ acts (emptied h conn c) conn (λ d. with_client (emptied h conn c) conn (record d { input = c.input })) e (at-with h.clients conn e c is) live
-          ∙ ap (λ (es : List (ℕ × Client)). record h { clients = es }) (twice h.clients conn e c ∙ own h.clients conn c is)
+  take_in-nothing h conn moment waits =
+      elim (over_or_live h conn) [
+        | inl done ↦ done _
+        | inr l ↦
+            let e : Client = record (l.c) { input = [] } in
+            take_in-acts h conn moment l.c [] [] l.here l.live
+            ∙ ap (λ (t : Stream). settled (emptied h conn l.c) conn moment t [])
+            (ap stream_of (append-nil l.c.input) ∙ stream_begun l.c.input More (waits l.c l.here))
+            ∙ acts (emptied h conn l.c) conn (λ d. with_client (emptied h conn l.c) conn (record d { input = l.c.input })) e
+            (at-with h.clients conn e l.c l.here) l.live
+            ∙ ap (λ (es : List (ℕ × Client)). record h { clients = es }) (twice h.clients conn e l.c ∙ own h.clients conn l.c l.here)
+      ]

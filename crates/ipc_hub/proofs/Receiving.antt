@@ -1,15 +1,13 @@
 -- A connection has received bytes, and a whole frame was taken off it: what the hub is then, and what is done next.
-use Rattle.std.proofs.Common.{◌≡◌, ◌≢◌, ℕ, ◌+◌, ◌<◌, ◌≤◌, ◌^◌, true, false, List, [], ◌∷◌, ◌++◌, length, get_or, set, Some}
-use Rattle.std.proofs.Common.{refl, sym, ap, ◌∙◌, subst, arith, inl, inr, Option, None}
+use Rattle.std.proofs.Common.{◌≡◌, ◌≢◌, ℕ, ◌≤◌, ◌^◌, true, false, List, [], ◌∷◌, ◌++◌, get_or, Some}
+use Rattle.std.proofs.Common.{refl, sym, ap, ◌∙◌, subst, arith, inl, inr, Option}
 use Rattle.std.specs.Prelude.{nat_eq, option_map}
-use Rattle.std.proofs.lemmas.List.{length-append}
-use Rattle.ipc_base.specs.Limits.{ArePassed, longest_reply}
 use Rattle.ipc_base.specs.Table.{value_at, with_value, keys_of}
 use Rattle.ipc_base.specs.declared.errno.Errno.TheVariants.{ENOMEM}
 use Rattle.ipc_base.specs.declared.limits.Limits.{Limits}
 use Rattle.ipc_base.proofs.CallerLemmas.{choice, same_key, each-at, at-with, at-map, keys_of-with_value}
-use Rattle.ipc_wire.specs.Reply.{PlainReply, reply_bytes}
-use Rattle.ipc_wire.specs.Stream.{first, missing}
+use Rattle.ipc_wire.specs.Reply.{PlainReply}
+use Rattle.ipc_wire.specs.Stream.{first}
 use Rattle.ipc_wire.specs.Stream.PlainFrame.{More}
 use Rattle.ipc_wire.proofs.CallerLemmas.{first_short, length-reply_bytes}
 use Rattle.ipc_engine.specs.Engine.{Machine}
@@ -24,16 +22,16 @@ use Rattle.ipc_hub.specs.declared.serving.Asked.TheVariants as asks
 use Rattle.ipc_hub.specs.Clients.{Client, Clients, is_for, refusal, break_off, refuse, over as over-client, with_client}
 use Rattle.ipc_hub.specs.View.{ConnectionView, HubView, kept as outbox_kept}
 use Rattle.ipc_hub.specs.Relations.Rows.{pid_of, view_of, row, rows, hub_view, IsThere}
-use Rattle.ipc_hub.specs.Relations.Delivery.{last_frame, last_frames, pushed, put_for, put_all, answered as answered-by, with_answer}
+use Rattle.ipc_hub.specs.Relations.Delivery.{last_frame, pushed, put_for, put_all, answered as answered-by, with_answer}
 use Rattle.ipc_hub.specs.Relations.Delivery.{HasRoomToAnswer}
 use Rattle.ipc_hub.specs.Relations.Invariant.{IsKept, HubInvariant, GoesOn, IsConnected}
 use Rattle.ipc_hub.specs.Relations.Matches.{IsAhead, SimulatesAt, Waits, Accepts}
 use Rattle.ipc_hub.specs.Relations.Requests.{Steps, ComesTo, exit_of, taken_off, Received, Took}
-use Rattle.ipc_hub.proofs.Rows.{at-there, set-there, at-place, same-there, row-there, same-length}
-use Rattle.ipc_hub.proofs.Keeping.{change-invariant, connected-at, kept-pushed, put-keys}
+use Rattle.ipc_hub.proofs.Rows.{at-there, at-place, same-there, row-there, same-length}
+use Rattle.ipc_hub.proofs.Keeping.{pushed-some, change-invariant, connected-at, kept-pushed, put-keys}
 use Rattle.ipc_hub.proofs.Ending.{leave-adds}
 use Rattle.ipc_hub.proofs.Requests.{Answers, request-answers}
-use Rattle.ipc_hub.proofs.Answering.{answer-room, answer-goes-on, serve-matches}
+use Rattle.ipc_hub.proofs.Answering.{by-told, answer-room, answer-goes-on, serve-matches}
 use Rattle.ipc_hub.proofs.Taking.{Open, bare, mine, emptied_hub, bare-here, emptied-matches, refused-matches}
 use Rattle.ipc_hub.proofs.Taking.{more-taken, fault-taken, served-taken, broken-taken, refused-taken, same-accepts}
 
@@ -48,92 +46,43 @@ module _ (old : Machine) (cs : List Connection) (place : ℕ) (was : Connection)
 
 -- ---- bytes come, and a whole frame is taken off
 
--- whether or not a frame was whole, what is left is none
+other-input : (limits : Limits) (v : ConnectionView) (xs : List ℕ) → IsKept limits v → first xs ≡ More → IsKept limits (record v { input = xs })
+other-input limits v xs k more = record { input = more; last = k.last; spare = k.spare; size = k.size }
+
+-- whether or not a frame was whole, what is left is none, and the process is the one that it had
 pub still-kept : {D : Type 0} (medium : D → Medium) (old new : StoreView D) (limits : Limits) (v : ConnectionView) (bytes : List ℕ) (moment : ℕ) (asked : Asked)
-    → IsKept limits v → ComesTo medium old new v.process (first bytes) moment asked → IsKept limits (taken_off asked (record v { input = bytes }))
-still-kept medium old new limits v bytes moment asks.More k comes = record { input = comes.0; last = k.last; spare = k.spare; size = k.size }
-still-kept medium old new limits v bytes moment asks.Served k comes =
-    record { input = first_short [] (omega arith); last = k.last; spare = k.spare; size = k.size }
-still-kept medium old new limits v bytes moment (asks.NoMemory n) k comes =
-    record { input = first_short [] (omega arith); last = k.last; spare = k.spare; size = k.size }
-still-kept medium old new limits v bytes moment (asks.Broken n) k comes =
-    record { input = first_short [] (omega arith); last = k.last; spare = k.spare; size = k.size }
-
--- its process is the one that it had
-pub still-process : (v : ConnectionView) (bytes : List ℕ) (asked : Asked) → (taken_off asked (record v { input = bytes })).process ≡ v.process
-still-process v bytes asks.More = refl
-still-process v bytes asks.Served = refl
-still-process v bytes (asks.NoMemory n) = refl
-still-process v bytes (asks.Broken n) = refl
-
-pub received : {D : Type 0} (medium : D → Medium) (old new : StoreView D) (cs : List Connection) (place : ℕ) (was off : Connection) (filled : ConnectionView)
-    (next : List ℕ) (moment : ℕ) (asked : Asked)
-    → ArePassed old.machine.limits → HubInvariant (hub_view old.machine cs) → place < length cs → IsThere cs place was → was.ended ≡ false
-    → longest_reply old.machine.limits + last_frames ≤ was.outbox.free → length next ≤ missing was.input.items
-    → filled ≡ record (view_of was) { input = was.input.items ++ next } → ComesTo medium old new filled.process (first filled.input) moment asked
-    → off.number ≡ was.number → view_of off ≡ taken_off asked filled → Received medium old new cs (set cs place off) place next moment asked
-received medium old new cs place was off filled next moment asked passed hub within at live room few is came number view =
-    let v : ConnectionView = view_of was in
-    let bytes : List ℕ = was.input.items ++ next in
-    let then : ConnectionView = taken_off asked (record v { input = bytes }) in
-    let same : off.number ≡ (get_or cs place was).number = number ∙ ap (λ (c : Connection). c.number) at.same in
-    let table : rows (set cs place off) ≡ with_value nat_eq (rows cs) was.number then =
-    set-there cs place was was off then at within same (view ∙ ap (taken_off asked) is) in
-    let comes : ComesTo medium old new v.process (first bytes) moment asked =
-    subst (λ (w : ConnectionView). ComesTo medium old new w.process (first w.input) moment asked) is came in
-    record {
-      passed = passed;
-      hub = hub;
-      within = within;
-      was = was;
-      there = at;
-      live = live;
-      room = room;
-      few = few;
-      comes = comes;
-      table = table;
-      still = subst (λ (t : List (ℕ × ConnectionView)). HubInvariant (record { limits = old.machine.limits; state = old.machine.state; connections = t }))
-          (sym table)
-          (change-invariant (hub_view old.machine cs) was.number v then hub (at-there cs place was at) (λ pid mine. sym (still-process v bytes asked) ∙ mine)
-          (still-kept medium old new old.machine.limits v bytes moment asked (kept old.machine cs place was hub at) comes));
-    }
+    → IsKept limits v → ComesTo medium old new v.process (first bytes) moment asked
+    → IsKept limits (taken_off asked (record v { input = bytes })) × ((taken_off asked (record v { input = bytes })).process ≡ v.process)
+still-kept medium old new limits v bytes moment asks.More k comes = (other-input limits v bytes k comes.0, refl)
+still-kept medium old new limits v bytes moment asks.Served k comes = (other-input limits v [] k (first_short [] (omega arith)), refl)
+still-kept medium old new limits v bytes moment (asks.NoMemory n) k comes = (other-input limits v [] k (first_short [] (omega arith)), refl)
+still-kept medium old new limits v bytes moment (asks.Broken n) k comes = (other-input limits v [] k (first_short [] (omega arith)), refl)
 
 -- ---- a connection that has a reply keeps something
 
-pub pushed-some : (reply : PlainReply) (v : ConnectionView) → outbox_kept (pushed reply v).outbox ≡ [] → ⊥
-pushed-some reply v none =
-    omega (
-      arith,
-      ap length none,
-      length-append v.outbox.visible (v.outbox.waiting ++ reply_bytes reply),
-      length-append v.outbox.waiting (reply_bytes reply),
-      length-reply_bytes reply,
-    )
-
 heard-some : (o : PlainOutcome) (v : ConnectionView) → ((pid : ℕ) → v.process ≡ Some pid → o.pid ≡ pid)
     → outbox_kept (put_for o (answered-by (Some o) v)).outbox ≡ [] → ⊥
-heard-some o v own = by_process v.process own
+heard-some o v own =
+    by-told o v IsSome
+    (λ _. choice HasSome (is_for o.pid v.process) (pushed r (pushed r v)) (pushed r v) (λ _. pushed-some r (pushed r v)) (λ _. pushed-some r v))
+    (λ _ _. mine (record v { process = Some o.pid }) (same_key o.pid))
+    (λ pid some. mine v (ap (is_for o.pid) some ∙ subst (λ (n : ℕ). nat_eq pid n ≡ true) (sym (own pid some)) (same_key pid)))
   where
+    r : PlainReply
+    r = reply_of o
+
+    HasSome : ConnectionView → Type 0
+    HasSome w = outbox_kept w.outbox ≡ [] → ⊥
+
     IsSome : ConnectionView → Type 0
-    IsSome w = outbox_kept (put_for o w).outbox ≡ [] → ⊥
+    IsSome w = HasSome (put_for o w)
 
     mine : (w : ConnectionView) → is_for o.pid w.process ≡ true → IsSome w
-    mine w is = rw is (pushed-some (reply_of o) w)
-
-    by_process : (p : Option ℕ) → ((pid : ℕ) → p ≡ Some pid → o.pid ≡ pid) → IsSome (answered-by (Some o) (record v { process = p }))
-    by_process None none =
-        choice IsSome (nat_eq o.pid 0) (pushed (reply_of o) (record v { process = None })) (record v { process = Some o.pid })
-        (λ _. pushed-some (reply_of o) (record v { process = None })) (λ _. mine (record v { process = Some o.pid }) (same_key o.pid))
-    by_process (Some pid) is =
-        mine (record v { process = Some pid }) (subst (λ (n : ℕ). nat_eq pid n ≡ true) (sym (is pid refl)) (same_key pid))
+    mine w is = rw is (pushed-some r w)
 
 -- what a crash may leave now is among what it may leave since now
 abbrev Law : {D : Type 0} → (D → Medium) → Type 0
 Law {D} medium = (d : D) (image : Image) → (medium d).images_since (medium d).moment image → (medium d).images_now image
-
--- a hub of which nothing changed
-pub goes-same : (h : HubView) → HubInvariant h → GoesOn h h
-goes-same h inv = record { limits = refl; numbers = refl; invariant = inv }
 
 -- the same hub goes on with other connections
 pub goes-further : (old mid new : HubView) → mid.limits ≡ old.limits → keys_of mid.connections ≡ keys_of old.connections → GoesOn mid new → GoesOn old new
@@ -303,8 +252,7 @@ module _ {D : Type 0} {medium : D → Medium} {old new : StoreView D} {cs ds : L
           goes_on = rw same (record {
             limits = refl;
             numbers = keys-n;
-            invariant = subst (λ (t : List (ℕ × ConnectionView)). HubInvariant (record mid-n { connections = t })) (sym told-n)
-                (change-invariant mid-n r.was.number bare-n last-n r.still (found' r) (λ pid mine. mine)
+            invariant = rw told-n (change-invariant mid-n r.was.number bare-n last-n r.still (found' r) (λ pid mine. mine)
                 (kept-pushed old.machine.limits (refusal serial ENOMEM) bare-n kept-n (omega (arith, r.room, long)) (λ _. omega (arith, r.room, long))));
           });
           bytes = λ d it limits confirmed h ahead.

@@ -1,8 +1,10 @@
 -- The connections of the code as rows: one by one, and each seen in another way.
 use Rattle.std.proofs.Common.{◌≡◌, ◌≢◌, ℕ, zero, suc, ◌+◌, ◌<◌, ◌≤◌, List, [], ◌∷◌, length, get_or, set, refl, sym, ap, ◌∙◌, inl, inr, arith}
-use Rattle.std.proofs.lemmas.Bool.{cases_eq, eqb-true}
+use Rattle.std.proofs.lemmas.Bool.{eqb-true}
 use Rattle.std.proofs.lemmas.List.Quantifiers.{position-Some}
-use Rattle.std.proofs.lemmas.List.{get_or-set_same, get_or-set_other, get_or_default, length-set, with_items_is}
+use Rattle.std.proofs.lemmas.List.Sums.{position_or_len_is}
+use Rattle.std.proofs.lemmas.Option.{none-some}
+use Rattle.std.proofs.lemmas.List.{get_or_default, with_items_is}
 use Rattle.std.specs.Prelude.{nat_eq, nat_lt, if◌then◌else◌, Bool, true, false, Some, None, is_some, position, insert, Vec}
 use Rattle.std.specs.List.{position_or_len}
 use Rattle.std.specs.Vec.{with_items}
@@ -14,6 +16,10 @@ use Rattle.ipc_engine.specs.Engine.{Machine}
 use Rattle.ipc_hub.specs.declared.connection.Connection.{Connection}
 use Rattle.ipc_hub.specs.View.{ConnectionView, HubView, is_connected}
 use Rattle.ipc_hub.specs.Relations.Rows.{view_of, row, rows, hub_view, IsThere}
+
+-- there is one value
+pub same_value : {A : Type 0} (x y : A) → Some x ≡ Some y → x ≡ y
+same_value x y is = cc
 
 -- what each row is, the one at a place is
 pub each-get : (P : ConnectionView → Type 0) (cs : List Connection) (k : ℕ) (d : Connection) → EachValue P (rows cs) → k < length cs
@@ -39,23 +45,6 @@ pub record SeenUpTo (f : ConnectionView → ConnectionView) (i : ℕ) (initial n
   pub count : length now ≡ length initial
   pub done : (k : ℕ) (d : Connection) → k < i → row (get_or now k d) ≡ ((get_or initial k d).number, f (view_of (get_or initial k d)))
   pub rest : (k : ℕ) (d : Connection) → i ≤ k → get_or now k d ≡ get_or initial k d
-
-pub seen-none : (f : ConnectionView → ConnectionView) (initial : List Connection) → SeenUpTo f 0 initial initial
-seen-none f initial = record { count = refl; done = λ k d within. absurd (omega (arith, within)); rest = λ k d past. refl }
-
-pub seen-next : (f : ConnectionView → ConnectionView) (i : ℕ) (initial now : List Connection) (was new : Connection) → SeenUpTo f i initial now
-    → i < length initial → was ≡ get_or now i was → row new ≡ (was.number, f (view_of was)) → SeenUpTo f (i + 1) initial (set now i new)
-seen-next f i initial now was new seen within is changed =
-    let here : i < length now = omega (arith, within, seen.count) in
-    record {
-      count = length-set now i new ∙ seen.count;
-      done = λ k d le. elim (cases_eq k i) [
-        | inl same ↦ rw same (rw (get_or-set_same now i new d here)
-            (rw (sym (seen.rest i d (omega arith)) ∙ get_or_default now i d was here ∙ sym is) changed))
-        | inr apart ↦ rw (get_or-set_other now i k new d apart) (seen.done k d (omega (arith, le, apart)))
-      ];
-      rest = λ k d past. get_or-set_other now i k new d (λ same. omega (arith, past, same)) ∙ seen.rest k d (omega (arith, past));
-    }
 
 pub seen-all : (f : ConnectionView → ConnectionView) (i : ℕ) (initial now : List Connection) → SeenUpTo f i initial now → length initial ≤ i
     → rows now ≡ seen_as f (rows initial)
@@ -128,7 +117,7 @@ same-there cs place c d within at too = the-same cs place c d at within ∙ sym 
 -- with the same numbers in a row, the one at a place has the number that stood there, and what the rows have under it
 pub row-there : (cs ds : List Connection) (place : ℕ) (c d : Connection) (v : ConnectionView) → place < length cs → IsThere cs place c
     → keys_of (rows ds) ≡ keys_of (rows cs) → value_at nat_eq (rows ds) c.number ≡ Some v → IsThere ds place d → row d ≡ (c.number, v)
-row-there cs ds place c d v within at keys now at' = λ i. (sym number i, one (view_of d) view i)
+row-there cs ds place c d v within at keys now at' = λ i. (sym number i, same_value (view_of d) v view i)
   where
     number : c.number ≡ d.number
     number = ap (λ (x : Connection). x.number) at.same ∙ sym (same-number cs ds place c d keys within) ∙ ap (λ (x : Connection). x.number) (sym at'.same)
@@ -136,10 +125,16 @@ row-there cs ds place c d v within at keys now at' = λ i. (sym number i, one (v
     view : Some (view_of d) ≡ Some v
     view = sym (at-there ds place d at') ∙ ap (value_at nat_eq (rows ds)) (sym number) ∙ now
 
-    one : (x : ConnectionView) → Some x ≡ Some v → x ≡ v
-    one x e = cc
-
 -- ---- where a number stands, or would
+
+-- where no element passes a test, there is no first one
+none_passes : {X : Type 0} (p : X → Bool) (xs : List X) → ((k : ℕ) (d : X) → k < length xs → p (get_or xs k d) ≡ false) → position p xs ≡ None
+none_passes p [] none = refl
+none_passes p (x ∷ xs) none =
+    let last : position_or_len p (x ∷ xs) ≡ length (x ∷ xs) =
+    position_or_len_is p (x ∷ xs) (length (x ∷ xs)) x (omega arith) (λ k lt. none k x lt) (λ lt. absurd (omega (arith, lt))) in
+    let past : nat_lt (length (x ∷ xs)) (length (x ∷ xs)) ≡ false = grind (arith, nat_tests) in
+    ap (λ (k : ℕ). if nat_lt k (length (x ∷ xs)) then Some k else None) last ∙ ap (λ (b : Bool). if b then Some (length (x ∷ xs)) else None) past
 
 pub rising-up : (low : ℕ) (cs : List Connection) (high : ℕ) → IsRising low (keys_of (rows cs)) high → IsNonDecreasingBy (λ (c : Connection). c.number) cs
 rising-up low [] high rising i j d le lt = absurd (omega (arith, lt))
@@ -149,21 +144,6 @@ rising-up low (c ∷ cs) high rising zero (suc j) d le lt =
 rising-up low (c ∷ cs) high rising (suc i) zero d le lt = absurd (omega (arith, le))
 rising-up low (c ∷ cs) high rising (suc i) (suc j) d le lt =
     rising-up (c.number + 1) cs high rising.1 i j d (omega (arith, le)) (omega (arith, lt))
-
-none-first : (cs : List Connection) (n : ℕ) → ((k : ℕ) (d : Connection) → k < length cs → (get_or cs k d).number ≢ n)
-    → position_or_len (λ (c : Connection). nat_eq c.number n) cs ≡ length cs
-none-first [] n none = refl
-none-first (c ∷ cs) n none =
-    let other : nat_eq c.number n ≡ false = other_key c.number n (none 0 c (omega arith)) in
-    rw other (ap (λ (m : ℕ). 1 + m) (none-first cs n (λ k d within. none (suc k) d (omega (arith, within)))) ∙ omega arith)
-
--- a number that no connection has
-pub nowhere : (cs : List Connection) (n : ℕ) → ((k : ℕ) (d : Connection) → k < length cs → (get_or cs k d).number ≢ n)
-    → position (λ (c : Connection). nat_eq c.number n) cs ≡ None
-nowhere cs n none =
-    let past : nat_lt (length cs) (length cs) ≡ false = grind (arith, nat_tests) in
-    ap (λ (k : ℕ). if nat_lt k (length cs) then Some k else None) (none-first cs n none)
-    ∙ ap (λ (b : Bool). if b then Some (length cs) else None) past
 
 -- a connection put in at the place of its number
 pub entry-there : (cs : List Connection) (place : ℕ) (new : Connection) → place ≤ length cs
@@ -181,15 +161,17 @@ entry-there (c ∷ cs) (suc p) new within below above =
     (λ k d lt. below (suc k) d (omega (arith, lt)))
     (λ k d le lt. above (suc k) d (omega (arith, le)) (omega (arith, lt)))))
 
--- nor does one if those before a place have smaller numbers, and those from there on greater ones
+-- a number that no connection has: those before a place have smaller ones, and those from there on greater ones
 pub nowhere-at : (cs : List Connection) (place n : ℕ) → ((k : ℕ) (d : Connection) → k < place → (get_or cs k d).number < n)
     → ((k : ℕ) (d : Connection) → place ≤ k → k < length cs → n < (get_or cs k d).number)
     → position (λ (c : Connection). nat_eq c.number n) cs ≡ None
-nowhere-at cs place n below above = nowhere cs n (λ k d within same.
+nowhere-at cs place n below above =
+    let other = λ (k : ℕ) (d : Connection) (within : k < length cs). other_key (get_or cs k d).number n (λ same.
     elim (test_cases (nat_lt k place)) [
       | inl before ↦ let lt = below k d (grind (arith, nat_tests, before)) in omega (arith, lt, same)
       | inr behind ↦ let lt = above k d (grind (arith, nat_tests, behind)) within in omega (arith, lt, same)
-    ])
+    ]) in
+    none_passes (λ (c : Connection). nat_eq c.number n) cs other
 
 -- a vector whose elements were changed in place
 pub sliced : {Z : Type 0} (v : Vec Connection Z) (xs new : List Connection) → xs ≡ v.items → keys_of (rows new) ≡ keys_of (rows xs)
@@ -218,40 +200,24 @@ searched engine items cs conn hub same is =
 -- a number that has no value is that of no connection
 pub apart-from : (cs : List Connection) (n k : ℕ) (d : Connection) → value_at nat_eq (rows cs) n ≡ None → k < length cs → (get_or cs k d).number ≢ n
 apart-from [] n k d none within = absurd (omega (arith, within))
-apart-from (c ∷ cs) n zero d none within = λ same. head-none (nat_eq c.number n) (rw same (same_key n)) none
-  where
-    head-none : (b : Bool) → b ≡ true → (if b then Some (view_of c) else value_at nat_eq (rows cs) n) ≡ None → ⊥
-    head-none true t is = cc
-    head-none false t is = cc
-apart-from (c ∷ cs) n (suc k) d none within = apart-from cs n k d (tail-none (nat_eq c.number n) none) (omega (arith, within))
-  where
-    tail-none : (b : Bool) → (if b then Some (view_of c) else value_at nat_eq (rows cs) n) ≡ None → value_at nat_eq (rows cs) n ≡ None
-    tail-none true is = cc
-    tail-none false is = is
+apart-from (c ∷ cs) n zero d none within = λ same.
+    let here : nat_eq c.number n ≡ true = rw same (same_key n) in let never : Some (view_of c) ≡ None = rw here at none in cc
+apart-from (c ∷ cs) n (suc k) d none within =
+    elim (test_cases (nat_eq c.number n)) [
+      | inl here ↦ let never : Some (view_of c) ≡ None = rw here at none in cc
+      | inr other ↦ apart-from cs n k d (rw other at none) (omega (arith, within))
+    ]
 
--- with the same numbers in a row, a number stands at the same place
-pub found-still : (cs ds : List Connection) (low high place n : ℕ) (was : Connection) → IsRising low (keys_of (rows ds)) high
-    → keys_of (rows ds) ≡ keys_of (rows cs)
-    → position (λ (c : Connection). nat_eq c.number n) cs ≡ Some place → was ≡ get_or ds place was → IsThere ds place was × (was.number ≡ n)
-found-still cs ds low high place n was rising keys found is =
-    let first = position-Some (λ (c : Connection). nat_eq c.number n) cs place was found in
-    let number : was.number ≡ n = ap (λ (c : Connection). c.number) is ∙ same-number cs ds place was was keys first.0 ∙ eqb-true _ n first.1 in
-    (there ds low place high was rising (omega (arith, first.0, same-length cs ds keys)) is, number)
-
--- the connection at a place that a search found
-some-one : (c : Connection) (cs ds : List Connection) (low high place n : ℕ) → IsRising low (keys_of (rows ds)) high
-    → keys_of (rows ds) ≡ keys_of (rows (c ∷ cs))
-    → position (λ (e : Connection). nat_eq e.number n) (c ∷ cs) ≡ Some place → (d : Connection) × (IsThere ds place d × (d.number ≡ n))
-some-one c cs ds low high place n rising keys found =
-    let first = position-Some (λ (e : Connection). nat_eq e.number n) (c ∷ cs) place c found in
-    let is : get_or ds place c ≡ get_or ds place (get_or ds place c) =
-    get_or_default ds place c (get_or ds place c) (omega (arith, first.0, same-length (c ∷ cs) ds keys)) in
-    (get_or ds place c, found-still (c ∷ cs) ds low high place n (get_or ds place c) rising keys found is)
-
-no-one : (place : ℕ) → None ≡ Some place → ⊥
-no-one place never = cc
+-- the connection at a place that a search found, with the same numbers in a row
+found-from : (c : Connection) (cs ds : List Connection) (low high place n : ℕ) → IsRising low (keys_of (rows ds)) high → keys_of (rows ds) ≡ keys_of (rows cs)
+    → position (λ (e : Connection). nat_eq e.number n) cs ≡ Some place → (d : Connection) × (IsThere ds place d × (d.number ≡ n))
+found-from c cs ds low high place n rising keys found =
+    let first = position-Some (λ (e : Connection). nat_eq e.number n) cs place c found in
+    let within : place < length ds = omega (arith, first.0, same-length cs ds keys) in
+    let number : (get_or ds place c).number ≡ n = same-number cs ds place c c keys first.0 ∙ eqb-true _ n first.1 in
+    (get_or ds place c, (there ds low place high (get_or ds place c) rising within (get_or_default ds place c (get_or ds place c) within), number))
 
 pub found-there : (cs ds : List Connection) (low high place n : ℕ) → IsRising low (keys_of (rows ds)) high → keys_of (rows ds) ≡ keys_of (rows cs)
     → position (λ (c : Connection). nat_eq c.number n) cs ≡ Some place → (d : Connection) × (IsThere ds place d × (d.number ≡ n))
-found-there [] ds low high place n rising keys found = absurd (no-one place found)
-found-there (c ∷ cs) ds low high place n rising keys found = some-one c cs ds low high place n rising keys found
+found-there [] ds low high place n rising keys found = absurd (none-some place found)
+found-there (c ∷ cs) ds low high place n rising keys found = found-from c (c ∷ cs) ds low high place n rising keys found

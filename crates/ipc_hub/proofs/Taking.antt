@@ -1,8 +1,8 @@
 -- Bytes up to the end of a frame on a connection: what is done with them is their taking in by the definitions.
 use Rattle.std.proofs.Common.{◌≡◌, ℕ, ◌≤◌, Bool, true, false, List, [], ◌∷◌, ◌++◌, length, drop, Option, Some, None, refl, sym, ap, ◌∙◌, subst, arith}
-use Rattle.std.proofs.Common.{append-nil, append_assoc}
+use Rattle.std.proofs.Common.{append-nil, append_assoc, inl, inr}
 use Rattle.std.specs.Prelude.{nat_eq}
-use Rattle.std.proofs.lemmas.List.{length-drop, length-append}
+use Rattle.std.proofs.lemmas.List.{drop_all, length-append}
 use Rattle.ipc_base.specs.Table.{value_at, with_value}
 use Rattle.ipc_base.specs.declared.errno.Errno.TheVariants.{ENOMEM}
 use Rattle.ipc_base.specs.declared.limits.Limits.{Limits}
@@ -25,22 +25,17 @@ use Rattle.ipc_hub.specs.Relations.Matches.{ClientMatches, IsAhead, TakesIn, Wai
 use Rattle.ipc_hub.specs.Relations.Requests.{IsRequest}
 use Rattle.ipc_hub.proofs.Deliveries.{push-matches}
 use Rattle.ipc_hub.proofs.Ending.{change-matches}
-use Rattle.ipc_hub.proofs.Pieces.{KeepsNone, acts, ended-stays, gone-stays, settled, emptied, take_in-acts, take_in-nothing, take_in-pieces, request-keeps}
+use Rattle.ipc_hub.proofs.Pieces.{KeepsNone, over_or_live, acts, ended-stays, settled, emptied, take_in-acts, take_in-nothing, take_in-pieces, request-keeps}
 
 -- nothing is behind the requests, and nothing is kept
 ending-none : (limits : Limits) (h : Clients) (conn moment : ℕ) → KeepsNone h conn → on_ending limits h conn moment (Rest []) ≡ h
-ending-none limits h conn moment none = by_client (client_at h conn) refl
-  where
-    by_client : (r : Option Client) → client_at h conn ≡ r → on_ending limits h conn moment (Rest []) ≡ h
-    by_client None is = gone-stays h conn _ is
-    by_client (Some c) is = by_end c.ended refl
-      where
-        by_end : (b : Bool) → c.ended ≡ b → on_ending limits h conn moment (Rest []) ≡ h
-        by_end true over = ended-stays h conn _ c is over
-        by_end false live =
-            acts h conn _ c is live
-            ∙ ap (λ (i : List ℕ). with_client h conn (record c { input = i })) (sym (none c is))
-            ∙ ap (λ (es : List (ℕ × Client)). record h { clients = es }) (own h.clients conn c is)
+ending-none limits h conn moment none =
+    elim (over_or_live h conn) [
+      | inl done ↦ done _
+      | inr l ↦
+          acts h conn _ l.c l.here l.live ∙ ap (λ (i : List ℕ). with_client h conn (record (l.c) { input = i })) (sym (none l.c l.here))
+          ∙ ap (λ (es : List (ℕ × Client)). record h { clients = es }) (own h.clients conn l.c l.here)
+    ]
 
 -- a connection that goes on and was found, in a hub that is ahead of what is confirmed
 pub record Open (limits : Limits) (confirmed : ℕ) (old : HubView) (h : Clients) (conn : ℕ) (v : ConnectionView) : Type 0 where
@@ -149,12 +144,7 @@ module _ {limits : Limits} {confirmed : ℕ} {old : HubView} {h : Clients} {conn
       -- nothing is behind a frame that these bytes complete
       nothing-behind : drop asked.used bytes ≡ []
       nothing-behind =
-          let last : asked.used ≡ length bytes = whole_last v.input next asked.used asked.request waits few asked.whole in
-          none (drop asked.used bytes) (omega (arith, last, length-drop asked.used bytes))
-        where
-          none : (xs : List ℕ) → length xs ≡ 0 → xs ≡ []
-          none [] is = refl
-          none (x ∷ xs) is = absurd (omega (arith, is))
+          drop_all asked.used bytes (omega (arith, whole_last v.input next asked.used asked.request waits few asked.whole))
 
       -- a request, and what it came to
       request-taken : (refused : Bool) → P (on_request limits emptied_hub conn bare moment asked.request refused)
@@ -197,23 +187,29 @@ module _ {D : Type 0} (medium : D → Medium) (law : (d : D) (image : Image) →
     pub same-accepts : (old new : StoreView D) (h now : Clients) → now.events ≡ h.events → new ≡ old → Accepts medium old new h now
     same-accepts old new h now stay same = record { events = []; adds = stay ∙ sym (append-nil h.events); waits = same-waits old new same }
 
-    pub nothing-takes : (old : StoredHub D) (conn moment : ℕ) (v : ConnectionView) → value_at nat_eq old.hub.connections conn ≡ Some v → first v.input ≡ More
-        → TakesIn medium old old conn [] moment
-    nothing-takes old conn moment v found waits limits confirmed h ahead =
-        let p = paired-at (ClientMatches confirmed (accepted h)) old.hub.connections h.clients conn v ahead.matches.clients found in
-        let to = take_in-nothing limits h conn moment (Some p.0) p.1.0 (λ c is.
-        let same : p.0 ≡ c = cc in subst (λ (d : Client). first d.input ≡ More) same (ap first (sym p.1.1.input) ∙ waits)) in
-        let is = subst (λ (t : Clients). IsAhead limits confirmed old.hub t × Accepts medium old.store old.store h t) (sym to)
+    -- the hub is as it was, and so is the hub of the definitions
+    takes-none : (old : StoredHub D) (conn moment : ℕ) (bytes : List ℕ) → ((limits : Limits) (confirmed : ℕ) (h : Clients) → IsAhead limits confirmed old.hub h
+        → take_in limits h conn bytes moment [] ≡ h) → TakesIn medium old old conn bytes moment
+    takes-none old conn moment bytes stays limits confirmed h ahead =
+        let is = subst (λ (t : Clients). IsAhead limits confirmed old.hub t × Accepts medium old.store old.store h t) (sym (stays limits confirmed h ahead))
         (ahead, same-accepts old.store old.store h h refl refl) in
         ([], is.0, is.1)
 
+    -- no bytes come
+    pub nothing-takes : (old : StoredHub D) (conn moment : ℕ) (v : ConnectionView) → value_at nat_eq old.hub.connections conn ≡ Some v → first v.input ≡ More
+        → TakesIn medium old old conn [] moment
+    nothing-takes old conn moment v found waits = takes-none old conn moment [] (λ limits confirmed h ahead.
+        let p = paired-at (ClientMatches confirmed (accepted h)) old.hub.connections h.clients conn v ahead.matches.clients found in
+        take_in-nothing limits h conn moment (λ c is.
+        let found' : Some p.0 ≡ Some c = sym p.1.0 ∙ is in let same : c ≡ p.0 = cc in
+        ap (λ (d : Client). first d.input) same ∙ ap first (sym p.1.1.input) ∙ waits))
+
+    -- the connection has ended
     pub ended-takes : (old : StoredHub D) (conn moment : ℕ) (v : ConnectionView) (bytes : List ℕ) → value_at nat_eq old.hub.connections conn ≡ Some v
         → v.ended ≡ true → TakesIn medium old old conn bytes moment
-    ended-takes old conn moment v next found over limits confirmed h ahead =
+    ended-takes old conn moment v next found over = takes-none old conn moment next (λ limits confirmed h ahead.
         let p = paired-at (ClientMatches confirmed (accepted h)) old.hub.connections h.clients conn v ahead.matches.clients found in
-        let is = subst (λ (t : Clients). IsAhead limits confirmed old.hub t × Accepts medium old.store old.store h t)
-        (sym (ended-stays h conn _ p.0 p.1.0 (sym p.1.1.ended ∙ over))) (ahead, same-accepts old.store old.store h h refl refl) in
-        ([], is.0, is.1)
+        ended-stays h conn _ p.0 p.1.0 (sym p.1.1.ended ∙ over))
 
     pub accepts-then : (one two three : StoreView D) (h h' h'' : Clients) → Accepts medium one two h h' → Accepts medium two three h' h''
         → Accepts medium one three h h''
@@ -235,6 +231,6 @@ module _ {D : Type 0} (medium : D → Medium) (law : (d : D) (image : Image) →
         let h' : Clients = take_in limits h conn part moment a.0 in
         let b = second_part limits confirmed h' a.1 in
         let is = subst (λ (t : Clients). IsAhead limits confirmed three.hub t × Accepts medium one.store three.store h t)
-        (take_in-pieces limits h conn moment part more a.0 b.0 (client_at h conn) refl)
+        (take_in-pieces limits h conn moment part more a.0 b.0)
         (b.1, accepts-then one.store two.store three.store h h' (take_in limits h' conn more moment b.0) a.2 b.2) in
         (fitted (length (arriving (client_at h conn) part)) a.0 ++ b.0, is.0, is.1)

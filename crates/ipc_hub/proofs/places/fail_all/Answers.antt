@@ -1,11 +1,8 @@
 use Rattle.std.proofs.Common.{sym, subst, arith}
 use Rattle.ipc_hub.specs.Relations.Delivery.{failed, HasSpare}
 use Rattle.ipc_hub.specs.Relations.Rows.{view_of}
-use Rattle.ipc_hub.proofs.Rows.{each-get, seen-none, seen-next, seen-all}
+use Rattle.ipc_hub.proofs.Rows.{each-get, seen-all}
 use Rattle.ipc_hub.proofs.places.fail_all.Goals as goal
-
-pub loop-connection-init : goal.loop-connection-init
-loop-connection-init c = seen-none failed c.args.connections.now
 
 pub fail-requires : goal.fail-requires
 fail-requires c =
@@ -13,13 +10,6 @@ fail-requires c =
     let was = c.connection-item.result in
     subst (λ d. HasSpare (view_of d)) (sym (c.loop-connection.invariant.rest i was (omega arith)))
     (each-get HasSpare c.args.connections.now i was c.requires c.loop-connection-test.true)
-
-pub loop-connection-preserved : goal.loop-connection-preserved
-loop-connection-preserved c =
-    let here = sym c.connection-item.is in
-    seen-next failed c.loop-connection.connection-index c.args.connections.now c.loop-connection.connections c.connection-item.result c.fail.new.self
-    c.loop-connection.invariant c.loop-connection-test.true c.connection-item.is
-    (λ j. (rw here at c.fail.ensures.number j, rw here at c.fail.ensures.view j))
 
 pub returns : goal.returns
 returns c =

@@ -7,8 +7,7 @@ use Rattle.ipc_hub.proofs.places.place_of.Goals as goal
 
 pub returns-then-place-connections : goal.returns-then-place-connections
 returns-then-place-connections c =
-    let found = c.place_for-place.ensures in
-    sym (nowhere-at c.args.connections.now c.place_for-place.result c.args.conn found.below
+    sym (nowhere-at c.args.connections.now c.place_for-place.result c.args.conn c.place_for-place.ensures.below
     (λ k d past within. absurd (omega (arith, past, within, c.if-place-connections.true))))
 
 pub returns-then-connection-conn : goal.returns-then-connection-conn

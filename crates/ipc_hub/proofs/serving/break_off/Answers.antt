@@ -1,10 +1,4 @@
-use Rattle.std.proofs.Common.{Option, ℕ, sym, ap, subst, ◌∙◌}
-use Rattle.ipc_hub.specs.declared.connection.Connection.{Connection}
-use Rattle.ipc_hub.specs.Relations.Rows.{pid_of}
-use Rattle.ipc_hub.specs.Relations.Matches.{Waits}
-use Rattle.ipc_hub.specs.Relations.Requests.{exit_of}
-use Rattle.ipc_hub.proofs.Rows.{same-there}
-use Rattle.ipc_hub.proofs.BreakingOff.{closed-invariant, closed-connected, closed-nobodys, left-within, left-room, last-goes-on, last-ends, last-answers}
+use Rattle.ipc_hub.proofs.Ending.{closed-invariant, closed-connected, closed-nobodys, left-room, last-goes-on, last-ends, last-answers}
 use Rattle.ipc_hub.proofs.serving.break_off.Goals as goal
 
 pub leave-requires-clause-hub : goal.leave-requires-clause-hub
@@ -16,23 +10,11 @@ leave-requires-clause-connected g c = closed-connected c.args.store.now.machine 
 pub leave-requires-clause-nobodys : goal.leave-requires-clause-nobodys
 leave-requires-clause-nobodys g c = closed-nobodys c.args.store.now.machine c.requires.hub c.close-process.ensures
 
-pub refuse-requires-clause-place : goal.refuse-requires-clause-place
-refuse-requires-clause-place g c =
-    let k = c.close-process.ensures in
-    left-within c.args.store.now.machine c.requires.hub k c.leave.new.store.machine c.leave.new.connections c.leave.ensures.goes_on c.leave.ensures.others
-    (c.requires.live k.was k.there)
-
 pub refuse-requires-clause-room : goal.refuse-requires-clause-room
 refuse-requires-clause-room g c =
     let k = c.close-process.ensures in
     left-room c.args.store.now.machine c.requires.hub k c.leave.new.store.machine c.leave.new.connections c.leave.ensures.goes_on c.leave.ensures.others
     (c.requires.live k.was k.there)
-
-pub returns-clause-accepts : goal.returns-clause-accepts
-returns-clause-accepts g c d it =
-    let k = c.close-process.ensures in
-    let mine = sym k.had ∙ ap (λ (e : Connection). pid_of e.process) (sym (same-there c.args.connections.now c.args.place d k.was k.within it k.there)) in
-    subst (λ (p : Option ℕ). Waits g.D.SectorDisk.medium c.args.store.now (exit_of p c.args.moment.0) c.leave.new.store) mine c.leave.ensures.accepts
 
 pub returns-clause-goes_on : goal.returns-clause-goes_on
 returns-clause-goes_on g c =

@@ -22,24 +22,6 @@ returns-in_default-clause-comes g c =
     sym c.event_of.ensures.event ∙ ap (option_map plain_event) c.in_default.is in
     (refl, inr (record { used = c.in-Whole.used; request = plain_request c.in-Whole.request; whole = whole; event = none }, refl))
 
-pub returns-in-Ok-clause-comes : goal.returns-in-Ok-clause-comes
-returns-in-Ok-clause-comes g c =
-    let whole : first c.args.connection.now.input.items ≡ Whole c.in-Whole.used (plain_request c.in-Whole.request) = search rules in
-    let made : event_of (pid_of c.args.connection.now.process) (plain_request c.in-Whole.request) c.args.moment.0 ≡ Some (plain_event c.in-Some.event) =
-    sym c.event_of.ensures.event ∙ ap (option_map plain_event) c.in-Some.is in (
-      plain_event c.in-Some.event,
-      (
-        record { used = c.in-Whole.used; request = plain_request c.in-Whole.request; whole = whole; event = made },
-        record {
-          limits = c.step.ensures.limits;
-          state = c.in-Ok.ensures.state;
-          outcomes = c.in-Ok.ensures.outcomes;
-          sound = c.in-Ok.ensures.was_sound;
-          waits = record { confirmed = c.step.ensures.confirmed; waiting = c.in-Ok.ensures.waiting; takes = c.in-Ok.ensures.takes.0 };
-        },
-      ),
-    )
-
 pub returns-in-Err-NoMemory-clause-comes : goal.returns-in-Err-NoMemory-clause-comes
 returns-in-Err-NoMemory-clause-comes g c =
     let e = plain_event c.in-Some.event in

@@ -1,33 +1,28 @@
-use Rattle.std.proofs.Common.{◌≡◌, ◌+◌, ◌-◌, ◌++◌, ◌<◌, ◌≤◌, ◌^◌, [], ℕ, List, true, false, take, drop, length, get_or}
-use Rattle.std.proofs.Common.{refl, sym, ap, subst, ◌∙◌, arith, ◌⊎◌, inl, inr, zero, suc, Bool}
+use Rattle.std.proofs.Common.{◌≡◌, ◌+◌, ◌-◌, ◌++◌, ◌<◌, ◌^◌, ℕ, List, true, false, take, drop, length}
+use Rattle.std.proofs.Common.{refl, sym, ap, subst, ◌∙◌, arith, inl, inr}
 use Rattle.std.proofs.Math.Seq.{take-add}
 use Rattle.std.proofs.lemmas.List.{take_all, length-drop}
+use Rattle.std.proofs.lemmas.Bool.{cases_eq}
 use Rattle.ipc_base.specs.Limits.{ArePassed, longest_reply}
 use Rattle.ipc_base.specs.declared.limits.Limits.{Limits}
 use Rattle.ipc_hub.specs.declared.connection.Connection.{Connection}
-use Rattle.std.specs.Prelude.{IsTrue}
-use Rattle.ipc_hub.specs.View
-use Rattle.ipc_hub.specs.Relations.Delivery.{last_frames}
 use Rattle.ipc_engine.specs.Engine.{Machine}
 use Rattle.ipc_store.specs.View.{StoreView, IsReadyFor}
-use Rattle.ipc_hub.specs.Relations.Rows.{view_of, stored_view, IsThere}
+use Rattle.ipc_hub.specs.Relations.Rows.{view_of, stored_view}
 use Rattle.ipc_hub.specs.Relations.Matches.{TakesIn}
 use Rattle.ipc_hub.proofs.Committing.{adds-both}
 use Rattle.ipc_hub.proofs.Rows.{there, at-there, the-same, same-number, same-length}
 use Rattle.ipc_hub.proofs.Receiving.{kept, goes-further}
 use Rattle.ipc_hub.proofs.Taking.{nothing-takes, ended-takes, takes-then}
-use Rattle.ipc_hub.proofs.serving.take_in.Goals.{else-not-connection-via-then-not-connection+else-not-has_room}
-use Rattle.ipc_hub.proofs.serving.take_in.Goals.{else-not-connection-via-else-not-connection}
 use Rattle.ipc_hub.proofs.serving.take_in.Goals as goal
 
 pub returns-then-connection-clause-bytes : goal.returns-then-connection-clause-bytes
 returns-then-connection-clause-bytes g c d it =
     let cs = c.args.connections.now in
     let was = c.index-connections-place.result in
-    let over = ap (λ (e : Connection). e.ended) (the-same cs c.args.place d was it c.requires.place) ∙ c.if-connection.true in
     rw (take_all (length c.args.piece.now) c.args.piece.now (omega arith))
     (ended-takes g.D.SectorDisk.medium g.met.D.SectorDisk.only_now (stored_view c.args.store.now cs) d.number c.args.moment.0 (view_of d) c.args.piece.now
-    (at-there cs c.args.place d it) over)
+    (at-there cs c.args.place d it) (ap (λ (e : Connection). e.ended) (the-same cs c.args.place d was it c.requires.place) ∙ c.if-connection.true))
 
 pub loop-taken-init : goal.loop-taken-init
 loop-taken-init g c =
@@ -44,44 +39,32 @@ loop-taken-init g c =
       ready = λ _ _ _. c.requires.ready;
     }
 
-zero_or_some : (n : ℕ) → (n ≡ 0) ⊎ (0 < n)
-zero_or_some zero = inl refl
-zero_or_some (suc n) = inr (omega arith)
-
 longest : {reply : ℕ} {asked engine now : Limits} → reply ≡ longest_reply asked → asked ≡ engine → now ≡ engine → reply ≡ longest_reply now
 longest is same kept = is ∙ ap longest_reply (same ∙ sym kept)
-
--- an outbox that keeps nothing has room
-never_room : {reply : ℕ} (limits : Limits) {b : Bool} (cs : List Connection) (place : ℕ) (was d : Connection) → place < length cs → IsThere cs place d
-    → View.kept d.outbox ≡ [] → longest_reply limits + last_frames ≤ length (View.kept d.outbox) + d.outbox.free → reply ≡ longest_reply limits
-    → (reply + last_frames ≤ (get_or cs place was).outbox.free → IsTrue b) → b ≡ false → ⊥
-never_room limits cs place was d within it none size is room not =
-    let yes = room (omega (arith, size, is, ap length none, ap (λ (e : Connection). e.outbox.free) (the-same cs place d was it within))) in
-    let bad : true ≡ false = sym yes ∙ not in
-    cc
 
 pub returns-then-not-has_room-clause-whole : goal.returns-then-not-has_room-clause-whole
 returns-then-not-has_room-clause-whole g c d it none =
     let ds = c.loop-taken.connections in
-    let was = c.index-connections-place-in-loop-taken.result in
-    let held = c.loop-taken.invariant in
-    let within : c.args.place < length ds = omega (arith, c.requires.place, same-length c.args.connections.now ds held.goes_on.numbers) in
-    absurd (never_room c.loop-taken.store.machine.limits ds c.args.place was d within it none
-    (kept c.loop-taken.store.machine ds c.args.place d held.goes_on.invariant it).size
-    (longest c.longest_reply-reply.ensures.longest (c.limits.ensures.limits ∙ ap (λ (m : Machine). m.limits) c.engine.ensures) held.goes_on.limits)
-    c.has_room.ensures.1 c.if-not-has_room.true)
+    let goes = c.loop-taken.invariant.goes_on in
+    let within : c.args.place < length ds = omega (arith, c.requires.place, same-length c.args.connections.now ds goes.numbers) in
+    let size = (kept c.loop-taken.store.machine ds c.args.place d goes.invariant it).size in
+    let long = longest c.longest_reply-reply.ensures.longest (c.limits.ensures.limits ∙ ap (λ (m : Machine). m.limits) c.engine.ensures) goes.limits in
+    let same = ap (λ (e : Connection). e.outbox.free) (the-same ds c.args.place d c.index-connections-place-in-loop-taken.result it within) in
+    let never : true ≡ false = sym (c.has_room.ensures.1 (omega (arith, size, long, same, ap length none))) ∙ c.if-not-has_room.true in
+    cc
 
 pub returns-then-not-has_room-clause-starts : goal.returns-then-not-has_room-clause-starts
 returns-then-not-has_room-clause-starts g c d it none some =
     let cs = c.args.connections.now in
-    let was = c.index-connections-place-in-loop-taken.result in
-    let held = c.loop-taken.invariant in
-    elim (zero_or_some c.loop-taken.taken) [
-      | inr more ↦ more
-      | inl first ↦ absurd (never_room c.args.store.now.machine.limits cs c.args.place was d c.requires.place it none
-          (kept c.args.store.now.machine cs c.args.place d c.requires.hub it).size
-          (longest c.longest_reply-reply.ensures.longest (c.limits.ensures.limits ∙ ap (λ (m : Machine). m.limits) c.engine.ensures) refl)
-          (rw (held.first first).0 at c.has_room.ensures.1) c.if-not-has_room.true)
+    elim (cases_eq c.loop-taken.taken 0) [
+      | inr more ↦ omega (arith, more)
+      | inl first ↦
+          let size = (kept c.args.store.now.machine cs c.args.place d c.requires.hub it).size in
+          let long = longest c.longest_reply-reply.ensures.longest (c.limits.ensures.limits ∙ ap (λ (m : Machine). m.limits) c.engine.ensures) refl in
+          let same = ap (λ (e : Connection). e.outbox.free) (the-same cs c.args.place d c.index-connections-place-in-loop-taken.result it c.requires.place) in
+          let room = rw (c.loop-taken.invariant.first first).0 at c.has_room.ensures.1 in
+          let never : true ≡ false = sym (room (omega (arith, size, long, same, ap length none))) ∙ c.if-not-has_room.true in
+          cc
     ]
 
 pub loop-taken-preserved : goal.loop-taken-preserved
@@ -100,7 +83,6 @@ loop-taken-preserved g c =
     let rest : List ℕ = take (length piece - i) (drop i piece) in
     let whole : rest ≡ drop i piece = take_all (length piece - i) (drop i piece) (omega (arith, length-drop i piece)) in
     let within' : c.args.place < length ds = omega (arith, c.requires.place, same-length cs ds held.goes_on.numbers) in
-    let was' : Connection = get_or ds c.args.place was in
     let now = there ds 0 c.args.place (2 ^ 32) was held.goes_on.invariant.rising within' c.index-connections-place-in-loop-taken.is in
     let took = c.take-taken.ensures.took in
     record {

@@ -1,32 +1,19 @@
-use Rattle.std.proofs.Common.{◌≡◌, ◌<◌, ◌≤◌, ◌^◌, ℕ, Bool, true, false, List, length, get_or, None, refl, sym, ap, subst, ◌∙◌, arith, rules}
-use Rattle.std.specs.Prelude.{nat_eq, insert, if◌then◌else◌}
+use Rattle.std.proofs.Common.{◌≡◌, ◌<◌, ◌≤◌, ◌^◌, ℕ, false, List, length, get_or, None, refl, sym, ap, subst, ◌∙◌, arith, rules}
+use Rattle.std.specs.Prelude.{nat_eq, insert}
 use Rattle.ipc_base.specs.Limits.{longest_reply}
 use Rattle.ipc_base.specs.Table.{value_at, with_entry}
 use Rattle.ipc_base.proofs.CallerLemmas.{nobody}
 use Rattle.ipc_engine.specs.Engine.{Machine}
 use Rattle.ipc_hub.specs.declared.connection.Connection.{Connection}
 use Rattle.ipc_hub.specs.Clients.{connect}
-use Rattle.ipc_hub.specs.View.{HubView, StoredHub, HasStopped, is_connected}
+use Rattle.ipc_hub.specs.View.{HubView, is_connected}
 use Rattle.ipc_hub.specs.Relations.Invariant.{IsNew, HubInvariant}
 use Rattle.ipc_hub.specs.Relations.Matches.{HubMatches, Simulates}
 use Rattle.ipc_hub.specs.Relations.Rows.{view_of, rows, hub_view}
 use Rattle.ipc_hub.proofs.Changes.{entry-invariant, entry-matches}
+use Rattle.ipc_hub.proofs.Committing.{going}
 use Rattle.ipc_hub.proofs.Rows.{apart-from, entry-there}
 use Rattle.ipc_hub.proofs.hub.Hub.add.Goals as goal
-
--- a connection put in at the place of its number
-put-in : (items cs : List Connection) (place conn : ℕ) (new : Connection) → cs ≡ items → place ≤ length cs
-    → ((k : ℕ) (d : Connection) → k < place → (get_or cs k d).number < conn)
-    → ((k : ℕ) (d : Connection) → place ≤ k → k < length cs → conn ≤ (get_or cs k d).number)
-    → value_at nat_eq (rows items) conn ≡ None → new.number ≡ conn
-    → rows (insert items place new) ≡ with_entry (rows items) conn (view_of new)
-put-in items cs place conn new same within below rest none number =
-    subst (λ (n : ℕ). rows (insert items place new) ≡ with_entry (rows items) n (view_of new)) number
-    (subst (λ (xs : List Connection). rows (insert xs place new) ≡ with_entry (rows xs) new.number (view_of new)) same
-    (entry-there cs place new within (λ k d lt. omega (arith, below k d lt, number))
-    (λ k d le lt.
-    let apart = apart-from cs conn k d (subst (λ (xs : List Connection). value_at nat_eq (rows xs) conn ≡ None) (sym same) none) lt in
-    omega (arith, rest k d le lt, number, apart))))
 
 -- the connection that was made, put in
 module _ (engine : Machine) {items cs : List Connection} {place : ℕ} (conn : ℕ) {hub : HubView} (same : cs ≡ items) (within : place ≤ length cs)
@@ -38,7 +25,13 @@ module _ (engine : Machine) {items cs : List Connection} {place : ℕ} (conn : �
   none = nobody (value_at nat_eq (rows items) conn) (ap (λ (v : HubView). is_connected v conn) seen ∙ free)
 
   added : rows (insert items place new) ≡ with_entry (rows items) conn (view_of new)
-  added = put-in items cs place conn new same within below rest none number
+  added =
+      subst (λ (n : ℕ). rows (insert items place new) ≡ with_entry (rows items) n (view_of new)) number
+      (subst (λ (xs : List Connection). rows (insert xs place new) ≡ with_entry (rows xs) new.number (view_of new)) same
+      (entry-there cs place new within (λ k d lt. omega (arith, below k d lt, number))
+      (λ k d le lt.
+      let apart = apart-from cs conn k d (subst (λ (xs : List Connection). value_at nat_eq (rows xs) conn ≡ None) (sym same) none) lt in
+      omega (arith, rest k d le lt, number, apart))))
 
   keeps : HubInvariant (hub_view engine items) → conn < 2 ^ 32 → reply ≡ longest_reply engine.limits → HubInvariant (hub_view engine (insert items place new))
   keeps inv small longest = rw added (entry-invariant (hub_view engine items) conn (view_of new) inv small none (rw longest at is))
@@ -48,18 +41,13 @@ module _ (engine : Machine) {items cs : List Connection} {place : ℕ} (conn : �
       entry-matches limits confirmed (hub_view engine items) (hub_view engine (insert items place new)) h conn (view_of new) reply
       (subst (λ (v : HubView). HubMatches limits confirmed v h) (sym seen) m) refl refl added is
 
--- a store that takes events has not stopped
-going : (left : ℕ) (stopped : Bool) → ¬ ((if stopped then 0 else left) < 2) → stopped ≡ false
-going left true more = absurd (more (omega arith))
-going left false more = refl
-
 pub invariant_of-self-2 : goal.invariant_of-self-2
 invariant_of-self-2 g c =
     let new = c.in_ok-connection.connection in
     let inserted : c.insert.new.self.items ≡ insert c.self.inside.connections.items c.place_for-place.result new = search rules in
     let number : new.number ≡ c.args.conn = search rules in
     let is : IsNew c.longest_reply-reply.result (view_of new) = search rules in
-    let goes_on = going _ c.self.inside.store.stopped (subst (λ (v : StoredHub g.row.D.Denot). ¬ HasStopped v) (sym c.self.view_is) c.requires.goes_on) in
+    let goes_on = ap (λ v. v.store.stopped) c.self.view_is ∙ going c.args.self.now c.requires.goes_on in
     let inv : HubInvariant (hub_view c.self.inside.store.machine c.insert.new.self.items) = rw inserted
     (keeps c.self.inside.store.machine c.args.conn c.deref.ensures.value c.place_for-place.ensures.within c.place_for-place.ensures.below
     c.place_for-place.ensures.rest (ap (λ v. v.hub) c.self.view_is) c.requires.free new number is (c.self.invariant.goes_on goes_on) c.ranges.conn.fits

@@ -1,5 +1,6 @@
 use Rattle.std.proofs.Common.{◌≡◌, ◌≤◌, ℕ, List, [], drop, length, set, get_or, Some, refl, sym, ap, subst, ◌∙◌, arith}
 use Rattle.std.specs.Prelude.{nat_eq, position}
+use Rattle.std.proofs.lemmas.List.{drop_all}
 use Rattle.ipc_base.specs.Table.{value_at, with_value}
 use Rattle.ipc_base.proofs.CallerLemmas.{at-with, each-at, keys_of-with_value, set_at_place}
 use Rattle.ipc_store.specs.View.{StoreView}
@@ -10,7 +11,7 @@ use Rattle.ipc_hub.specs.Relations.Delivery.{consumed}
 use Rattle.ipc_hub.specs.Relations.Invariant.{IsKept, StoredInvariant}
 use Rattle.ipc_hub.specs.Relations.Matches.{HubMatches, Simulates}
 use Rattle.ipc_hub.specs.Relations.Rows.{view_of, row, rows, hub_view, stored_view}
-use Rattle.ipc_hub.proofs.Changes.{consumed-kept, consume-matches, consume-nowhere, drop-empty}
+use Rattle.ipc_hub.proofs.Changes.{consumed-kept, consume-matches, consume-nowhere}
 use Rattle.ipc_hub.proofs.Keeping.{change-invariant}
 use Rattle.ipc_hub.proofs.Rows.{found-at, missing-at}
 use Rattle.ipc_hub.proofs.hub.Hub.consume.Goals as goal
@@ -83,4 +84,4 @@ returns-in_default-clause-output g c =
     let nowhere = missing-at c.self.inside.connections.items c.deref.result.now c.args.conn c.deref.ensures.value (sym c.place_of.ensures ∙ c.in_default.is) in
     let same = ap (λ v. v.hub) c.self.view_is in
     let none : output_of c.args.self.now.hub c.args.conn ≡ [] = ap (λ (v : HubView). output_of v c.args.conn) (sym same) ∙ rw nowhere refl in
-    none ∙ sym (drop-empty c.args.count) ∙ ap (drop c.args.count) (sym none)
+    none ∙ sym (drop_all c.args.count [] (omega arith)) ∙ ap (drop c.args.count) (sym none)

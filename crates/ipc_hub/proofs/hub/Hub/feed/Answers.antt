@@ -1,14 +1,14 @@
-use Rattle.std.proofs.Common.{◌≡◌, ◌^◌, List, take, Some, refl, sym, ap, subst, ◌∙◌, arith}
+use Rattle.std.proofs.Common.{◌≡◌, false, ◌^◌, List, take, Some, refl, sym, ap, subst, ◌∙◌, arith}
 use Rattle.std.specs.Prelude.{nat_eq}
 use Rattle.ipc_base.specs.Table.{value_at, keys_of, IsRising}
 use Rattle.ipc_hub.specs.declared.connection.Connection.{Connection}
-use Rattle.ipc_hub.specs.View.{HasNoFrame}
-use Rattle.ipc_hub.specs.Relations.Rows.{view_of, rows, hub_view, stored_view}
-use Rattle.ipc_hub.proofs.Coming.{comes-fed}
-use Rattle.ipc_hub.proofs.Committing.{some-left, spends-adds}
-use Rattle.ipc_hub.proofs.Naming.{not-there, not-missing, kept-keys, Named, named, still-empty, still-ended}
+use Rattle.ipc_hub.specs.View.{HasNoFrame, is_connected}
+use Rattle.ipc_hub.specs.Relations.Rows.{view_of, rows, hub_view}
+use Rattle.ipc_hub.proofs.Coming.{comes-fed, not-there, not-missing, kept-keys, Named, named, still-empty, still-ended}
+use Rattle.ipc_hub.proofs.Committing.{some-left}
 use Rattle.ipc_hub.proofs.Rows.{sliced}
 use Rattle.ipc_hub.proofs.hub.Hub.feed.Given.{Over}
+use Rattle.ipc_hub.proofs.hub.Hub.feed.Goals.{In-Some}
 use Rattle.ipc_hub.proofs.hub.Hub.feed.Goals as goal
 
 pub returns-in_default-clause-refused : goal.returns-in_default-clause-refused
@@ -19,15 +19,17 @@ returns-in_default-clause-refused g c = (
   refl,
 )
 
+-- a search found the number
+known : (g : Over) (c : In-Some g) → is_connected c.args.self.now.hub c.args.conn ≡ false → ⊥
+known g c =
+    not-missing c.self.inside.store c.self.inside.connections.items c.deref.result.now c.args.conn c.args.self.now c.deref.ensures.value c.self.view_is
+    c.in-Some.place (sym c.place_of.ensures ∙ c.in-Some.is)
+
 pub returns-in-Err-clause-unknown : goal.returns-in-Err-clause-unknown
-returns-in-Err-clause-unknown g c = λ _ missing. absurd
-    (not-missing c.self.inside.store c.self.inside.connections.items c.deref.result.now c.args.conn c.args.self.now c.deref.ensures.value c.self.view_is
-    c.in-Some.place (sym c.place_of.ensures ∙ c.in-Some.is) missing)
+returns-in-Err-clause-unknown g c = λ _ missing. absurd (known g (goal.at.returns-in-Err-clause-unknown g c).In-Some missing)
 
 pub returns-clause-unknown : goal.returns-clause-unknown
-returns-clause-unknown g c = λ _ missing. absurd
-    (not-missing c.self.inside.store c.self.inside.connections.items c.deref.result.now c.args.conn c.args.self.now c.deref.ensures.value c.self.view_is
-    c.in-Some.place (sym c.place_of.ensures ∙ c.in-Some.is) missing)
+returns-clause-unknown g c = λ _ missing. absurd (known g (goal.at.returns-clause-unknown g c).In-Some missing)
 
 -- the connection that has the number, where the same numbers are in a row after time has passed
 still : (g : Over) (c : goal.After-self-1 g) (ds : List Connection) → keys_of (rows ds) ≡ keys_of (rows c.self-2.inside.connections.items)
@@ -75,9 +77,3 @@ returns-clause-starts g c = λ none. c.take_in-taken.ensures.starts (before g c)
 pub returns-clause-dropped : goal.returns-clause-dropped
 returns-clause-dropped g c = λ over. c.take_in-taken.ensures.dropped (before g c).one (before g c).there
     (still-ended c.args.self.now.hub c.pass.new.self.hub c.in_default-pass.ensures.same c.args.conn (view_of (before g c).one) (there g c) over)
-
-pub returns-clause-spends : goal.returns-clause-spends
-returns-clause-spends g c =
-    spends-adds g.D.SectorDisk.counts 2 c.take_in-taken.result c.args.self.now.store c.take_in-taken.new.store
-    (stored_view c.self-2.inside.store c.self-2.inside.connections.items) c.pass.new.self c.self-2.view_is c.in_default-pass.ensures.spends
-    c.take_in-taken.ensures.adds

@@ -1,11 +1,12 @@
-use Rattle.std.proofs.Common.{refl, sym, ap, ◌∙◌, arith}
+use Rattle.std.proofs.Common.{◌≡◌, false, refl, sym, ap, ◌∙◌, arith}
 use Rattle.ipc_store.proofs.CallerLemmas.{ready-goes-on}
+use Rattle.ipc_hub.specs.View.{is_connected}
 use Rattle.ipc_hub.specs.Relations.Invariant.{HubInvariant}
-use Rattle.ipc_hub.specs.Relations.Rows.{hub_view, stored_view}
-use Rattle.ipc_hub.proofs.Committing.{some-left, spends-adds}
-use Rattle.ipc_hub.proofs.Leaving.{TakenOut, taken-out, out-invariant, out-connected, out-nobodys, comes-gone}
-use Rattle.ipc_hub.proofs.Naming.{not-there, not-missing}
+use Rattle.ipc_hub.specs.Relations.Rows.{hub_view}
+use Rattle.ipc_hub.proofs.Committing.{some-left}
+use Rattle.ipc_hub.proofs.Coming.{TakenOut, taken-out, out-invariant, out-connected, out-nobodys, comes-gone, not-there, not-missing}
 use Rattle.ipc_hub.proofs.hub.Hub.hangup.Given.{Over}
+use Rattle.ipc_hub.proofs.hub.Hub.hangup.Goals.{In-Some}
 use Rattle.ipc_hub.proofs.hub.Hub.hangup.Goals as goal
 
 pub returns-in_default-clause-refused : goal.returns-in_default-clause-refused
@@ -16,15 +17,17 @@ returns-in_default-clause-refused g c = (
   refl,
 )
 
+-- a search found the number
+known : (g : Over) (c : In-Some g) → is_connected c.args.self.now.hub c.args.conn ≡ false → ⊥
+known g c =
+    not-missing c.self.inside.store c.self.inside.connections.items c.deref.result.now c.args.conn c.args.self.now c.deref.ensures.value c.self.view_is
+    c.in-Some.place (sym c.place_of.ensures ∙ c.in-Some.is)
+
 pub returns-in-Err-clause-unknown : goal.returns-in-Err-clause-unknown
-returns-in-Err-clause-unknown g c = λ _ missing. absurd
-    (not-missing c.self.inside.store c.self.inside.connections.items c.deref.result.now c.args.conn c.args.self.now c.deref.ensures.value c.self.view_is
-    c.in-Some.place (sym c.place_of.ensures ∙ c.in-Some.is) missing)
+returns-in-Err-clause-unknown g c = λ _ missing. absurd (known g (goal.at.returns-in-Err-clause-unknown g c).In-Some missing)
 
 pub returns-clause-unknown : goal.returns-clause-unknown
-returns-clause-unknown g c = λ _ missing. absurd
-    (not-missing c.self.inside.store c.self.inside.connections.items c.deref.result.now c.args.conn c.args.self.now c.deref.ensures.value c.self.view_is
-    c.in-Some.place (sym c.place_of.ensures ∙ c.in-Some.is) missing)
+returns-clause-unknown g c = λ _ missing. absurd (known g (goal.at.returns-clause-unknown g c).In-Some missing)
 
 -- the connection that is taken out when time has passed
 out : (g : Over) (c : goal.After-deref_mut g) → TakenOut c.self-2.inside.connections.items c.deref_mut.result.now c.args.conn c.remove-connection.result
@@ -60,8 +63,3 @@ returns-clause-ok g c limits h m =
     c.deref_mut.result.now c.leave.new.connections c.remove-connection.new.self c.args.conn c.args.moment.0 c.remove-connection.result h gone
     c.deref_mut.ensures.value c.leave.ensures.goes_on.numbers (rw c.self-2.view_is (c.in_default-pass.ensures.ok limits h m))
     c.leave.ensures.leaves c.leave.ensures.accepts
-
-pub returns-clause-spends : goal.returns-clause-spends
-returns-clause-spends g c =
-    spends-adds g.D.SectorDisk.counts 2 1 c.args.self.now.store c.leave.new.store (stored_view c.self-2.inside.store c.self-2.inside.connections.items)
-    c.pass.new.self c.self-2.view_is c.in_default-pass.ensures.spends c.leave.ensures.adds

@@ -1,7 +1,8 @@
-use Rattle.std.proofs.Common.{◌≡◌, ◌<◌, ◌^◌, ℕ, true, false, Bool, not, length, List, [], ◌∷◌, refl, sym, ap, ◌∙◌, arith, rules}
+use Rattle.std.proofs.Common.{◌≡◌, ◌<◌, ◌^◌, ℕ, true, false, Bool, not, length, List, [], refl, sym, ap, ◌∙◌, arith, rules}
 use Rattle.std.specs.Prelude.{Some, Option, slice_get, option_map, get_or}
 use Rattle.std.proofs.lemmas.Bool.Decides.{nat_tests}
 use Rattle.std.proofs.lemmas.Option.{slice_get-get_or, slice_get-map}
+use Rattle.std.proofs.lemmas.List.{nil_from_length}
 use Rattle.ipc_base.specs.Table.{keys_of}
 use Rattle.ipc_hub.specs.declared.connection.Connection.{Connection}
 use Rattle.ipc_hub.specs.Relations.Rows.{row, rows}
@@ -31,17 +32,12 @@ returns-then-is_empty g c =
           let number : was.number ≡ c.args.conn = search rules in
           let said : w.is_empty.result ≡ true = search rules in
           let short : length w.output.result.now ≡ 0 = grind (arith, nat_tests, w.is_empty.ensures, said) in
-          let empty : was.outbox.visible ≡ [] = sym w.output.ensures ∙ none w.output.result.now short in
-          let found = rw number at (at-there items c.args.place was at) in
+          let empty : was.outbox.visible ≡ [] = sym w.output.ensures ∙ nil_from_length w.output.result.now short in
           let here = rw number at (number-at items c.args.place was inside c.index-connection.ensures) in
-          rw (sym (ap (λ v. v.hub) c.self.view_is), found, c.ended.ensures) (by_end was.ended here empty)
+          rw (sym (ap (λ v. v.hub) c.self.view_is), rw number at (at-there items c.args.place was at), c.ended.ensures) (by_end was.ended here empty)
       | else-number-conn w ↦ absurd (search rules)
     ]
   where
-    none : (bytes : List ℕ) → length bytes ≡ 0 → bytes ≡ []
-    none [] is = refl
-    none (b ∷ bytes) is = absurd (omega (arith, is))
-
     by_end : {P Q : Type 0} (b : Bool) → P → Q → (not b ≡ true → P × Q × (b ≡ false)) × (P × Q × (b ≡ false) → not b ≡ true)
     by_end true p q = (λ over. cc, λ all. cc)
     by_end false p q = (λ over. (p, q, refl), λ all. refl)
@@ -60,8 +56,7 @@ silent g c here none =
       | then-number-conn w ↦
           let at = there items 0 c.args.place (2 ^ 32) was c.self.invariant.rising inside c.index-connection.ensures in
           let said : w.is_empty.result ≡ false = search rules in
-          let seen = rw number at (at-there items c.args.place was at) in
-          let empty = rw (sym (ap (λ v. v.hub) c.self.view_is), seen) at none in
+          let empty = rw (sym (ap (λ v. v.hub) c.self.view_is), (rw number at (at-there items c.args.place was at))) at none in
           let short : length w.output.result.now ≡ 0 = ap (λ (bytes : List ℕ). length bytes) (w.output.ensures ∙ empty) in
           absurd (grind (arith, nat_tests, w.is_empty.ensures, said, short))
       | else-number-conn w ↦ absurd (grind (arith, nat_tests, number, w.if-number-conn.false, c.number.ensures))

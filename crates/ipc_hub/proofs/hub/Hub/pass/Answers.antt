@@ -4,7 +4,6 @@ use Rattle.ipc_hub.specs.Clients.{tick}
 use Rattle.ipc_hub.specs.Relations.Matches.{StoredMatches}
 use Rattle.ipc_hub.specs.Relations.Rows.{stored_view}
 use Rattle.ipc_hub.proofs.Coming.{simulates-sliced, comes-same, comes-further}
-use Rattle.ipc_hub.proofs.Committing.{spends-adds}
 use Rattle.ipc_hub.proofs.hub.Hub.pass.Goals as goal
 
 pub returns-clause-ok : goal.returns-clause-ok
@@ -20,8 +19,3 @@ returns-clause-ok g c limits h m =
     (simulates-sliced c.self.inside.store.machine now.store.machine v c.deref_mut.result.now now.connections _ c.deref_mut.ensures.value
     c.tick.ensures.goes_on.numbers c.tick.ensures.ticks limits _ h here.hub)
     (record { events = Tick c.args.moment.0 ∷ []; adds = refl; waits = c.tick.ensures.accepts })
-
-pub returns-clause-spends : goal.returns-clause-spends
-returns-clause-spends g c =
-    spends-adds g.D.SectorDisk.counts 1 1 c.args.self.now.store c.tick.new.store (stored_view c.self.inside.store c.self.inside.connections.items)
-    c.make_room.new.self c.self.view_is c.in_default.ensures.spends c.tick.ensures.adds

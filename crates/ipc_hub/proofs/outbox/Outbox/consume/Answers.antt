@@ -1,8 +1,7 @@
 use Rattle.std.proofs.Common.{◌≡◌, ◌≤◌, ℕ, ◌+◌, ◌-◌, take, drop, length, ap, ◌∙◌, arith}
 use Rattle.std.proofs.lemmas.List.{drop-drop, length-take-le}
 use Rattle.ipc_hub.specs.View.{Outgoing}
-use Rattle.ipc_hub.proofs.Buffers.{front-copied}
-use Rattle.ipc_hub.proofs.Views.{same-outgoing}
+use Rattle.ipc_hub.proofs.Buffers.{front-copied, same-outgoing}
 use Rattle.ipc_hub.proofs.outbox.Outbox.consume.Goals as goal
 
 pub returns : goal.returns

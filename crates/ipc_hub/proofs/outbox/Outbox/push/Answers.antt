@@ -2,8 +2,7 @@ use Rattle.std.proofs.Common.{ℕ, List, ◌+◌, ◌-◌, ◌≤◌, ◌++◌, 
 use Rattle.std.proofs.lemmas.List.{length-take-le, length-drop, drop-append-le}
 use Rattle.ipc_wire.specs.Reply.{plain_reply, reply_bytes}
 use Rattle.ipc_hub.specs.View.{Outgoing}
-use Rattle.ipc_hub.proofs.Buffers.{front-grown, front-stays, written}
-use Rattle.ipc_hub.proofs.Views.{same-outgoing}
+use Rattle.ipc_hub.proofs.Buffers.{front-grown, front-stays, written, same-outgoing}
 use Rattle.ipc_hub.proofs.outbox.Outbox.push.Goals as goal
 
 pub returns : goal.returns

@@ -1,7 +1,6 @@
 use Rattle.std.proofs.Common.{sym, ap, ◌∙◌, arith}
 use Rattle.ipc_hub.specs.View.{Outgoing, kept}
-use Rattle.ipc_hub.proofs.Buffers.{front-parts, front-rest}
-use Rattle.ipc_hub.proofs.Views.{same-outgoing}
+use Rattle.ipc_hub.proofs.Buffers.{front-parts, front-rest, same-outgoing}
 use Rattle.ipc_hub.proofs.outbox.Outbox.release.Goals as goal
 
 pub returns : goal.returns
