@@ -22,7 +22,8 @@ use Rattle.clap.specs.declared.builder.command.Command.{Command}
 use Rattle.clap.specs.declared.parser.matches.ArgMatches.{ArgMatches}
 use Rattle.clap.specs.Simple.{HasMatchesOf}
 use Rattle.clap.proofs.OnLiterals.{clap_on_literals}
-use Rattle.ipcd.specs.Command.{PlainRequest, plain_request, asked, declared, is_no_flag, number_of, small_words, sectors_words, turns_words, turns_of, AsksFor, IsTakenAs}
+use Rattle.ipcd.specs.Command.{PlainRequest, plain_request, asked, declared, is_no_flag, number_of}
+use Rattle.ipcd.specs.Command.{small_words, sectors_words, turns_words, turns_of, AsksFor, IsTakenAs}
 use Rattle.ipcd.specs.Command.PlainRequest.{Replay, Format, Run, Dump, Serve}
 use Rattle.ipcd.proofs.command.parse.Goals as goal
 

@@ -9,7 +9,8 @@ use Rattle.ipcd.proofs.device.format_file.Goals as goal
 pub returns-in_err-format-clause-err : goal.returns-in_err-format-clause-err
 returns-in_err-format-clause-err g c =
     let q = err_from_is_err_and c.from_residual-in_err-format.result c.from_residual-in_err-format.ensures.1 in
-    let given : sectors_given (need_of c.args.limits.now) c.args.asked ≡ Ok c.in_ok-sectors.sectors = sym {a = Ok c.in_ok-sectors.sectors} c.in_ok-sectors.ensures in
+    let given : sectors_given (need_of c.args.limits.now) c.args.asked ≡ Ok c.in_ok-sectors.sectors =
+    sym {a = Ok c.in_ok-sectors.sectors} c.in_ok-sectors.ensures in
     let least = enough _ _ c.args.asked given in
     rw (q.1, q.2) (inl (refused c.in_err-format.field-0.0 _ _ (λ need is.
     (c.in_err-format.ensures.small need).0 (ap (λ e. Err e) is))
