@@ -10,7 +10,7 @@ help:
 	@echo "            next run goes on after them"
 	@echo "make test   what 'make imports' runs; the gate: every proof from nothing, the edits that must fail, the tests,"
 	@echo "            the program; and then what 'make runs', 'make serves' and 'make memory' run, on what the gate has"
-	@echo "            built. It takes 45 to 90 minutes on four cores"
+	@echo "            built. It takes 40 to 100 minutes on four cores"
 	@echo "make imports  that no crate names what is another's own, nor one that carries requests a call"
 	@echo "make runs   the program on scripts and command lines: what it prints and says, and its exit status"
 	@echo "make serves the program as a server: clients by the dozen, crashes under load, what ends a connection; and"
