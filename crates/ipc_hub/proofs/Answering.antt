@@ -1,10 +1,10 @@
 -- A request is answered: the replies have room, the hub's connections go on, and they match the clients of the definitions.
 use Rattle.std.proofs.Common.{◌≡◌, ◌≢◌, ℕ, ◌+◌, ◌<◌, ◌≤◌, ◌^◌, Bool, true, false, List, [], ◌∷◌, Option, Some, None}
 use Rattle.std.proofs.Common.{refl, sym, ap, ◌∙◌, subst, arith, ◌⊎◌, inl, inr, ◌++◌, length}
-use Rattle.std.specs.Prelude.{nat_eq, option_and_then, if◌then◌else◌}
+use Rattle.std.specs.Prelude.{nat_eq, if◌then◌else◌}
 use Rattle.std.proofs.lemmas.Bool.{cases_eq, eqb-true}
 use Rattle.std.proofs.lemmas.List.{length-append}
-use Rattle.ipc_hub.proofs.Rows.{same_value}
+use Rattle.ipc_hub.proofs.Rows.{same_value, process_of}
 use Rattle.ipc_base.specs.Limits.{longest_reply}
 use Rattle.ipc_base.specs.Table.{value_at, with_value, keys_of, EachValue, ArePaired}
 use Rattle.ipc_base.specs.declared.limits.Limits.{Limits}
@@ -16,8 +16,9 @@ use Rattle.ipc_engine.specs.View.{reply_of}
 use Rattle.ipc_hub.specs.Clients.{accepted, Client, Clients, client_at, is_for, last_reply, welcomed, serve, accept, with_client, with_frame}
 use Rattle.ipc_hub.specs.View.{ConnectionView, HubView}
 use Rattle.ipc_hub.specs.Relations.Delivery.{last_frames, pushed, put_all, answered, with_answer, IsShort, AllShort}
+use Rattle.ipc_hub.specs.Relations.Rows.{Table, process_in}
 use Rattle.ipc_hub.specs.Relations.Delivery.{HasRoom, HasRoomIn, HaveRoom, HasRoomToAnswer}
-use Rattle.ipc_hub.specs.Relations.Invariant.{process_in, AreOwn, IsKept, HubInvariant, GoesOn}
+use Rattle.ipc_hub.specs.Relations.Invariant.{AreOwn, IsKept, HubInvariant, GoesOn}
 use Rattle.ipc_hub.specs.Relations.Matches.{ClientMatches, HubMatches, IsAhead}
 use Rattle.ipc_hub.proofs.Deliveries.{push-matches, matches-later, accept-matches}
 use Rattle.ipc_hub.proofs.Keeping.{kept-pushed, delivery-goes-on, process-with}
@@ -60,11 +61,11 @@ for-process pid (Some q) is = ap Some (eqb-true q pid is)
 
 module _ (h : HubView) (conn : ℕ) (v : ConnectionView) (now : Step) (inv : HubInvariant h) (found : value_at nat_eq h.connections conn ≡ Some v)
     (room : longest_reply h.limits + last_frames ≤ v.outbox.free) (a : Answers h.limits h.state v.process now) where
-  abbrev table : List (ℕ × ConnectionView)
+  abbrev table : Table
   table = with_value nat_eq h.connections conn (answered (Some a.o) v)
 
   mine : process_in h.connections conn ≡ v.process
-  mine = ap (option_and_then (λ (c : ConnectionView). c.process)) found
+  mine = ap process_of found
 
   has : HasRoom a.o v
   has = omega (arith, a.fits, room)
@@ -87,16 +88,16 @@ module _ (h : HubView) (conn : ℕ) (v : ConnectionView) (now : Step) (inv : Hub
             let one = same_value (answered (Some a.o) v) x (sym (at-with h.connections conn (answered (Some a.o) v) v found) ∙ (rw same at is)) in
             subst (HasRoomIn a.o) one (told-room a.o v has)
         | inr apart ↦ λ for. absurd (apart-from k apart
-            (ap (option_and_then (λ (c : ConnectionView). c.process)) (sym (other-with h.connections conn k (answered (Some a.o) v) apart) ∙ is)
+            (ap process_of (sym (other-with h.connections conn k (answered (Some a.o) v) apart) ∙ is)
             ∙ for-process a.o.pid x.process for))
       ])
 
   all-room : HaveRoom (a.o ∷ []) table
   all-room = (a.short, (each-room, tt))
 
-  pub answer-room : HasRoomToAnswer now.outcomes (conn, v) h.connections
-  answer-room = subst (λ (os : List PlainOutcome). HasRoomToAnswer os (conn, v) h.connections) (sym a.one)
-      (record { own = λ _. (a.short, has); all = all-room })
+  pub answer-room : HasRoomToAnswer now.outcomes conn h.connections
+  answer-room = subst (λ (os : List PlainOutcome). HasRoomToAnswer os conn h.connections) (sym a.one)
+      (record { own = rw found (λ _. (a.short, has)); all = rw found all-room })
 
   own : AreOwn now.state table
   own =
@@ -129,7 +130,7 @@ module _ (h : HubView) (conn : ℕ) (v : ConnectionView) (now : Step) (inv : Hub
           ]
 
   pub answer-goes-on : (new : HubView) → new.limits ≡ h.limits → new.state ≡ now.state
-      → new.connections ≡ put_all now.outcomes (with_answer now.outcomes (conn, v) h.connections) → GoesOn h new
+      → new.connections ≡ put_all now.outcomes (with_answer now.outcomes conn h.connections) → GoesOn h new
   answer-goes-on new limits state rows =
       let kept : IsKept h.limits v = each-at (IsKept h.limits) h.connections conn v inv.each found in
       let mid : HubView = record h { state = now.state; connections = table } in
@@ -139,7 +140,7 @@ module _ (h : HubView) (conn : ℕ) (v : ConnectionView) (now : Step) (inv : Hub
         rising = rw rising inv.rising;
       } in
       let goes : GoesOn mid new = delivery-goes-on mid new (a.o ∷ []) held all-room limits
-      (rows ∙ ap (λ (os : List PlainOutcome). put_all os (with_answer os (conn, v) h.connections)) a.one)
+      (rows ∙ ap (λ (os : List PlainOutcome). put_all os (with_answer os conn h.connections)) a.one ∙ rw found refl)
       (λ k pid is. ap (λ (s : State). is_process s pid) state ∙ own.connected k pid is) in
       record { limits = goes.limits; numbers = goes.numbers ∙ rising; invariant = goes.invariant }
 
@@ -171,8 +172,7 @@ pub serve-matches : (limits : Limits) (confirmed : ℕ) (old new : HubView) (h :
     → HubMatches limits confirmed old h → value_at nat_eq old.connections conn ≡ Some v → client_at h conn ≡ Some c
     → (a : Answers old.limits old.state v.process (step old.limits old.state e))
     → new.limits ≡ old.limits → new.state ≡ (step old.limits old.state e).state
-    → new.connections ≡ put_all (step old.limits old.state e).outcomes
-    (with_answer (step old.limits old.state e).outcomes (conn, v) old.connections)
+    → new.connections ≡ put_all (step old.limits old.state e).outcomes (with_answer (step old.limits old.state e).outcomes conn old.connections)
     → IsAhead limits confirmed new (serve limits h conn c e)
 serve-matches limits confirmed old new h conn v c e m found here a same state rows =
     let mark : ℕ = length (h.events ++ e ∷ []) in
@@ -183,9 +183,10 @@ serve-matches limits confirmed old new h conn v c e m found here a same state ro
     let at : was ≡ now = λ i. step (m.same i) (m.state i) e in
     let last : last_reply now.outcomes ≡ Some a.o = ap (λ (s : Step). last_reply s.outcomes) (sym at) ∙ ap last_reply a.one in
     let d : Client = welcomed mark (Some a.o) c in
-    let table : List (ℕ × ConnectionView) = with_value nat_eq old.connections conn (answered (Some a.o) v) in
+    let table : Table = with_value nat_eq old.connections conn (answered (Some a.o) v) in
     let clients : List (ℕ × Client) = with_value nat_eq h.clients conn d in
-    let told : with_answer was.outcomes (conn, v) old.connections ≡ table = ap (λ (os : List PlainOutcome). with_answer os (conn, v) old.connections) a.one in
+    let told : with_answer was.outcomes conn old.connections ≡ table =
+    ap (λ (os : List PlainOutcome). with_answer os conn old.connections) a.one ∙ rw found refl in
     let paired : ArePaired (ClientMatches confirmed mark) table clients =
     paired-with (ClientMatches confirmed mark) old.connections h.clients conn (answered (Some a.o) v) d
     (paired-weaker (ClientMatches confirmed (accepted h)) (ClientMatches confirmed mark) old.connections h.clients m.clients

@@ -1,34 +1,33 @@
 -- The calls of the hub over its rows: a connection comes, goes, is released, or has its output consumed, and the disk has failed.
-use Rattle.std.proofs.Common.{◌≡◌, ◌≢◌, ℕ, ◌+◌, ◌<◌, ◌≤◌, ◌^◌, false, List, [], ◌++◌, length, drop, Option, Some, None, refl, sym, ap, ◌∙◌, subst, arith, inl}
+use Rattle.std.proofs.Common.{◌≡◌, ◌≢◌, ℕ, ◌+◌, ◌<◌, ◌≤◌, ◌^◌, List, [], ◌++◌, length, drop, Option, Some, None, refl, sym, ap, ◌∙◌, subst, arith, inl}
 use Rattle.std.proofs.Common.{inr, ◌∷◌, append-nil}
-use Rattle.std.specs.Prelude.{nat_eq, option_and_then, option_map, nat_le}
+use Rattle.std.specs.Prelude.{nat_eq, option_map, unwrap_or, nat_le}
 use Rattle.std.proofs.lemmas.Bool.{cases_eq}
-use Rattle.std.proofs.lemmas.List.{length-append, drop-drop, drop-append-le, length-drop}
+use Rattle.std.proofs.lemmas.List.{length-append, drop_all, drop-drop, drop-append-le, length-drop}
 use Rattle.std.proofs.lemmas.List.Elements.{All-weaker, All-cons, All-head, All-tail, All-push}
 use Rattle.ipc_base.specs.Limits.{longest_reply}
-use Rattle.ipc_base.specs.Table.{value_at, with_value, with_entry, without, seen_as, ArePaired}
+use Rattle.ipc_base.specs.Table.{value_at, with_entry, without, seen_as, ArePaired}
 use Rattle.ipc_base.specs.declared.limits.Limits.{Limits}
 use Rattle.ipc_base.proofs.CallerLemmas.{nobody, each-entry, each-without, each-seen, entry-at, entry-other, rising-entry, rising-without, rising-gone}
-use Rattle.ipc_base.proofs.CallerLemmas.{value_at-without, paired-entry, paired-without, paired-seen, paired-none, paired-at, at-map, keys-map, choice}
+use Rattle.ipc_base.proofs.CallerLemmas.{value_at-without, paired-entry, paired-without, paired-seen, at-map, keys-map, choice}
 use Rattle.ipc_base.proofs.CallerLemmas.{test_cases}
 use Rattle.ipc_wire.proofs.CallerLemmas.{first_short, length-reply_bytes}
-use Rattle.ipc_hub.specs.Clients.{accepted, Frame, Client, Clients, client_at, start_client, with_client, all_bytes, confirmed_bytes, consumed_from, shown_at}
-use Rattle.ipc_hub.specs.Clients.{ended_at, connect, consume, refusal, confirmed_frames, cut_off, fail}
-use Rattle.ipc_hub.specs.View.{ConnectionView, HubView, kept}
+use Rattle.ipc_hub.specs.Clients.{accepted, Frame, Client, Clients, start_client, with_client, all_bytes, confirmed_bytes, consumed_from, shown_at}
+use Rattle.ipc_hub.specs.Clients.{process_at, ended_at, connect, consume, refusal, confirmed_frames, cut_off, fail}
+use Rattle.ipc_hub.specs.View.{ConnectionView, HubView, StoredHub, output_of, ended_of, kept}
+use Rattle.ipc_hub.proofs.Rows.{process_of}
+use Rattle.ipc_hub.specs.Relations.Rows.{Table, process_in, output_in, changed}
 use Rattle.ipc_hub.specs.Relations.Delivery.{released, consumed, failed}
-use Rattle.ipc_hub.specs.Relations.Invariant.{process_in, IsKept, IsNew, HubInvariant, IsNobodys}
+use Rattle.ipc_hub.specs.Relations.Invariant.{IsKept, IsNew, HubInvariant, StoredInvariant, IsNobodys}
 use Rattle.ipc_hub.specs.Relations.Matches.{IsFrame, ClientMatches, HubMatches, AreFrames}
 use Rattle.ipc_hub.proofs.Deliveries.{IsOf, all-confirmed, confirmed-short, consumed-bytes, consumed-shown, consumed-all, table-matches, frames-later}
-use Rattle.ipc_hub.proofs.Keeping.{table-invariant}
-use Rattle.ipc_hub.proofs.Ending.{change-matches}
+use Rattle.ipc_hub.proofs.Keeping.{table-invariant, changed-keys, changed-invariant, at-changed}
+use Rattle.ipc_hub.proofs.Ending.{change-matches, pair-at}
 use Rattle.std.proofs.lemmas.Bool.Decides.{nat_tests}
 use Rattle.std.proofs.lemmas.Grind.{flat_map-append}
 use Rattle.ipc_base.specs.declared.errno.Errno.TheVariants.{EIO}
 use Rattle.ipc_wire.specs.Reply.{reply_bytes}
 use Rattle.ipc_engine.specs.View.{reply_of}
-
-abbrev process_of : Option ConnectionView → Option ℕ
-process_of r = option_and_then (λ (c : ConnectionView). c.process) r
 
 -- ---- a connection comes
 
@@ -86,11 +85,17 @@ without-invariant h conn inv =
     table-invariant h (without nat_eq h.connections conn) inv (λ k pid is. (process-without h conn k pid inv is).1)
     (each-without (IsKept h.limits) h.connections conn inv.each) (rising-without 0 h.connections (2 ^ 32) conn inv.rising)
 
-pub without-nobodys : (h : HubView) (conn : ℕ) (v : ConnectionView) → HubInvariant h → value_at nat_eq h.connections conn ≡ Some v
-    → IsNobodys (without nat_eq h.connections conn) v.process
-without-nobodys h conn v inv found k pid mine is =
-    let other = process-without h conn k pid inv is in
-    other.0 (inv.own.one k conn pid other.1 (ap process_of found ∙ mine))
+pub without-nobodys : (h : HubView) (conn : ℕ) → HubInvariant h → IsNobodys (without nat_eq h.connections conn) (process_in h.connections conn)
+without-nobodys h conn inv k pid mine is = let other = process-without h conn k pid inv is in other.0 (inv.own.one k conn pid other.1 mine)
+
+-- a connection has the process of its client
+pub process-matches : (limits : Limits) (confirmed : ℕ) (old : HubView) (h : Clients) (conn : ℕ) → HubMatches limits confirmed old h
+    → process_in old.connections conn ≡ process_at h conn
+process-matches limits confirmed old h conn m =
+    elim (pair-at limits confirmed old h conn m) [
+      | inl none ↦ rw (none.0, none.1) refl
+      | inr p ↦ rw (p.at, p.here) p.mine.process
+    ]
 
 pub without-matches : (limits : Limits) (confirmed : ℕ) (old new : HubView) (h : Clients) (conn : ℕ) → HubMatches limits confirmed old h
     → new.limits ≡ old.limits → new.state ≡ old.state → new.connections ≡ without nat_eq old.connections conn
@@ -186,35 +191,49 @@ consumed-matches confirmed accepted v c n within m =
       frames = consumed-all (IsOf accepted) c.frames (c.consumed + n) m.frames;
     }
 
-pub consume-matches : (limits : Limits) (confirmed : ℕ) (old new : HubView) (h : Clients) (conn n : ℕ) (v : ConnectionView) → HubMatches limits confirmed old h
-    → value_at nat_eq old.connections conn ≡ Some v → n ≤ length v.outbox.visible → new.limits ≡ old.limits → new.state ≡ old.state
-    → new.connections ≡ with_value nat_eq old.connections conn (consumed n v) → HubMatches limits confirmed new (consume h conn n)
-consume-matches limits confirmed old new h conn n v m found within same state rows =
-    let p = paired-at (ClientMatches confirmed (accepted h)) old.connections h.clients conn v m.clients found in
-    let to : consume h conn n ≡ with_client h conn (taken_by n p.0) = rw p.1.0 refl in
-    subst (HubMatches limits confirmed new) (sym to)
-    (change-matches limits confirmed old new h conn (consumed n v) (taken_by n p.0) m same state rows
-    (consumed-matches confirmed (accepted h) v p.0 n within p.1.1))
+pub consume-matches : (limits : Limits) (confirmed : ℕ) (old new : HubView) (h : Clients) (conn n : ℕ) → HubMatches limits confirmed old h
+    → n ≤ length (output_of old conn) → new.limits ≡ old.limits → new.state ≡ old.state
+    → new.connections ≡ changed (consumed n) conn old.connections → HubMatches limits confirmed new (consume h conn n)
+consume-matches limits confirmed old new h conn n m within same state rows =
+    elim (pair-at limits confirmed old h conn m) [
+      | inl none ↦
+          let to : consume h conn n ≡ h = rw none.1 refl in
+          rw to (table-matches limits confirmed confirmed old new h old.connections h.clients m same state (rows ∙ rw none.0 refl) m.known m.clients)
+      | inr p ↦
+          let to : consume h conn n ≡ with_client h conn (taken_by n p.c) = rw p.here refl in
+          let most : n ≤ length p.v.outbox.visible = rw p.at at within in
+          rw to (change-matches limits confirmed old new h conn (consumed n p.v) (taken_by n p.c) m same state (rows ∙ rw p.at refl)
+          (consumed-matches confirmed (accepted h) p.v p.c n most p.mine))
+    ]
 
-pub consume-nowhere : (limits : Limits) (confirmed : ℕ) (old : HubView) (h : Clients) (conn n : ℕ) → HubMatches limits confirmed old h
-    → value_at nat_eq old.connections conn ≡ None → HubMatches limits confirmed old (consume h conn n)
-consume-nowhere limits confirmed old h conn n m none =
-    let no : client_at h conn ≡ None = paired-none (ClientMatches confirmed (accepted h)) old.connections h.clients conn m.clients none in
-    let same : consume h conn n ≡ h = rw no refl in
-    subst (HubMatches limits confirmed old) (sym same) m
+pub consumed-stands : {D : Type 0} (v : StoredHub D) (conn n : ℕ) → n ≤ length (output_of v.hub conn) → StoredInvariant v
+    → StoredInvariant (record v { hub = record (v.hub) { connections = changed (consumed n) conn v.hub.connections } })
+consumed-stands v conn n within inv = record {
+  rising = rw (changed-keys (consumed n) conn v.hub.connections) inv.rising;
+  goes_on = λ on. changed-invariant v.hub conn (consumed n) (inv.goes_on on)
+      (λ c is k. (λ pid mine. mine, consumed-kept v.hub.limits c n (rw is at within) k));
+}
+
+pub consumed-output : (table : Table) (conn n : ℕ) → output_in (changed (consumed n) conn table) conn ≡ drop n (output_in table conn)
+consumed-output table conn n =
+    ap shows (at-changed (consumed n) conn table) ∙ by_value (value_at nat_eq table conn)
+  where
+    shows : Option ConnectionView → List ℕ
+    shows r = unwrap_or (option_map (λ c. c.outbox.visible) r) []
+
+    by_value : (r : Option ConnectionView) → shows (option_map (consumed n) r) ≡ drop n (shows r)
+    by_value None = sym (drop_all n [] (omega arith))
+    by_value (Some c) = refl
 
 -- ---- what is seen
 
-pub shown-there : (limits : Limits) (confirmed : ℕ) (old : HubView) (h : Clients) (conn : ℕ) (v : ConnectionView) → HubMatches limits confirmed old h
-    → value_at nat_eq old.connections conn ≡ Some v → (v.outbox.visible ≡ shown_at confirmed h conn) × (v.ended ≡ ended_at h conn)
-shown-there limits confirmed old h conn v m found =
-    let p = paired-at (ClientMatches confirmed (accepted h)) old.connections h.clients conn v m.clients found in
-    rw p.1.0 (p.1.1.visible, p.1.1.ended)
-
-pub shown-nowhere : (limits : Limits) (confirmed : ℕ) (old : HubView) (h : Clients) (conn : ℕ) → HubMatches limits confirmed old h
-    → value_at nat_eq old.connections conn ≡ None → ([] ≡ shown_at confirmed h conn) × (false ≡ ended_at h conn)
-shown-nowhere limits confirmed old h conn m none =
-    rw (paired-none (ClientMatches confirmed (accepted h)) old.connections h.clients conn m.clients none) (refl, refl)
+pub shown-matches : (limits : Limits) (confirmed : ℕ) (old : HubView) (h : Clients) (conn : ℕ) → HubMatches limits confirmed old h
+    → (output_of old conn ≡ shown_at confirmed h conn) × (ended_of old conn ≡ ended_at h conn)
+shown-matches limits confirmed old h conn m =
+    elim (pair-at limits confirmed old h conn m) [
+      | inl none ↦ rw (none.0, none.1) (refl, refl)
+      | inr p ↦ rw (p.at, p.here) (p.mine.visible, p.mine.ended)
+    ]
 
 -- ---- the disk has failed: what the clients could see stays, and an EIO frame is the last of each
 

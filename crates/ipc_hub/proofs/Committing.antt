@@ -1,9 +1,8 @@
 -- A commit of the store: the frames that waited are seen, or it has failed and they are dropped.
-use Rattle.std.proofs.Common.{◌≡◌, ℕ, ◌+◌, ◌-◌, ◌<◌, ◌≤◌, ◌^◌, Bool, true, false, List, [], ◌∷◌, ◌⊎◌, inl, inr, Ok, Err, refl, sym, ap, subst, ◌∙◌, arith}
-use Rattle.std.specs.Prelude.{if◌then◌else◌, ⊤, Vec, Result, OnOk, OnErr, IfErr}
-use Rattle.std.specs.Vec.{with_items}
+use Rattle.std.proofs.Common.{◌≡◌, ℕ, ◌+◌, ◌-◌, ◌<◌, ◌≤◌, ◌^◌, Bool, true, false, [], ◌∷◌, ◌⊎◌, inl, inr, Ok, Err, refl, sym, ap, ◌∙◌, arith}
+use Rattle.std.specs.Prelude.{if◌then◌else◌, ⊤, Result, OnOk, OnErr, IfErr}
 use Rattle.ipc_base.specs.declared.limits.Limits.{Limits}
-use Rattle.ipc_base.specs.Table.{keys_of, seen_as, EachValue}
+use Rattle.ipc_base.specs.Table.{seen_as, EachValue}
 use Rattle.ipc_base.proofs.CallerLemmas.{keys-map}
 use Rattle.ipc_disk.specs.Counts.{Counts, counted}
 use Rattle.ipc_disk.specs.Medium.{Medium}
@@ -12,16 +11,14 @@ use Rattle.ipc_store.specs.declared.fault.CommitError.{CommitError}
 use Rattle.ipc_store.specs.declared.fault.CommitError.TheVariants as commit
 use Rattle.ipc_store.specs.Histories.{Takes}
 use Rattle.ipc_store.specs.View.{StoreView, IsAtLastEpoch, IsStopped}
-use Rattle.ipc_hub.specs.declared.connection.Connection.{Connection}
 use Rattle.ipc_hub.specs.Clients.{Clients, accepted}
-use Rattle.ipc_hub.specs.View.{ConnectionView, HubView, StoredHub, HasStopped}
+use Rattle.ipc_hub.specs.View.{HubView, StoredHub, HasStopped}
 use Rattle.ipc_hub.specs.Relations.Delivery.{released, failed, HasSpare}
 use Rattle.ipc_hub.specs.Relations.Faults.{Fails, Halts}
 use Rattle.ipc_hub.specs.Relations.Invariant.{IsKept, HubInvariant, StoredInvariant}
 use Rattle.ipc_hub.specs.Relations.Matches.{Adds, StoredMatches}
-use Rattle.ipc_hub.specs.Relations.Rows.{rows, hub_view, stored_view}
+use Rattle.ipc_hub.specs.Relations.Rows.{Table, hub_view, stored_view}
 use Rattle.ipc_hub.proofs.Changes.{released-invariant, release-matches, fail-matches}
-use Rattle.ipc_hub.proofs.Rows.{sliced}
 
 -- a store of which events are left has not stopped
 pub going : {D : Type 0} (v : StoredHub D) → ¬ HasStopped v → v.store.stopped ≡ false
@@ -53,65 +50,51 @@ adds-both n first next fits = record {
 pub spare : (h : HubView) → HubInvariant h → EachValue HasSpare h.connections
 spare h inv = by_rows h.connections inv.each
   where
-    by_rows : (es : List (ℕ × ConnectionView)) → EachValue (IsKept h.limits) es → EachValue HasSpare es
+    by_rows : (es : Table) → EachValue (IsKept h.limits) es → EachValue HasSpare es
     by_rows [] each = tt
     by_rows (e ∷ es) each = (each.0.spare, by_rows es each.1)
 
--- the rows of a vector whose elements were each seen in another way
-pub seen-sliced : {Z : Type 0} (f : ConnectionView → ConnectionView) (v : Vec Connection Z) (xs new : List Connection) → xs ≡ v.items
-    → rows new ≡ seen_as f (rows xs) → rows (with_items v new).items ≡ seen_as f (rows v.items)
-seen-sliced f v xs new same seen =
-    ap rows (sliced v xs new same (ap keys_of seen ∙ keys-map f (rows xs))) ∙ seen ∙ ap (λ (cs : List Connection). seen_as f (rows cs)) same
-
--- A commit or a save of the store is done or has failed, and the connections of a vector were told of it in place.
-module _ {D Z : Type 0} (old new : StoreView D) (v : Vec Connection Z) (xs ys : List Connection) (here : xs ≡ v.items) (same : new.machine ≡ old.machine)
-    (goes : old.stopped ≡ false) where
+-- A commit or a save of the store is done or has failed, and the connections were told of it.
+module _ {D : Type 0} (old new : StoreView D) (before after : Table) (same : new.machine ≡ old.machine) (goes : old.stopped ≡ false) where
   -- the frames that waited are seen, or they are dropped
   abbrev pub Told : Result ⊤ CommitError → Type 0
-  Told done = OnOk done (rows ys ≡ seen_as released (rows xs)) × OnErr done (rows ys ≡ seen_as failed (rows xs)) × OnErr done (IsStopped new)
+  Told done = OnOk done (after ≡ seen_as released before) × OnErr done (after ≡ seen_as failed before) × OnErr done (IsStopped new)
 
-  abbrev pub now : StoredHub D
-  now = stored_view new (with_items v ys).items
+  pub told-spare : StoredInvariant (stored_view old before) → EachValue HasSpare before
+  told-spare inv = spare (hub_view old.machine before) (inv.goes_on goes)
 
-  pub told-spare : StoredInvariant (stored_view old v.items) → EachValue HasSpare (rows xs)
-  told-spare inv = subst (λ (cs : List Connection). EachValue HasSpare (rows cs)) (sym here) (spare (hub_view old.machine v.items) (inv.goes_on goes))
-
-  pub told-stands : (done : Result ⊤ CommitError) → Told done → StoredInvariant (stored_view old v.items) → StoredInvariant now
+  pub told-stands : (done : Result ⊤ CommitError) → Told done → StoredInvariant (stored_view old before) → StoredInvariant (stored_view new after)
   told-stands (Ok _) told inv =
-      let still : HubInvariant (hub_view new.machine (with_items v ys).items) =
-      rw same (rw (seen-sliced released v xs ys here told.0) (released-invariant (hub_view old.machine v.items) (inv.goes_on goes))) in
+      let still : HubInvariant (hub_view new.machine after) = rw (same, told.0) (released-invariant (hub_view old.machine before) (inv.goes_on goes)) in
       record { rising = still.rising; goes_on = λ _. still }
   told-stands (Err e) told inv =
-      record {
-        rising = rw (seen-sliced failed v xs ys here told.1) (rw (keys-map failed (rows v.items)) inv.rising);
-        goes_on = λ on. let never : true ≡ false = sym told.2 ∙ on in cc;
-      }
+      record { rising = rw told.1 (rw (keys-map failed before) inv.rising); goes_on = λ on. let never : true ≡ false = sym told.2 ∙ on in cc }
 
   pub told-keeps : (done : Result ⊤ CommitError) → Told done → OnOk done (new.confirmed ≡ old.confirmed + old.waiting) → OnOk done (new.waiting ≡ 0)
-      → OnOk done ((limits : Limits) (h : Clients) → StoredMatches limits (stored_view old v.items) h → StoredMatches limits now h)
+      → OnOk done ((limits : Limits) (h : Clients) → StoredMatches limits (stored_view old before) h → StoredMatches limits (stored_view new after) h)
   told-keeps (Err e) told confirmed waiting = tt
   told-keeps (Ok _) told confirmed waiting = λ limits h m.
       let all : new.confirmed ≡ accepted h = confirmed ∙ m.counts in
       record {
-        hub = rw all (release-matches limits old.confirmed (hub_view old.machine v.items) (hub_view new.machine (with_items v ys).items) h m.hub
-            (ap (λ (s : Machine). s.limits) same) (ap (λ (s : Machine). s.state) same) (seen-sliced released v xs ys here told.0));
+        hub = rw all (release-matches limits old.confirmed (hub_view old.machine before) (hub_view new.machine after) h m.hub
+            (ap (λ (s : Machine). s.limits) same) (ap (λ (s : Machine). s.state) same) told.0);
         counts = omega (arith, all, waiting);
       }
 
   module _ (medium : D → Medium) (counts : D → Counts) (takes : Takes medium old [] new) where
-    told-fails : IsStopped new → rows ys ≡ seen_as failed (rows xs) → Fails medium (stored_view old v.items) now
+    told-fails : IsStopped new → after ≡ seen_as failed before → Fails medium (stored_view old before) (stored_view new after)
     told-fails stopped seen =
         record {
           takes = takes;
           stopped = stopped;
-          matches = λ limits h m. fail-matches limits old.confirmed (hub_view old.machine v.items) (hub_view new.machine (with_items v ys).items) h m.hub
-              (ap (λ (s : Machine). s.limits) same) (ap (λ (s : Machine). s.state) same) (seen-sliced failed v xs ys here seen);
+          matches = λ limits h m. fail-matches limits old.confirmed (hub_view old.machine before) (hub_view new.machine after) h m.hub
+              (ap (λ (s : Machine). s.limits) same) (ap (λ (s : Machine). s.state) same) seen;
         }
 
     pub told-halts : (done : Result ⊤ CommitError) → Told done
         → (done ≡ Err commit.Device → (counts new.disk).failures ≡ counted (counts old.disk).failures 1)
         → (done ≡ Err commit.Stopped → IsStopped old ⊎ IsAtLastEpoch old)
-        → IfErr done (λ e. Halts medium counts (stored_view old v.items) now e)
+        → IfErr done (λ e. Halts medium counts (stored_view old before) (stored_view new after) e)
     told-halts (Ok _) told device halted = tt
     told-halts (Err commit.Device) told device halted = (told-fails told.2 told.1, device refl)
     told-halts (Err commit.Stopped) told device halted =

@@ -19,6 +19,7 @@ use Rattle.ipc_engine.specs.Event.{PlainEvent, PlainOutcome}
 use Rattle.ipc_engine.specs.Step.{Step, step}
 use Rattle.ipc_engine.specs.View.{reply_of}
 use Rattle.ipc_hub.specs.View.{ConnectionView, HubView}
+use Rattle.ipc_hub.specs.Relations.Rows.{Table}
 use Rattle.ipc_hub.specs.Relations.Delivery.{pushed, put_for, put_all, IsShort, AllShort}
 
 -- a frame is a reply, and belongs to one of so many events
@@ -87,7 +88,7 @@ consumed-all P (f ∷ fs) n all =
 -- ---- what matches
 
 -- other connections and clients of the same hub, of which more may be confirmed
-pub table-matches : (limits : Limits) (confirmed now : ℕ) (old new : HubView) (h : Clients) (table : List (ℕ × ConnectionView)) (clients : List (ℕ × Client))
+pub table-matches : (limits : Limits) (confirmed now : ℕ) (old new : HubView) (h : Clients) (table : Table) (clients : List (ℕ × Client))
     → HubMatches limits confirmed old h → new.limits ≡ old.limits → new.state ≡ old.state → new.connections ≡ table → now ≤ accepted h
     → ArePaired (ClientMatches now (accepted h)) table clients → HubMatches limits now new (record h { clients = clients })
 table-matches limits confirmed now old new h table clients m same state rows known paired =
@@ -142,7 +143,7 @@ put-matches confirmed accepted mark v c o later le short m =
     (λ t. rw (ap (is_for o.pid) m.process ∙ t) (matches-later confirmed accepted mark v c le m))
 
 -- all replies of an event
-pub put-pairs : (confirmed accepted mark : ℕ) (os : List PlainOutcome) (table : List (ℕ × ConnectionView)) (clients : List (ℕ × Client))
+pub put-pairs : (confirmed accepted mark : ℕ) (os : List PlainOutcome) (table : Table) (clients : List (ℕ × Client))
     → confirmed < mark → accepted ≤ mark → AllShort os
     → ArePaired (ClientMatches confirmed accepted) table clients
     → ArePaired (ClientMatches confirmed mark) (put_all os table) (deliver_all mark clients os)
@@ -155,7 +156,7 @@ put-pairs confirmed accepted mark (o ∷ os) table clients later le short paired
     (λ v c m. put-matches confirmed accepted mark v c o later le short.0 m))
 
 -- an event that was accepted, with these connections and clients before its replies
-pub accept-matches : (limits : Limits) (confirmed base : ℕ) (old new : HubView) (h : Clients) (e : PlainEvent) (table : List (ℕ × ConnectionView))
+pub accept-matches : (limits : Limits) (confirmed base : ℕ) (old new : HubView) (h : Clients) (e : PlainEvent) (table : Table)
     (clients : List (ℕ × Client)) → HubMatches limits confirmed old h → base ≤ length (h.events ++ e ∷ []) → ArePaired
     (ClientMatches confirmed base) table clients
     → new.limits ≡ old.limits → new.state ≡ (step old.limits old.state e).state

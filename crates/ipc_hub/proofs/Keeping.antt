@@ -1,22 +1,26 @@
 -- What holds of the hub's connections goes on holding when replies are put into their outboxes.
 use Rattle.std.proofs.Common.{◌≡◌, ◌≢◌, ℕ, ◌+◌, ◌≤◌, ◌^◌, true, false, List, [], ◌∷◌, ◌++◌, length, Option, Some, None}
-use Rattle.std.proofs.Common.{refl, sym, ap, ◌∙◌, arith, ◌⊎◌, inl, inr}
-use Rattle.std.specs.Prelude.{nat_eq, option_map, option_and_then}
+use Rattle.std.proofs.Common.{refl, sym, ap, subst, ◌∙◌, arith, ◌⊎◌, inl, inr}
+use Rattle.std.specs.Prelude.{nat_eq, option_map, option_and_then, not, unwrap_or, Bool, IfSome}
 use Rattle.std.proofs.lemmas.Bool.{cases_eq}
 use Rattle.std.proofs.lemmas.List.{length-append}
 use Rattle.ipc_base.specs.Table.{value_at, with_value, keys_of, seen_as, EachValue, IsRising}
 use Rattle.ipc_base.specs.declared.limits.Limits.{Limits}
-use Rattle.ipc_base.proofs.CallerLemmas.{choice, each-seen, each-with, at-map, keys-map, at-with, other-with, keys_of-with_value}
+use Rattle.ipc_base.proofs.CallerLemmas.{choice, each-seen, each-at, each-with, at-map, keys-map, at-with, other-with, keys_of-with_value}
 use Rattle.ipc_wire.specs.Reply.{reply_bytes}
 use Rattle.ipc_wire.specs.Reply.{PlainReply}
 use Rattle.ipc_wire.proofs.CallerLemmas.{length-reply_bytes}
 use Rattle.ipc_engine.specs.Event.{PlainOutcome}
 use Rattle.ipc_engine.specs.View.{reply_of}
+use Rattle.ipc_engine.specs.Engine.{Machine}
 use Rattle.ipc_state.specs.State.{State, is_process}
 use Rattle.ipc_hub.specs.Clients.{is_for}
-use Rattle.ipc_hub.specs.View.{ConnectionView, HubView, kept}
-use Rattle.ipc_hub.specs.Relations.Delivery.{last_frame, pushed, put_for, put_all, HasRoom, HasRoomIn, HaveRoom, AllShort}
-use Rattle.ipc_hub.specs.Relations.Invariant.{process_in, AreOwn, IsKept, HubInvariant, GoesOn, LeavesOthers, IsNobodys, IsConnected}
+use Rattle.ipc_hub.specs.View.{ConnectionView, HubView, HasNoFrame, kept}
+use Rattle.ipc_hub.proofs.Rows.{process_of, same-changed}
+use Rattle.ipc_base.specs.Limits.{longest_reply}
+use Rattle.ipc_hub.specs.Relations.Delivery.{last_frame, last_frames, HasRoomFor, pushed, put_for, put_all, HasRoom, HasRoomIn, HaveRoom, AllShort}
+use Rattle.ipc_hub.specs.Relations.Rows.{Table, hub_view, changed, process_in, goes_on_in}
+use Rattle.ipc_hub.specs.Relations.Invariant.{AreOwn, IsKept, HubInvariant, GoesOn, LeavesOthers, IsNobodys, IsConnected}
 
 -- ---- one connection
 
@@ -65,37 +69,37 @@ put-none o v none = rw none refl
 
 -- ---- all connections
 
-pub put-each : (limits : Limits) (os : List PlainOutcome) (table : List (ℕ × ConnectionView)) → EachValue (IsKept limits) table → HaveRoom os table
+pub put-each : (limits : Limits) (os : List PlainOutcome) (table : Table) → EachValue (IsKept limits) table → HaveRoom os table
     → EachValue (IsKept limits) (put_all os table)
 put-each limits [] table each room = each
 put-each limits (o ∷ os) table each room =
     put-each limits os (seen_as (put_for o) table)
     (each-seen (IsKept limits) (HasRoomIn o) (IsKept limits) table (put_for o) each room.1.0 (put-kept limits o)) room.1.1
 
-pub put-keys : (os : List PlainOutcome) (table : List (ℕ × ConnectionView)) → keys_of (put_all os table) ≡ keys_of table
+pub put-keys : (os : List PlainOutcome) (table : Table) → keys_of (put_all os table) ≡ keys_of table
 put-keys [] table = refl
 put-keys (o ∷ os) table = put-keys os (seen_as (put_for o) table) ∙ keys-map (put_for o) table
 
-pub put-processes : (os : List PlainOutcome) (table : List (ℕ × ConnectionView)) (conn : ℕ) → process_in (put_all os table) conn ≡ process_in table conn
+pub put-processes : (os : List PlainOutcome) (table : Table) (conn : ℕ) → process_in (put_all os table) conn ≡ process_in table conn
 put-processes [] table conn = refl
 put-processes (o ∷ os) table conn =
     put-processes os (seen_as (put_for o) table) conn
-    ∙ ap (option_and_then (λ (v : ConnectionView). v.process)) (at-map (put_for o) table conn) ∙ put-process o (value_at nat_eq table conn)
+    ∙ ap process_of (at-map (put_for o) table conn) ∙ put-process o (value_at nat_eq table conn)
 
-pub put-others : (os : List PlainOutcome) (table : List (ℕ × ConnectionView)) → LeavesOthers table (put_all os table)
+pub put-others : (os : List PlainOutcome) (table : Table) → LeavesOthers table (put_all os table)
 put-others [] table conn v is none = is
 put-others (o ∷ os) table conn v is none =
     put-others os (seen_as (put_for o) table) conn v
     (at-map (put_for o) table conn ∙ ap (option_map (put_for o)) is ∙ ap Some (put-none o v none)) none
 
-pub room-short : (os : List PlainOutcome) (table : List (ℕ × ConnectionView)) → HaveRoom os table → AllShort os
+pub room-short : (os : List PlainOutcome) (table : Table) → HaveRoom os table → AllShort os
 room-short [] table room = tt
 room-short (o ∷ os) table room = (room.0, room-short os (seen_as (put_for o) table) room.1.1)
 
 -- ---- the hub
 
 -- each connection has the process that it had, or none, and these are connected
-own-less : (s s' : State) (table table' : List (ℕ × ConnectionView)) → AreOwn s table
+own-less : (s s' : State) (table table' : Table) → AreOwn s table
     → ((conn pid : ℕ) → process_in table' conn ≡ Some pid → (process_in table conn ≡ Some pid) × (is_process s' pid ≡ true)) → AreOwn s' table'
 own-less s s' table table' own less =
     record {
@@ -104,7 +108,7 @@ own-less s s' table table' own less =
     }
 
 -- other connections of the same hub
-pub table-invariant : (h : HubView) (table : List (ℕ × ConnectionView)) → HubInvariant h
+pub table-invariant : (h : HubView) (table : Table) → HubInvariant h
     → ((conn pid : ℕ) → process_in table conn ≡ Some pid → process_in h.connections conn ≡ Some pid) → EachValue (IsKept h.limits) table
     → IsRising 0 (keys_of table) (2 ^ 32) → HubInvariant (record h { connections = table })
 table-invariant h table inv less each rising =
@@ -121,7 +125,7 @@ pub delivery-goes-on : (old new : HubView) (os : List PlainOutcome) → HubInvar
 delivery-goes-on old new os inv room same rows stay =
     let keys : keys_of new.connections ≡ keys_of old.connections = ap keys_of rows ∙ put-keys os old.connections in
     let processes : (conn : ℕ) → process_in new.connections conn ≡ process_in old.connections conn =
-    λ conn. ap (λ (t : List (ℕ × ConnectionView)). process_in t conn) rows ∙ put-processes os old.connections conn in
+    λ conn. ap (λ (t : Table). process_in t conn) rows ∙ put-processes os old.connections conn in
     record {
       limits = same;
       numbers = keys;
@@ -139,13 +143,13 @@ abbrev pub with_connection : HubView → ℕ → ConnectionView → HubView
 with_connection h conn v = record h { connections = with_value nat_eq h.connections conn v }
 
 -- whose process a process is after it
-pub process-with : (table : List (ℕ × ConnectionView)) (conn k pid : ℕ) (was v : ConnectionView) → value_at nat_eq table conn ≡ Some was
+pub process-with : (table : Table) (conn k pid : ℕ) (was v : ConnectionView) → value_at nat_eq table conn ≡ Some was
     → process_in (with_value nat_eq table conn v) k ≡ Some pid
     → ((k ≡ conn) × (v.process ≡ Some pid)) ⊎ ((k ≢ conn) × (process_in table k ≡ Some pid))
 process-with table conn k pid was v found is =
     elim (cases_eq k conn) [
-      | inl same ↦ inl (same, sym (ap (option_and_then (λ (c : ConnectionView). c.process)) (at-with table conn v was found)) ∙ rw same at is)
-      | inr apart ↦ inr (apart, sym (ap (option_and_then (λ (c : ConnectionView). c.process)) (other-with table conn k v apart)) ∙ is)
+      | inl same ↦ inl (same, sym (ap process_of (at-with table conn v was found)) ∙ rw same at is)
+      | inr apart ↦ inr (apart, sym (ap process_of (other-with table conn k v apart)) ∙ is)
     ]
 
 -- it has the process that it had, or none
@@ -154,10 +158,69 @@ pub change-invariant : (h : HubView) (conn : ℕ) (was v : ConnectionView) → H
 change-invariant h conn was v inv found less kept =
     table-invariant h (with_value nat_eq h.connections conn v) inv
     (λ k pid is. elim (process-with h.connections conn k pid was v found is) [
-      | inl here ↦ ap (process_in h.connections) here.0 ∙ ap (option_and_then (λ (c : ConnectionView). c.process)) found ∙ less pid here.1
+      | inl here ↦ ap (process_in h.connections) here.0 ∙ ap process_of found ∙ less pid here.1
       | inr there ↦ there.1
     ])
     (each-with (IsKept h.limits) h.connections conn v inv.each kept) (rw (keys_of-with_value nat_eq h.connections conn v) inv.rising)
+
+-- the same, where it is changed if it is there
+pub changed-invariant : (h : HubView) (conn : ℕ) (see : ConnectionView → ConnectionView) → HubInvariant h
+    → ((v : ConnectionView) → value_at nat_eq h.connections conn ≡ Some v → IsKept h.limits v
+    → ((pid : ℕ) → (see v).process ≡ Some pid → v.process ≡ Some pid) × IsKept h.limits (see v))
+    → HubInvariant (record h { connections = changed see conn h.connections })
+changed-invariant h conn see inv kept = by_value (value_at nat_eq h.connections conn) refl
+  where
+    by_value : (r : Option ConnectionView) → value_at nat_eq h.connections conn ≡ r → HubInvariant (record h { connections = changed see conn h.connections })
+    by_value None is = rw is inv
+    by_value (Some v) is =
+        let k = kept v is (each-at (IsKept h.limits) h.connections conn v inv.each is) in
+        rw is (change-invariant h conn v (see v) inv is k.0 k.1)
+
+pub changed-keys : (see : ConnectionView → ConnectionView) (conn : ℕ) (table : Table) → keys_of (changed see conn table) ≡ keys_of table
+changed-keys see conn table = by_value (value_at nat_eq table conn)
+  where
+    by_value : (r : Option ConnectionView)
+        → keys_of (elim r as (λ _. Table) [ None ↦ table | Some c ↦ with_value nat_eq table conn (see c) ]) ≡ keys_of table
+    by_value None = refl
+    by_value (Some c) = keys_of-with_value nat_eq table conn (see c)
+
+pub at-changed : (see : ConnectionView → ConnectionView) (conn : ℕ) (table : Table)
+    → value_at nat_eq (changed see conn table) conn ≡ option_map see (value_at nat_eq table conn)
+at-changed see conn table = by_value (value_at nat_eq table conn) refl
+  where
+    by_value : (r : Option ConnectionView) → value_at nat_eq table conn ≡ r → value_at nat_eq (changed see conn table) conn ≡ option_map see r
+    by_value None is = ap (λ (t : Table). value_at nat_eq t conn) (sym (same-changed see table conn (sym is))) ∙ is
+    by_value (Some v) is = rw is (at-with table conn (see v) v is)
+
+-- a connection that goes on is there
+pub live-at : (table : Table) (conn : ℕ) → goes_on_in table conn ≡ true
+    → (v : ConnectionView) × ((value_at nat_eq table conn ≡ Some v) × (v.ended ≡ false))
+live-at table conn live = by_value (value_at nat_eq table conn) refl live
+  where
+    by_end : (b : Bool) → not b ≡ true → b ≡ false
+    by_end true never = cc
+    by_end false _ = refl
+
+    by_value : (r : Option ConnectionView) → value_at nat_eq table conn ≡ r → unwrap_or (option_map (λ (c : ConnectionView). not c.ended) r) false ≡ true
+        → (v : ConnectionView) × ((value_at nat_eq table conn ≡ Some v) × (v.ended ≡ false))
+    by_value None is never = cc
+    by_value (Some v) is live = (v, (is, by_end v.ended live))
+
+-- one that has a reply more keeps a frame
+pub pushed-frame : (engine : Machine) (table : Table) (conn : ℕ) (reply : PlainReply) (v : ConnectionView) → value_at nat_eq table conn ≡ Some v
+    → HasNoFrame (hub_view engine (changed (pushed reply) conn table)) conn → ⊥
+pushed-frame engine table conn reply v found none =
+    pushed-some reply v (subst (λ (r : Option ConnectionView). IfSome r (λ c. kept c.outbox ≡ []))
+    (at-changed (pushed reply) conn table ∙ ap (option_map (pushed reply)) found) none)
+
+-- one that keeps none has room for the longest reply
+pub empty-room : (h : HubView) (conn reply : ℕ) → HubInvariant h → reply ≡ longest_reply h.limits → HasNoFrame h conn → HasRoomFor reply h.connections conn
+empty-room h conn reply inv long = by_value (value_at nat_eq h.connections conn) refl
+  where
+    by_value : (r : Option ConnectionView) → value_at nat_eq h.connections conn ≡ r → IfSome r (λ c. kept c.outbox ≡ [])
+        → IfSome r (λ c. c.ended ≡ false → reply + last_frames ≤ c.outbox.free)
+    by_value None is none = tt
+    by_value (Some v) is none = λ live. omega (arith, (each-at (IsKept h.limits) h.connections conn v inv.each is).size, long, ap length none)
 
 -- nobody has the process that it had if it has none now
 pub change-nobodys : (h : HubView) (conn : ℕ) (was v : ConnectionView) → HubInvariant h → value_at nat_eq h.connections conn ≡ Some was
@@ -165,12 +228,12 @@ pub change-nobodys : (h : HubView) (conn : ℕ) (was v : ConnectionView) → Hub
 change-nobodys h conn was v inv found none k pid mine is =
     elim (process-with h.connections conn k pid was v found is) [
       | inl here ↦ let never : None ≡ Some pid = sym none ∙ here.1 in cc
-      | inr there ↦ there.0 (inv.own.one k conn pid there.1 (ap (option_and_then (λ (c : ConnectionView). c.process)) found ∙ mine))
+      | inr there ↦ there.0 (inv.own.one k conn pid there.1 (ap process_of found ∙ mine))
     ]
 
 -- the process of a connection is connected
-pub connected-at : (h : HubView) (conn : ℕ) (v : ConnectionView) → HubInvariant h → value_at nat_eq h.connections conn ≡ Some v → IsConnected h.state v.process
-connected-at h conn v inv found = by_process v.process (ap (option_and_then (λ (c : ConnectionView). c.process)) found)
+pub connected-in : (h : HubView) (conn : ℕ) → HubInvariant h → IsConnected h.state (process_in h.connections conn)
+connected-in h conn inv = by_process (process_in h.connections conn) refl
   where
     by_process : (p : Option ℕ) → process_in h.connections conn ≡ p → IsConnected h.state p
     by_process None mine = tt

@@ -1,48 +1,35 @@
 -- A connection has received bytes, and a whole frame was taken off it: what the hub is then, and what is done next.
-use Rattle.std.proofs.Common.{◌≡◌, ◌≢◌, ℕ, ◌≤◌, ◌^◌, true, false, List, [], ◌∷◌, ◌++◌, get_or, Some}
-use Rattle.std.proofs.Common.{refl, sym, ap, ◌∙◌, subst, arith, inl, inr, Option}
-use Rattle.std.specs.Prelude.{nat_eq, option_map}
+use Rattle.std.proofs.Common.{◌≡◌, ℕ, ◌≤◌, true, List, [], ◌∷◌, ◌++◌, Option, Some, refl, sym, ap, ◌∙◌, subst, arith, inl, inr}
+use Rattle.std.specs.Prelude.{nat_eq, option_map, not, IfSome}
 use Rattle.ipc_base.specs.Table.{value_at, with_value, keys_of}
 use Rattle.ipc_base.specs.declared.errno.Errno.TheVariants.{ENOMEM}
 use Rattle.ipc_base.specs.declared.limits.Limits.{Limits}
-use Rattle.ipc_base.proofs.CallerLemmas.{choice, same_key, each-at, at-with, at-map, keys_of-with_value}
+use Rattle.ipc_base.proofs.CallerLemmas.{choice, same_key, at-with, at-map}
 use Rattle.ipc_wire.specs.Reply.{PlainReply}
 use Rattle.ipc_wire.specs.Stream.{first}
 use Rattle.ipc_wire.specs.Stream.PlainFrame.{More}
 use Rattle.ipc_wire.proofs.CallerLemmas.{first_short, length-reply_bytes}
-use Rattle.ipc_engine.specs.Engine.{Machine}
 use Rattle.ipc_disk.specs.Medium.{Image, Medium}
 use Rattle.ipc_store.specs.View.{StoreView}
 use Rattle.ipc_engine.specs.Event.{PlainEvent, PlainOutcome}
 use Rattle.ipc_engine.specs.Step.{Step, step}
 use Rattle.ipc_engine.specs.View.{reply_of}
-use Rattle.ipc_hub.specs.declared.connection.Connection.{Connection}
 use Rattle.ipc_hub.specs.declared.serving.Asked.{Asked}
 use Rattle.ipc_hub.specs.declared.serving.Asked.TheVariants as asks
 use Rattle.ipc_hub.specs.Clients.{Client, Clients, is_for, refusal, break_off, refuse, over as over-client, with_client}
-use Rattle.ipc_hub.specs.View.{ConnectionView, HubView, kept as outbox_kept}
-use Rattle.ipc_hub.specs.Relations.Rows.{pid_of, view_of, row, rows, hub_view, IsThere}
-use Rattle.ipc_hub.specs.Relations.Delivery.{last_frame, pushed, put_for, put_all, answered as answered-by, with_answer}
-use Rattle.ipc_hub.specs.Relations.Delivery.{HasRoomToAnswer}
-use Rattle.ipc_hub.specs.Relations.Invariant.{IsKept, HubInvariant, GoesOn, IsConnected}
+use Rattle.ipc_hub.specs.View.{ConnectionView, HubView, HasNoFrame, kept as outbox_kept}
+use Rattle.ipc_hub.specs.Relations.Rows.{Table, hub_view, changed, process_in, goes_on_in}
+use Rattle.ipc_hub.specs.Relations.Delivery.{last_frame, pushed, put_for, put_all, answered as answered-by, with_answer, HasRoomToAnswer}
+use Rattle.ipc_hub.specs.Relations.Invariant.{IsKept, GoesOn}
 use Rattle.ipc_hub.specs.Relations.Matches.{IsAhead, SimulatesAt, Waits, Accepts}
 use Rattle.ipc_hub.specs.Relations.Requests.{Steps, ComesTo, exit_of, taken_off, Received, Took}
-use Rattle.ipc_hub.proofs.Rows.{at-there, at-place, same-there, row-there, same-length}
-use Rattle.ipc_hub.proofs.Keeping.{pushed-some, change-invariant, connected-at, kept-pushed, put-keys}
+use Rattle.ipc_hub.proofs.Rows.{same_value, process_of}
+use Rattle.ipc_hub.proofs.Keeping.{pushed-some, changed-invariant, changed-keys, pushed-frame, kept-pushed}
 use Rattle.ipc_hub.proofs.Ending.{leave-adds}
 use Rattle.ipc_hub.proofs.Requests.{Answers, request-answers}
 use Rattle.ipc_hub.proofs.Answering.{by-told, answer-room, answer-goes-on, serve-matches}
 use Rattle.ipc_hub.proofs.Taking.{Open, bare, mine, emptied_hub, bare-here, emptied-matches, refused-matches}
 use Rattle.ipc_hub.proofs.Taking.{more-taken, fault-taken, served-taken, broken-taken, refused-taken, same-accepts}
-
--- ---- before
-
-module _ (old : Machine) (cs : List Connection) (place : ℕ) (was : Connection) (inv : HubInvariant (hub_view old cs)) (at : IsThere cs place was) where
-  pub kept : IsKept old.limits (view_of was)
-  kept = each-at (IsKept old.limits) (rows cs) was.number (view_of was) inv.each (at-there cs place was at)
-
-  pub connected : IsConnected old.state (view_of was).process
-  connected = connected-at (hub_view old cs) was.number (view_of was) inv (at-there cs place was at)
 
 -- ---- bytes come, and a whole frame is taken off
 
@@ -88,64 +75,38 @@ Law {D} medium = (d : D) (image : Image) → (medium d).images_since (medium d).
 pub goes-further : (old mid new : HubView) → mid.limits ≡ old.limits → keys_of mid.connections ≡ keys_of old.connections → GoesOn mid new → GoesOn old new
 goes-further old mid new limits numbers g = record { limits = g.limits ∙ limits; numbers = g.numbers ∙ numbers; invariant = g.invariant }
 
-module _ {D : Type 0} {medium : D → Medium} {old new : StoreView D} {cs ds : List Connection} {place : ℕ} {next : List ℕ} {moment : ℕ}
-    {asked : Asked} (r : Received medium old new cs ds place next moment asked) where
+module _ {D : Type 0} {medium : D → Medium} {old new : StoreView D} {before after : Table} {conn : ℕ} {next : List ℕ} {moment : ℕ}
+    {asked : Asked} (r : Received medium old new before after conn next moment asked) where
   -- the connection as it is now
   abbrev then : ConnectionView
-  then = taken_off asked (record (view_of r.was) { input = r.was.input.items ++ next })
+  then = taken_off asked (record (r.was) { input = r.was.input ++ next })
 
-  numbers : keys_of (rows ds) ≡ keys_of (rows cs)
-  numbers = ap keys_of r.table ∙ keys_of-with_value nat_eq (rows cs) r.was.number then
+  found' : value_at nat_eq after conn ≡ Some then
+  found' = ap (λ (t : Table). value_at nat_eq t conn) r.table ∙ at-with before conn then r.was r.found
 
-  found : value_at nat_eq (rows cs) r.was.number ≡ Some (view_of r.was)
-  found = at-there cs place r.was r.there
-
-  found' : value_at nat_eq (rows ds) r.was.number ≡ Some then
-  found' = ap (λ (t : List (ℕ × ConnectionView)). value_at nat_eq t r.was.number) r.table ∙ at-with (rows cs) r.was.number then (view_of r.was) found
-
-  now-there : (d : Connection) → IsThere ds place d → row d ≡ (r.was.number, then)
-  now-there d it = row-there cs ds place r.was d then r.within r.there numbers found' it
-
-  abbrev off : Connection
-  off = get_or ds place r.was
-
-  off-there : IsThere ds place off
-  off-there = at-place ds place (2 ^ 32) r.was r.still.rising (omega (arith, r.within, same-length cs ds numbers))
-
-  off-row : row off ≡ (r.was.number, then)
-  off-row = now-there off off-there
-
-  opened : {limits : Limits} {confirmed : ℕ} {h : Clients} → IsAhead limits confirmed (hub_view old.machine cs) h
-      → Open limits confirmed (hub_view old.machine cs) h r.was.number (view_of r.was)
-  opened ahead = record { ahead = ahead; found = found; live = r.live }
-
-  waits : first r.was.input.items ≡ More
-  waits = (kept old.machine cs place r.was r.hub r.there).input
-
-  -- the connection that was at its place
-  its : (d : Connection) → IsThere cs place d → d ≡ r.was
-  its d it = same-there cs place d r.was r.within it r.there
+  opened : {limits : Limits} {confirmed : ℕ} {h : Clients} → IsAhead limits confirmed (hub_view old.machine before) h
+      → Open limits confirmed (hub_view old.machine before) h conn r.was
+  opened ahead = record { ahead = ahead; found = r.found; live = r.live }
 
 -- ---- no whole frame yet
 
-module _ {D : Type 0} {medium : D → Medium} {old new : StoreView D} {cs ds : List Connection} {place : ℕ} {next : List ℕ} {moment : ℕ}
-    (law : Law medium) (r : Received medium old new cs ds place next moment asks.More) where
-  pub more-took : Took medium old new cs ds place next moment
+module _ {D : Type 0} {medium : D → Medium} {old new : StoreView D} {before after : Table} {conn : ℕ} {next : List ℕ} {moment : ℕ}
+    (law : Law medium) (r : Received medium old new before after conn next moment asks.More) where
+  pub more-took : Took medium old new before after conn next moment
   more-took =
       record {
-        goes_on = rw r.comes.1 (record { limits = refl; numbers = numbers r; invariant = r.still });
-        bytes = λ d it limits confirmed h ahead.
-            rw (its r d it) (more-taken (opened r ahead) next moment (IsAhead limits confirmed (hub_view new.machine ds)) (Accepts medium old new h)
-            (hub_view new.machine ds)
+        goes_on = rw r.comes.1 (record { limits = refl; numbers = r.numbers; invariant = r.still });
+        bytes = λ limits confirmed h ahead. more-taken (opened r ahead) next moment (IsAhead limits confirmed (hub_view new.machine after))
+            (Accepts medium old new h) (hub_view new.machine after)
             (ap (λ (s : StoreView D). s.machine.limits) r.comes.1) (ap (λ (s : StoreView D). s.machine.state) r.comes.1) r.table r.comes.0
-            (λ now stay is. (is, same-accepts medium law old new h now stay r.comes.1)));
-        answers = λ d it none. r.comes.1;
+            (λ now stay is. (is, same-accepts medium law old new h now stay r.comes.1));
+        answers = λ none. r.comes.1;
       }
 
 -- ---- a step of the machine
 
-module _ {D : Type 0} {medium : D → Medium} {old new : StoreView D} {cs ds : List Connection} {place : ℕ} {next : List ℕ} {moment : ℕ}
-    (r : Received medium old new cs ds place next moment asks.Served) where
+module _ {D : Type 0} {medium : D → Medium} {old new : StoreView D} {before after : Table} {conn : ℕ} {next : List ℕ} {moment : ℕ}
+    (r : Received medium old new before after conn next moment asks.Served) where
   abbrev e : PlainEvent
   e = r.comes.0
 
@@ -155,157 +116,124 @@ module _ {D : Type 0} {medium : D → Medium} {old new : StoreView D} {cs ds : L
   abbrev now : Step
   now = step old.machine.limits old.machine.state e
 
-  answers : Answers old.machine.limits old.machine.state (view_of r.was).process now
-  answers = request-answers old.machine.limits old.machine.state (view_of r.was).process r.comes.1.0.request moment e r.passed steps.sound r.comes.1.0.event
+  answers : Answers old.machine.limits old.machine.state r.was.process now
+  answers = request-answers old.machine.limits old.machine.state r.was.process r.comes.1.0.request moment e r.passed steps.sound r.comes.1.0.event
 
   abbrev mid : HubView
-  mid = hub_view old.machine ds
+  mid = hub_view old.machine after
 
   abbrev bare-now : ConnectionView
-  bare-now = record (view_of r.was) { input = [] }
+  bare-now = record (r.was) { input = [] }
 
-  pub served-room : (d : Connection) → IsThere ds place d → HasRoomToAnswer new.machine.outcomes (row d) (rows ds)
-  served-room d at' =
-      subst (λ (os : List PlainOutcome). HasRoomToAnswer os (row d) (rows ds)) (sym steps.outcomes)
-      (rw (now-there r d at') (answer-room mid r.was.number bare-now now r.still (found' r) r.room answers))
+  pub served-room : HasRoomToAnswer new.machine.outcomes conn after
+  served-room =
+      subst (λ (os : List PlainOutcome). HasRoomToAnswer os conn after) (sym steps.outcomes)
+      (answer-room mid conn bare-now now r.still (found' r) r.room answers)
 
-  module _ (fs : List Connection) (answered : (d : Connection) → IsThere ds place d
-      → rows fs ≡ put_all new.machine.outcomes (with_answer new.machine.outcomes (row d) (rows ds))) where
-    told : rows fs ≡ put_all now.outcomes (with_answer now.outcomes (r.was.number, bare-now) mid.connections)
-    told =
-        answered (off r) (off-there r)
-        ∙ ap (λ (x : ℕ × ConnectionView). put_all new.machine.outcomes (with_answer new.machine.outcomes x mid.connections)) (off-row r)
-        ∙ ap (λ (os : List PlainOutcome). put_all os (with_answer os (r.was.number, bare-now) mid.connections)) steps.outcomes
+  module _ (last : Table) (answered : last ≡ put_all new.machine.outcomes (with_answer new.machine.outcomes conn after)) where
+    told : last ≡ put_all now.outcomes (with_answer now.outcomes conn after)
+    told = answered ∙ ap (λ (os : List PlainOutcome). put_all os (with_answer os conn after)) steps.outcomes
 
     -- the connection that asked has its reply
-    served-answered : (d : Connection) → IsThere fs place d → outbox_kept d.outbox ≡ [] → ⊥
-    served-answered d it none =
+    served-answered : HasNoFrame (hub_view new.machine last) conn → ⊥
+    served-answered none =
         let asked_one : ConnectionView = answered-by (Some answers.o) bare-now in
-        let one : rows fs ≡ put_all (answers.o ∷ []) (with_value nat_eq mid.connections r.was.number asked_one) =
-        told ∙ ap (λ (os : List PlainOutcome). put_all os (with_answer os (r.was.number, bare-now) mid.connections)) answers.one in
-        let keys : keys_of (rows fs) ≡ keys_of (rows cs) =
-        ap keys_of one ∙ put-keys (answers.o ∷ []) (with_value nat_eq mid.connections r.was.number asked_one)
-        ∙ keys_of-with_value nat_eq mid.connections r.was.number asked_one ∙ numbers r in
-        let found-now : value_at nat_eq (rows fs) r.was.number ≡ Some (put_for answers.o asked_one) =
-        ap (λ (t : List (ℕ × ConnectionView)). value_at nat_eq t r.was.number) one
-        ∙ at-map (put_for answers.o) (with_value nat_eq mid.connections r.was.number asked_one) r.was.number
-        ∙ ap (option_map (put_for answers.o)) (at-with mid.connections r.was.number asked_one bare-now (found' r)) in
-        heard-some answers.o bare-now answers.own
-        (ap (λ (x : ℕ × ConnectionView). outbox_kept x.1.outbox)
-        (sym (row-there cs fs place r.was d (put_for answers.o asked_one) r.within r.there keys found-now it)) ∙ none)
+        let one : last ≡ put_all (answers.o ∷ []) (with_value nat_eq after conn asked_one) =
+        told ∙ ap (λ (os : List PlainOutcome). put_all os (with_answer os conn after)) answers.one ∙ rw (found' r) refl in
+        let found-now : value_at nat_eq last conn ≡ Some (put_for answers.o asked_one) =
+        ap (λ (t : Table). value_at nat_eq t conn) one ∙ at-map (put_for answers.o) (with_value nat_eq after conn asked_one) conn
+        ∙ ap (option_map (put_for answers.o)) (at-with after conn asked_one bare-now (found' r)) in
+        heard-some answers.o bare-now answers.own (subst (λ (v : Option ConnectionView). IfSome v (λ c. outbox_kept c.outbox ≡ [])) found-now none)
 
-    pub served-took : Took medium old new cs fs place next moment
+    pub served-took : Took medium old new before last conn next moment
     served-took =
         record {
-          goes_on = goes-further (hub_view old.machine cs) mid (hub_view new.machine fs) refl (numbers r)
-              (answer-goes-on mid r.was.number bare-now now r.still (found' r) r.room answers (hub_view new.machine fs) steps.limits steps.state told);
-          bytes = λ d it limits confirmed h ahead.
+          goes_on = goes-further (hub_view old.machine before) mid (hub_view new.machine last) refl r.numbers
+              (answer-goes-on mid conn bare-now now r.still (found' r) r.room answers (hub_view new.machine last) steps.limits steps.state told);
+          bytes = λ limits confirmed h ahead.
               let o = opened r ahead in
-              rw (its r d it) (served-taken o next moment (IsAhead limits confirmed (hub_view new.machine fs)) (Accepts medium old new h)
-              r.comes.1.0 (waits r) r.few e refl (
-                serve-matches limits confirmed mid (hub_view new.machine fs) (emptied_hub o) r.was.number bare-now (bare o) e
+              served-taken o next moment (IsAhead limits confirmed (hub_view new.machine last)) (Accepts medium old new h) r.comes.1.0 r.waits r.few e refl (
+                serve-matches limits confirmed mid (hub_view new.machine last) (emptied_hub o) conn bare-now (bare o) e
                     (emptied-matches o mid refl refl r.table).matches (found' r) (bare-here o) answers steps.limits steps.state told,
                 record { events = e ∷ []; adds = refl; waits = steps.waits },
-              ));
-          answers = λ d it none. absurd (served-answered d it none);
+              );
+          answers = λ none. absurd (served-answered none);
         }
 
 -- ---- a want of memory
 
-module _ {D : Type 0} {medium : D → Medium} {old new : StoreView D} {cs ds : List Connection} {place : ℕ} {next : List ℕ}
-    {moment serial : ℕ} (law : Law medium) (r : Received medium old new cs ds place next moment (asks.NoMemory serial)) where
-  abbrev mid-n : HubView
-  mid-n = hub_view old.machine ds
-
+module _ {D : Type 0} {medium : D → Medium} {old new : StoreView D} {before after : Table} {conn : ℕ} {next : List ℕ}
+    {moment serial : ℕ} (law : Law medium) (r : Received medium old new before after conn next moment (asks.NoMemory serial)) where
   abbrev bare-n : ConnectionView
-  bare-n = record (view_of r.was) { input = [] }
+  bare-n = record (r.was) { input = [] }
 
-  abbrev last-n : ConnectionView
-  last-n = pushed (reply_of (refusal serial ENOMEM)) bare-n
+  abbrev nack : ConnectionView → ConnectionView
+  nack = pushed (reply_of (refusal serial ENOMEM))
 
-  pub refused-room : (d : Connection) → IsThere ds place d → last_frame ≤ d.outbox.free
-  refused-room d it = omega (arith, r.room, ap (λ (x : ℕ × ConnectionView). x.1.outbox.free) (now-there r d it))
+  pub refused-room : IfSome (value_at nat_eq after conn) (λ c. last_frame ≤ c.outbox.free)
+  refused-room = rw (found' r) (omega (arith, r.room))
 
-  module _ (fs : List Connection) (refused : (d : Connection) → IsThere ds place d
-      → rows fs ≡ with_value nat_eq (rows ds) d.number (pushed (reply_of (refusal serial ENOMEM)) (view_of d))) where
-    told-n : rows fs ≡ with_value nat_eq mid-n.connections r.was.number last-n
-    told-n =
-        refused (off r) (off-there r)
-        ∙ ap (λ (x : ℕ × ConnectionView). with_value nat_eq mid-n.connections x.0 (pushed (reply_of (refusal serial ENOMEM)) x.1)) (off-row r)
-
-    keys-n : keys_of (rows fs) ≡ keys_of (rows cs)
-    keys-n = ap keys_of told-n ∙ keys_of-with_value nat_eq mid-n.connections r.was.number last-n ∙ numbers r
-
-    refused-answered : (d : Connection) → IsThere fs place d → outbox_kept d.outbox ≡ [] → ⊥
-    refused-answered d it none =
-        let found-now : value_at nat_eq (rows fs) r.was.number ≡ Some last-n =
-        ap (λ (t : List (ℕ × ConnectionView)). value_at nat_eq t r.was.number) told-n ∙ at-with mid-n.connections r.was.number last-n bare-n (found' r) in
-        pushed-some (reply_of (refusal serial ENOMEM)) bare-n
-        (ap (λ (x : ℕ × ConnectionView). outbox_kept x.1.outbox) (sym (row-there cs fs place r.was d last-n r.within r.there keys-n found-now it)) ∙ none)
-
-    pub refused-took : Took medium old new cs fs place next moment
-    refused-took =
-        let long = length-reply_bytes (reply_of (refusal serial ENOMEM)) in
-        let kept-n : IsKept old.machine.limits bare-n = each-at (IsKept old.machine.limits) mid-n.connections r.was.number bare-n r.still.each (found' r) in
-        let same = r.comes.same in
-        record {
-          goes_on = rw same (record {
-            limits = refl;
-            numbers = keys-n;
-            invariant = rw told-n (change-invariant mid-n r.was.number bare-n last-n r.still (found' r) (λ pid mine. mine)
-                (kept-pushed old.machine.limits (refusal serial ENOMEM) bare-n kept-n (omega (arith, r.room, long)) (λ _. omega (arith, r.room, long))));
-          });
-          bytes = λ d it limits confirmed h ahead.
-              let o = opened r ahead in
-              rw (its r d it) (refused-taken o next moment (IsAhead limits confirmed (hub_view new.machine fs)) (Accepts medium old new h)
-              r.comes.made (waits r) r.few r.comes.event refl r.comes.takes (
-                refused-matches o mid-n (hub_view new.machine fs) r.comes.made.request.serial (emptied-matches o mid-n refl refl r.table)
-                    (ap (λ (s : StoreView D). s.machine.limits) same) (ap (λ (s : StoreView D). s.machine.state) same) (rw r.comes.serial told-n),
-                same-accepts medium law old new h (refuse (emptied_hub o) r.was.number (bare o) r.comes.made.request.serial) refl same,
+  pub refused-took : Took medium old new before (changed nack conn after) conn next moment
+  refused-took =
+      let long = length-reply_bytes (reply_of (refusal serial ENOMEM)) in
+      let same = r.comes.same in
+      let last : Table = changed nack conn after in
+      record {
+        goes_on = rw same (record {
+          limits = refl;
+          numbers = changed-keys nack conn after ∙ r.numbers;
+          invariant = changed-invariant (hub_view old.machine after) conn nack r.still (λ v is k.
+              let free = ap (λ (c : ConnectionView). c.outbox.free) (same_value v bare-n (sym is ∙ found' r)) in (
+                λ pid mine. mine,
+                kept-pushed old.machine.limits (refusal serial ENOMEM) v k (omega (arith, r.room, free, long)) (λ _. omega (arith, r.room, free, long)),
               ));
-          answers = λ d it none. absurd (refused-answered d it none);
-        }
+        });
+        bytes = λ limits confirmed h ahead.
+            let o = opened r ahead in
+            refused-taken o next moment (IsAhead limits confirmed (hub_view new.machine last)) (Accepts medium old new h) r.comes.made r.waits r.few
+            r.comes.event refl r.comes.takes (
+              refused-matches o (hub_view old.machine after) (hub_view new.machine last) r.comes.made.request.serial (emptied-matches o _ refl refl r.table)
+                  (ap (λ (s : StoreView D). s.machine.limits) same) (ap (λ (s : StoreView D). s.machine.state) same) (rw r.comes.serial (rw (found' r) refl)),
+              same-accepts medium law old new h (refuse (emptied_hub o) conn (bare o) r.comes.made.request.serial) refl same,
+            );
+        answers = λ none. absurd (pushed-frame new.machine after conn (reply_of (refusal serial ENOMEM)) bare-n (found' r) none);
+      }
 
 -- ---- a fault of the frames
 
-module _ {D : Type 0} {medium : D → Medium} {old new : StoreView D} {cs ds : List Connection} {place : ℕ} {next : List ℕ}
-    {moment serial : ℕ} (r : Received medium old new cs ds place next moment (asks.Broken serial)) where
-  pub broken-live : (d : Connection) → IsThere ds place d → d.ended ≡ false
-  broken-live d it = ap (λ (x : ℕ × ConnectionView). x.1.ended) (now-there r d it) ∙ r.live
+module _ {D : Type 0} {medium : D → Medium} {old new : StoreView D} {before after : Table} {conn : ℕ} {next : List ℕ}
+    {moment serial : ℕ} (r : Received medium old new before after conn next moment (asks.Broken serial)) where
+  pub broken-live : goes_on_in after conn ≡ true
+  broken-live = rw (found' r) (ap not r.live)
 
-  pub broken-took : (last : StoreView D) (fs : List Connection) → GoesOn (hub_view new.machine ds) (hub_view last.machine fs)
-      → ((d : Connection) (client : Client) → IsThere ds place d → SimulatesAt d.number client (hub_view new.machine ds) (hub_view last.machine fs)
-      (λ limits h. break_off limits h d.number client serial moment))
-      → ((d : Connection) → IsThere ds place d → Waits medium new (exit_of (pid_of d.process) moment) last)
-      → ((d : Connection) → IsThere fs place d → outbox_kept d.outbox ≢ []) → Took medium old last cs fs place next moment
-  broken-took last fs goes ends went some =
+  pub broken-took : (store : StoreView D) (last : Table) → GoesOn (hub_view new.machine after) (hub_view store.machine last)
+      → ((client : Client) → SimulatesAt conn client (hub_view new.machine after) (hub_view store.machine last)
+      (λ limits h. break_off limits h conn client serial moment))
+      → Waits medium new (exit_of (process_in after conn) moment) store → (HasNoFrame (hub_view store.machine last) conn → ⊥)
+      → Took medium old store before last conn next moment
+  broken-took store last goes ends went some =
       record {
-        goes_on = goes-further (hub_view old.machine cs) (hub_view new.machine ds) (hub_view last.machine fs)
-            (ap (λ (s : StoreView D). s.machine.limits) r.comes.0) (numbers r) goes;
-        bytes = λ d it limits confirmed h ahead.
+        goes_on = goes-further (hub_view old.machine before) (hub_view new.machine after) (hub_view store.machine last)
+            (ap (λ (s : StoreView D). s.machine.limits) r.comes.0) r.numbers goes;
+        bytes = λ limits confirmed h ahead.
             let o = opened r ahead in
             let h' : Clients = emptied_hub o in
             let client : Client = bare o in
-            let number : (off r).number ≡ r.was.number = ap (λ (x : ℕ × ConnectionView). x.0) (off-row r) in
-            let over : IsAhead limits confirmed (hub_view last.machine fs) (break_off limits h' r.was.number client serial moment) =
-            rw number at (ends (off r) client (off-there r) limits confirmed h'
-            (subst (λ (s : StoreView D). IsAhead limits confirmed (hub_view s.machine ds) h') (sym r.comes.0)
-            (emptied-matches o (hub_view old.machine ds) refl refl r.table)) (rw number (bare-here o))) in
-            let waited : Waits medium old (exit_of client.process moment) last =
-            subst (λ (s : StoreView D). Waits medium s (exit_of client.process moment) last) r.comes.0
-            (subst (λ (p : Option ℕ). Waits medium new (exit_of p moment) last)
-            (ap (λ (x : ℕ × ConnectionView). x.1.process) (off-row r) ∙ (mine o).process) (went (off r) (off-there r))) in
-            let adds : Accepts medium old last h (break_off limits h' r.was.number client serial moment) =
+            let over : IsAhead limits confirmed (hub_view store.machine last) (break_off limits h' conn client serial moment) =
+            ends client limits confirmed h' (subst (λ (s : StoreView D). IsAhead limits confirmed (hub_view s.machine after) h') (sym r.comes.0)
+            (emptied-matches o (hub_view old.machine after) refl refl r.table)) (bare-here o) in
+            let process : process_in after conn ≡ client.process = ap process_of (found' r) ∙ (mine o).process in
+            let adds : Accepts medium old store h (break_off limits h' conn client serial moment) =
             record {
               events = exit_of client.process moment;
-              adds = leave-adds limits (with_client h' r.was.number (over-client client)) client.process moment;
-              waits = waited;
+              adds = leave-adds limits (with_client h' conn (over-client client)) client.process moment;
+              waits = rw (r.comes.0, process) at went;
             } in
-            rw (its r d it) (elim r.comes.1 [
-              | inl fault ↦ fault-taken o next moment (IsAhead limits confirmed (hub_view last.machine fs)) (Accepts medium old last h) serial fault
+            elim r.comes.1 [
+              | inl fault ↦ fault-taken o next moment (IsAhead limits confirmed (hub_view store.machine last)) (Accepts medium old store h) serial fault
                   (over, adds)
-              | inr asked ↦ broken-taken o next moment (IsAhead limits confirmed (hub_view last.machine fs)) (Accepts medium old last h) asked.0 (waits r)
+              | inr asked ↦ broken-taken o next moment (IsAhead limits confirmed (hub_view store.machine last)) (Accepts medium old store h) asked.0 r.waits
                   r.few refl (rw asked.1 (over, adds))
-            ]);
-        answers = λ d it none. absurd (some d it none);
+            ];
+        answers = λ none. absurd (some none);
       }

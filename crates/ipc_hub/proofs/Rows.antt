@@ -1,25 +1,27 @@
--- The connections of the code as rows: one by one, and each seen in another way.
-use Rattle.std.proofs.Common.{◌≡◌, ◌≢◌, ℕ, zero, suc, ◌+◌, ◌<◌, ◌≤◌, List, [], ◌∷◌, length, get_or, set, refl, sym, ap, ◌∙◌, inl, inr, arith}
+-- The connections of the code as a table: each seen in another way, and one of a number that is found, lent, put in or taken out.
+use Rattle.std.proofs.Common.{◌≡◌, ◌≢◌, ℕ, zero, suc, ◌+◌, ◌<◌, ◌≤◌, ◌^◌, List, [], ◌∷◌, length, get_or, refl, sym, ap, ◌∙◌, subst, inl, inr, arith}
 use Rattle.std.proofs.lemmas.Bool.{eqb-true}
 use Rattle.std.proofs.lemmas.List.Quantifiers.{position-Some}
 use Rattle.std.proofs.lemmas.List.Sums.{position_or_len_is}
-use Rattle.std.proofs.lemmas.Option.{none-some}
-use Rattle.std.proofs.lemmas.List.{get_or_default, with_items_is}
-use Rattle.std.specs.Prelude.{nat_eq, nat_lt, if◌then◌else◌, Bool, true, false, Some, None, is_some, position, insert, Vec}
+use Rattle.std.proofs.lemmas.Option.{slice_get-get_or, slice_get-map}
+use Rattle.std.specs.Prelude.{nat_eq, nat_lt, Option, option_and_then, option_map, slice_get, if◌then◌else◌, Bool, true, false, Some, None, position}
+use Rattle.std.specs.Prelude.{insert}
 use Rattle.std.specs.List.{position_or_len}
-use Rattle.std.specs.Vec.{with_items}
 use Rattle.std.specs.List.Sorted.{IsNonDecreasingBy}
 use Rattle.std.proofs.lemmas.Bool.Decides.{nat_tests}
 use Rattle.ipc_base.specs.Table.{seen_as, EachValue, IsRising, keys_of, value_at, with_value, with_entry}
-use Rattle.ipc_base.proofs.CallerLemmas.{is_some_value, value_at_place, value_nowhere, set_at_place, same_key, other_key, test_cases}
-use Rattle.ipc_engine.specs.Engine.{Machine}
+use Rattle.ipc_base.proofs.CallerLemmas.{value_at_place, value_nowhere, same_key, other_key, test_cases}
 use Rattle.ipc_hub.specs.declared.connection.Connection.{Connection}
-use Rattle.ipc_hub.specs.View.{ConnectionView, HubView, is_connected}
-use Rattle.ipc_hub.specs.Relations.Rows.{view_of, row, rows, hub_view, IsThere}
+use Rattle.ipc_hub.specs.View.{ConnectionView}
+use Rattle.ipc_hub.specs.Relations.Rows.{Table, view_of, row, rows, changed}
 
 -- there is one value
 pub same_value : {A : Type 0} (x y : A) → Some x ≡ Some y → x ≡ y
 same_value x y is = cc
+
+-- the process of a connection, if there is one
+abbrev pub process_of : Option ConnectionView → Option ℕ
+process_of r = option_and_then (λ (v : ConnectionView). v.process) r
 
 -- what each row is, the one at a place is
 pub each-get : (P : ConnectionView → Type 0) (cs : List Connection) (k : ℕ) (d : Connection) → EachValue P (rows cs) → k < length cs
@@ -37,7 +39,7 @@ rows-seen f [] (n ∷ new) count each = absurd (omega (arith, count))
 rows-seen f (o ∷ old) [] count each = absurd (omega (arith, count))
 rows-seen f (o ∷ old) (n ∷ new) count each =
     ap (λ (e : ℕ × ConnectionView). e ∷ rows new) (each 0 o (omega arith))
-    ∙ ap (λ (es : List (ℕ × ConnectionView)). (o.number, f (view_of o)) ∷ es)
+    ∙ ap (λ (es : Table). (o.number, f (view_of o)) ∷ es)
     (rows-seen f old new (omega (arith, count)) (λ k d within. each (suc k) d (omega (arith, within))))
 
 -- a loop has seen the first connections in another way, and those to come are as they were
@@ -68,62 +70,13 @@ first-place low (c ∷ cs) high (suc k) n d rising within is =
     let other : nat_eq c.number n ≡ false = other_key c.number n (λ same. omega (arith, same, is, above)) in
     rw other (ap (λ (m : ℕ). 1 + m) (first-place (c.number + 1) cs high k n d rising.1 (omega (arith, within)) is) ∙ omega arith)
 
--- where the numbers rise, a connection is the first that has its number
-pub there : (cs : List Connection) (low place high : ℕ) (was : Connection) → IsRising low (keys_of (rows cs)) high → place < length cs
-    → was ≡ get_or cs place was → IsThere cs place was
-there cs low place high was rising within is =
-    let first = first-place low cs high place was.number was rising within (ap (λ (c : Connection). c.number) is) in
+-- where the numbers rise, the connection at a place is the first that has its number
+pub first-at : (cs : List Connection) (place high : ℕ) (was : Connection) → IsRising 0 (keys_of (rows cs)) high → place < length cs
+    → was ≡ get_or cs place was → position (λ (c : Connection). nat_eq c.number was.number) cs ≡ Some place
+first-at cs place high was rising within is =
+    let first = first-place 0 cs high place was.number was rising within (ap (λ (c : Connection). c.number) is) in
     let inside : nat_lt place (length cs) ≡ true = grind (arith, nat_tests) in
-    record { same = is; first = ap (λ (k : ℕ). if nat_lt k (length cs) then Some k else None) first ∙ ap (λ (b : Bool). if b then Some place else None) inside }
-
--- there is one connection at a place
-pub the-same : (cs : List Connection) (place : ℕ) (c was : Connection) → IsThere cs place c → place < length cs → c ≡ get_or cs place was
-the-same cs place c was at within = at.same ∙ sym (get_or_default cs place was c within)
-
-pub at-there : (cs : List Connection) (place : ℕ) (c : Connection) → IsThere cs place c → value_at nat_eq (rows cs) c.number ≡ Some (view_of c)
-at-there cs place c at = value_at_place row nat_eq c.number cs place c at.first at.same
-
-pub set-there : (cs : List Connection) (place : ℕ) (c was new : Connection) (v : ConnectionView) → IsThere cs place c → place < length cs
-    → new.number ≡ (get_or cs place was).number → view_of new ≡ v → rows (set cs place new) ≡ with_value nat_eq (rows cs) c.number v
-set-there cs place c was new v at within same is =
-    set_at_place row nat_eq c.number cs place c new at.first at.same (same ∙ ap (λ (d : Connection). d.number) (sym (the-same cs place c was at within)))
-    ∙ ap (with_value nat_eq (rows cs) c.number) is
-
--- with the same numbers in a row, the same number stands at a place
-pub same-number : (cs ds : List Connection) (k : ℕ) (c d : Connection) → keys_of (rows ds) ≡ keys_of (rows cs) → k < length cs
-    → (get_or ds k d).number ≡ (get_or cs k c).number
-same-number [] ds k c d same within = absurd (omega (arith, within))
-same-number (x ∷ cs) [] k c d same within = cc
-same-number (x ∷ cs) (y ∷ ds) zero c d same within = cc
-same-number (x ∷ cs) (y ∷ ds) (suc k) c d same within =
-    let rest : keys_of (rows ds) ≡ keys_of (rows cs) = cc in
-    same-number cs ds k c d rest (omega (arith, within))
-
-pub same-length : (cs ds : List Connection) → keys_of (rows ds) ≡ keys_of (rows cs) → length ds ≡ length cs
-same-length [] [] same = refl
-same-length [] (y ∷ ds) same = cc
-same-length (x ∷ cs) [] same = cc
-same-length (x ∷ cs) (y ∷ ds) same = let rest : keys_of (rows ds) ≡ keys_of (rows cs) = cc in ap suc (same-length cs ds rest)
-
--- some connection is at a place
-pub at-place : (cs : List Connection) (place high : ℕ) (d : Connection) → IsRising 0 (keys_of (rows cs)) high → place < length cs
-    → IsThere cs place (get_or cs place d)
-at-place cs place high d rising within = there cs 0 place high (get_or cs place d) rising within (get_or_default cs place d (get_or cs place d) within)
-
--- and one alone
-pub same-there : (cs : List Connection) (place : ℕ) (c d : Connection) → place < length cs → IsThere cs place c → IsThere cs place d → c ≡ d
-same-there cs place c d within at too = the-same cs place c d at within ∙ sym too.same
-
--- with the same numbers in a row, the one at a place has the number that stood there, and what the rows have under it
-pub row-there : (cs ds : List Connection) (place : ℕ) (c d : Connection) (v : ConnectionView) → place < length cs → IsThere cs place c
-    → keys_of (rows ds) ≡ keys_of (rows cs) → value_at nat_eq (rows ds) c.number ≡ Some v → IsThere ds place d → row d ≡ (c.number, v)
-row-there cs ds place c d v within at keys now at' = λ i. (sym number i, same_value (view_of d) v view i)
-  where
-    number : c.number ≡ d.number
-    number = ap (λ (x : Connection). x.number) at.same ∙ sym (same-number cs ds place c d keys within) ∙ ap (λ (x : Connection). x.number) (sym at'.same)
-
-    view : Some (view_of d) ≡ Some v
-    view = sym (at-there ds place d at') ∙ ap (value_at nat_eq (rows ds)) (sym number) ∙ now
+    ap (λ (k : ℕ). if nat_lt k (length cs) then Some k else None) first ∙ ap (λ (b : Bool). if b then Some place else None) inside
 
 -- ---- where a number stands, or would
 
@@ -157,7 +110,7 @@ entry-there (c ∷ cs) zero new within below above =
     rw before refl
 entry-there (c ∷ cs) (suc p) new within below above =
     let behind : nat_lt new.number c.number ≡ false = let lt = below 0 c (omega arith) in grind (arith, nat_tests) in
-    rw behind (ap (λ (t : List (ℕ × ConnectionView)). row c ∷ t) (entry-there cs p new (omega (arith, within))
+    rw behind (ap (λ (t : Table). row c ∷ t) (entry-there cs p new (omega (arith, within))
     (λ k d lt. below (suc k) d (omega (arith, lt)))
     (λ k d le lt. above (suc k) d (omega (arith, le)) (omega (arith, lt)))))
 
@@ -173,29 +126,25 @@ nowhere-at cs place n below above =
     ]) in
     none_passes (λ (c : Connection). nat_eq c.number n) cs other
 
--- a vector whose elements were changed in place
-pub sliced : {Z : Type 0} (v : Vec Connection Z) (xs new : List Connection) → xs ≡ v.items → keys_of (rows new) ≡ keys_of (rows xs)
-    → (with_items v new).items ≡ new
-sliced v xs new same keys = with_items_is v new (same-length xs new keys ∙ ap length same ∙ sym v.ok.0)
-
 -- what a search over the elements of a vector found, or did not
-pub found-at : (items cs : List Connection) (place conn : ℕ) (was : Connection) → cs ≡ items
-    → position (λ (c : Connection). nat_eq c.number conn) cs ≡ Some place → was ≡ get_or items place was
-    → value_at nat_eq (rows items) conn ≡ Some (view_of was)
-found-at items cs place conn was same found is =
-    value_at_place row nat_eq conn items place was (ap (position (λ (c : Connection). nat_eq c.number conn)) (sym same) ∙ found) is
+module _ (items cs : List Connection) (conn : ℕ) (same : cs ≡ items) where
+  pub found-first : (place : ℕ) → position (λ (c : Connection). nat_eq c.number conn) cs ≡ Some place
+      → position (λ (c : Connection). nat_eq c.number conn) items ≡ Some place
+  found-first place found = ap (position (λ (c : Connection). nat_eq c.number conn)) (sym same) ∙ found
 
-pub missing-at : (items cs : List Connection) (conn : ℕ) → cs ≡ items → position (λ (c : Connection). nat_eq c.number conn) cs ≡ None
-    → value_at nat_eq (rows items) conn ≡ None
-missing-at items cs conn same none =
-    value_nowhere row nat_eq conn items (ap (position (λ (c : Connection). nat_eq c.number conn)) (sym same) ∙ none)
+  pub found-at : (place : ℕ) (was : Connection) → position (λ (c : Connection). nat_eq c.number conn) cs ≡ Some place → was ≡ get_or items place was
+      → (value_at nat_eq (rows items) conn ≡ Some (view_of was)) × (was.number ≡ conn)
+  found-at place was found is = (
+    value_at_place row nat_eq conn items place was (found-first place found) is,
+    let first = position-Some (λ (c : Connection). nat_eq c.number conn) items place was (found-first place found) in
+        eqb-true was.number conn (rw (sym is) at first.1),
+  )
 
--- whether a search found a number is whether a connection has it
-pub searched : (engine : Machine) (items cs : List Connection) (conn : ℕ) (hub : HubView) → cs ≡ items → hub_view engine items ≡ hub
-    → is_connected hub conn ≡ is_some (position (λ (c : Connection). nat_eq c.number conn) cs)
-searched engine items cs conn hub same is =
-    ap (λ (h : HubView). is_connected h conn) (sym is) ∙ is_some_value row nat_eq conn items
-    ∙ ap (λ (xs : List Connection). is_some (position (λ (c : Connection). nat_eq c.number conn) xs)) (sym same)
+  pub missing-first : position (λ (c : Connection). nat_eq c.number conn) cs ≡ None → position (λ (c : Connection). nat_eq c.number conn) items ≡ None
+  missing-first none = ap (position (λ (c : Connection). nat_eq c.number conn)) (sym same) ∙ none
+
+  pub missing-at : position (λ (c : Connection). nat_eq c.number conn) cs ≡ None → value_at nat_eq (rows items) conn ≡ None
+  missing-at none = value_nowhere row nat_eq conn items (missing-first none)
 
 -- a number that has no value is that of no connection
 pub apart-from : (cs : List Connection) (n k : ℕ) (d : Connection) → value_at nat_eq (rows cs) n ≡ None → k < length cs → (get_or cs k d).number ≢ n
@@ -208,16 +157,36 @@ apart-from (c ∷ cs) n (suc k) d none within =
       | inr other ↦ apart-from cs n k d (rw other at none) (omega (arith, within))
     ]
 
--- the connection at a place that a search found, with the same numbers in a row
-found-from : (c : Connection) (cs ds : List Connection) (low high place n : ℕ) → IsRising low (keys_of (rows ds)) high → keys_of (rows ds) ≡ keys_of (rows cs)
-    → position (λ (e : Connection). nat_eq e.number n) cs ≡ Some place → (d : Connection) × (IsThere ds place d × (d.number ≡ n))
-found-from c cs ds low high place n rising keys found =
-    let first = position-Some (λ (e : Connection). nat_eq e.number n) cs place c found in
-    let within : place < length ds = omega (arith, first.0, same-length cs ds keys) in
-    let number : (get_or ds place c).number ≡ n = same-number cs ds place c c keys first.0 ∙ eqb-true _ n first.1 in
-    (get_or ds place c, (there ds low place high (get_or ds place c) rising within (get_or_default ds place c (get_or ds place c) within), number))
+-- a connection put in at the place that a search for its number gave
+pub inserted : (items cs : List Connection) (place : ℕ) (new : Connection) → cs ≡ items → place ≤ length cs
+    → ((k : ℕ) (d : Connection) → k < place → (get_or cs k d).number < new.number)
+    → ((k : ℕ) (d : Connection) → place ≤ k → k < length cs → new.number ≤ (get_or cs k d).number) → value_at nat_eq (rows items) new.number ≡ None
+    → rows (insert items place new) ≡ with_entry (rows items) new.number (view_of new)
+inserted items cs place new same within below rest =
+    subst (λ (xs : List Connection). value_at nat_eq (rows xs) new.number ≡ None → rows (insert xs place new) ≡ with_entry (rows xs) new.number (view_of new))
+    same (λ none. entry-there cs place new within below
+    (λ k d le lt. let apart = apart-from cs new.number k d none lt in omega (arith, rest k d le lt, apart)))
 
-pub found-there : (cs ds : List Connection) (low high place n : ℕ) → IsRising low (keys_of (rows ds)) high → keys_of (rows ds) ≡ keys_of (rows cs)
-    → position (λ (c : Connection). nat_eq c.number n) cs ≡ Some place → (d : Connection) × (IsThere ds place d × (d.number ≡ n))
-found-there [] ds low high place n rising keys found = absurd (none-some place found)
-found-there (c ∷ cs) ds low high place n rising keys found = found-from c (c ∷ cs) ds low high place n rising keys found
+-- the connection that was lent has changed
+pub put-changed : (see : ConnectionView → ConnectionView) (old new : Table) (conn : ℕ) (was now : Connection)
+    → (now.number ≡ conn → new ≡ changed (λ _. view_of now) conn old) → Some (view_of was) ≡ value_at nat_eq old conn → was.number ≡ conn
+    → now.number ≡ was.number → view_of now ≡ see (view_of was) → new ≡ changed see conn old
+put-changed see old new conn was now put found number same is =
+    let done = rw (sym found) at put (same ∙ number) in
+    rw (sym found) (done ∙ ap (with_value nat_eq old conn) is)
+
+pub same-changed : (see : ConnectionView → ConnectionView) (table : Table) (conn : ℕ) → None ≡ value_at nat_eq table conn → table ≡ changed see conn table
+same-changed see table conn none = rw (sym none) refl
+
+-- the number of the connection at a place, and that it is the one that has this number
+pub place-at : (items cs : List Connection) (place : ℕ) (c : Connection) → cs ≡ items → IsRising 0 (keys_of (rows items)) (2 ^ 32) → place < length cs
+    → c ≡ get_or cs place c → (slice_get (keys_of (rows items)) place ≡ Some c.number) × (value_at nat_eq (rows items) c.number ≡ Some (view_of c))
+place-at items cs place c same rising within is =
+    let long : place < length items = rw (sym same) within in
+    let one : c ≡ get_or items place c = rw (sym same) is in (
+      slice_get-map (λ (e : ℕ × ConnectionView). e.0) (rows items) place
+          ∙ ap (option_map (λ (e : ℕ × ConnectionView). e.0)) (slice_get-map row items place)
+          ∙ ap (λ (o : Option Connection). option_map (λ (e : ℕ × ConnectionView). e.0) (option_map row o))
+          (slice_get-get_or items place c long ∙ ap (λ (d : Connection). Some d) (sym one)),
+      value_at_place row nat_eq c.number items place c (first-at items place (2 ^ 32) c rising long one) one,
+    )

@@ -1,12 +1,12 @@
 -- Bytes up to the end of a frame on a connection: what is done with them is their taking in by the definitions.
 use Rattle.std.proofs.Common.{◌≡◌, ℕ, ◌≤◌, Bool, true, false, List, [], ◌∷◌, ◌++◌, length, drop, Option, Some, None, refl, sym, ap, ◌∙◌, subst, arith}
 use Rattle.std.proofs.Common.{append-nil, append_assoc, inl, inr}
-use Rattle.std.specs.Prelude.{nat_eq}
+use Rattle.std.specs.Prelude.{nat_eq, not}
 use Rattle.std.proofs.lemmas.List.{drop_all, length-append}
 use Rattle.ipc_base.specs.Table.{value_at, with_value}
 use Rattle.ipc_base.specs.declared.errno.Errno.TheVariants.{ENOMEM}
 use Rattle.ipc_base.specs.declared.limits.Limits.{Limits}
-use Rattle.ipc_base.proofs.CallerLemmas.{paired-at, at-with, twice, own}
+use Rattle.ipc_base.proofs.CallerLemmas.{paired-at, each-at, at-with, twice, own}
 use Rattle.ipc_wire.specs.Stream.{PlainFrame, first, missing, Stream, begins_with, stream_of}
 use Rattle.ipc_wire.specs.Stream.PlainFrame.{More, Whole, Fault}
 use Rattle.ipc_wire.specs.Stream.Ending.{Rest}
@@ -24,7 +24,10 @@ use Rattle.ipc_hub.specs.Relations.Delivery.{pushed}
 use Rattle.ipc_hub.specs.Relations.Matches.{ClientMatches, IsAhead, TakesIn, Waits, Accepts}
 use Rattle.ipc_hub.specs.Relations.Requests.{IsRequest}
 use Rattle.ipc_hub.proofs.Deliveries.{push-matches}
-use Rattle.ipc_hub.proofs.Ending.{change-matches}
+use Rattle.ipc_hub.proofs.Ending.{change-matches, pair-at}
+use Rattle.ipc_hub.proofs.Rows.{same_value}
+use Rattle.ipc_hub.specs.Relations.Rows.{goes_on_in}
+use Rattle.ipc_hub.specs.Relations.Invariant.{IsKept, HubInvariant}
 use Rattle.ipc_hub.proofs.Pieces.{KeepsNone, over_or_live, acts, ended-stays, settled, emptied, take_in-acts, take_in-nothing, take_in-pieces, request-keeps}
 
 -- nothing is behind the requests, and nothing is kept
@@ -190,26 +193,35 @@ module _ {D : Type 0} (medium : D → Medium) (law : (d : D) (image : Image) →
     -- the hub is as it was, and so is the hub of the definitions
     takes-none : (old : StoredHub D) (conn moment : ℕ) (bytes : List ℕ) → ((limits : Limits) (confirmed : ℕ) (h : Clients) → IsAhead limits confirmed old.hub h
         → take_in limits h conn bytes moment [] ≡ h) → TakesIn medium old old conn bytes moment
-    takes-none old conn moment bytes stays limits confirmed h ahead =
+    takes-none old conn moment next stays limits confirmed h ahead =
         let is = subst (λ (t : Clients). IsAhead limits confirmed old.hub t × Accepts medium old.store old.store h t) (sym (stays limits confirmed h ahead))
         (ahead, same-accepts old.store old.store h h refl refl) in
         ([], is.0, is.1)
 
     -- no bytes come
-    pub nothing-takes : (old : StoredHub D) (conn moment : ℕ) (v : ConnectionView) → value_at nat_eq old.hub.connections conn ≡ Some v → first v.input ≡ More
-        → TakesIn medium old old conn [] moment
-    nothing-takes old conn moment v found waits = takes-none old conn moment [] (λ limits confirmed h ahead.
-        let p = paired-at (ClientMatches confirmed (accepted h)) old.hub.connections h.clients conn v ahead.matches.clients found in
-        take_in-nothing limits h conn moment (λ c is.
-        let found' : Some p.0 ≡ Some c = sym p.1.0 ∙ is in let same : c ≡ p.0 = cc in
-        ap (λ (d : Client). first d.input) same ∙ ap first (sym p.1.1.input) ∙ waits))
+    pub nothing-takes : (old : StoredHub D) (conn moment : ℕ) → HubInvariant old.hub → TakesIn medium old old conn [] moment
+    nothing-takes old conn moment inv = takes-none old conn moment [] (λ limits confirmed h ahead. take_in-nothing limits h conn moment (λ c is.
+        elim (pair-at limits confirmed old.hub h conn ahead.matches) [
+          | inl none ↦ let never : None ≡ Some c = sym none.1 ∙ is in cc
+          | inr p ↦
+              ap (λ (d : Client). first d.input) (same_value c p.c (sym is ∙ p.here)) ∙ ap first (sym p.mine.input)
+              ∙ (each-at (IsKept old.hub.limits) old.hub.connections conn p.v inv.each p.at).input
+        ]))
 
-    -- the connection has ended
-    pub ended-takes : (old : StoredHub D) (conn moment : ℕ) (v : ConnectionView) (bytes : List ℕ) → value_at nat_eq old.hub.connections conn ≡ Some v
-        → v.ended ≡ true → TakesIn medium old old conn bytes moment
-    ended-takes old conn moment v next found over = takes-none old conn moment next (λ limits confirmed h ahead.
-        let p = paired-at (ClientMatches confirmed (accepted h)) old.hub.connections h.clients conn v ahead.matches.clients found in
-        ended-stays h conn _ p.0 p.1.0 (sym p.1.1.ended ∙ over))
+    -- the connection has ended, or there is none
+    pub over-takes : (old : StoredHub D) (conn moment : ℕ) (bytes : List ℕ) → goes_on_in old.hub.connections conn ≡ false
+        → TakesIn medium old old conn bytes moment
+    over-takes old conn moment next over = takes-none old conn moment next (λ limits confirmed h ahead.
+        elim (pair-at limits confirmed old.hub h conn ahead.matches) [
+          | inl none ↦ rw none.1 refl
+          | inr p ↦
+              let ended : not p.v.ended ≡ false = rw p.at at over in
+              ended-stays h conn _ p.c p.here (sym p.mine.ended ∙ by_end p.v.ended ended)
+        ])
+      where
+        by_end : (b : Bool) → not b ≡ false → b ≡ true
+        by_end true _ = refl
+        by_end false never = cc
 
     pub accepts-then : (one two three : StoreView D) (h h' h'' : Clients) → Accepts medium one two h h' → Accepts medium two three h' h''
         → Accepts medium one three h h''

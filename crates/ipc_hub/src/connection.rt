@@ -8,7 +8,6 @@ ghost use Rattle.ipc_wire.specs.Stream.{first, missing};
 ghost use Rattle.ipc_wire.specs.Stream.PlainFrame.{More};
 ghost use Rattle.ipc_engine.specs.View.{reply_of};
 ghost use Rattle.ipc_hub.specs.Clients.{refusal as refusal_of};
-ghost use Rattle.ipc_hub.specs.Relations.Delivery.{last_frame, last_frames};
 
 use crate::outbox::Outbox;
 use ipc_base::{Errno, Pid};
@@ -43,6 +42,9 @@ impl Connection {
     ghost use Rattle.ipc_hub.specs.Relations.Invariant.{IsNew};
     ghost use Rattle.ipc_hub.specs.Relations.Rows.{pid_of, view_of};
     ghost use Rattle.ipc_hub.specs.Relations.Delivery.{
+      last_frame,
+      last_frames,
+      closed,
       IsShort,
       HasRoomIn,
       HasRoomToGreet,
@@ -88,6 +90,13 @@ impl Connection {
         ensures { result ≡ self.now.ended }
     {
         self.ended
+    }
+
+    /// Whether it has nothing to say: no byte that its client may see, and no end.
+    pub(crate) fn is_silent(&self) -> bool
+        ensures { IsTrue result ↔ ((self.now.outbox.visible ≡ []) × (self.now.ended ≡ false)) }
+    {
+        !self.ended && self.outbox.visible().is_empty()
     }
 
     /// Whether a reply of so many bytes, and the last frames behind it, have room.
@@ -173,8 +182,7 @@ impl Connection {
     pub(crate) fn close(&mut self) -> Option<Pid>
         ensures process { pid_of result ≡ pid_of self.old.process }
         ensures number { self.new.number ≡ self.old.number }
-        ensures view { view_of self.new
-            ≡ record (view_of self.old) { process = None; input = []; ended = true } }
+        ensures view { view_of self.new ≡ closed (view_of self.old) }
     {
         self.input.clear();
         self.ended = true;

@@ -14,8 +14,8 @@ ghost use Rattle.ipc_hub.specs.Relations.Faults.{Halts, Refuses};
 ghost use Rattle.ipc_hub.specs.Relations.Invariant.{SameButSeen};
 
 use crate::connection::Connection;
+use crate::connections::Connections;
 use crate::fault::{ConnectError, ServeError};
-use crate::places::{place_for, place_of, tell};
 use crate::serving;
 use ipc_base::Moment;
 use ipc_disk::SectorDisk;
@@ -32,8 +32,7 @@ const MOST_EVENTS: usize = 2;
 pub struct Hub<D: SectorDisk> {
     alloc: Global,
     store: Store<D>,
-    /// In rising number.
-    connections: Vec<Connection>,
+    connections: Connections,
 }
 
 impl<D: SectorDisk> Model for Hub<D> {
@@ -41,12 +40,12 @@ impl<D: SectorDisk> Model for Hub<D> {
 
     ghost Value = { StoredHub D };
 
-    ghost use Rattle.ipc_hub.specs.Relations.Rows.{stored_view};
+    ghost use Rattle.ipc_hub.specs.Relations.Rows.{stored_view, table_of};
     ghost use Rattle.ipc_hub.specs.Relations.Invariant.{StoredInvariant};
 
-    ghost view = { λ h. stored_view h.store h.connections.items };
+    ghost view = { λ h. stored_view h.store (table_of h.connections) };
 
-    ghost invariant = { λ h. StoredInvariant (stored_view h.store h.connections.items) };
+    ghost invariant = { λ h. StoredInvariant (stored_view h.store (table_of h.connections)) };
 }
 
 impl<D: SectorDisk> Hub<D> {
@@ -65,7 +64,7 @@ impl<D: SectorDisk> Hub<D> {
         Hub {
             alloc,
             store,
-            connections: Vec::new(alloc),
+            connections: Connections::new(alloc),
         }
     }
 
@@ -82,7 +81,7 @@ impl<D: SectorDisk> Hub<D> {
         if self.has_stopped() {
             return Err(ConnectError::Stopped);
         }
-        if place_of(&self.connections, conn).is_some() {
+        if self.connections.contains(conn) {
             return Err(ConnectError::InUse);
         }
         match self.add(conn) {
@@ -100,8 +99,7 @@ impl<D: SectorDisk> Hub<D> {
     {
         let reply = self.store.engine().limits().longest_reply();
         let connection = Connection::new(self.alloc, conn, reply)?;
-        let place = place_for(&self.connections, conn);
-        self.connections.insert(place, connection)?;
+        self.connections.insert(connection)?;
         Ok(())
     }
 
@@ -127,13 +125,13 @@ impl<D: SectorDisk> Hub<D> {
         if self.has_stopped() {
             return Err(ServeError::Stopped);
         }
-        let Some(place) = place_of(&self.connections, conn) else {
+        if !self.connections.contains(conn) {
             return Err(ServeError::Unknown);
-        };
+        }
         if let Err(error) = self.pass(moment) {
             return Err(ServeError::from(error));
         }
-        let taken = serving::take_in(&mut self.store, &mut self.connections, place, piece, moment);
+        let taken = serving::take_in(&mut self.store, &mut self.connections, conn, piece, moment);
         Ok(taken)
     }
 
@@ -150,19 +148,14 @@ impl<D: SectorDisk> Hub<D> {
         if self.has_stopped() {
             return Err(ServeError::Stopped);
         }
-        let Some(place) = place_of(&self.connections, conn) else {
+        if !self.connections.contains(conn) {
             return Err(ServeError::Unknown);
-        };
+        }
         if let Err(error) = self.pass(moment) {
             return Err(ServeError::from(error));
         }
-        let connection = self.connections.remove(place);
-        serving::leave(
-            &mut self.store,
-            &mut self.connections,
-            connection.process,
-            moment,
-        );
+        let process = self.connections.remove(conn);
+        serving::leave(&mut self.store, &mut self.connections, process, moment);
         Ok(())
     }
 
@@ -220,7 +213,7 @@ impl<D: SectorDisk> Hub<D> {
             return Err(CommitError::Stopped);
         }
         let done = self.store.commit();
-        tell(&mut self.connections, done);
+        self.connections.tell(done);
         done
     }
 
@@ -245,7 +238,7 @@ impl<D: SectorDisk> Hub<D> {
             return Err(CommitError::Stopped);
         }
         let done = self.store.save();
-        tell(&mut self.connections, done);
+        self.connections.tell(done);
         done
     }
 
@@ -279,7 +272,7 @@ impl<D: SectorDisk> Hub<D> {
         ensures rows { rows result.now ≡ self.now.hub.connections }
         ensures rising { IsRising 0 (keys_of self.now.hub.connections) (2 ^ 32) }
     {
-        &self.connections
+        self.connections.all()
     }
 
     /// Whether the connection at this place among them all has this number, and nothing to say: no byte that its client
@@ -288,11 +281,7 @@ impl<D: SectorDisk> Hub<D> {
         ensures { IsTrue result ↔ ((slice_get (keys_of self.now.hub.connections) place ≡ Some conn)
             × (output_of self.now.hub conn ≡ []) × (ended_of self.now.hub conn ≡ false)) }
     {
-        if place >= self.connections.len() {
-            return false;
-        }
-        let connection = &self.connections[place];
-        connection.number() == conn && connection.output().is_empty() && !connection.ended()
+        self.connections.is_silent(place, conn)
     }
 
     /// The bytes that the client of a connection may see; none where no connection has the number.
@@ -301,13 +290,7 @@ impl<D: SectorDisk> Hub<D> {
             → result.now ≡ shown_at confirmed h conn }
         ensures bytes { result.now ≡ output_of self.now.hub conn }
     {
-        match place_of(&self.connections, conn) {
-            Some(place) => {
-                let connection = &self.connections[place];
-                connection.output()
-            }
-            None => &[],
-        }
+        self.connections.output(conn)
     }
 
     /// The client has taken the first `count` bytes of its output.
@@ -317,10 +300,7 @@ impl<D: SectorDisk> Hub<D> {
         ensures output { output_of self.new.hub conn ≡ drop count (output_of self.old.hub conn) }
         ensures store { self.new.store ≡ self.old.store }
     {
-        if let Some(place) = place_of(&self.connections, conn) {
-            let connection = &mut self.connections[place];
-            connection.consume(count);
-        }
+        self.connections.consume(conn, count);
     }
 
     /// Whether the server has ended a connection; not so where none has the number.
@@ -329,13 +309,7 @@ impl<D: SectorDisk> Hub<D> {
             → HubMatches limits confirmed self.now.hub h → result ≡ ended_at h conn }
         ensures ended { result ≡ ended_of self.now.hub conn }
     {
-        match place_of(&self.connections, conn) {
-            Some(place) => {
-                let connection = &self.connections[place];
-                connection.ended()
-            }
-            None => false,
-        }
+        self.connections.ended(conn)
     }
 
     /// The store as it is; the connections, and frames that wait, are gone.

@@ -3,11 +3,11 @@
 #![tactic(auto)]
 
 mod connection;
+mod connections;
 mod fault;
 mod hub;
 mod laws;
 mod outbox;
-mod places;
 mod serving;
 
 pub use connection::Connection;

@@ -1,15 +1,16 @@
 -- Replies put into the outboxes of their processes.
-use Rattle.std.specs.Prelude.{◌≡◌, ℕ, ◌+◌, ◌-◌, ◌<◌, ◌≤◌, ◌^◌, ◌==◌, true}
+use Rattle.std.specs.Prelude.{◌≡◌, ℕ, ◌+◌, ◌-◌, ◌<◌, ◌≤◌, ◌^◌, ◌==◌, true, false}
 use Rattle.std.specs.Prelude.{List, [], ◌∷◌, ◌++◌, length, drop}
 use Rattle.std.specs.Prelude.{if◌then◌else◌}
-use Rattle.std.specs.Prelude.{Option, Some, None, nat_eq}
+use Rattle.std.specs.Prelude.{Option, Some, None, IfSome, nat_eq}
 use Rattle.ipc_base.specs.declared.errno.Errno.TheVariants.{EIO}
-use Rattle.ipc_base.specs.Table.{seen_as, with_value, EachValue}
+use Rattle.ipc_base.specs.Table.{seen_as, value_at, EachValue}
 use Rattle.ipc_wire.specs.Reply.{PlainReply, reply_bytes, body_bytes}
 use Rattle.ipc_engine.specs.Event.{PlainOutcome}
 use Rattle.ipc_engine.specs.View.{reply_of}
 use Rattle.ipc_hub.specs.Clients.{is_for, last_reply, refusal}
 use Rattle.ipc_hub.specs.View.{Outgoing, ConnectionView, kept}
+use Rattle.ipc_hub.specs.Relations.Rows.{Table, changed}
 
 -- the bytes of a frame without a body, such as the last one of a connection that the server ends
 abbrev pub last_frame : ℕ
@@ -46,18 +47,20 @@ consumed count c = record c { outbox = less count c.outbox }
 abbrev pub pushed : PlainReply → ConnectionView → ConnectionView
 pushed r c = record c { outbox = with_bytes c.outbox (reply_bytes r) }
 
+-- a connection that is over, and gets one more frame
+abbrev pub closed : ConnectionView → ConnectionView
+closed c = record c { process = None; input = []; ended = true }
+
 -- a connection when the disk has failed
 abbrev pub failed : ConnectionView → ConnectionView
 failed c =
-    let left : ConnectionView =
-    record { process = None; input = []; outbox = retracted c.outbox; ended = true } in
-    released (pushed (reply_of (refusal 0 EIO)) left)
+    released (pushed (reply_of (refusal 0 EIO)) (record (closed c) { outbox = retracted c.outbox }))
 
 -- a reply, if it is for the process of the connection
 abbrev pub put_for : PlainOutcome → ConnectionView → ConnectionView
 put_for o c = if is_for o.pid c.process then pushed (reply_of o) c else c
 
-abbrev pub put_all : List PlainOutcome → List (ℕ × ConnectionView) → List (ℕ × ConnectionView)
+abbrev pub put_all : List PlainOutcome → Table → Table
 put_all [] table = table
 put_all (o ∷ os) table = put_all os (seen_as (put_for o) table)
 
@@ -95,7 +98,7 @@ abbrev pub HasRoomIn : PlainOutcome → ConnectionView → Type 0
 HasRoomIn o c = is_for o.pid c.process ≡ true → HasRoom o c
 
 -- so has each of some replies, one after the other
-abbrev pub HaveRoom : List PlainOutcome → List (ℕ × ConnectionView) → Type 0
+abbrev pub HaveRoom : List PlainOutcome → Table → Type 0
 HaveRoom [] table = Unit {0}
 HaveRoom (o ∷ os) table =
     IsShort o × (EachValue (HasRoomIn o) table × HaveRoom os (seen_as (put_for o) table))
@@ -106,12 +109,15 @@ HasRoomToGreet None c = Unit {0}
 HasRoomToGreet (Some o) c = IsShort o × HasRoom o c
 
 -- the table in which a connection has been told the reply to its request
-abbrev pub with_answer : List PlainOutcome → ℕ × ConnectionView → List (ℕ × ConnectionView)
-    → List (ℕ × ConnectionView)
-with_answer os e table = with_value nat_eq table e.0 (answered (last_reply os) e.1)
+abbrev pub with_answer : List PlainOutcome → ℕ → Table → Table
+with_answer os conn table = changed (answered (last_reply os)) conn table
 
 -- the replies to the request of a connection, and the others of its event, have room
-pub record HasRoomToAnswer (os : List PlainOutcome) (e : ℕ × ConnectionView) (table : List (ℕ × ConnectionView))
-    : Type 0 where
-  pub own : e.1.process ≡ None → HasRoomToGreet (last_reply os) e.1
-  pub all : HaveRoom os (with_answer os e table)
+pub record HasRoomToAnswer (os : List PlainOutcome) (conn : ℕ) (table : Table) : Type 0 where
+  pub own : IfSome (value_at nat_eq table conn) (λ c. c.process ≡ None → HasRoomToGreet (last_reply os) c)
+  pub all : HaveRoom os (with_answer os conn table)
+
+-- a reply of so many bytes to a connection that goes on has room, and the last frames behind it
+abbrev pub HasRoomFor : ℕ → Table → ℕ → Type 0
+HasRoomFor reply table conn =
+    IfSome (value_at nat_eq table conn) (λ c. c.ended ≡ false → reply + last_frames ≤ c.outbox.free)

@@ -1,6 +1,6 @@
 -- What holds of a hub after every call, and while it serves its connections.
-use Rattle.std.specs.Prelude.{◌≡◌, ◌≢◌, ◌⊎◌, ℕ, ◌+◌, ◌≤◌, ◌^◌, true, false, List, []}
-use Rattle.std.specs.Prelude.{length, nat_eq, Option, Some, None, option_and_then}
+use Rattle.std.specs.Prelude.{◌≡◌, ◌≢◌, ◌⊎◌, ℕ, ◌+◌, ◌≤◌, ◌^◌, true, false, []}
+use Rattle.std.specs.Prelude.{length, nat_eq, Option, Some, None}
 use Rattle.ipc_base.specs.Limits.{longest_reply}
 use Rattle.ipc_base.specs.Table.{value_at, keys_of, seen_as, EachValue, IsRising}
 use Rattle.ipc_base.specs.declared.limits.Limits.{Limits}
@@ -9,13 +9,10 @@ use Rattle.ipc_wire.specs.Stream.PlainFrame.{More}
 use Rattle.ipc_state.specs.State.{State, is_process}
 use Rattle.ipc_hub.specs.View.{ConnectionView, HubView, StoredHub, kept}
 use Rattle.ipc_hub.specs.Relations.Delivery.{last_frames, released, HasSpare}
-
--- the process of the connection that a number has
-abbrev pub process_in : List (ℕ × ConnectionView) → ℕ → Option ℕ
-process_in table conn = option_and_then (λ c. c.process) (value_at nat_eq table conn)
+use Rattle.ipc_hub.specs.Relations.Rows.{Table, process_in}
 
 -- each process of a connection is connected, and no other connection has it
-pub record AreOwn (s : State) (table : List (ℕ × ConnectionView)) : Type 0 where
+pub record AreOwn (s : State) (table : Table) : Type 0 where
   pub connected : (conn pid : ℕ) → process_in table conn ≡ Some pid → is_process s pid ≡ true
   pub one : (conn other pid : ℕ) → process_in table conn ≡ Some pid → process_in table other ≡ Some pid
       → conn ≡ other
@@ -65,11 +62,11 @@ IsConnected s None = Unit {0}
 IsConnected s (Some pid) = is_process s pid ≡ true
 
 -- no connection has the process
-abbrev pub IsNobodys : List (ℕ × ConnectionView) → Option ℕ → Type 0
+abbrev pub IsNobodys : Table → Option ℕ → Type 0
 IsNobodys table process = (conn pid : ℕ) → process ≡ Some pid → process_in table conn ≢ Some pid
 
 -- the connections without a process are as they were
-abbrev pub LeavesOthers : List (ℕ × ConnectionView) → List (ℕ × ConnectionView) → Type 0
+abbrev pub LeavesOthers : Table → Table → Type 0
 LeavesOthers old new =
     (conn : ℕ) (c : ConnectionView) → value_at nat_eq old conn ≡ Some c → c.process ≡ None
     → value_at nat_eq new conn ≡ Some c

@@ -1,8 +1,8 @@
 -- What a request comes to: a step of the machine, or none.
-use Rattle.std.specs.Prelude.{◌≡◌, ◌⊎◌, ℕ, ◌+◌, ◌<◌, ◌≤◌, true, false, List, [], ◌∷◌, ◌++◌}
+use Rattle.std.specs.Prelude.{◌≡◌, ◌⊎◌, ℕ, ◌+◌, ◌≤◌, true, false, List, [], ◌∷◌, ◌++◌}
 use Rattle.std.specs.Prelude.{length, nat_eq, Option, Some, None}
 use Rattle.ipc_base.specs.Limits.{ArePassed, longest_reply}
-use Rattle.ipc_base.specs.Table.{with_value}
+use Rattle.ipc_base.specs.Table.{value_at, with_value, keys_of}
 use Rattle.ipc_disk.specs.Medium.{Medium}
 use Rattle.ipc_wire.specs.Request.{PlainRequest}
 use Rattle.ipc_wire.specs.Stream.{PlainFrame, first, missing}
@@ -12,12 +12,11 @@ use Rattle.ipc_engine.specs.Engine.{takes_memory}
 use Rattle.ipc_engine.specs.Event.{PlainEvent, Exit}
 use Rattle.ipc_engine.specs.Step.{step}
 use Rattle.ipc_store.specs.View.{StoreView}
-use Rattle.ipc_hub.specs.declared.connection.Connection.{Connection}
 use Rattle.ipc_hub.specs.declared.serving.Asked.{Asked}
 use Rattle.ipc_hub.specs.declared.serving.Asked.TheVariants as asked
 use Rattle.ipc_hub.specs.Clients.{event_of}
-use Rattle.ipc_hub.specs.View.{ConnectionView, kept}
-use Rattle.ipc_hub.specs.Relations.Rows.{view_of, rows, hub_view, stored_view, IsThere}
+use Rattle.ipc_hub.specs.View.{ConnectionView, HasNoFrame}
+use Rattle.ipc_hub.specs.Relations.Rows.{Table, hub_view, stored_view}
 use Rattle.ipc_hub.specs.Relations.Delivery.{last_frames}
 use Rattle.ipc_hub.specs.Relations.Invariant.{HubInvariant, GoesOn}
 use Rattle.ipc_hub.specs.Relations.Matches.{Waits, TakesIn}
@@ -77,37 +76,26 @@ taken_off (asked.Broken serial) c = record c { input = [] }
 
 -- ---- a connection takes bytes
 
--- The connection at a place, which goes on and has room for a reply, has received bytes up to the end of a frame at
+-- The connection with a number, which goes on and has room for a reply, has received bytes up to the end of a frame at
 -- most; this came of them, and a whole frame was taken off it. What holds of the hub still holds.
-pub record Received {D : Type 0} (medium : D → Medium) (old new : StoreView D) (cs ds : List Connection) (place : ℕ)
+pub record Received {D : Type 0} (medium : D → Medium) (old new : StoreView D) (before after : Table) (conn : ℕ)
     (bytes : List ℕ) (moment : ℕ) (asked : Asked) : Type 0 where
   pub passed : ArePassed old.machine.limits
-  pub hub : HubInvariant (hub_view old.machine cs)
-  pub within : place < length cs
-  pub was : Connection
-  pub there : IsThere cs place was
+  pub was : ConnectionView
+  pub found : value_at nat_eq before conn ≡ Some was
   pub live : was.ended ≡ false
   pub room : longest_reply old.machine.limits + last_frames ≤ was.outbox.free
-  pub few : length bytes ≤ missing was.input.items
-  pub comes : ComesTo medium old new (view_of was).process (first (was.input.items ++ bytes)) moment asked
-  pub table : rows ds ≡ with_value nat_eq (rows cs) was.number
-      (taken_off asked (record (view_of was) { input = was.input.items ++ bytes }))
-  pub still : HubInvariant (hub_view old.machine ds)
+  pub waits : first was.input ≡ More
+  pub few : length bytes ≤ missing was.input
+  pub comes : ComesTo medium old new was.process (first (was.input ++ bytes)) moment asked
+  pub table : after ≡ with_value nat_eq before conn (taken_off asked (record was { input = was.input ++ bytes }))
+  pub numbers : keys_of after ≡ keys_of before
+  pub still : HubInvariant (hub_view old.machine after)
 
--- The connection at a place is over: it keeps no bytes of a request, and its process, if it had one, is its no more.
-pub record Closed (cs ds : List Connection) (place : ℕ) (process : Option ℕ) : Type 0 where
-  pub within : place < length cs
-  pub was : Connection
-  pub there : IsThere cs place was
-  pub had : (view_of was).process ≡ process
-  pub table : rows ds ≡ with_value nat_eq (rows cs) was.number
-      (record (view_of was) { process = None; input = []; ended = true })
-
--- The connection at a place has taken bytes, and what they complete was served. If it keeps no frame then, no event
+-- The connection with a number has taken bytes, and what they complete was served. If it keeps no frame then, no event
 -- came of them.
-pub record Took {D : Type 0} (medium : D → Medium) (old new : StoreView D) (cs ds : List Connection) (place : ℕ)
+pub record Took {D : Type 0} (medium : D → Medium) (old new : StoreView D) (before after : Table) (conn : ℕ)
     (piece : List ℕ) (moment : ℕ) : Type 0 where
-  pub goes_on : GoesOn (hub_view old.machine cs) (hub_view new.machine ds)
-  pub bytes : (c : Connection) → IsThere cs place c
-      → TakesIn medium (stored_view old cs) (stored_view new ds) c.number piece moment
-  pub answers : (c : Connection) → IsThere ds place c → kept c.outbox ≡ [] → new ≡ old
+  pub goes_on : GoesOn (hub_view old.machine before) (hub_view new.machine after)
+  pub bytes : TakesIn medium (stored_view old before) (stored_view new after) conn piece moment
+  pub answers : HasNoFrame (hub_view new.machine after) conn → new ≡ old

@@ -1,10 +1,17 @@
 -- The hub as its callers see it, from what its code keeps.
-use Rattle.std.specs.Prelude.{◌≡◌, ◌==◌, ℕ, List, map, Option, Some, option_map, position, get_or}
+use Rattle.std.specs.Prelude.{ℕ, Bool, false, not, List, [], map, Option, Some, None, option_map, option_and_then}
+use Rattle.std.specs.Prelude.{unwrap_or, nat_eq}
 use Rattle.ipc_base.specs.declared.identity.Pid.{Pid}
+use Rattle.ipc_base.specs.Table.{value_at, with_value}
 use Rattle.ipc_engine.specs.Engine.{Machine}
 use Rattle.ipc_hub.specs.declared.connection.Connection.{Connection}
+use Rattle.ipc_hub.specs.declared.connections.Connections.{Connections}
 use Rattle.ipc_store.specs.View.{StoreView}
 use Rattle.ipc_hub.specs.View.{ConnectionView, HubView, StoredHub}
+
+-- the connections, by number
+abbrev pub Table : Type 0
+Table = List (ℕ × ConnectionView)
 
 abbrev pub pid_of : Option Pid → Option ℕ
 pid_of process = option_map (λ p. p.0) process
@@ -15,18 +22,38 @@ view_of c = record { process = pid_of c.process; input = c.input.items; outbox =
 abbrev pub row : Connection → ℕ × ConnectionView
 row c = (c.number, view_of c)
 
-abbrev pub rows : List Connection → List (ℕ × ConnectionView)
+abbrev pub rows : List Connection → Table
 rows connections = map row connections
 
-abbrev pub hub_view : Machine → List Connection → HubView
-hub_view engine connections =
-    record { limits = engine.limits; state = engine.state; connections = rows connections }
+abbrev pub table_of : Connections → Table
+table_of connections = rows connections.items.items
+
+abbrev pub hub_view : Machine → Table → HubView
+hub_view engine table = record { limits = engine.limits; state = engine.state; connections = table }
 
 -- the same over its store
-abbrev pub stored_view : {D : Type 0} → StoreView D → List Connection → StoredHub D
-stored_view store connections = record { hub = hub_view store.machine connections; store = store }
+abbrev pub stored_view : {D : Type 0} → StoreView D → Table → StoredHub D
+stored_view store table = record { hub = hub_view store.machine table; store = store }
 
--- a connection is the one at this place, and the first that has its number
-pub record IsThere (connections : List Connection) (place : ℕ) (c : Connection) : Type 0 where
-  pub same : c ≡ get_or connections place c
-  pub first : position (λ d. d.number == c.number) connections ≡ Some place
+-- the table in which the connection with a number, if there is one, is seen in another way
+abbrev pub changed : (ConnectionView → ConnectionView) → ℕ → Table → Table
+changed see conn table = by_value (value_at nat_eq table conn)
+  where
+    by_value : Option ConnectionView → Table
+    by_value None = table
+    by_value (Some c) = with_value nat_eq table conn (see c)
+
+-- the process of the connection that a number has
+abbrev pub process_in : Table → ℕ → Option ℕ
+process_in table conn = option_and_then (λ c. c.process) (value_at nat_eq table conn)
+
+-- whether a connection has the number, and the server has not ended it
+abbrev pub goes_on_in : Table → ℕ → Bool
+goes_on_in table conn = unwrap_or (option_map (λ c. not c.ended) (value_at nat_eq table conn)) false
+
+-- the bytes that the client of a connection may see, and whether the server has ended it
+abbrev pub output_in : Table → ℕ → List ℕ
+output_in table conn = unwrap_or (option_map (λ c. c.outbox.visible) (value_at nat_eq table conn)) []
+
+abbrev pub ended_in : Table → ℕ → Bool
+ended_in table conn = unwrap_or (option_map (λ c. c.ended) (value_at nat_eq table conn)) false

@@ -1,20 +1,20 @@
-use Rattle.std.proofs.Common.{◌^◌, get_or, sym}
-use Rattle.ipc_hub.proofs.Rows.{at-place, set-there}
-use Rattle.ipc_hub.proofs.Ending.{ended}
-use Rattle.ipc_hub.specs.declared.connection.Connection.{Connection}
-use Rattle.ipc_hub.specs.Relations.Rows.{view_of}
+use Rattle.std.proofs.Common.{ap, ◌∙◌}
+use Rattle.ipc_hub.specs.Relations.Delivery.{closed}
+use Rattle.ipc_hub.specs.Relations.Rows.{table_of}
+use Rattle.ipc_hub.proofs.Rows.{process_of, put-changed, same-changed}
 use Rattle.ipc_hub.proofs.serving.close.Goals as goal
 
-pub returns : goal.returns
-returns c =
-    let cs = c.args.connections.now in
-    let given = c.index-connections-place.result in
-    let was : Connection = get_or cs c.args.place given in
-    let at = at-place cs c.args.place (2 ^ 32) given c.requires.rising c.requires.place in
-    record {
-      within = c.requires.place;
-      was = was;
-      there = at;
-      had = sym c.close.ensures.process;
-      table = set-there cs c.args.place was given c.close.new.self (ended (view_of was)) at c.requires.place c.close.ensures.number c.close.ensures.view;
-    }
+pub returns-in_err-connection-clause-process : goal.returns-in_err-connection-clause-process
+returns-in_err-connection-clause-process c = rw c.from_residual.ensures (ap process_of c.in_err-connection.ensures.found)
+
+pub returns-in_err-connection-clause-table : goal.returns-in_err-connection-clause-table
+returns-in_err-connection-clause-table c =
+    c.get_mut.follows.holds-at-none ∙ same-changed closed (table_of c.args.connections.now) c.args.conn c.in_err-connection.ensures.found
+
+pub returns-clause-process : goal.returns-clause-process
+returns-clause-process c = c.close.ensures.process ∙ ap process_of c.in_ok-connection.ensures.found
+
+pub returns-clause-table : goal.returns-clause-table
+returns-clause-table c =
+    put-changed closed (table_of c.args.connections.now) _ c.args.conn c.in_ok-connection.connection.now c.close.new.self
+    (c.get_mut.follows.holds c.close.new.self) c.in_ok-connection.ensures.found c.in_ok-connection.ensures.number c.close.ensures.number c.close.ensures.view

@@ -5,7 +5,7 @@ use Rattle.ipc_engine.specs.Event.{Exit}
 use Rattle.ipc_hub.specs.Clients.{accepted}
 use Rattle.ipc_hub.specs.Relations.Matches.{Waits}
 use Rattle.ipc_hub.specs.Relations.Requests.{exit_of}
-use Rattle.ipc_hub.specs.Relations.Rows.{pid_of, rows, hub_view}
+use Rattle.ipc_hub.specs.Relations.Rows.{pid_of, table_of, hub_view}
 use Rattle.std.proofs.lemmas.List.{length-append}
 use Rattle.ipc_hub.proofs.Deliveries.{accept-matches}
 use Rattle.ipc_hub.proofs.Keeping.{delivery-goes-on}
@@ -14,10 +14,10 @@ use Rattle.ipc_hub.proofs.serving.leave.Goals as goal
 
 pub returns-in-Some-clause-goes_on : goal.returns-in-Some-clause-goes_on
 returns-in-Some-clause-goes_on g c =
-    let old = hub_view c.args.store.now.machine c.args.connections.now in
+    let old = hub_view c.args.store.now.machine (table_of c.args.connections.now) in
     let state : c.step.new.self.machine.state ≡ exit (at_moment c.args.store.now.machine.state c.args.moment.0) c.in-Some.pid.0 = search rules in
-    let same : rows c.deliver.new.connections ≡ rows c.args.connections.now = search rules in
-    delivery-goes-on old (hub_view c.step.new.self.machine c.deliver.new.connections) [] c.requires.hub tt c.step.ensures.limits same
+    let same : table_of c.deliver.new.self ≡ table_of c.args.connections.now = search rules in
+    delivery-goes-on old (hub_view c.step.new.self.machine (table_of c.deliver.new.self)) [] c.requires.hub tt c.step.ensures.limits same
     (λ conn pid is.
     let apart : pid ≢ c.in-Some.pid.0 = λ e. c.requires.nobodys conn pid (search rules) is in
     ap (λ (s : State). is_process s pid) state
@@ -26,11 +26,11 @@ returns-in-Some-clause-goes_on g c =
 
 pub returns-in-Some-clause-leaves : goal.returns-in-Some-clause-leaves
 returns-in-Some-clause-leaves g c limits confirmed h m =
-    let old = hub_view c.args.store.now.machine c.args.connections.now in
+    let old = hub_view c.args.store.now.machine (table_of c.args.connections.now) in
     let state : c.step.new.self.machine.state ≡ exit (at_moment c.args.store.now.machine.state c.args.moment.0) c.in-Some.pid.0 = search rules in
-    let same : rows c.deliver.new.connections ≡ rows c.args.connections.now = search rules in
+    let same : table_of c.deliver.new.self ≡ table_of c.args.connections.now = search rules in
     rw c.in-Some.is
-    (accept-matches limits confirmed (accepted h) old (hub_view c.step.new.self.machine c.deliver.new.connections) h (Exit c.in-Some.pid.0 c.args.moment.0)
+    (accept-matches limits confirmed (accepted h) old (hub_view c.step.new.self.machine (table_of c.deliver.new.self)) h (Exit c.in-Some.pid.0 c.args.moment.0)
     old.connections h.clients m (omega (arith, length-append h.events (Exit c.in-Some.pid.0 c.args.moment.0 ∷ []))) m.clients c.step.ensures.limits state same
     tt).matches
 

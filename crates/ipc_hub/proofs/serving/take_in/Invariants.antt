@@ -1,9 +1,8 @@
-use Rattle.std.proofs.Common.{◌≡◌, ◌≤◌, ◌-◌, [], length, take}
+use Rattle.std.proofs.Common.{◌≡◌, ◌-◌, ◌≤◌, length, take}
 use Rattle.ipc_base.specs.Limits.{ArePassed}
-use Rattle.ipc_hub.specs.declared.connection.Connection.{Connection}
-use Rattle.ipc_hub.specs.Relations.Rows.{hub_view, stored_view, IsThere}
 use Rattle.ipc_store.specs.View.{IsReadyFor}
-use Rattle.ipc_hub.specs.View.{kept}
+use Rattle.ipc_hub.specs.View.{HasNoFrame}
+use Rattle.ipc_hub.specs.Relations.Rows.{table_of, hub_view, stored_view}
 use Rattle.ipc_hub.specs.Relations.Invariant.{GoesOn}
 use Rattle.ipc_hub.specs.Relations.Matches.{Adds, TakesIn}
 use Rattle.ipc_hub.proofs.serving.take_in.Given as goal
@@ -14,12 +13,12 @@ abbrev pub invariant-loop-taken : goal.invariant-loop-taken
 invariant-loop-taken g l = record {
   within : l.taken ≤ length l.piece;
   passed : ArePassed l.store.machine.limits;
-  goes_on : GoesOn (hub_view l.fn.store.machine l.fn.connections) (hub_view l.store.machine l.connections);
-  bytes : (c : Connection) → IsThere l.fn.connections l.place c
-      → TakesIn g.D.SectorDisk.medium (stored_view l.fn.store l.fn.connections) (stored_view l.store l.connections) c.number (take l.taken l.piece) l.moment.0;
+  goes_on : GoesOn (hub_view l.fn.store.machine (table_of l.fn.connections)) (hub_view l.store.machine (table_of l.connections));
+  bytes : TakesIn g.D.SectorDisk.medium (stored_view l.fn.store (table_of l.fn.connections)) (stored_view l.store (table_of l.connections)) l.conn
+      (take l.taken l.piece) l.moment.0;
   first : l.taken ≡ 0 → (l.connections ≡ l.fn.connections) × (l.store ≡ l.fn.store);
   adds : Adds l.taken l.fn.store l.store;
-  ready : (c : Connection) → IsThere l.connections l.place c → kept c.outbox ≡ [] → IsReadyFor l.store 1;
+  ready : HasNoFrame (hub_view l.store.machine (table_of l.connections)) l.conn → IsReadyFor l.store 1;
 }
 
 -- the bytes that are left

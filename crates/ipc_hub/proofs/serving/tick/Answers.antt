@@ -2,7 +2,7 @@ use Rattle.std.proofs.Common.{◌≡◌, [], ◌∷◌, arith, rules}
 use Rattle.ipc_state.specs.State.{at_moment}
 use Rattle.ipc_engine.specs.Event.{Tick}
 use Rattle.ipc_hub.specs.Clients.{accepted}
-use Rattle.ipc_hub.specs.Relations.Rows.{rows, hub_view}
+use Rattle.ipc_hub.specs.Relations.Rows.{table_of, hub_view}
 use Rattle.std.proofs.lemmas.List.{length-append}
 use Rattle.ipc_hub.proofs.Deliveries.{accept-matches}
 use Rattle.ipc_store.proofs.CallerLemmas.{ready-less}
@@ -10,10 +10,10 @@ use Rattle.ipc_hub.proofs.serving.tick.Goals as goal
 
 pub returns-clause-ticks : goal.returns-clause-ticks
 returns-clause-ticks g c limits confirmed h m =
-    let old = hub_view c.args.store.now.machine c.args.connections.now in
+    let old = hub_view c.args.store.now.machine (table_of c.args.connections.now) in
     let state : c.step.new.self.machine.state ≡ at_moment c.args.store.now.machine.state c.args.moment.0 = search rules in
-    let same : rows c.deliver.new.connections ≡ rows c.args.connections.now = search rules in
-    (accept-matches limits confirmed (accepted h) old (hub_view c.step.new.self.machine c.deliver.new.connections) h (Tick c.args.moment.0)
+    let same : table_of c.deliver.new.self ≡ table_of c.args.connections.now = search rules in
+    (accept-matches limits confirmed (accepted h) old (hub_view c.step.new.self.machine (table_of c.deliver.new.self)) h (Tick c.args.moment.0)
     old.connections h.clients m (omega (arith, length-append h.events (Tick c.args.moment.0 ∷ []))) m.clients c.step.ensures.limits state same tt).matches
 
 pub returns-clause-ready : goal.returns-clause-ready

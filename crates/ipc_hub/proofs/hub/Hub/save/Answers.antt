@@ -1,5 +1,6 @@
 use Rattle.std.proofs.Common.{sym}
 use Rattle.ipc_store.proofs.CallerLemmas.{Takes-none}
+use Rattle.ipc_hub.specs.Relations.Rows.{table_of}
 use Rattle.ipc_hub.proofs.Committing.{going-told, told-spare, told-stands, told-keeps, told-halts}
 use Rattle.ipc_hub.proofs.hub.Hub.save.Goals as goal
 
@@ -8,19 +9,19 @@ returns-then-has_stopped-clause-takes g c = Takes-none g.D.SectorDisk.medium g.m
 
 pub tell-requires : goal.tell-requires
 tell-requires g c =
-    told-spare c.self.inside.store c.save-done.new.self c.self.inside.connections c.deref_mut.result.now c.deref_mut.result.now c.deref_mut.ensures.value
+    told-spare c.self.inside.store c.save-done.new.self (table_of c.self.inside.connections) (table_of c.self.inside.connections)
     c.save-done.ensures.machine (going-told _ _ c.self.view_is c.if-has_stopped.ensures.1) c.self.invariant
 
 pub invariant_of-self : goal.invariant_of-self
 invariant_of-self g c =
-    told-stands c.self.inside.store c.save-done.new.self c.self.inside.connections c.deref_mut.result.now c.tell.new.connections c.deref_mut.ensures.value
+    told-stands c.self.inside.store c.save-done.new.self (table_of c.self.inside.connections) (table_of c.tell.new.self)
     c.save-done.ensures.machine (going-told _ _ c.self.view_is c.if-has_stopped.ensures.1) c.save-done.result
     (c.tell.ensures.ok, c.tell.ensures.err, c.save-done.ensures.stops) c.self.invariant
 
 pub returns-clause-ok : goal.returns-clause-ok
 returns-clause-ok g c =
     rw (sym c.self.view_is)
-    (told-keeps c.self.inside.store c.save-done.new.self c.self.inside.connections c.deref_mut.result.now c.tell.new.connections c.deref_mut.ensures.value
+    (told-keeps c.self.inside.store c.save-done.new.self (table_of c.self.inside.connections) (table_of c.tell.new.self)
     c.save-done.ensures.machine (going-told _ _ c.self.view_is c.if-has_stopped.ensures.1) c.save-done.result
     (c.tell.ensures.ok, c.tell.ensures.err, c.save-done.ensures.stops) c.save-done.ensures.confirmed c.save-done.ensures.waiting)
 
@@ -30,7 +31,7 @@ returns-clause-takes g c = rw (sym c.self.view_is) c.save-done.ensures.takes
 pub returns-clause-refused : goal.returns-clause-refused
 returns-clause-refused g c =
     rw (sym c.self.view_is)
-    (told-halts c.self.inside.store c.save-done.new.self c.self.inside.connections c.deref_mut.result.now c.tell.new.connections c.deref_mut.ensures.value
+    (told-halts c.self.inside.store c.save-done.new.self (table_of c.self.inside.connections) (table_of c.tell.new.self)
     c.save-done.ensures.machine (going-told _ _ c.self.view_is c.if-has_stopped.ensures.1) g.D.SectorDisk.medium g.D.SectorDisk.counts
     c.save-done.ensures.takes c.save-done.result (c.tell.ensures.ok, c.tell.ensures.err, c.save-done.ensures.stops)
     c.save-done.ensures.failure c.save-done.ensures.stopped.0)

@@ -2,8 +2,8 @@ use Rattle.std.proofs.Common.{◌≡◌, ◌<◌, ◌^◌, ℕ, length, get_or, 
 use Rattle.std.specs.Prelude.{nat_eq, position}
 use Rattle.std.proofs.lemmas.List.{get_or_default}
 use Rattle.ipc_hub.specs.declared.connection.Connection.{Connection}
-use Rattle.ipc_hub.proofs.Rows.{rising-up, nowhere-at, there}
-use Rattle.ipc_hub.proofs.places.place_of.Goals as goal
+use Rattle.ipc_hub.proofs.Rows.{rising-up, nowhere-at, first-at}
+use Rattle.ipc_hub.proofs.connections.place_of.Goals as goal
 
 pub returns-then-place-connections : goal.returns-then-place-connections
 returns-then-place-connections c =
@@ -29,6 +29,6 @@ returns c =
     let place = c.place_for-place.result in
     let was = c.index-connections-place.result in
     let inside : place < length cs = omega (arith, c.place_for-place.ensures.within, c.if-place-connections.false) in
-    let at = there cs 0 place (2 ^ 32) was c.requires inside c.index-connections-place.is in
     let number : was.number ≡ c.args.conn = c.if-connection-conn.false in
-    sym (ap (λ (n : ℕ). position (λ (e : Connection). nat_eq e.number n) cs) (sym number) ∙ at.first)
+    sym (ap (λ (n : ℕ). position (λ (e : Connection). nat_eq e.number n) cs) (sym number)
+    ∙ first-at cs place (2 ^ 32) was c.requires inside c.index-connections-place.is)

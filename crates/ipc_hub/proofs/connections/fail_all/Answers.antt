@@ -2,7 +2,7 @@ use Rattle.std.proofs.Common.{sym, subst, arith}
 use Rattle.ipc_hub.specs.Relations.Delivery.{failed, HasSpare}
 use Rattle.ipc_hub.specs.Relations.Rows.{view_of}
 use Rattle.ipc_hub.proofs.Rows.{each-get, seen-all}
-use Rattle.ipc_hub.proofs.places.fail_all.Goals as goal
+use Rattle.ipc_hub.proofs.connections.fail_all.Goals as goal
 
 pub fail-requires : goal.fail-requires
 fail-requires c =

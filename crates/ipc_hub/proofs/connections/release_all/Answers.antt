@@ -1,6 +1,6 @@
 use Rattle.ipc_hub.specs.Relations.Delivery.{released}
 use Rattle.ipc_hub.proofs.Rows.{seen-all}
-use Rattle.ipc_hub.proofs.places.release_all.Goals as goal
+use Rattle.ipc_hub.proofs.connections.release_all.Goals as goal
 
 pub returns : goal.returns
 returns c =

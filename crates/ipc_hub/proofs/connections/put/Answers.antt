@@ -4,7 +4,7 @@ use Rattle.ipc_hub.specs.declared.connection.Connection.{Connection}
 use Rattle.ipc_hub.specs.Relations.Rows.{view_of}
 use Rattle.ipc_hub.specs.Relations.Delivery.{HasRoomIn, put_for}
 use Rattle.ipc_hub.proofs.Rows.{each-get, seen-all}
-use Rattle.ipc_hub.proofs.serving.put.Goals as goal
+use Rattle.ipc_hub.proofs.connections.put.Goals as goal
 
 pub hear-requires-clause-room : goal.hear-requires-clause-room
 hear-requires-clause-room c =

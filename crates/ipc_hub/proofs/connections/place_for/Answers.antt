@@ -3,7 +3,7 @@ use Rattle.std.proofs.lemmas.Bool.{ltb-true, ltb-false}
 use Rattle.std.proofs.lemmas.List.Sorted.{IsPartitionPoint-from_clause, IsPartitionedBy-ltb}
 use Rattle.ipc_hub.specs.declared.connection.Connection.{Connection}
 use Rattle.ipc_hub.proofs.Rows.{rising-up}
-use Rattle.ipc_hub.proofs.places.place_for.Goals as goal
+use Rattle.ipc_hub.proofs.connections.place_for.Goals as goal
 
 pub returns-clause-below : goal.returns-clause-below
 returns-clause-below c k d below =

@@ -1,6 +1,6 @@
 use Rattle.ipc_hub.specs.Relations.Delivery.{released}
 use Rattle.ipc_hub.proofs.Rows.{SeenUpTo}
-use Rattle.ipc_hub.proofs.places.release_all.Given as goal
+use Rattle.ipc_hub.proofs.connections.release_all.Given as goal
 
 abbrev pub invariant-loop-connection : goal.invariant-loop-connection
 invariant-loop-connection l = SeenUpTo released l.connection-index l.initial.connections l.connections

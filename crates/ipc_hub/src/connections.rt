@@ -1,0 +1,247 @@
+//! The connections of a hub, by number: found, put in and taken out, and what is done to each.
+
+ghost use Rattle.std.specs.Prelude.{◌≡◌, ◌==◌, ◌<◌, ◌≤◌, ◌^◌, ◌↔◌, ℕ, Some, None, false, []};
+ghost use Rattle.std.specs.Prelude.{length, map, get_or, slice_get, position, is_some, option_map, nat_eq};
+ghost use Rattle.std.specs.Prelude.{IfSome, IsTrue, OnOk, OnErr};
+ghost use Rattle.std.specs.Option.{option_copied, option_copied_mut};
+ghost use Rattle.std.specs.Borrow.{sem};
+ghost use Rattle.ipc_base.specs.Table.{keys_of, value_at, with_entry, without, seen_as, EachValue, IsRising};
+ghost use Rattle.ipc_engine.specs.View.{plain_outcome};
+ghost use Rattle.ipc_hub.specs.declared.connection.Connection.{Connection};
+ghost use Rattle.ipc_hub.specs.Relations.Delivery.{released, failed, consumed, put_for, put_all};
+ghost use Rattle.ipc_hub.specs.Relations.Delivery.{HasSpare, IsShort, HasRoomIn, HaveRoom, HasRoomFor};
+ghost use Rattle.ipc_hub.specs.Relations.Rows.{pid_of, view_of, rows, table_of, changed};
+ghost use Rattle.ipc_hub.specs.Relations.Rows.{process_in, goes_on_in, ended_in, output_in};
+ghost use Rattle.ipc_hub.specs.Relations.Lends.{lends_connection};
+
+use crate::connection::Connection;
+use ipc_base::Pid;
+use ipc_engine::Outcome;
+use ipc_store::CommitError;
+use std::alloc::{AllocError, Global};
+
+/// Connections, in rising number. A contract sees them as a table of their views.
+#[derive(Drop)]
+pub(crate) struct Connections {
+    items: Vec<Connection>,
+}
+
+impl Connections {
+    pub(crate) fn new(alloc: Global) -> Connections
+        ensures { table_of result ≡ [] }
+    {
+        Connections {
+            items: Vec::new(alloc),
+        }
+    }
+
+    /// All of them, in rising number.
+    pub(crate) fn all(&self) -> &[Connection]
+        ensures { rows result.now ≡ table_of self.now }
+    {
+        &self.items
+    }
+
+    /// The connection that has the number.
+    pub(crate) fn get(&self, conn: u32) -> Option<&Connection>
+        requires { IsRising 0 (keys_of (table_of self.now)) (2 ^ 32) }
+        ensures { option_map view_of (option_copied result) ≡ value_at nat_eq (table_of self.now) conn }
+    {
+        let place = place_of(&self.items, conn)?;
+        Some(&self.items[place])
+    }
+
+    /// The connection that has the number, to be changed.
+    pub(crate) fn get_mut(&mut self, conn: u32) -> Option<&mut Connection>
+        requires { IsRising 0 (keys_of (table_of self.old)) (2 ^ 32) }
+        ensures* writes_back { sem 𝓛 (lends_connection self.entry conn result) }
+        ensures found { option_map view_of (option_copied_mut result) ≡ value_at nat_eq (table_of self.old) conn }
+        ensures number { IfSome result (λ c. c.now.number ≡ conn) }
+    {
+        let place = place_of(&self.items, conn)?;
+        Some(&mut self.items[place])
+    }
+
+    /// Whether a connection has the number.
+    pub(crate) fn contains(&self, conn: u32) -> bool
+        requires { IsRising 0 (keys_of (table_of self.now)) (2 ^ 32) }
+        ensures { result ≡ is_some (value_at nat_eq (table_of self.now) conn) }
+    {
+        self.get(conn).is_some()
+    }
+
+    /// Whether a connection has the number, and the server has not ended it.
+    pub(crate) fn goes_on(&self, conn: u32) -> bool
+        requires { IsRising 0 (keys_of (table_of self.now)) (2 ^ 32) }
+        ensures { result ≡ goes_on_in (table_of self.now) conn }
+    {
+        match self.get(conn) {
+            Some(connection) => !connection.ended,
+            None => false,
+        }
+    }
+
+    /// Whether the server has ended the connection that has the number; not so where there is none.
+    pub(crate) fn ended(&self, conn: u32) -> bool
+        requires { IsRising 0 (keys_of (table_of self.now)) (2 ^ 32) }
+        ensures { result ≡ ended_in (table_of self.now) conn }
+    {
+        match self.get(conn) {
+            Some(connection) => connection.ended(),
+            None => false,
+        }
+    }
+
+    /// The bytes that the client of a connection may see; none where no connection has the number.
+    pub(crate) fn output(&self, conn: u32) -> &[u8]
+        requires { IsRising 0 (keys_of (table_of self.now)) (2 ^ 32) }
+        ensures { result.now ≡ output_in (table_of self.now) conn }
+    {
+        match self.get(conn) {
+            Some(connection) => connection.output(),
+            None => &[],
+        }
+    }
+
+    /// Whether the connection at this place among them all has this number, and nothing to say: no byte that its client
+    /// may see, and no end.
+    pub(crate) fn is_silent(&self, place: usize, conn: u32) -> bool
+        requires { IsRising 0 (keys_of (table_of self.now)) (2 ^ 32) }
+        ensures { IsTrue result ↔ ((slice_get (keys_of (table_of self.now)) place ≡ Some conn)
+            × (output_in (table_of self.now) conn ≡ []) × (ended_in (table_of self.now) conn ≡ false)) }
+    {
+        let Some(connection) = self.items.get(place) else {
+            return false;
+        };
+        if connection.number != conn {
+            return false;
+        }
+        connection.is_silent()
+    }
+
+    /// The client of a connection has taken the first `count` bytes of its output.
+    pub(crate) fn consume(&mut self, conn: u32, count: usize)
+        requires rising { IsRising 0 (keys_of (table_of self.old)) (2 ^ 32) }
+        requires within { count ≤ length (output_in (table_of self.old) conn) }
+        ensures { table_of self.new ≡ changed (consumed count) conn (table_of self.old) }
+    {
+        if let Some(connection) = self.get_mut(conn) {
+            connection.consume(count);
+        }
+    }
+
+    /// Whether a reply of so many bytes to a connection that goes on has room, and the last frames behind it.
+    pub(crate) fn has_room(&self, conn: u32, reply: u32) -> bool
+        requires { IsRising 0 (keys_of (table_of self.now)) (2 ^ 32) }
+        ensures { IsTrue result ↔ HasRoomFor reply (table_of self.now) conn }
+    {
+        match self.get(conn) {
+            Some(connection) => connection.ended || connection.has_room(reply),
+            None => true,
+        }
+    }
+
+    /// Puts in a connection at its place. Its number is not in use.
+    pub(crate) fn insert(&mut self, connection: Connection) -> Result<(), AllocError>
+        requires rising { IsRising 0 (keys_of (table_of self.old)) (2 ^ 32) }
+        requires free { value_at nat_eq (table_of self.old) connection.number ≡ None }
+        ensures ok { OnOk result (table_of self.new
+            ≡ with_entry (table_of self.old) connection.number (view_of connection)) }
+        ensures err { OnErr result (table_of self.new ≡ table_of self.old) }
+    {
+        let place = place_for(&self.items, connection.number);
+        self.items.insert(place, connection)?;
+        Ok(())
+    }
+
+    /// Takes out the connection that has the number. Answers its process, if it had one.
+    pub(crate) fn remove(&mut self, conn: u32) -> Option<Pid>
+        requires { IsRising 0 (keys_of (table_of self.old)) (2 ^ 32) }
+        ensures process { pid_of result ≡ process_in (table_of self.old) conn }
+        ensures left { table_of self.new ≡ without nat_eq (table_of self.old) conn }
+    {
+        let place = place_of(&self.items, conn)?;
+        let connection = self.items.remove(place);
+        connection.process
+    }
+
+    /// They learn what a commit or a save has come to. If it is done, the frames that wait are seen; if it has failed,
+    /// they are dropped, and an EIO frame is the last of each.
+    pub(crate) fn tell(&mut self, done: Result<(), CommitError>)
+        requires { EachValue HasSpare (table_of self.old) }
+        ensures ok { OnOk done (table_of self.new ≡ seen_as released (table_of self.old)) }
+        ensures err { OnErr done (table_of self.new ≡ seen_as failed (table_of self.old)) }
+    {
+        match done {
+            Ok(()) => release_all(&mut self.items),
+            Err(_) => fail_all(&mut self.items),
+        }
+    }
+
+    /// Puts each reply into the outbox of its process. Where no connection has the process, the reply is dropped.
+    pub(crate) fn deliver(&mut self, outcomes: &[Outcome])
+        requires room { HaveRoom (map plain_outcome outcomes.now) (table_of self.old) }
+        ensures { table_of self.new ≡ put_all (map plain_outcome outcomes.now) (table_of self.old) }
+    {
+        for outcome in outcomes {
+            put(&mut self.items, outcome);
+        }
+    }
+}
+
+/// How many connections have a smaller number.
+fn place_for(connections: &[Connection], conn: u32) -> usize
+    requires { IsRising 0 (keys_of (rows connections.now)) (2 ^ 32) }
+    ensures within { result ≤ length connections.now }
+    ensures below { (k : ℕ) (d : Connection) → k < result → (get_or connections.now k d).number < conn }
+    ensures rest { (k : ℕ) (d : Connection) → result ≤ k → k < length connections.now
+        → conn ≤ (get_or connections.now k d).number }
+{
+    connections.partition_point(|connection| connection.number < conn)
+}
+
+/// The place of the connection that has the number.
+fn place_of(connections: &[Connection], conn: u32) -> Option<usize>
+    requires { IsRising 0 (keys_of (rows connections.now)) (2 ^ 32) }
+    ensures { result ≡ position (λ c. c.number == conn) connections.now }
+{
+    let place = place_for(connections, conn);
+    if place == connections.len() {
+        return None;
+    }
+    let connection = &connections[place];
+    if connection.number != conn {
+        return None;
+    }
+    Some(place)
+}
+
+/// Lets the frames that wait on each connection be seen.
+fn release_all(connections: &mut [Connection])
+    ensures { rows connections.new ≡ seen_as released (rows connections.old) }
+{
+    for connection in connections.iter_mut() {
+        connection.release();
+    }
+}
+
+/// The disk has failed: the frames that wait on each connection are dropped, and an EIO frame is its last.
+fn fail_all(connections: &mut [Connection])
+    requires { EachValue HasSpare (rows connections.old) }
+    ensures { rows connections.new ≡ seen_as failed (rows connections.old) }
+{
+    for connection in connections.iter_mut() {
+        connection.fail();
+    }
+}
+
+/// Puts a reply into the outbox of its process.
+fn put(connections: &mut [Connection], outcome: &Outcome)
+    requires short { IsShort (plain_outcome outcome.now) }
+    requires room { EachValue (HasRoomIn (plain_outcome outcome.now)) (rows connections.old) }
+    ensures { rows connections.new ≡ seen_as (put_for (plain_outcome outcome.now)) (rows connections.old) }
+{
+    for connection in connections.iter_mut() {
+        connection.hear(outcome);
+    }
+}
