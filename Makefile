@@ -1,6 +1,6 @@
-# ipcd: the commands of this repository. They need the Rattle toolchain's `rt` on the path, `bench` needs awk too,
-# `serves` Python, `bench-serve` Python and a C compiler, and `memory` awk and a C compiler: without that one it says so
-# and refuses nothing.
+# ipcd: the commands of this repository. They need the Rattle toolchain's `rt` on the path, `runs` awk and Python,
+# `serves` Python, `bench` awk, `bench-serve` Python and a C compiler, and `memory` awk and a C compiler: without that
+# one it says so and refuses nothing.
 
 .PHONY: help run test imports runs serves memory program bench bench-serve
 
@@ -12,7 +12,7 @@ help:
 	@echo "            the program; and then what 'make runs', 'make serves' and 'make memory' run, on what the gate has"
 	@echo "            built. It takes 40 to 100 minutes on four cores"
 	@echo "make imports  that no crate names what is another's own, nor one that carries requests a call"
-	@echo "make runs   the program on scripts and command lines: what it prints and says, and its exit status"
+	@echo "make runs   the program on scripts, command lines and a terminal: what it prints and says, and its exit status"
 	@echo "make serves the program as a server: clients by the dozen, crashes under load, what ends a connection; and"
 	@echo "            examples/serve.sh, in which a message outlives a crash. Half a minute, once built"
 	@echo "make memory the engine's tests and the program, with each allocation refused in turn"
@@ -42,22 +42,22 @@ program:
 	@rm -f crates/ipcd/out.log
 
 # The engine's tests take a step again that was refused for memory, and look for the replies that it would have had.
-ENGINE_TESTS = crates/ipc_engine/out/ipc_engine_tests
-REFUSE_EACH = sh tests/refuse_each.sh $(ENGINE_TESTS) crates/ipcd/out/ipcd examples/first_queue.script
+MACHINE_TESTS = crates/machine_tests/out/machine_tests_tests
+REFUSE_EACH = sh tests/refuse_each.sh $(MACHINE_TESTS) engine crates/ipcd/out/ipcd examples/first_queue.script
 
-memory: program $(ENGINE_TESTS)
+memory: program $(MACHINE_TESTS)
 	@$(REFUSE_EACH)
 
-$(ENGINE_TESTS): $(wildcard crates/*/src/*.rt)
-	@echo "proving and building the tests of crates/ipc_engine"
-	@cd crates/ipc_engine && rt test > out.log 2>&1 || { cat out.log; exit 1; }
-	@rm -f crates/ipc_engine/out.log
+$(MACHINE_TESTS): $(wildcard crates/*/src/*.rt)
+	@echo "proving and building crates/machine_tests"
+	@cd crates/machine_tests && rt test > out.log 2>&1 || { cat out.log; exit 1; }
+	@rm -f crates/machine_tests/out.log
 
 # It takes no time, and so it comes first.
 imports:
 	@sh tests/imports.sh
 
-RUNS = sh tests/runs.sh crates/ipcd/out/ipcd
+RUNS = sh tests/runs.sh crates/ipcd/out/ipcd && python3 tests/terminal.py crates/ipcd/out/ipcd
 
 runs: program
 	@$(RUNS)

@@ -1,9 +1,9 @@
 #!/bin/sh
 # Programs with their first allocation refused, then with their second, and so on, until a run has no more of them.
 #
-#     sh tests/refuse_each.sh TEST_PROGRAM IPCD SCRIPT
+#     sh tests/refuse_each.sh TEST_PROGRAM MODULE IPCD SCRIPT
 #
-# Each test of TEST_PROGRAM passes whichever allocation is refused. `IPCD replay --small` on SCRIPT, a line of which
+# Each test of MODULE in TEST_PROGRAM passes whichever allocation is refused. `IPCD replay --small` on SCRIPT, a line of which
 # holds one request at most, either says that there is no memory, with status 1, or writes all that it writes with ample
 # memory, or refuses one request: then it writes that request's ENOMEM frame, and all else as on the script without it.
 #
@@ -12,9 +12,11 @@
 
 set -eu
 
-tests=${1:?usage: sh tests/refuse_each.sh TEST_PROGRAM IPCD SCRIPT}
-ipcd=${2:?usage: sh tests/refuse_each.sh TEST_PROGRAM IPCD SCRIPT}
-script=${3:?usage: sh tests/refuse_each.sh TEST_PROGRAM IPCD SCRIPT}
+usage="usage: sh tests/refuse_each.sh TEST_PROGRAM MODULE IPCD SCRIPT"
+tests=${1:?$usage}
+module=${2:?$usage}
+ipcd=${3:?$usage}
+script=${4:?$usage}
 folder=${TMPDIR:-/tmp}/ipcd-refuse.$$
 runs=0
 
@@ -77,7 +79,7 @@ trap 'rm -rf "$folder"' EXIT
 cc -shared -fPIC -o "$folder/refuse_malloc.so" "$(dirname "$0")/refuse_malloc.c"
 
 : > "$folder/in"
-for name in $("$tests" --list | sed -n 's/: test$//p'); do
+for name in $("$tests" --list | sed -n "s/^\\($module::.*\\): test\$/\\1/p"); do
 	call=1
 	refuse "$tests" "$name"
 	while [ "$met" = yes ]; do

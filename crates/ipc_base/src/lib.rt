@@ -16,6 +16,3 @@ pub use identity::{Cred, Id, Moment, Pid};
 pub use limits::{BadLimits, Limits};
 pub use objects::{Mark, ObjectMap, Objects, window_of};
 pub use put::Put;
-
-#[cfg(test)]
-mod tests;

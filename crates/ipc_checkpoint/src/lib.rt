@@ -15,6 +15,3 @@ pub use checkpoint::Checkpoint;
 pub use error::LoadError;
 pub use laws::an_image_is_one_checkpoint;
 pub use layout::Layout;
-
-#[cfg(test)]
-mod tests;

@@ -1,3 +1,2 @@
 -- What joins the code of the disks to the definitions. A reader of the definitions alone needs none of it.
-pub mod Remembered
 pub mod Slots

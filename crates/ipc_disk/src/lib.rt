@@ -19,6 +19,3 @@ pub use memory::MemoryDisk;
 pub use progress::Progress;
 pub use range::Range;
 pub use standing::{read_bytes, sectors_for_len, settle_sector, write_bytes};
-
-#[cfg(test)]
-mod tests;

@@ -3,6 +3,7 @@
 ghost use Rattle.std.specs.Prelude.{
   ◌≡◌,
   ◌≤◌,
+  ◌↔◌,
   true,
   false,
   [],
@@ -10,6 +11,7 @@ ghost use Rattle.std.specs.Prelude.{
   map,
   not,
   IsOk,
+  IsTrue,
   OnOk,
   OnErr,
   IfOk,
@@ -132,6 +134,16 @@ impl Engine {
         ensures { result ≡ is_process self.now.state pid.0 }
     {
         self.state.has_process(pid)
+    }
+
+    /// Whether the process that an event names is connected: the condition of `step`.
+    pub fn is_for_process(&self, event: &Event<'_>) -> bool
+        ensures { IsTrue result ↔ IsForProcess self.now.state (plain_event event.now) }
+    {
+        match event {
+            Event::Call { pid, .. } | Event::Exit { pid, .. } => self.connected(*pid),
+            Event::Connect { .. } | Event::Tick { .. } | Event::Restart => true,
+        }
     }
 
     /// The replies of the last event, in order.

@@ -17,6 +17,3 @@ pub use laws::{
     restart_leaves_no_process, restart_twice_is_once, run_of_parts, step_keeps_soundness,
 };
 pub use listing::Row;
-
-#[cfg(test)]
-mod tests;

@@ -16,12 +16,3 @@ pub use hub::Hub;
 pub use laws::{
     a_crash_takes_no_answer_back, bytes_come_in_any_pieces, released_frames_are_all_shown,
 };
-
-#[cfg(test)]
-mod cuts;
-#[cfg(test)]
-mod lasting;
-#[cfg(test)]
-mod stops;
-#[cfg(test)]
-mod tests;

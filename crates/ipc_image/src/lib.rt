@@ -27,12 +27,3 @@ pub use restoring::{ImageError, engine_of};
 pub use sizes::{area, need};
 pub use state_objects::{StartObjects, StateObjects, objects_of, start_objects};
 pub use superblock::{read_superblock, write_superblock};
-
-#[cfg(test)]
-mod record_tests;
-#[cfg(test)]
-mod restoring_tests;
-#[cfg(test)]
-mod state_tests;
-#[cfg(test)]
-mod tests;

@@ -10,6 +10,3 @@ mod laws;
 pub use error::JournalError;
 pub use journal::{Journal, Place};
 pub use laws::an_image_is_one_journal;
-
-#[cfg(test)]
-mod tests;

@@ -13,16 +13,3 @@ mod script;
 pub use fault::ScriptFault;
 pub use listing::{DumpError, dump};
 pub use script::run_script;
-
-#[cfg(test)]
-mod cuts;
-#[cfg(test)]
-mod dumps;
-#[cfg(test)]
-mod lasting;
-#[cfg(test)]
-mod rows;
-#[cfg(test)]
-mod standard;
-#[cfg(test)]
-mod tests;

@@ -19,16 +19,3 @@ pub use laws::{
 };
 pub use opening::Unopened;
 pub use store::Store;
-
-#[cfg(test)]
-mod common;
-#[cfg(test)]
-mod damage;
-#[cfg(test)]
-mod format_stops;
-#[cfg(test)]
-mod saves;
-#[cfg(test)]
-mod stops;
-#[cfg(test)]
-mod tests;

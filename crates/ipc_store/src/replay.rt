@@ -1,21 +1,19 @@
 //! The replay of a journal: a machine goes through the events of its batches.
 
 ghost use Rattle.std.specs.Prelude.{◌≡◌, ◌⊎◌, ◌↔◌, ℕ, true, List, length, OnOk};
-ghost use Rattle.std.specs.Prelude.{IfOk, IsErrOf, IsTrue, Err};
+ghost use Rattle.std.specs.Prelude.{IfOk, IsErrOf, Err};
 ghost use Rattle.ipc_disk.specs.Counts.{with_failure};
 ghost use Rattle.ipc_disk.specs.Medium.{IsHonest, Stays};
 ghost use Rattle.ipc_disk.specs.Range.{IsWithin};
 ghost use Rattle.ipc_journal.specs.View.{range_of};
 ghost use Rattle.ipc_state.specs.State.{State};
-ghost use Rattle.ipc_engine.specs.Engine.{IsForProcess};
 ghost use Rattle.ipc_engine.specs.Event.{PlainEvent};
-ghost use Rattle.ipc_engine.specs.View.{plain_event};
 ghost use Rattle.ipc_store.specs.Batch.{most_bytes};
 ghost use Rattle.ipc_store.specs.Relations.Replay.{Replays, IsGoodUpTo, AreRecords};
 
 use crate::fault::OpenError;
 use ipc_disk::SectorDisk;
-use ipc_engine::{Engine, Event};
+use ipc_engine::Engine;
 use ipc_image::read_event;
 use ipc_journal::{Journal, Place};
 use std::alloc::AllocError;
@@ -80,21 +78,11 @@ fn go_through(engine: &mut Engine, records: &[u8]) -> Result<bool, AllocError>
         let Some((len, event)) = read_event(&records[at..]) else {
             return Ok(false);
         };
-        if !is_for_process(engine, &event) {
+        if !engine.is_for_process(&event) {
             return Ok(false);
         }
         engine.step(event)?;
         at += len;
     }
     Ok(true)
-}
-
-/// Whether the process that an event names is connected.
-pub(crate) fn is_for_process(engine: &Engine, event: &Event<'_>) -> bool
-    ensures { IsTrue result ↔ IsForProcess engine.now.state (plain_event event.now) }
-{
-    match event {
-        Event::Call { pid, .. } | Event::Exit { pid, .. } => engine.connected(*pid),
-        Event::Connect { .. } | Event::Tick { .. } | Event::Restart => true,
-    }
 }

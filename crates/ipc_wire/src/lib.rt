@@ -21,6 +21,3 @@ pub use reply::{Body, Reply};
 pub use request::{Call, Frame, Request, RequestKind};
 pub use spelling::{put_request, request_len, write_request};
 pub use writing::{reply_len, write_reply};
-
-#[cfg(test)]
-mod tests;

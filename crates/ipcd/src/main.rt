@@ -2,15 +2,14 @@
 //! file, it makes and lists such files, and it serves them to the clients of a socket.
 #![tactic(auto)]
 
-mod command;
 mod device;
 mod ending;
 mod meter;
 mod serve;
 
-use command::{Request, limits_of, request_of};
 use device::{format_file, new_store, open_file};
 use ending::{Fault, exit_of};
+use ipc_command::{Request, limits_of, request_of};
 use ipc_disk::SectorDisk;
 use ipc_script::{ScriptFault, dump, run_script};
 use ipc_store::Store;
@@ -22,9 +21,6 @@ use std::net::Net;
 use std::process::ExitCode;
 use std::rt::Files;
 use std::time::Clock;
-
-#[cfg(test)]
-mod tests;
 
 fn main(rt: HostRuntime) -> io::Result<ExitCode> {
     // A file that is opened gets the lowest descriptor that is free. Where a standard stream is

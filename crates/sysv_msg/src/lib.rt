@@ -9,6 +9,3 @@ mod select;
 pub use laws::{picked_is_first_allowed, sent_is_within_qbytes, taken_still_fits};
 pub use message::Message;
 pub use queue::{MsgQueue, QueueNumbers, QueueStat};
-
-#[cfg(test)]
-mod tests;

@@ -1,0 +1,166 @@
+//! Each constructor once, the table of a crash, a fuse that burns down, and a disk in a file.
+
+mod file;
+mod remembering;
+
+use ipc_disk::{DiskFault, FuseDisk, MemoryDisk, SectorDisk};
+use remembering::RememberingDisk;
+use std::alloc::{AllocError, Global};
+use std::test::Fail;
+
+const OLD: u8 = 1;
+
+const NEW: u8 = 2;
+
+// Writes sectors of one byte, repeated.
+fn fill<D: SectorDisk>(disk: &mut D, sectors: &[u32], byte: u8) -> Result<(), DiskFault> {
+    for at in sectors {
+        if *at < disk.sectors() {
+            disk.write(*at, &[byte; 512])?;
+        }
+    }
+    Ok(())
+}
+
+// The last byte of each sector below `count`.
+fn bytes<D: SectorDisk>(alloc: Global, disk: &mut D, count: u32) -> Result<Vec<u8>, Fail> {
+    let mut found = Vec::new(alloc);
+    for at in 0..count {
+        let mut sector = [9; 512];
+        if at < disk.sectors() {
+            disk.read(at, &mut sector)?;
+        }
+        found.push(sector[511])?;
+    }
+    Ok(found)
+}
+
+// Four sectors, the first two with OLD and synced; then NEW in all but the third.
+fn written(alloc: Global) -> Result<MemoryDisk, Fail> {
+    let mut disk = MemoryDisk::new(alloc, 4)?;
+    fill(&mut disk, &[0, 1], OLD)?;
+    disk.sync()?;
+    fill(&mut disk, &[3, 1, 0], NEW)?;
+    Ok(disk)
+}
+
+#[test]
+fn a_new_disk_is_zeros(rt: HostRuntime) -> Result<(), Fail> {
+    let mut disk = MemoryDisk::new(rt.alloc(), 3)?;
+    assert_eq!(rt; disk.sectors(), 3);
+    assert_eq!(rt;
+        bytes(rt.alloc(), &mut disk, 3)?.as_slice(),
+        [0, 0, 0].as_slice()
+    );
+    fill(&mut disk, &[2, 2], NEW)?;
+    disk.sync()?;
+    assert_eq!(rt;
+        bytes(rt.alloc(), &mut disk, 3)?.as_slice(),
+        [0, 0, 2].as_slice()
+    );
+    assert_eq!(rt; (disk.writes(), disk.syncs()), (2, 1));
+    Ok(())
+}
+
+// The device of a server under its standard limits.
+#[test]
+fn a_device_of_45830_sectors_is_made(rt: HostRuntime) -> Result<(), Fail> {
+    let mut disk = MemoryDisk::new(rt.alloc(), 45830)?;
+    assert_eq!(rt; disk.sectors(), 45830);
+    fill(&mut disk, &[45829], NEW)?;
+    disk.sync()?;
+    let mut sector = [9; 512];
+    if disk.sectors() == 45830 {
+        disk.read(45829, &mut sector)?;
+    }
+    assert_eq!(rt; sector, [NEW; 512]);
+    Ok(())
+}
+
+// More writes than sectors since the last sync, and then fewer: after each sync a crash leaves what was read.
+#[test]
+fn a_sync_after_many_writes(rt: HostRuntime) -> Result<(), Fail> {
+    let mut disk = MemoryDisk::new(rt.alloc(), 3)?;
+    fill(&mut disk, &[0, 0, 0, 0, 2], OLD)?;
+    disk.sync()?;
+    fill(&mut disk, &[1], NEW)?;
+    disk.sync()?;
+    let mut disk = FuseDisk::new(disk, 0, 0).crash();
+    assert_eq!(rt;
+        bytes(rt.alloc(), &mut disk, 3)?.as_slice(),
+        [1, 2, 1].as_slice()
+    );
+    Ok(())
+}
+
+// The sectors 0, 1 and 3 are unsynced: bit 0 of `keep` chooses for 0, bit 1 for 1 and bit 2 for 3.
+const CRASHES: [(u64, [u8; 4]); 9] = [
+    (0, [1, 1, 0, 0]),
+    (1, [2, 1, 0, 0]),
+    (2, [1, 2, 0, 0]),
+    (3, [2, 2, 0, 0]),
+    (4, [1, 1, 0, 2]),
+    (5, [2, 1, 0, 2]),
+    (6, [1, 2, 0, 2]),
+    (7, [2, 2, 0, 2]),
+    (8, [1, 1, 0, 0]),
+];
+
+#[test]
+fn a_crash_chooses_sector_by_sector(rt: HostRuntime) -> Result<(), Fail> {
+    for (keep, left) in CRASHES {
+        let fuse = FuseDisk::new(written(rt.alloc())?, 0, keep);
+        assert_eq!(rt; fuse.unsynced(), 3);
+        let mut disk = fuse.crash();
+        assert_eq!(rt;
+            bytes(rt.alloc(), &mut disk, 4)?.as_slice(),
+            left.as_slice()
+        );
+    }
+    Ok(())
+}
+
+// Of 65 unsynced sectors the first and the last have one bit.
+#[test]
+fn the_bits_come_round(rt: HostRuntime) -> Result<(), Fail> {
+    let mut disk = MemoryDisk::new(rt.alloc(), 65)?;
+    for at in 0..65 {
+        fill(&mut disk, &[at], NEW)?;
+    }
+    let mut left = FuseDisk::new(disk, 0, 1).crash();
+    let found = bytes(rt.alloc(), &mut left, 65)?;
+    assert_eq!(rt; found.len(), 65);
+    assert_eq!(rt; (found[0], found[1], found[63], found[64]), (2, 0, 0, 2));
+    Ok(())
+}
+
+#[test]
+fn a_fuse_burns_down(rt: HostRuntime) -> Result<(), Fail> {
+    let mut fuse = FuseDisk::new(MemoryDisk::new(rt.alloc(), 2)?, 3, 0);
+    assert_eq!(rt; fill(&mut fuse, &[0], OLD), Ok(()));
+    assert_eq!(rt; fuse.sync(), Ok(()));
+    assert_eq!(rt; fill(&mut fuse, &[1], NEW), Ok(()));
+    assert_eq!(rt; fuse.sync(), Err(DiskFault));
+    assert_eq!(rt; fill(&mut fuse, &[0], NEW), Err(DiskFault));
+    assert_eq!(rt; (fuse.failures(), fuse.unsynced()), (2, 1));
+    let mut disk = fuse.crash();
+    assert_eq!(rt;
+        bytes(rt.alloc(), &mut disk, 2)?.as_slice(),
+        [1, 0].as_slice()
+    );
+    Ok(())
+}
+
+// A disk that remembers meets the trait too.
+#[test]
+fn a_disk_may_remember(rt: HostRuntime) -> Result<(), Fail> {
+    let mut disk = RememberingDisk::new(rt.alloc(), 3)?;
+    fill(&mut disk, &[0, 2, 2], NEW)?;
+    disk.sync()?;
+    assert_eq!(rt; disk.images(), 3);
+    assert_eq!(rt;
+        bytes(rt.alloc(), &mut disk, 3)?.as_slice(),
+        [2, 0, 2].as_slice()
+    );
+    Ok(())
+}

@@ -1,0 +1,5 @@
+//! Tests of connections: what no clause says.
+#![tactic(auto)]
+
+#[cfg(test)]
+mod hub;

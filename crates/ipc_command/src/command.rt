@@ -1,0 +1,301 @@
+//! The command line.
+
+ghost use Rattle.std.specs.Prelude.{◌≡◌, ℕ, Bool, true, false, List, [], ◌∷◌, ◌++◌, map, codes};
+ghost use Rattle.std.specs.Prelude.{IfOk, IfSome, IsSome, Option, option_and_then, string_bytes};
+ghost use Rattle.ipc_base.specs.Limits.{ArePassed};
+ghost use Rattle.clap.specs.Words.{app_of, rule_of, fault_of, subcommand_of, subcommand_rows_of};
+ghost use Rattle.clap.specs.Words.{FailsBy, found_of, rows_of};
+ghost use Rattle.ipc_command.specs.Command.{limits_asked, refusal_status, IsTakenAs, AsksFor, declared};
+ghost use Rattle.ipc_command.specs.Command.PlainRequest.{Format, Run, Dump, Serve};
+ghost use Rattle.ipc_command.specs.Command.{plain_request, asked, asked_small, asked_text};
+ghost use Rattle.ipc_command.specs.Command.{asked_number, number_of};
+ghost use Rattle.ipc_command.specs.Command.{is_no_flag, small_words, sectors_words, turns_words, turns_of};
+ghost use Rattle.ipc_command.specs.Command.{small_rule, sectors_rule, device_rule, socket_rule, turns_rule};
+
+use clap::error::ErrorKind;
+use clap::{Arg, ArgAction, ArgMatches, Command, Error, value_parser};
+use ipc_base::Limits;
+use std::alloc::{AllocError, Global};
+use std::convert::AsStr;
+use std::io;
+use std::rt::Env;
+
+/// What the command line asks for.
+#[derive(Debug, Drop)]
+pub enum Request {
+    /// Run the script on standard input on a new device in memory, with small limits or standard
+    /// ones.
+    Replay {
+        small: bool,
+    },
+    /// Make a device in a file, of so many sectors or of as many as it needs.
+    Format {
+        device: String,
+        small: bool,
+        sectors: Option<u32>,
+    },
+    /// Run the script on standard input on the device in a file.
+    Run {
+        device: String,
+    },
+    /// List the objects of the device in a file.
+    Dump {
+        device: String,
+    },
+    /// Serve the device in a file to the clients of a socket, for so many turns.
+    Serve {
+        device: String,
+        socket: String,
+        turns: u32,
+    },
+}
+
+/// Why the command line asks for nothing.
+#[derive(Debug, Drop)]
+pub enum Refusal {
+    /// Memory was refused.
+    NoMemory,
+    /// An argument is not valid UTF-8.
+    NotText,
+    /// What the parser has to say: help, the version, or a mistake in the words.
+    Parser(Error),
+}
+
+impl Refusal {
+    /// The exit status: 0 for help and the version, 1 for want of memory, 2 for a mistake.
+    pub fn status(&self) -> u8
+        ensures { result ≡ refusal_status self.now }
+    {
+        match self {
+            Refusal::NoMemory => 1,
+            Refusal::NotText => 2,
+            Refusal::Parser(error) => match error.kind() {
+                ErrorKind::DisplayHelp | ErrorKind::DisplayVersion => 0,
+                ErrorKind::OutOfMemory => 1,
+                _ => 2,
+            },
+        }
+    }
+
+    /// Says why. Help and the version go to standard output, all else to standard error.
+    pub fn print(&self, rt: &(impl Print + Eprint)) -> io::Result<()> {
+        match self {
+            Refusal::NoMemory => eprintln!(rt; "ipcd: no memory"),
+            Refusal::NotText => eprintln!(rt; "ipcd: an argument is not valid UTF-8"),
+            Refusal::Parser(error) => match error.kind() {
+                ErrorKind::OutOfMemory => eprintln!(rt; "ipcd: no memory"),
+                _ => error.print(rt),
+            },
+        }
+    }
+}
+
+/// Reads the command line.
+pub fn request_of(rt: &(impl Env + AllocGlobal)) -> Result<Request, Refusal> {
+    let alloc = rt.alloc();
+    let words: Vec<String> = match std::env::args(rt) {
+        Ok(words) => words.collect(alloc).map_err(|_| Refusal::NoMemory)?,
+        Err(fault) if fault.kind() == io::ErrorKind::InvalidData => return Err(Refusal::NotText),
+        Err(_) => return Err(Refusal::NoMemory),
+    };
+    parse(alloc, words.as_slice()).map_err(Refusal::Parser)
+}
+
+/// What the words ask for; the first is the program's name.
+pub fn parse<S: AsStr>(alloc: Global, words: &[S]) -> Result<Request, Error>
+    // Which words are refused, and with which kinds of error.
+    ensures refused { FailsBy (fault_of declared (map S.text words.now)) result }
+    // The words that are taken, whatever the program is called.
+    ensures standard { (name : List ℕ) → map S.text words.now ≡ name ∷ codes "replay" ∷ []
+        → IsTakenAs (Request.Replay false) result }
+    ensures small { (name : List ℕ)
+        → map S.text words.now ≡ name ∷ codes "replay" ∷ codes "--small" ∷ []
+        → IsTakenAs (Request.Replay true) result }
+    ensures format { (name device : List ℕ) (small : Bool) (number : Option (List ℕ))
+        → is_no_flag device ≡ true → IfSome number (λ text. IsSome (number_of text))
+        → map S.text words.now
+        ≡ name ∷ codes "format" ∷ device ∷ small_words small ++ sectors_words number
+        → AsksFor (Format device small (option_and_then number_of number)) result }
+    ensures run { (name device : List ℕ) → is_no_flag device ≡ true
+        → map S.text words.now ≡ name ∷ codes "run" ∷ device ∷ []
+        → AsksFor (Run device) result }
+    ensures dump { (name device : List ℕ) → is_no_flag device ≡ true
+        → map S.text words.now ≡ name ∷ codes "dump" ∷ device ∷ []
+        → AsksFor (Dump device) result }
+    ensures serve { (name device socket : List ℕ) (number : Option (List ℕ))
+        → is_no_flag device ≡ true → is_no_flag socket ≡ true
+        → IfSome number (λ text. IsSome (number_of text))
+        → map S.text words.now
+        ≡ name ∷ codes "serve" ∷ device ∷ socket ∷ turns_words number
+        → AsksFor (Serve device socket (turns_of (option_and_then number_of number))) result }
+    // What any words ask for, if they are taken, by what the parser finds in them.
+    ensures asked { IfOk result (λ request.
+        plain_request request ≡ asked (subcommand_of declared (map S.text words.now))) }
+{
+    let matches = command_line(alloc)?.try_get_matches_from(words)?;
+    Ok(request_in(alloc, &matches)?)
+}
+
+// The command line, as the parser is told of it.
+fn command_line<'a>(alloc: Global) -> Result<Command<'a>, AllocError>
+    ensures { IfOk result (λ command. app_of command ≡ declared) }
+{
+    let replay = Command::new(alloc, "replay")
+        .about("Runs the script on standard input, on a fresh server with a device in memory")
+        .arg(small_flag(alloc))?;
+    let format = Command::new(alloc, "format")
+        .about("Makes a device in a file. What stood there is lost. A terminal shows how far it is")
+        .arg(device_word(alloc))?
+        .arg(small_flag(alloc))?
+        .arg(sectors_option(alloc))?;
+    let run = Command::new(alloc, "run")
+        .about("Runs the script on standard input, on the server whose device is in a file")
+        .arg(device_word(alloc))?;
+    let dump = Command::new(alloc, "dump")
+        .about("Lists the objects of the server whose device is in a file")
+        .arg(device_word(alloc))?;
+    let serve = Command::new(alloc, "serve")
+        .about("Serves the device in a file to the clients of a Unix socket")
+        .arg(device_word(alloc))?
+        .arg(socket_word(alloc))?
+        .arg(turns_option(alloc))?;
+    Command::new(alloc, "ipcd")
+        .about("System V message queues that outlive the system")
+        .version("0.1.0")
+        .subcommand_required(true)
+        .subcommand(replay)?
+        .subcommand(format)?
+        .subcommand(run)?
+        .subcommand(dump)?
+        .subcommand(serve)
+}
+
+// The flag `--small`.
+fn small_flag<'a>(alloc: Global) -> Arg<'a>
+    ensures rule { rule_of result ≡ small_rule }
+    ensures local { result.global ≡ false }
+{
+    Arg::new(alloc, "small")
+        .long("small")
+        .action(ArgAction::SetTrue)
+        .help("Small limits, as for trials")
+}
+
+// The option `--sectors N`.
+fn sectors_option<'a>(alloc: Global) -> Arg<'a>
+    ensures rule { rule_of result ≡ sectors_rule }
+    ensures local { result.global ≡ false }
+{
+    Arg::new(alloc, "sectors")
+        .long("sectors")
+        .value_name("N")
+        .value_parser(value_parser!(u32))
+        .help("How many sectors of 512 bytes it gets, in place of as many as it needs")
+}
+
+// The word that names the file of a device.
+fn device_word<'a>(alloc: Global) -> Arg<'a>
+    ensures rule { rule_of result ≡ device_rule }
+    ensures local { result.global ≡ false }
+{
+    Arg::new(alloc, "device")
+        .value_name("DEVICE")
+        .required(true)
+        .help("The file of the device")
+}
+
+// The word that names a socket.
+fn socket_word<'a>(alloc: Global) -> Arg<'a>
+    ensures rule { rule_of result ≡ socket_rule }
+    ensures local { result.global ≡ false }
+{
+    Arg::new(alloc, "socket")
+        .value_name("SOCKET")
+        .required(true)
+        .help("The file that the socket is made at. Nothing may stand there")
+}
+
+// The option `--turns N`.
+fn turns_option<'a>(alloc: Global) -> Arg<'a>
+    ensures rule { rule_of result ≡ turns_rule }
+    ensures local { result.global ≡ false }
+{
+    Arg::new(alloc, "turns")
+        .long("turns")
+        .value_name("N")
+        .value_parser(value_parser!(u32))
+        .help(
+            "How many turns of its loop the server makes before it ends: 4294967295 if none are given",
+        )
+}
+
+// What the matches ask for.
+fn request_in(alloc: Global, matches: &ArgMatches<'_>) -> Result<Request, AllocError>
+    ensures { IfOk result (λ request.
+        plain_request request ≡ asked (subcommand_rows_of matches.now)) }
+{
+    if let Some(replay) = matches.subcommand_matches("replay") {
+        return Ok(Request::Replay {
+            small: small_in(replay),
+        });
+    }
+    if let Some(format) = matches.subcommand_matches("format") {
+        return Ok(Request::Format {
+            device: text_in(alloc, format, "device")?,
+            small: small_in(format),
+            sectors: number_in(format, "sectors"),
+        });
+    }
+    if let Some(run) = matches.subcommand_matches("run") {
+        return Ok(Request::Run {
+            device: text_in(alloc, run, "device")?,
+        });
+    }
+    if let Some(serve) = matches.subcommand_matches("serve") {
+        return Ok(Request::Serve {
+            device: text_in(alloc, serve, "device")?,
+            socket: text_in(alloc, serve, "socket")?,
+            turns: number_in(serve, "turns").unwrap_or(u32::MAX),
+        });
+    }
+    let device = match matches.subcommand_matches("dump") {
+        Some(dump) => text_in(alloc, dump, "device")?,
+        None => String::new(alloc),
+    };
+    Ok(Request::Dump { device })
+}
+
+// Whether a command has the flag `--small`.
+fn small_in(command: &ArgMatches<'_>) -> bool
+    ensures { result ≡ asked_small (rows_of (found_of command.now)) }
+{
+    command.get_one("small").unwrap_or(false)
+}
+
+// The text that a command has by this name. The parser has refused a command without one that it
+// needs.
+fn text_in(alloc: Global, command: &ArgMatches<'_>, name: &str) -> Result<String, AllocError>
+    ensures { IfOk result (λ text.
+        string_bytes text ≡ asked_text name.now (rows_of (found_of command.now))) }
+{
+    command.get_str(name).unwrap_or("").to_string(alloc)
+}
+
+// The number that a command has by this name.
+fn number_in(command: &ArgMatches<'_>, name: &str) -> Option<u32>
+    ensures { result ≡ asked_number name.now (rows_of (found_of command.now)) }
+{
+    command.get_one(name)
+}
+
+/// The limits of a server: small ones where they are asked for, else the standard ones.
+pub fn limits_of(small: bool) -> Limits
+    ensures limits { result ≡ limits_asked small }
+    ensures passed { ArePassed result }
+{
+    if small {
+        Limits::small()
+    } else {
+        Limits::standard()
+    }
+}

@@ -1,0 +1,11 @@
+//! Tests of the machine and of what it stands on: what no clause says.
+#![tactic(auto)]
+
+#[cfg(test)]
+mod base;
+#[cfg(test)]
+mod engine;
+#[cfg(test)]
+mod queue;
+#[cfg(test)]
+mod wire;
