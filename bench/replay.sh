@@ -201,11 +201,10 @@ echo
 echo "| a line that sends and receives, on the device | bytes of a text | requests in it | lines in a run" \
 	"| microseconds | range |"
 echo "|---|---|---|---|---|---|"
-lines standard 4 1 252
-lines small 4 1 252
-lines standard 4 10 252
-lines small 4 10 252
-lines small 4 100 28
+lines small 0 1 252
+lines small 0 16 120
+lines small 0 100 28
+lines standard 0 1 252
 lines standard 8192 1 28
 echo
 echo "| a tick on the small device, open connections | microseconds | range |"
@@ -219,8 +218,8 @@ echo
 echo "| the commit of | bytes of the batch | writes | syncs | bytes written |"
 echo "|---|---|---|---|---|"
 commit "a tick" 0 0 0
-commit "a line of a send, 4 bytes" 1 0 4
+commit "a line of a send, no byte" 1 0 0
 commit "a line of a receive" 0 1 0
-commit "a line of 10 requests, 4 bytes" 5 5 4
-commit "a line of 100 requests, 4 bytes" 50 50 4
+commit "a line of 16 requests, no byte" 8 8 0
+commit "a line of 100 requests, no byte" 50 50 0
 commit "a line of a send, 8192 bytes" 1 0 8192
