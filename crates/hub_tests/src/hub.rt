@@ -9,6 +9,7 @@ use ipc_disk::{MemoryDisk, SectorDisk};
 use ipc_hub::{ConnectError, Connection, Hub, ServeError};
 use ipc_store::Store;
 use std::alloc::Global;
+use std::process::Abort;
 use std::test::Fail;
 
 /// HELLO of uid 1000 and gid 100, and its answer for pid 1.
@@ -42,17 +43,19 @@ pub(crate) fn served(alloc: Global) -> Result<Hub<MemoryDisk>, Fail> {
     Ok(Hub::new(alloc, opened(alloc, device(alloc)?)?))
 }
 
-#[test]
-fn a_client_comes_and_goes(rt: HostRuntime) -> Result<(), Fail> {
-    let mut hub = served(rt.alloc())?;
+// Connection 7 comes, and no other is there.
+fn comes(rt: &impl Abort, hub: &mut Hub<MemoryDisk>) -> Result<(), Fail> {
     hub.connect(7)?;
     assert_eq!(rt; hub.connect(7), Err(ConnectError::InUse));
     assert_eq!(rt; hub.feed(8, &HELLO, Moment(0)), Err(ServeError::Unknown));
     assert_eq!(rt; hub.hangup(8, Moment(0)), Err(ServeError::Unknown));
     assert_eq!(rt; hub.output(8).len(), 0);
     assert!(rt; !hub.ended(8));
+    Ok(())
+}
 
-    // a reply is seen once it is released, and is taken byte by byte
+// A reply is seen once it is released, and is taken byte by byte.
+fn is_welcomed(rt: &impl Abort, hub: &mut Hub<MemoryDisk>) -> Result<(), Fail> {
     assert_eq!(rt; hub.feed(7, &HELLO, Moment(0)), Ok(17));
     assert_eq!(rt; hub.output(7).len(), 0);
     hub.release()?;
@@ -63,15 +66,26 @@ fn a_client_comes_and_goes(rt: HostRuntime) -> Result<(), Fail> {
     }
     assert_eq!(rt; hub.output(7).len(), 0);
     assert_eq!(rt; hub.tick(Moment(5)), Ok(()));
+    Ok(())
+}
 
-    // a fault ends the connection, which then takes and drops what comes
+// A fault ends the connection, which then takes and drops what comes.
+fn breaks_off(rt: &impl Abort, hub: &mut Hub<MemoryDisk>) -> Result<(), Fail> {
     assert_eq!(rt; hub.feed(7, &[0, 0, 0, 0, 9], Moment(5)), Ok(5));
     hub.release()?;
     assert!(rt; hub.ended(7));
     assert_eq!(rt; hub.output(7), BROKEN.as_slice());
     assert_eq!(rt; hub.feed(7, &HELLO, Moment(6)), Ok(17));
     assert_eq!(rt; hub.output(7), BROKEN.as_slice());
+    Ok(())
+}
 
+#[test]
+fn a_client_comes_and_goes(rt: HostRuntime) -> Result<(), Fail> {
+    let mut hub = served(rt.alloc())?;
+    comes(&rt, &mut hub)?;
+    is_welcomed(&rt, &mut hub)?;
+    breaks_off(&rt, &mut hub)?;
     // its number is free again
     assert_eq!(rt; hub.hangup(7, Moment(7)), Ok(()));
     hub.connect(7)?;

@@ -208,29 +208,37 @@ fn a_frame_comes_with_the_last_byte(rt: HostRuntime) -> Result<(), Fail> {
     Ok(())
 }
 
+// Connection 1 comes, and becomes the process `pid`.
+fn comes(rt: &impl Abort, alloc: Global, hub: &mut Hub<MemoryDisk>, pid: u8) -> Result<(), Fail> {
+    hub.connect(1)?;
+    assert!(rt; !hub.ended(1));
+    assert_eq!(rt; hub.output(1).len(), 0);
+    let mut taken = Vec::new(alloc);
+    give(rt, hub, &HELLO, &mut taken)?;
+    let welcome = [0, 0, 0, 10, 0, 0, 0, 1, 0, 0, 0, 0, 0, pid];
+    assert_eq!(rt; taken.as_slice(), welcome.as_slice());
+    Ok(())
+}
+
+// Every second process leaves by a fault of its frames.
+fn leaves(rt: &impl Abort, alloc: Global, hub: &mut Hub<MemoryDisk>, pid: u8) -> Result<(), Fail> {
+    if pid % 2 == 0 {
+        give(rt, hub, SHORT, &mut Vec::new(alloc))?;
+        assert!(rt; hub.ended(1));
+        assert_eq!(rt; hub.feed(1, &HELLO, Moment(0)), Ok(17));
+    } else {
+        assert_eq!(rt; hub.feed(1, GET, Moment(0)), Ok(17));
+    }
+    hub.release()?;
+    Ok(())
+}
+
 #[test]
 fn a_number_is_free_after_hangup(rt: HostRuntime) -> Result<(), Fail> {
     let mut hub = served(rt.alloc())?;
     for pid in 1..7 {
-        hub.connect(1)?;
-        assert!(rt; !hub.ended(1));
-        assert_eq!(rt; hub.output(1).len(), 0);
-        let mut taken = Vec::new(rt.alloc());
-        give(&rt, &mut hub, &HELLO, &mut taken)?;
-        assert_eq!(rt;
-            taken.as_slice(),
-            [0, 0, 0, 10, 0, 0, 0, 1, 0, 0, 0, 0, 0, pid].as_slice()
-        );
-
-        // every second process leaves by a fault of its frames
-        if pid % 2 == 0 {
-            give(&rt, &mut hub, SHORT, &mut taken)?;
-            assert!(rt; hub.ended(1));
-            assert_eq!(rt; hub.feed(1, &HELLO, Moment(0)), Ok(17));
-        } else {
-            assert_eq!(rt; hub.feed(1, GET, Moment(0)), Ok(17));
-        }
-        hub.release()?;
+        comes(&rt, rt.alloc(), &mut hub, pid)?;
+        leaves(&rt, rt.alloc(), &mut hub, pid)?;
         assert_eq!(rt; hub.output(1).is_empty(), pid % 2 == 0);
         assert_eq!(rt; hub.hangup(1, Moment(0)), Ok(()));
         assert_eq!(rt; hub.output(1).len(), 0);
