@@ -8,7 +8,7 @@ help:
 	@echo "make run    proves and builds what is needed, some minutes the first time, and runs examples/device.sh: a"
 	@echo "            message outlives the program. It may be stopped: crates that are proved stay proved, and the"
 	@echo "            next run goes on after them"
-	@echo "make test   what 'make imports' runs; the gate: every proof from nothing, the edits that must fail, the tests,"
+	@echo "make test   what 'make imports' runs; the gate: every proof and the edits that must fail, the tests,"
 	@echo "            the program; and then what 'make runs', 'make serves' and 'make memory' run, on what the gate has"
 	@echo "            built. It takes 40 to 100 minutes on four cores"
 	@echo "make imports  that no crate names what is another's own, nor one that carries requests a call"
