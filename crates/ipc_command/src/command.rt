@@ -5,12 +5,15 @@ ghost use Rattle.std.specs.Prelude.{IfOk, IfSome, IsSome, Option, option_and_the
 ghost use Rattle.ipc_base.specs.Limits.{ArePassed};
 ghost use Rattle.clap.specs.Words.{app_of, rule_of, fault_of, subcommand_of, subcommand_rows_of};
 ghost use Rattle.clap.specs.Words.{FailsBy, found_of, rows_of};
+ghost use Rattle.clap.specs.declared.builder.command.Command.TheViews.{out-Command};
 ghost use Rattle.ipc_command.specs.Command.{limits_asked, refusal_status, IsTakenAs, AsksFor, declared};
 ghost use Rattle.ipc_command.specs.Command.PlainRequest.{Format, Run, Dump, Serve};
 ghost use Rattle.ipc_command.specs.Command.{plain_request, asked, asked_small, asked_text};
 ghost use Rattle.ipc_command.specs.Command.{asked_number, number_of};
 ghost use Rattle.ipc_command.specs.Command.{is_no_flag, small_words, sectors_words, turns_words, turns_of};
 ghost use Rattle.ipc_command.specs.Command.{small_rule, sectors_rule, device_rule, socket_rule, turns_rule};
+ghost use Rattle.ipc_command.specs.Command.{replay_command, format_command, run_command, dump_command};
+ghost use Rattle.ipc_command.specs.Command.{serve_command};
 
 use clap::error::ErrorKind;
 use clap::{Arg, ArgAction, ArgMatches, Command, Error, value_parser};
@@ -21,7 +24,7 @@ use std::io;
 use std::rt::Env;
 
 /// What the command line asks for.
-#[derive(Debug, Drop)]
+#[derive(Drop)]
 pub enum Request {
     /// Run the script on standard input on a new device in memory, with small limits or standard
     /// ones.
@@ -51,7 +54,7 @@ pub enum Request {
 }
 
 /// Why the command line asks for nothing.
-#[derive(Debug, Drop)]
+#[derive(Drop)]
 pub enum Refusal {
     /// Memory was refused.
     NoMemory,
@@ -140,34 +143,69 @@ pub fn parse<S: AsStr>(alloc: Global, words: &[S]) -> Result<Request, Error>
 fn command_line<'a>(alloc: Global) -> Result<Command<'a>, AllocError>
     ensures { IfOk result (λ command. app_of command ≡ declared) }
 {
-    let replay = Command::new(alloc, "replay")
-        .about("Runs the script on standard input, on a fresh server with a device in memory")
-        .arg(small_flag(alloc))?;
-    let format = Command::new(alloc, "format")
-        .about("Makes a device in a file. What stood there is lost. A terminal shows how far it is")
-        .arg(device_word(alloc))?
-        .arg(small_flag(alloc))?
-        .arg(sectors_option(alloc))?;
-    let run = Command::new(alloc, "run")
-        .about("Runs the script on standard input, on the server whose device is in a file")
-        .arg(device_word(alloc))?;
-    let dump = Command::new(alloc, "dump")
-        .about("Lists the objects of the server whose device is in a file")
-        .arg(device_word(alloc))?;
-    let serve = Command::new(alloc, "serve")
-        .about("Serves the device in a file to the clients of a Unix socket")
-        .arg(device_word(alloc))?
-        .arg(socket_word(alloc))?
-        .arg(turns_option(alloc))?;
     Command::new(alloc, "ipcd")
         .about("System V message queues that outlive the system")
         .version("0.1.0")
         .subcommand_required(true)
-        .subcommand(replay)?
-        .subcommand(format)?
-        .subcommand(run)?
-        .subcommand(dump)?
-        .subcommand(serve)
+        .subcommand(replay(alloc)?)?
+        .subcommand(format(alloc)?)?
+        .subcommand(run(alloc)?)?
+        .subcommand(dump(alloc)?)?
+        .subcommand(serve(alloc)?)
+}
+
+// The command `replay`. None of the five has an argument for the commands below it.
+fn replay<'a>(alloc: Global) -> Result<Command<'a>, AllocError>
+    ensures app { IfOk result (λ command. app_of command ≡ replay_command) }
+    ensures local { IfOk result (λ command. (out-Command command).has_globals ≡ false) }
+{
+    Command::new(alloc, "replay")
+        .about("Runs the script on standard input, on a fresh server with a device in memory")
+        .arg(small_flag(alloc))
+}
+
+// The command `format`.
+fn format<'a>(alloc: Global) -> Result<Command<'a>, AllocError>
+    ensures app { IfOk result (λ command. app_of command ≡ format_command) }
+    ensures local { IfOk result (λ command. (out-Command command).has_globals ≡ false) }
+{
+    Command::new(alloc, "format")
+        .about("Makes a device in a file. What stood there is lost. A terminal shows how far it is")
+        .arg(device_word(alloc))?
+        .arg(small_flag(alloc))?
+        .arg(sectors_option(alloc))
+}
+
+// The command `run`.
+fn run<'a>(alloc: Global) -> Result<Command<'a>, AllocError>
+    ensures app { IfOk result (λ command. app_of command ≡ run_command) }
+    ensures local { IfOk result (λ command. (out-Command command).has_globals ≡ false) }
+{
+    Command::new(alloc, "run")
+        .about("Runs the script on standard input, on the server whose device is in a file")
+        .arg(device_word(alloc))
+}
+
+// The command `dump`.
+fn dump<'a>(alloc: Global) -> Result<Command<'a>, AllocError>
+    ensures app { IfOk result (λ command. app_of command ≡ dump_command) }
+    ensures local { IfOk result (λ command. (out-Command command).has_globals ≡ false) }
+{
+    Command::new(alloc, "dump")
+        .about("Lists the objects of the server whose device is in a file")
+        .arg(device_word(alloc))
+}
+
+// The command `serve`.
+fn serve<'a>(alloc: Global) -> Result<Command<'a>, AllocError>
+    ensures app { IfOk result (λ command. app_of command ≡ serve_command) }
+    ensures local { IfOk result (λ command. (out-Command command).has_globals ≡ false) }
+{
+    Command::new(alloc, "serve")
+        .about("Serves the device in a file to the clients of a Unix socket")
+        .arg(device_word(alloc))?
+        .arg(socket_word(alloc))?
+        .arg(turns_option(alloc))
 }
 
 // The flag `--small`.

@@ -4,6 +4,3 @@
 mod command;
 
 pub use command::{Refusal, Request, limits_of, parse, request_of};
-
-#[cfg(test)]
-mod tests;
