@@ -1,14 +1,17 @@
 //! Each call of the hub once, and what a client sees from one call to the next.
 
-mod cuts;
+mod calls;
 mod lasting;
 mod stops;
 
-use ipc_base::{Limits, Moment};
-use ipc_disk::{MemoryDisk, SectorDisk};
+use calls::{
+    answers, connects, consumes, consumes_all, hangs_up, is_ended, is_fed, releases, sees, served,
+    takes, ticks,
+};
+use ipc_base::Moment;
+use ipc_disk::MemoryDisk;
 use ipc_hub::{ConnectError, Connection, Hub, ServeError};
-use ipc_store::Store;
-use std::alloc::Global;
+use std::alloc::{AllocError, Global};
 use std::process::Abort;
 use std::test::Fail;
 
@@ -20,76 +23,54 @@ pub(crate) const WELCOME: [u8; 14] = [0, 0, 0, 10, 0, 0, 0, 1, 0, 0, 0, 0, 0, 1]
 /// EPROTO without a serial.
 pub(crate) const BROKEN: [u8; 10] = [0, 0, 0, 6, 0, 0, 0, 0, 0, 71];
 
-/// How many sectors a device needs under small limits.
-const SMALL_DEVICE: u32 = 448;
-
-/// A new device under small limits.
-pub(crate) fn device(alloc: Global) -> Result<MemoryDisk, Fail> {
-    let mut disk = MemoryDisk::new(alloc, SMALL_DEVICE)?;
-    Store::format(&mut disk, &Limits::small())?;
-    Ok(disk)
-}
-
-/// A device that is to open.
-pub(crate) fn opened<D: SectorDisk + Drop>(alloc: Global, disk: D) -> Result<Store<D>, Fail> {
-    match Store::open(alloc, disk) {
-        Ok(store) => Ok(store),
-        Err(unopened) => Err(Fail::new(unopened.error)),
-    }
-}
-
-/// A hub over a new device.
-pub(crate) fn served(alloc: Global) -> Result<Hub<MemoryDisk>, Fail> {
-    Ok(Hub::new(alloc, opened(alloc, device(alloc)?)?))
-}
-
 // Connection 7 comes, and no other is there.
-fn comes(rt: &impl Abort, hub: &mut Hub<MemoryDisk>) -> Result<(), Fail> {
-    hub.connect(7)?;
-    assert_eq!(rt; hub.connect(7), Err(ConnectError::InUse));
-    assert_eq!(rt; hub.feed(8, &HELLO, Moment(0)), Err(ServeError::Unknown));
-    assert_eq!(rt; hub.hangup(8, Moment(0)), Err(ServeError::Unknown));
-    assert_eq!(rt; hub.output(8).len(), 0);
-    assert!(rt; !hub.ended(8));
-    Ok(())
+fn comes(rt: &impl Abort, hub: &mut Hub<MemoryDisk>) {
+    connects(rt, hub, 7, Ok(()));
+    connects(rt, hub, 7, Err(ConnectError::InUse));
+    is_fed(rt, hub, (8, 0), &HELLO, Err(ServeError::Unknown));
+    hangs_up(rt, hub, (8, 0), Err(ServeError::Unknown));
+    sees(rt, hub, 8, &[]);
+    is_ended(rt, hub, 8, false);
 }
 
 // A reply is seen once it is released, and is taken byte by byte.
-fn is_welcomed(rt: &impl Abort, hub: &mut Hub<MemoryDisk>) -> Result<(), Fail> {
-    assert_eq!(rt; hub.feed(7, &HELLO, Moment(0)), Ok(17));
-    assert_eq!(rt; hub.output(7).len(), 0);
-    hub.release()?;
-    for byte in WELCOME {
-        assert!(rt; hub.output(7).len() > 0);
-        assert_eq!(rt; hub.output(7)[0], byte);
-        hub.consume(7, 1);
+fn is_welcomed(rt: &impl Abort, hub: &mut Hub<MemoryDisk>) {
+    takes(rt, hub, 7, &HELLO);
+    sees(rt, hub, 7, &[]);
+    releases(rt, hub, Ok(()));
+    for taken in 0..14 {
+        sees(rt, hub, 7, &WELCOME[taken..]);
+        consumes(rt, hub, 7, 1);
     }
-    assert_eq!(rt; hub.output(7).len(), 0);
-    assert_eq!(rt; hub.tick(Moment(5)), Ok(()));
-    Ok(())
+    sees(rt, hub, 7, &[]);
+    ticks(rt, hub, 5, Ok(()));
 }
 
 // A fault ends the connection, which then takes and drops what comes.
-fn breaks_off(rt: &impl Abort, hub: &mut Hub<MemoryDisk>) -> Result<(), Fail> {
-    assert_eq!(rt; hub.feed(7, &[0, 0, 0, 0, 9], Moment(5)), Ok(5));
-    hub.release()?;
-    assert!(rt; hub.ended(7));
-    assert_eq!(rt; hub.output(7), BROKEN.as_slice());
-    assert_eq!(rt; hub.feed(7, &HELLO, Moment(6)), Ok(17));
-    assert_eq!(rt; hub.output(7), BROKEN.as_slice());
-    Ok(())
+fn breaks_off(rt: &impl Abort, hub: &mut Hub<MemoryDisk>) {
+    is_fed(rt, hub, (7, 5), &[0, 0, 0, 0, 9], Ok(5));
+    releases(rt, hub, Ok(()));
+    is_ended(rt, hub, 7, true);
+    sees(rt, hub, 7, &BROKEN);
+    is_fed(rt, hub, (7, 6), &HELLO, Ok(17));
+    sees(rt, hub, 7, &BROKEN);
+}
+
+// Its number is free again, and what it has not taken is gone.
+fn is_free_again(rt: &impl Abort, hub: &mut Hub<MemoryDisk>) {
+    hangs_up(rt, hub, (7, 7), Ok(()));
+    connects(rt, hub, 7, Ok(()));
+    sees(rt, hub, 7, &[]);
+    is_ended(rt, hub, 7, false);
 }
 
 #[test]
 fn a_client_comes_and_goes(rt: HostRuntime) -> Result<(), Fail> {
     let mut hub = served(rt.alloc())?;
-    comes(&rt, &mut hub)?;
-    is_welcomed(&rt, &mut hub)?;
-    breaks_off(&rt, &mut hub)?;
-    // its number is free again
-    assert_eq!(rt; hub.hangup(7, Moment(7)), Ok(()));
-    hub.connect(7)?;
-    assert!(rt; !hub.ended(7));
+    comes(&rt, &mut hub);
+    is_welcomed(&rt, &mut hub);
+    breaks_off(&rt, &mut hub);
+    is_free_again(&rt, &mut hub);
     Ok(())
 }
 
@@ -98,32 +79,27 @@ pub(crate) const GET: [u8; 17] = [0, 0, 0, 13, 0, 0, 0, 2, 10, 0, 0, 4, 210, 0, 
 
 pub(crate) const GOT: [u8; 14] = [0, 0, 0, 10, 0, 0, 0, 2, 0, 0, 0, 0, 0, 1];
 
-/// The client of connection 1 takes all that it may see.
-pub(crate) fn take_shown<D: SectorDisk>(hub: &mut Hub<D>) {
-    let shown = hub.output(1).len();
-    hub.consume(1, shown);
-}
-
 /// A hub with connection 1 past its HELLO, of which the answer was taken.
-pub(crate) fn greeted(alloc: Global) -> Result<Hub<MemoryDisk>, Fail> {
+pub(crate) fn greeted(rt: &impl Abort, alloc: Global) -> Result<Hub<MemoryDisk>, Fail> {
     let mut hub = served(alloc)?;
-    hub.connect(1)?;
-    hub.feed(1, &HELLO, Moment(0))?;
-    hub.release()?;
-    if hub.output(1).len() == 14 {
-        hub.consume(1, 14);
-    }
+    connects(rt, &mut hub, 1, Ok(()));
+    answers(rt, &mut hub, &HELLO, &WELCOME);
     Ok(hub)
 }
 
-/// Such a hub, and `count` times GET in one piece.
-fn many_gets(alloc: Global, count: u32) -> Result<(Hub<MemoryDisk>, Vec<u8>), Fail> {
-    let hub = greeted(alloc)?;
-    let mut piece = Vec::new(alloc);
+// Adds so many times GET.
+fn add_gets(piece: &mut Vec<u8>, count: u32) -> Result<(), AllocError> {
     for _ in 0..count {
         piece.extend_from_slice(&GET)?;
     }
-    Ok((hub, piece))
+    Ok(())
+}
+
+// So many times GET in one piece.
+fn gets(alloc: Global, count: u32) -> Result<Vec<u8>, AllocError> {
+    let mut piece = Vec::new(alloc);
+    add_gets(&mut piece, count)?;
+    Ok(piece)
 }
 
 /// Whether the output is as many answers as requests were taken.
@@ -136,26 +112,40 @@ fn is_answered(output: &[u8], taken: usize) -> bool {
     output.len() == taken / 17 * 14
 }
 
+// All answers to the requests that were taken are seen, and are taken.
+fn sees_answers(rt: &impl Abort, hub: &mut Hub<MemoryDisk>, taken: usize) {
+    releases(rt, hub, Ok(()));
+    assert!(rt; is_answered(hub.output(1), taken));
+    consumes_all(hub, 1);
+}
+
 #[test]
 fn a_hundred_requests_are_served_in_one_feed(rt: HostRuntime) -> Result<(), Fail> {
-    let (mut hub, piece) = many_gets(rt.alloc(), 100)?;
-    assert_eq!(rt; hub.feed(1, &piece, Moment(0)), Ok(1700));
-    assert_eq!(rt; hub.output(1).len(), 0);
-    hub.release()?;
-    assert!(rt; is_answered(hub.output(1), 1700));
+    let piece = gets(rt.alloc(), 100)?;
+    let mut hub = greeted(&rt, rt.alloc())?;
+    takes(&rt, &mut hub, 1, &piece);
+    sees(&rt, &hub, 1, &[]);
+    sees_answers(&rt, &mut hub, 1700);
     Ok(())
+}
+
+// How much of a thousand requests is taken at once: more than a hundred, and not all.
+fn taken_of(rt: &impl Abort, hub: &mut Hub<MemoryDisk>, piece: &[u8]) -> usize {
+    let Ok(taken) = hub.feed(1, piece, Moment(0)) else {
+        panic!(rt; "no feed");
+    };
+    assert!(rt; 1700 < taken && taken < 17000);
+    taken
 }
 
 #[test]
 fn requests_wait_while_their_answers_have_no_room(rt: HostRuntime) -> Result<(), Fail> {
-    let (mut hub, piece) = many_gets(rt.alloc(), 1000)?;
-    let taken = hub.feed(1, &piece, Moment(0))?;
-    assert!(rt; 1700 < taken && taken < 17000);
-    assert_eq!(rt; hub.feed(1, &piece, Moment(0)), Ok(0));
-    hub.release()?;
-    assert!(rt; is_answered(hub.output(1), taken));
-    take_shown(&mut hub);
-    assert_eq!(rt; hub.feed(1, &GET, Moment(0)), Ok(17));
+    let piece = gets(rt.alloc(), 1000)?;
+    let mut hub = greeted(&rt, rt.alloc())?;
+    let taken = taken_of(&rt, &mut hub, &piece);
+    is_fed(&rt, &mut hub, (1, 0), &piece, Ok(0));
+    sees_answers(&rt, &mut hub, taken);
+    takes(&rt, &mut hub, 1, &GET);
     Ok(())
 }
 
@@ -204,13 +194,14 @@ fn are_listed(connections: &[Connection], listed: &[Listed]) -> bool {
     connections.len() == listed.len()
 }
 
-/// A hub whose connections were made in this order.
-fn connected(alloc: Global, order: &[u32]) -> Result<Hub<MemoryDisk>, Fail> {
-    let mut hub = served(alloc)?;
+// Connections are made in this order; then 3 says HELLO, and 9 breaks off.
+fn come(rt: &impl Abort, hub: &mut Hub<MemoryDisk>, order: &[u32]) {
     for conn in order {
-        hub.connect(*conn)?;
+        connects(rt, hub, *conn, Ok(()));
     }
-    Ok(hub)
+    takes(rt, hub, 3, &HELLO);
+    takes(rt, hub, 9, &[0, 0, 0, 0]);
+    releases(rt, hub, Ok(()));
 }
 
 #[test]
@@ -221,14 +212,12 @@ fn connections_are_listed_in_rising_number(rt: HostRuntime) -> Result<(), Fail> 
         [9, 0, 4294967295, 3],
     ];
     for order in orders {
-        let mut hub = connected(rt.alloc(), &order)?;
-        assert_eq!(rt; hub.feed(3, &HELLO, Moment(0)), Ok(17));
-        assert_eq!(rt; hub.feed(9, &[0, 0, 0, 0], Moment(0)), Ok(4));
-        hub.release()?;
+        let mut hub = served(rt.alloc())?;
+        come(&rt, &mut hub, &order);
         assert!(rt; are_listed(hub.connections(), &LISTED));
 
         // one that has gone is listed no more
-        assert_eq!(rt; hub.hangup(0, Moment(1)), Ok(()));
+        hangs_up(&rt, &mut hub, (0, 1), Ok(()));
         assert!(rt; are_listed(hub.connections(), &LISTED[1..]));
     }
     Ok(())

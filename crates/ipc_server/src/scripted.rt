@@ -13,6 +13,7 @@ use std::alloc::{AllocError, Global};
 use std::cell::RefCell;
 use std::io;
 use std::io::{ErrorKind, Read, Write};
+use std::process::Abort;
 use std::rc::Rc;
 use std::test::Fail;
 
@@ -172,6 +173,17 @@ impl Stage {
         }
     }
 
+    /// The same, of what it sends in pieces.
+    fn add_pieces(
+        &mut self,
+        alloc: Global,
+        sent: &[&[u8]],
+        reads: &'static [Answer],
+        writes: &'static [Answer],
+    ) -> Result<Peer, Fail> {
+        self.add(alloc, joined(alloc, sent)?, reads, writes)
+    }
+
     /// A turn, before which the system says of each client that a read may give something.
     fn turn(&mut self) -> Result<(), Fail> {
         for key in 0..self.clients.capacity() {
@@ -222,6 +234,11 @@ fn was_written(peer: &Peer, wanted: &[u8]) -> bool {
         Ok(tape) => tape.written.as_slice() == wanted,
         Err(_) => false,
     }
+}
+
+/// Whether these pieces were written, and no more.
+fn were_written(alloc: Global, peer: &Peer, wanted: &[&[u8]]) -> Result<bool, AllocError> {
+    Ok(was_written(peer, &joined(alloc, wanted)?))
 }
 
 /// Whether its socket is closed.
@@ -371,17 +388,17 @@ static ROWS: [Row; 14] = [
 const IN_TWO: &[Answer] = &[Moves(17), BLOCKS, ALL];
 
 /// The other client, process 1, and the client of a row, which comes after it and is process 2.
-fn two(alloc: Global, row: &Row) -> Result<(Box<Stage>, Peer, Peer), Fail> {
-    let mut stage = empty_stage(alloc)?;
-    let other = stage.add(alloc, joined(alloc, &[HELLO, GET])?, IN_TWO, &[ALL])?;
-    let client = stage.add(alloc, joined(alloc, row.sent)?, row.reads, row.writes)?;
-    Ok((stage, other, client))
+fn add_two(alloc: Global, stage: &mut Stage, row: &Row) -> Result<(Peer, Peer), Fail> {
+    let other = stage.add_pieces(alloc, &[HELLO, GET], IN_TWO, &[ALL])?;
+    let client = stage.add_pieces(alloc, row.sent, row.reads, row.writes)?;
+    Ok((other, client))
 }
 
 /// Runs a row. The other client is served whatever this one does, and has the only connection that is left if this one
 /// is gone.
 fn run(rt: &HostRuntime, row: &Row) -> Result<(), Fail> {
-    let (mut stage, other, client) = two(rt.alloc(), row)?;
+    let mut stage = empty_stage(rt.alloc())?;
+    let (other, client) = add_two(rt.alloc(), &mut stage, row)?;
     let answer = joined(rt.alloc(), row.answer)?;
     for (written, state) in row.turns {
         stage.turn()?;
@@ -396,7 +413,7 @@ fn run(rt: &HostRuntime, row: &Row) -> Result<(), Fail> {
     if is_closed(&client) != is_gone || (left == 1) != is_gone {
         return Err(Fail::new(row.name));
     }
-    if !was_written(&other, &joined(rt.alloc(), &[WELCOME, GOT])?) {
+    if !were_written(rt.alloc(), &other, &[WELCOME, GOT])? {
         return Err(Fail::new(row.name));
     }
     Ok(())
@@ -414,8 +431,7 @@ fn sockets_that_answer_by_a_script(rt: HostRuntime) -> Result<(), Fail> {
 #[test]
 fn a_client_is_read_once_it_is_woken(rt: HostRuntime) -> Result<(), Fail> {
     let mut stage = empty_stage(rt.alloc())?;
-    let sent = joined(rt.alloc(), &[HELLO, GET])?;
-    let client = stage.add(rt.alloc(), sent, IN_TWO, &[ALL])?;
+    let client = stage.add_pieces(rt.alloc(), &[HELLO, GET], IN_TWO, &[ALL])?;
     assert_eq!(rt; stage.state(0), Busy);
     stage.round()?;
     assert_eq!(rt; moved(&client), Some((17, 14)));
@@ -429,12 +445,18 @@ fn a_client_is_read_once_it_is_woken(rt: HostRuntime) -> Result<(), Fail> {
 
 // ---- much at a time
 
-/// HELLO and a thousand times GET.
-fn many_gets(alloc: Global) -> Result<Vec<u8>, AllocError> {
-    let mut sent = joined(alloc, &[HELLO])?;
+/// Adds a thousand times GET.
+fn add_gets(sent: &mut Vec<u8>) -> Result<(), AllocError> {
     for _ in 0..1000 {
         sent.extend_from_slice(GET)?;
     }
+    Ok(())
+}
+
+/// HELLO and a thousand times GET.
+fn many_gets(alloc: Global) -> Result<Vec<u8>, AllocError> {
+    let mut sent = joined(alloc, &[HELLO])?;
+    add_gets(&mut sent)?;
     Ok(sent)
 }
 
@@ -489,24 +511,63 @@ fn a_client_that_reads_nothing_is_not_read(rt: HostRuntime) -> Result<(), Fail> 
 /// The text of the longest request, which has 8452 bytes.
 static TEXT: [u8; 8427] = [7; 8427];
 
-/// HELLO and nine of the longest requests, with the serials 1 to 9: 76085 bytes.
+/// What stands before the text, but for the serial: its last byte is the eighth.
+const FRONT: [u8; 25] = [
+    0, 0, 0x21, 0, 0, 0, 0, 0, 0x0b, 0, 0, 0, 1, 0, 0, 8, 0, 0, 0, 0, 0, 0, 0, 0, 5,
+];
+
+/// Adds the request with this serial.
+fn add_long_send(sent: &mut Vec<u8>, serial: u8) -> Result<(), AllocError> {
+    let mut front = FRONT;
+    front[7] = serial;
+    sent.extend_from_slice(&front)?;
+    sent.extend_from_slice(&TEXT)
+}
+
+/// Adds nine of them, with the serials 1 to 9.
+fn add_long_sends(sent: &mut Vec<u8>) -> Result<(), AllocError> {
+    for serial in 1..10 {
+        add_long_send(sent, serial)?;
+    }
+    Ok(())
+}
+
+/// HELLO and these nine: 76085 bytes.
 fn long_sends(alloc: Global) -> Result<Vec<u8>, AllocError> {
     let mut sent = joined(alloc, &[HELLO])?;
-    for serial in 1..10 {
-        sent.extend_from_slice(&[0, 0, 0x21, 0, 0, 0, 0, serial, 0x0b, 0, 0, 0, 1])?;
-        sent.extend_from_slice(&[0, 0, 8, 0, 0, 0, 0, 0, 0, 0, 0, 5])?;
-        sent.extend_from_slice(&TEXT)?;
-    }
+    add_long_sends(&mut sent)?;
     Ok(sent)
 }
 
-/// WELCOME and so many answers to them: EINVAL, for the length of the text.
-fn refusals(alloc: Global, count: u8) -> Result<Vec<u8>, AllocError> {
-    let mut written = joined(alloc, &[WELCOME])?;
-    for serial in 1..=count {
-        written.extend_from_slice(&[0, 0, 0, 6, 0, 0, 0, serial, 0, 22])?;
-    }
-    Ok(written)
+/// WELCOME and the answers to all of them: EINVAL, for the length of the text.
+static REFUSALS: [&[u8]; 10] = [
+    WELCOME,
+    &[0, 0, 0, 6, 0, 0, 0, 1, 0, 22],
+    &[0, 0, 0, 6, 0, 0, 0, 2, 0, 22],
+    &[0, 0, 0, 6, 0, 0, 0, 3, 0, 22],
+    &[0, 0, 0, 6, 0, 0, 0, 4, 0, 22],
+    &[0, 0, 0, 6, 0, 0, 0, 5, 0, 22],
+    &[0, 0, 0, 6, 0, 0, 0, 6, 0, 22],
+    &[0, 0, 0, 6, 0, 0, 0, 7, 0, 22],
+    &[0, 0, 0, 6, 0, 0, 0, 8, 0, 22],
+    &[0, 0, 0, 6, 0, 0, 0, 9, 0, 22],
+];
+
+/// A round reads and answers so much of the long requests, and leaves their client so.
+fn goes_on(
+    rt: &impl Abort,
+    alloc: Global,
+    stage: &mut Stage,
+    client: &Peer,
+    (read, answers): (usize, usize),
+    state: State,
+) -> Result<(), Fail> {
+    stage.round()?;
+    let wanted = REFUSALS.get(..answers).unwrap_or(&[]);
+    assert!(rt; were_written(alloc, client, wanted)?);
+    assert_eq!(rt; moved(client).map(|(read, _)| read), Some(read));
+    assert_eq!(rt; stage.state(0), state);
+    Ok(())
 }
 
 /// 16 reads of 4096 bytes are 65536 bytes: HELLO, seven requests and a piece of the eighth.
@@ -514,25 +575,29 @@ fn refusals(alloc: Global, count: u8) -> Result<Vec<u8>, AllocError> {
 fn what_is_left_after_16_reads_waits(rt: HostRuntime) -> Result<(), Fail> {
     let mut stage = empty_stage(rt.alloc())?;
     let client = stage.add(rt.alloc(), long_sends(rt.alloc())?, &[ALL], &[ALL])?;
-    stage.round()?;
-    assert_eq!(rt; moved(&client), Some((65536, 84)));
-    assert!(rt; was_written(&client, &refusals(rt.alloc(), 7)?));
-    assert_eq!(rt; stage.state(0), Busy);
-    stage.round()?;
-    assert_eq!(rt; moved(&client), Some((76085, 104)));
-    assert!(rt; was_written(&client, &refusals(rt.alloc(), 9)?));
-    assert_eq!(rt; stage.state(0), Idle);
-    Ok(())
+    goes_on(&rt, rt.alloc(), &mut stage, &client, (65536, 8), Busy)?;
+    goes_on(&rt, rt.alloc(), &mut stage, &client, (76085, 10), Idle)
 }
 
 /// Three clients, of which the first makes queue 1; all send a message in the second turn.
-fn senders(alloc: Global) -> Result<(Box<Stage>, Peer, Peer, Peer), Fail> {
-    let mut stage = empty_stage(alloc)?;
-    let sent = joined(alloc, &[HELLO, GET, SEND])?;
-    let first = stage.add(alloc, sent, &[Moves(34), BLOCKS, ALL], &[ALL])?;
-    let second = stage.add(alloc, joined(alloc, &[HELLO, SEND])?, IN_TWO, &[ALL])?;
-    let third = stage.add(alloc, joined(alloc, &[HELLO, SEND])?, IN_TWO, &[ALL])?;
-    Ok((stage, first, second, third))
+fn add_senders(alloc: Global, stage: &mut Stage) -> Result<[Peer; 3], Fail> {
+    const AFTER_34: &[Answer] = &[Moves(34), BLOCKS, ALL];
+    Ok([
+        stage.add_pieces(alloc, &[HELLO, GET, SEND], AFTER_34, &[ALL])?,
+        stage.add_pieces(alloc, &[HELLO, SEND], IN_TWO, &[ALL])?,
+        stage.add_pieces(alloc, &[HELLO, SEND], IN_TWO, &[ALL])?,
+    ])
+}
+
+/// Each message is answered after two turns.
+fn send_thrice(rt: &impl Abort, alloc: Global, stage: &mut Stage) -> Result<(), Fail> {
+    let [first, second, third] = add_senders(alloc, stage)?;
+    stage.turn()?;
+    stage.turn()?;
+    assert!(rt; were_written(alloc, &first, &[WELCOME, GOT, SENT])?);
+    assert!(rt; were_written(alloc, &second, &[WELCOME_2, SENT])?);
+    assert!(rt; were_written(alloc, &third, &[WELCOME_3, SENT])?);
+    Ok(())
 }
 
 /// The syncs of the device of a stage.
@@ -544,12 +609,8 @@ fn syncs(stage: Box<Stage>) -> u64 {
 /// Syncs: 3 of the format, 3 of the open, and 2 of each turn.
 #[test]
 fn a_turn_releases_once_for_all(rt: HostRuntime) -> Result<(), Fail> {
-    let (mut stage, first, second, third) = senders(rt.alloc())?;
-    stage.turn()?;
-    stage.turn()?;
-    assert!(rt; was_written(&first, &joined(rt.alloc(), &[WELCOME, GOT, SENT])?));
-    assert!(rt; was_written(&second, &joined(rt.alloc(), &[WELCOME_2, SENT])?));
-    assert!(rt; was_written(&third, &joined(rt.alloc(), &[WELCOME_3, SENT])?));
+    let mut stage = empty_stage(rt.alloc())?;
+    send_thrice(&rt, rt.alloc(), &mut stage)?;
     assert_eq!(rt; syncs(stage), 10);
     Ok(())
 }

@@ -1,8 +1,8 @@
 //! A hub that is stopped at each call on its disk: what opens then stands for the events of the last release, or for
 //! these and the ones of the release that was stopped.
 
-use super::{HELLO, device, opened};
-use ipc_base::Moment;
+use super::HELLO;
+use super::calls::{connects, consumes_all, device, hangs_up, releases, served_on, takes, ticks};
 use ipc_disk::{FuseDisk, MemoryDisk, SectorDisk};
 use ipc_hub::Hub;
 use ipc_store::CommitError;
@@ -189,31 +189,31 @@ fn go<D: SectorDisk>(
     alloc: Global,
     hub: &mut Hub<D>,
     line: Line,
-) -> Result<(), Fail> {
+) -> Result<(), AllocError> {
     let conn = conn_of(line);
     match line {
         Leave(_) => {
-            hub.hangup(conn, Moment(0))?;
-            hub.connect(conn)?;
+            hangs_up(rt, hub, (conn, 0), Ok(()));
+            connects(rt, hub, conn, Ok(()));
         }
-        Tick => hub.tick(Moment(0))?,
-        _ => {
-            let piece = piece_of(alloc, line)?;
-            assert_eq!(rt; hub.feed(conn, &piece, Moment(0)), Ok(piece.len()));
-        }
+        Tick => ticks(rt, hub, 0, Ok(())),
+        _ => takes(rt, hub, conn, &piece_of(alloc, line)?),
     }
     Ok(())
 }
 
-/// How many frames these are, each of less than 256 bytes.
+/// What stands after the first frame, which has less than 256 bytes; nothing, if it is not whole.
+fn after_frame(output: &[u8]) -> Option<&[u8]> {
+    let len = *output.get(3)?;
+    output.get(4 + len as usize..)
+}
+
+/// How many frames these are.
 fn frames(output: &[u8]) -> u32 {
     let mut rest = output;
     let mut count: u32 = 0;
     for _ in output {
-        let Some(len) = rest.get(3) else {
-            break;
-        };
-        let Some(more) = rest.get(4 + *len as usize..) else {
+        let Some(more) = after_frame(rest) else {
             break;
         };
         rest = more;
@@ -222,15 +222,24 @@ fn frames(output: &[u8]) -> u32 {
     count
 }
 
+/// Adds what the client of a connection may see. How many answers that are.
+fn add_shown<D: SectorDisk>(
+    hub: &Hub<D>,
+    conn: u32,
+    seen: &mut Vec<u8>,
+) -> Result<u32, AllocError> {
+    let shown = hub.output(conn);
+    seen.extend_from_slice(shown)?;
+    Ok(frames(shown))
+}
+
 /// Each client takes what it may see. How many answers that are.
 fn see<D: SectorDisk>(hub: &mut Hub<D>, seen: &mut Vec<u8>) -> Result<u32, AllocError> {
     let mut answers: u32 = 0;
     for conn in 1..4 {
         seen.push(conn as u8)?;
-        seen.extend_from_slice(hub.output(conn))?;
-        answers = answers.saturating_add(frames(hub.output(conn)));
-        let shown = hub.output(conn).len();
-        hub.consume(conn, shown);
+        answers = answers.saturating_add(add_shown(hub, conn, seen)?);
+        consumes_all(hub, conn);
     }
     Ok(answers)
 }
@@ -252,11 +261,11 @@ fn are_failed<D: SectorDisk>(hub: &Hub<D>) -> bool {
 const OPEN_CALLS: u64 = 9;
 
 /// A hub with connections 1, 2 and 3 over a new device that passes so many calls after its open.
-fn started(alloc: Global, calls: u64, keep: u64) -> Result<Hub<FuseDisk>, Fail> {
+fn started(rt: &impl Abort, alloc: Global, calls: u64, keep: u64) -> Result<Hub<FuseDisk>, Fail> {
     let fuse = FuseDisk::new(device(alloc)?, calls.saturating_add(OPEN_CALLS), keep);
-    let mut hub = Hub::new(alloc, opened(alloc, fuse)?);
+    let mut hub = served_on(alloc, fuse)?;
     for conn in 1..4 {
-        hub.connect(conn)?;
+        connects(rt, &mut hub, conn, Ok(()));
     }
     Ok(hub)
 }
@@ -336,15 +345,20 @@ struct Left {
     way: Way,
 }
 
+/// The disk of a hub that is no longer used, whose store has confirmed so many events.
+fn gives_back(rt: &impl Abort, hub: Hub<FuseDisk>, confirmed: u64) -> FuseDisk {
+    let store = hub.close();
+    assert_eq!(rt; store.confirmed(), confirmed);
+    store.close()
+}
+
 /// Goes through the script on a new device that passes so many calls after its open. The store has confirmed the events
 /// that were acknowledged, and the restart of the open.
 fn work(rt: &impl Abort, alloc: Global, calls: u64, keep: u64, most: u32) -> Result<Left, Fail> {
-    let mut hub = started(alloc, calls, keep)?;
+    let mut hub = started(rt, alloc, calls, keep)?;
     let mut seen = Vec::new(alloc);
     let way = go_through(rt, alloc, &mut hub, &mut seen, most)?;
-    let store = hub.close();
-    assert_eq!(rt; store.confirmed(), way.acknowledged.saturating_add(1));
-    let disk = store.close();
+    let disk = gives_back(rt, hub, way.acknowledged.saturating_add(1));
     Ok(Left { disk, seen, way })
 }
 
@@ -369,31 +383,40 @@ const PROBE: [Line; 14] = [
 /// ENOMSG for a receive.
 const NO_MESSAGE: [u8; 10] = [0, 0, 0, 6, 0, 0, 0, 4, 0, 42];
 
-/// Adds what connection 4 is answered to a line.
-fn ask(
+/// Adds what connection 4 sees after a release, and takes it.
+fn add_seen(
+    rt: &impl Abort,
+    hub: &mut Hub<MemoryDisk>,
+    found: &mut Vec<u8>,
+) -> Result<(), AllocError> {
+    releases(rt, hub, Ok(()));
+    add_shown(hub, 4, found)?;
+    consumes_all(hub, 4);
+    Ok(())
+}
+
+/// Adds what connection 4 is answered to HELLO and to the probe.
+fn add_answers(
     rt: &impl Abort,
     alloc: Global,
     hub: &mut Hub<MemoryDisk>,
     found: &mut Vec<u8>,
-    line: Line,
-) -> Result<(), Fail> {
-    go(rt, alloc, hub, line)?;
-    hub.release()?;
-    found.extend_from_slice(hub.output(4))?;
-    let shown = hub.output(4).len();
-    hub.consume(4, shown);
+) -> Result<(), AllocError> {
+    go(rt, alloc, hub, Hello(4))?;
+    add_seen(rt, hub, found)?;
+    for line in PROBE {
+        go(rt, alloc, hub, line)?;
+        add_seen(rt, hub, found)?;
+    }
     Ok(())
 }
 
 /// What a fourth client finds on a device: the next process, the queues, and their messages in order.
 fn probe(rt: &impl Abort, alloc: Global, disk: MemoryDisk) -> Result<Vec<u8>, Fail> {
-    let mut hub = Hub::new(alloc, opened(alloc, disk)?);
+    let mut hub = served_on(alloc, disk)?;
     let mut found = Vec::new(alloc);
-    hub.connect(4)?;
-    ask(rt, alloc, &mut hub, &mut found, Hello(4))?;
-    for line in PROBE {
-        ask(rt, alloc, &mut hub, &mut found, line)?;
-    }
+    connects(rt, &mut hub, 4, Ok(()));
+    add_answers(rt, alloc, &mut hub, &mut found)?;
     Ok(found)
 }
 
@@ -486,21 +509,35 @@ fn a_hub_that_is_stopped_anywhere(rt: HostRuntime) -> Result<(), Fail> {
     Ok(())
 }
 
-/// The probe tells each release of the script from the one before. All of it comes to 114 events: 7 ticks, 3 hangups of
-/// 2 each, 46 pieces of one request, of 2 each, and 3 pieces of two, of 3 each.
+/// What is found after so many releases is not what was found before.
+fn tells(
+    rt: &impl Abort,
+    alloc: Global,
+    releases: u32,
+    before: &mut Vec<u8>,
+) -> Result<(), Fail> {
+    let (after, _) = reached(rt, alloc, releases)?;
+    assert!(rt; *before != after, "{releases} releases");
+    assert!(rt; after.ends_with(&NO_MESSAGE));
+    *before = after;
+    Ok(())
+}
+
+/// The probe tells each release of the script from the one before.
 #[test]
 fn the_probe_sees_each_release(rt: HostRuntime) -> Result<(), Fail> {
-    let (mut before, _) = reached(&rt, rt.alloc(), 0)?;
+    let (mut found, _) = reached(&rt, rt.alloc(), 0)?;
     for releases in 1..15 {
-        let (after, _) = reached(&rt, rt.alloc(), releases)?;
-        assert!(rt; before != after, "{releases} releases");
-        assert!(rt; after.ends_with(&NO_MESSAGE));
-        before = after;
+        tells(&rt, rt.alloc(), releases, &mut found)?;
     }
-    let all = work(&rt, rt.alloc(), 1000, 0, 100)?;
-    assert_eq!(rt;
-        (all.way.releases, all.way.accepted, all.way.answered),
-        (14, 114, 52)
-    );
+    Ok(())
+}
+
+/// All of it comes to 114 events: 7 ticks, 3 hangups of 2 each, 46 pieces of one request, of 2 each, and 3 pieces of
+/// two, of 3 each.
+#[test]
+fn a_hub_that_is_not_stopped(rt: HostRuntime) -> Result<(), Fail> {
+    let way = work(&rt, rt.alloc(), 1000, 0, 100)?.way;
+    assert_eq!(rt; (way.releases, way.accepted, way.answered), (14, 114, 52));
     Ok(())
 }
