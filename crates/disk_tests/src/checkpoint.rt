@@ -7,6 +7,7 @@ ghost use Rattle.ipc_checkpoint.specs.Matches.{CheckpointMatches};
 ghost use Rattle.ipc_base.specs.Objects.{Fit};
 ghost use Rattle.ipc_checkpoint.specs.View.{layout_of, epoch_of};
 
+use crate::disk::calls;
 use ipc_base::{ObjectMap, Objects};
 use ipc_checkpoint::{Checkpoint, Layout, LoadError};
 use ipc_disk::{DiskFault, FuseDisk, MemoryDisk, Range, SectorDisk};
@@ -71,40 +72,69 @@ fn save_over<D: SectorDisk>(
     checkpoint.save(disk, new, 2)
 }
 
-// The epoch of what stands there, how many objects, and the first byte of the first.
-fn found(alloc: Global, disk: &mut MemoryDisk) -> Result<(u64, u32, u8), LoadError>
-    requires { memory_size disk.old ≡ 12 }
-    ensures { memory_size disk.new ≡ 12 }
-{
+// The first byte of the first object; 0 if there is none.
+fn first_byte(objects: &ObjectMap) -> u8 {
+    if objects.count() == 0 {
+        return 0;
+    }
+    objects.object(0).first().copied().unwrap_or(0)
+}
+
+// The epoch and the objects of what stands there. A disk that has not twelve sectors is damaged at its end.
+fn load<D: SectorDisk>(alloc: Global, disk: &mut D) -> Result<(u64, ObjectMap), LoadError> {
+    let sector = disk.sectors();
+    if sector != 12 {
+        return Err(LoadError::Damaged { sector });
+    }
     let (checkpoint, objects) = Checkpoint::load(alloc, disk, LAYOUT)?;
-    let count = objects.count();
-    let first = if count == 0 {
-        0
-    } else {
-        objects.object(0).first().copied().unwrap_or(0)
-    };
-    Ok((checkpoint.epoch(), count, first))
+    Ok((checkpoint.epoch(), objects))
+}
+
+// The epoch of what stands there, how many objects, and the first byte of the first.
+fn found<D: SectorDisk>(alloc: Global, disk: &mut D) -> Result<(u64, u32, u8), LoadError> {
+    let (epoch, objects) = load(alloc, disk)?;
+    Ok((epoch, objects.count(), first_byte(&objects)))
+}
+
+// Whether the object that stands there has this number and these bytes.
+fn is_object(objects: &ObjectMap, at: u32, number: u64, bytes: &[u8]) -> bool {
+    at < objects.count() && objects.number(at) == number && objects.object(at) == bytes
+}
+
+// A disk of twelve sectors with a checkpoint of the two objects.
+fn with_two(alloc: Global) -> Result<MemoryDisk, Fail> {
+    let mut disk = MemoryDisk::new(alloc, 12)?;
+    let objects = large(alloc)?;
+    Checkpoint::create(&mut disk, LAYOUT, &objects)?;
+    Ok(disk)
 }
 
 #[test]
 fn two_objects_are_loaded(rt: HostRuntime) -> Result<(), Fail> {
-    let mut disk = MemoryDisk::new(rt.alloc(), 12)?;
-    Checkpoint::create(&mut disk, LAYOUT, &large(rt.alloc())?)?;
-    assert_eq!(rt; (disk.writes(), disk.syncs()), (3, 1));
-    let (checkpoint, objects) = Checkpoint::load(rt.alloc(), &mut disk, LAYOUT)?;
-    assert_eq!(rt; (checkpoint.epoch(), objects.count()), (1, 2));
-    assert_eq!(rt; (objects.number(0), objects.number(1)), (7, 4294967296));
-    assert_eq!(rt; objects.object(0), [1; 3].as_slice());
-    assert_eq!(rt; objects.object(1), [2; 600].as_slice());
+    let mut disk = with_two(rt.alloc())?;
+    assert_eq!(rt; calls(&disk), (3, 1));
+    let (epoch, objects) = load(rt.alloc(), &mut disk)?;
+    assert_eq!(rt; (epoch, objects.count()), (1, 2));
+    assert!(rt; is_object(&objects, 0, 7, &[1; 3]));
+    assert!(rt; is_object(&objects, 1, 4294967296, &[2; 600]));
     Ok(())
+}
+
+// A disk after a first checkpoint and a save, with the numbers of writes and syncs after each of the two.
+fn saved(alloc: Global) -> Result<(MemoryDisk, (u64, u64), (u64, u64)), Fail> {
+    let (mut disk, mut checkpoint, old) = fresh(alloc)?;
+    let made = calls(&disk);
+    let new = small(alloc, 2)?;
+    save_over(&mut disk, &mut checkpoint, &old, &new)?;
+    let saved = calls(&disk);
+    Ok((disk, made, saved))
 }
 
 #[test]
 fn a_small_save_is_two_writes_and_two_syncs(rt: HostRuntime) -> Result<(), Fail> {
-    let (mut disk, mut checkpoint, old) = fresh(rt.alloc())?;
-    assert_eq!(rt; (disk.writes(), disk.syncs()), (2, 1));
-    save_over(&mut disk, &mut checkpoint, &old, &small(rt.alloc(), 2)?)?;
-    assert_eq!(rt; (disk.writes(), disk.syncs()), (4, 3));
+    let (mut disk, made, saved) = saved(rt.alloc())?;
+    assert_eq!(rt; made, (2, 1));
+    assert_eq!(rt; saved, (4, 3));
     assert_eq!(rt; found(rt.alloc(), &mut disk), Ok((2, 1, 2)));
     Ok(())
 }
@@ -125,17 +155,20 @@ const CRASHES: [(u64, u64, u8); 10] = [
     (4, ALL, 2),
 ];
 
+// Whether a save that may make so many calls passes, and the disk after a crash with this choice.
+fn stopped(alloc: Global, calls: u64, keep: u64) -> Result<(bool, MemoryDisk), Fail> {
+    let (disk, mut checkpoint, old) = fresh(alloc)?;
+    let mut fuse = FuseDisk::new(disk, calls, keep);
+    let new = small(alloc, 2)?;
+    let passes = save_over(&mut fuse, &mut checkpoint, &old, &new).is_ok();
+    Ok((passes, fuse.crash()))
+}
+
 #[test]
 fn a_save_that_is_stopped_leaves_the_old_or_the_new(rt: HostRuntime) -> Result<(), Fail> {
     for (calls, keep, left) in CRASHES {
-        let (disk, mut checkpoint, old) = fresh(rt.alloc())?;
-        let mut fuse = FuseDisk::new(disk, calls, keep);
-        let new = small(rt.alloc(), 2)?;
-        assert_eq!(rt;
-            save_over(&mut fuse, &mut checkpoint, &old, &new).is_ok(),
-            calls == 4
-        );
-        let mut disk = fuse.crash();
+        let (passes, mut disk) = stopped(rt.alloc(), calls, keep)?;
+        assert_eq!(rt; passes, calls == 4);
         assert_eq!(rt; found(rt.alloc(), &mut disk), Ok((left as u64, 1, left)));
     }
     Ok(())
@@ -143,9 +176,7 @@ fn a_save_that_is_stopped_leaves_the_old_or_the_new(rt: HostRuntime) -> Result<(
 
 // A disk with this root, and two objects in its first area: number 1 with 600 bytes, and one with this number and
 // length, which stands in the second sector.
-fn with_bytes(alloc: Global, root: [u8; 4], number: u8, length: u8) -> Result<MemoryDisk, Fail>
-    ensures { IfOk result (λ disk. memory_size disk ≡ 12) }
-{
+fn with_bytes(alloc: Global, root: [u8; 4], number: u8, length: u8) -> Result<MemoryDisk, Fail> {
     let mut disk = MemoryDisk::new(alloc, 12)?;
     let mut sector = [0; 512];
     sector[7] = root[0];
@@ -189,14 +220,21 @@ fn what_is_no_checkpoint_is_damaged(rt: HostRuntime) -> Result<(), Fail> {
     Ok(())
 }
 
+// A disk with a checkpoint, on which every call fails.
+fn failing(alloc: Global) -> Result<FuseDisk, Fail> {
+    let (disk, _, _) = fresh(alloc)?;
+    Ok(FuseDisk::new(disk, 0, 0))
+}
+
 #[test]
 fn a_disk_that_fails(rt: HostRuntime) -> Result<(), Fail> {
-    let (disk, _, _) = fresh(rt.alloc())?;
-    let mut fuse = FuseDisk::new(disk, 0, 0);
-    assert_eq!(rt;
-        Checkpoint::load(rt.alloc(), &mut fuse, LAYOUT).err(),
-        Some(LoadError::Device)
-    );
+    let mut fuse = failing(rt.alloc())?;
+    assert_eq!(rt; found(rt.alloc(), &mut fuse), Err(LoadError::Device));
+    Ok(())
+}
+
+#[test]
+fn what_stops_a_load_is_told(rt: HostRuntime) -> Result<(), Fail> {
     let error = LoadError::Damaged { sector: 4 };
     let text = format!(in rt.alloc(); "{}; {}; {}", error, LoadError::Device, LoadError::NoMemory)?;
     assert_eq!(rt;

@@ -6,6 +6,7 @@ mod remembering;
 use ipc_disk::{DiskFault, FuseDisk, MemoryDisk, SectorDisk};
 use remembering::RememberingDisk;
 use std::alloc::{AllocError, Global};
+use std::process::Abort;
 use std::test::Fail;
 
 const OLD: u8 = 1;
@@ -20,6 +21,10 @@ fn fill<D: SectorDisk>(disk: &mut D, sectors: &[u32], byte: u8) -> Result<(), Di
         }
     }
     Ok(())
+}
+
+fn sync<D: SectorDisk>(disk: &mut D) -> Result<(), DiskFault> {
+    disk.sync()
 }
 
 // The last byte of each sector below `count`.
@@ -39,27 +44,54 @@ fn bytes<D: SectorDisk>(alloc: Global, disk: &mut D, count: u32) -> Result<Vec<u
 fn written(alloc: Global) -> Result<MemoryDisk, Fail> {
     let mut disk = MemoryDisk::new(alloc, 4)?;
     fill(&mut disk, &[0, 1], OLD)?;
-    disk.sync()?;
+    sync(&mut disk)?;
     fill(&mut disk, &[3, 1, 0], NEW)?;
     Ok(disk)
+}
+
+// The last bytes of its sectors are these.
+fn reads<D: SectorDisk>(
+    rt: &impl Abort,
+    alloc: Global,
+    disk: &mut D,
+    wanted: &[u8],
+) -> Result<(), Fail> {
+    let count = disk.sectors();
+    let found = bytes(alloc, disk, count)?;
+    assert_eq!(rt; found.as_slice(), wanted);
+    Ok(())
+}
+
+// The numbers of writes and syncs.
+pub(crate) fn calls(disk: &MemoryDisk) -> (u64, u64) {
+    (disk.writes(), disk.syncs())
+}
+
+// The last bytes of what a crash now leaves are these.
+fn leaves(rt: &impl Abort, alloc: Global, fuse: FuseDisk, wanted: &[u8]) -> Result<(), Fail> {
+    let mut disk = fuse.crash();
+    reads(rt, alloc, &mut disk, wanted)
 }
 
 #[test]
 fn a_new_disk_is_zeros(rt: HostRuntime) -> Result<(), Fail> {
     let mut disk = MemoryDisk::new(rt.alloc(), 3)?;
     assert_eq!(rt; disk.sectors(), 3);
-    assert_eq!(rt;
-        bytes(rt.alloc(), &mut disk, 3)?.as_slice(),
-        [0, 0, 0].as_slice()
-    );
+    reads(&rt, rt.alloc(), &mut disk, &[0, 0, 0])?;
     fill(&mut disk, &[2, 2], NEW)?;
-    disk.sync()?;
-    assert_eq!(rt;
-        bytes(rt.alloc(), &mut disk, 3)?.as_slice(),
-        [0, 0, 2].as_slice()
-    );
-    assert_eq!(rt; (disk.writes(), disk.syncs()), (2, 1));
+    sync(&mut disk)?;
+    reads(&rt, rt.alloc(), &mut disk, &[0, 0, 2])?;
+    assert_eq!(rt; calls(&disk), (2, 1));
     Ok(())
+}
+
+// The last of 45830 sectors.
+fn last(disk: &mut MemoryDisk) -> Result<[u8; 512], DiskFault> {
+    let mut sector = [9; 512];
+    if disk.sectors() == 45830 {
+        disk.read(45829, &mut sector)?;
+    }
+    Ok(sector)
 }
 
 // The device of a server under its standard limits.
@@ -68,12 +100,8 @@ fn a_device_of_45830_sectors_is_made(rt: HostRuntime) -> Result<(), Fail> {
     let mut disk = MemoryDisk::new(rt.alloc(), 45830)?;
     assert_eq!(rt; disk.sectors(), 45830);
     fill(&mut disk, &[45829], NEW)?;
-    disk.sync()?;
-    let mut sector = [9; 512];
-    if disk.sectors() == 45830 {
-        disk.read(45829, &mut sector)?;
-    }
-    assert_eq!(rt; sector, [NEW; 512]);
+    sync(&mut disk)?;
+    assert_eq!(rt; last(&mut disk)?, [NEW; 512]);
     Ok(())
 }
 
@@ -82,15 +110,14 @@ fn a_device_of_45830_sectors_is_made(rt: HostRuntime) -> Result<(), Fail> {
 fn a_sync_after_many_writes(rt: HostRuntime) -> Result<(), Fail> {
     let mut disk = MemoryDisk::new(rt.alloc(), 3)?;
     fill(&mut disk, &[0, 0, 0, 0, 2], OLD)?;
-    disk.sync()?;
+    sync(&mut disk)?;
     fill(&mut disk, &[1], NEW)?;
-    disk.sync()?;
-    let mut disk = FuseDisk::new(disk, 0, 0).crash();
-    assert_eq!(rt;
-        bytes(rt.alloc(), &mut disk, 3)?.as_slice(),
-        [1, 2, 1].as_slice()
-    );
-    Ok(())
+    sync(&mut disk)?;
+    leaves(&rt, rt.alloc(), FuseDisk::new(disk, 0, 0), &[1, 2, 1])
+}
+
+fn unsynced(fuse: &FuseDisk) -> u32 {
+    fuse.unsynced()
 }
 
 // The sectors 0, 1 and 3 are unsynced: bit 0 of `keep` chooses for 0, bit 1 for 1 and bit 2 for 3.
@@ -110,12 +137,16 @@ const CRASHES: [(u64, [u8; 4]); 9] = [
 fn a_crash_chooses_sector_by_sector(rt: HostRuntime) -> Result<(), Fail> {
     for (keep, left) in CRASHES {
         let fuse = FuseDisk::new(written(rt.alloc())?, 0, keep);
-        assert_eq!(rt; fuse.unsynced(), 3);
-        let mut disk = fuse.crash();
-        assert_eq!(rt;
-            bytes(rt.alloc(), &mut disk, 4)?.as_slice(),
-            left.as_slice()
-        );
+        assert_eq!(rt; unsynced(&fuse), 3);
+        leaves(&rt, rt.alloc(), fuse, &left)?;
+    }
+    Ok(())
+}
+
+// Writes NEW to each sector below `count`.
+fn fill_below<D: SectorDisk>(disk: &mut D, count: u32) -> Result<(), DiskFault> {
+    for at in 0..count {
+        fill(disk, &[at], NEW)?;
     }
     Ok(())
 }
@@ -124,9 +155,7 @@ fn a_crash_chooses_sector_by_sector(rt: HostRuntime) -> Result<(), Fail> {
 #[test]
 fn the_bits_come_round(rt: HostRuntime) -> Result<(), Fail> {
     let mut disk = MemoryDisk::new(rt.alloc(), 65)?;
-    for at in 0..65 {
-        fill(&mut disk, &[at], NEW)?;
-    }
+    fill_below(&mut disk, 65)?;
     let mut left = FuseDisk::new(disk, 0, 1).crash();
     let found = bytes(rt.alloc(), &mut left, 65)?;
     assert_eq!(rt; found.len(), 65);
@@ -134,21 +163,20 @@ fn the_bits_come_round(rt: HostRuntime) -> Result<(), Fail> {
     Ok(())
 }
 
+fn failures(fuse: &FuseDisk) -> u64 {
+    fuse.failures()
+}
+
 #[test]
 fn a_fuse_burns_down(rt: HostRuntime) -> Result<(), Fail> {
     let mut fuse = FuseDisk::new(MemoryDisk::new(rt.alloc(), 2)?, 3, 0);
     assert_eq!(rt; fill(&mut fuse, &[0], OLD), Ok(()));
-    assert_eq!(rt; fuse.sync(), Ok(()));
+    assert_eq!(rt; sync(&mut fuse), Ok(()));
     assert_eq!(rt; fill(&mut fuse, &[1], NEW), Ok(()));
-    assert_eq!(rt; fuse.sync(), Err(DiskFault));
+    assert_eq!(rt; sync(&mut fuse), Err(DiskFault));
     assert_eq!(rt; fill(&mut fuse, &[0], NEW), Err(DiskFault));
-    assert_eq!(rt; (fuse.failures(), fuse.unsynced()), (2, 1));
-    let mut disk = fuse.crash();
-    assert_eq!(rt;
-        bytes(rt.alloc(), &mut disk, 2)?.as_slice(),
-        [1, 0].as_slice()
-    );
-    Ok(())
+    assert_eq!(rt; (failures(&fuse), unsynced(&fuse)), (2, 1));
+    leaves(&rt, rt.alloc(), fuse, &[1, 0])
 }
 
 // A disk that remembers meets the trait too.
@@ -156,11 +184,7 @@ fn a_fuse_burns_down(rt: HostRuntime) -> Result<(), Fail> {
 fn a_disk_may_remember(rt: HostRuntime) -> Result<(), Fail> {
     let mut disk = RememberingDisk::new(rt.alloc(), 3)?;
     fill(&mut disk, &[0, 2, 2], NEW)?;
-    disk.sync()?;
+    sync(&mut disk)?;
     assert_eq!(rt; disk.images(), 3);
-    assert_eq!(rt;
-        bytes(rt.alloc(), &mut disk, 3)?.as_slice(),
-        [2, 0, 2].as_slice()
-    );
-    Ok(())
+    reads(&rt, rt.alloc(), &mut disk, &[2, 0, 2])
 }

@@ -6,8 +6,9 @@ ghost use Rattle.ipc_disk.specs.Memory.{memory_size};
 ghost use Rattle.ipc_journal.specs.Journal.{IsBatch};
 ghost use Rattle.ipc_journal.specs.View.{range_of};
 
+use crate::disk::calls;
 use byteorder::{BigEndian, ByteOrder};
-use ipc_disk::{FuseDisk, MemoryDisk, Range, SectorDisk};
+use ipc_disk::{DiskFault, FuseDisk, MemoryDisk, Range, SectorDisk};
 use ipc_journal::{Journal, JournalError, Place};
 use std::alloc::{AllocError, Global};
 use std::test::Fail;
@@ -50,6 +51,31 @@ fn append_from<D: SectorDisk>(disk: &mut D, journal: &mut Journal, first: u8, co
     count
 }
 
+// Opens the journal and appends so; how many were acknowledged.
+fn open_and_append<D: SectorDisk>(disk: &mut D, first: u8, count: u8) -> Result<u8, JournalError>
+    requires { IsWithin RANGE (D.size disk.old) }
+    ensures { D.size disk.new ≡ D.size disk.old }
+{
+    let mut journal = Journal::open(disk, RANGE, 1)?;
+    Ok(append_from(disk, &mut journal, first, count))
+}
+
+// A byte of the next batch.
+fn next_byte<D: SectorDisk>(
+    journal: &Journal,
+    disk: &mut D,
+    place: &mut Place,
+) -> Result<Option<u8>, Fail>
+    requires { IsWithin (range_of journal.now) (D.size disk.old) }
+    ensures { D.size disk.new ≡ D.size disk.old }
+{
+    let mut into = [0; 60];
+    if journal.next_batch(disk, place, &mut into)?.is_none() {
+        return Ok(None);
+    }
+    Ok(Some(into[56]))
+}
+
 // A byte of each batch of the journal, in order.
 fn found<D: SectorDisk>(alloc: Global, disk: &mut D) -> Result<Vec<u8>, Fail>
     requires { IsWithin RANGE (D.size disk.old) }
@@ -59,11 +85,10 @@ fn found<D: SectorDisk>(alloc: Global, disk: &mut D) -> Result<Vec<u8>, Fail>
     let mut place = Place { sector: 0 };
     let mut bytes = Vec::new(alloc);
     for _ in 0..9 {
-        let mut into = [0; 60];
-        if journal.next_batch(disk, &mut place, &mut into)?.is_none() {
-            break;
+        match next_byte(&journal, disk, &mut place)? {
+            Some(byte) => bytes.push(byte)?,
+            None => break,
         }
-        bytes.push(into[56])?;
     }
     Ok(bytes)
 }
@@ -130,24 +155,29 @@ fn a_caller_that_is_stopped_goes_on(rt: HostRuntime) -> Result<(), Fail> {
 #[test]
 fn an_append_is_two_writes_and_two_syncs(rt: HostRuntime) -> Result<(), Fail> {
     let mut disk = fresh(rt.alloc())?;
-    assert_eq!(rt; (disk.writes(), disk.syncs()), (1, 1));
-    let mut journal = Journal::open(&mut disk, RANGE, 1)?;
-    assert_eq!(rt; append_from(&mut disk, &mut journal, 7, 1), 1);
-    assert_eq!(rt; (disk.writes(), disk.syncs()), (3, 3));
+    assert_eq!(rt; calls(&disk), (1, 1));
+    assert_eq!(rt; open_and_append(&mut disk, 7, 1), Ok(1));
+    assert_eq!(rt; calls(&disk), (3, 3));
     Ok(())
 }
 
-// A header as the format says it: the epoch in the bytes 0 to 7, the used sectors in 8 to 11.
+// Puts a header as the format says it: the epoch in the bytes 0 to 7, the used sectors in 8 to 11.
+fn put_header(disk: &mut MemoryDisk, epoch: u8, used: u8) -> Result<(), DiskFault>
+    requires { 3 < memory_size disk.old }
+    ensures { memory_size disk.new ≡ memory_size disk.old }
+{
+    let mut sector = [0; 512];
+    sector[7] = epoch;
+    sector[11] = used;
+    disk.write(3, &sector)?;
+    disk.sync()
+}
+
 fn with_header(alloc: Global, epoch: u8, used: u8) -> Result<MemoryDisk, Fail>
     ensures { IfOk result (λ disk. memory_size disk ≡ 300) }
 {
     let mut disk = MemoryDisk::new(alloc, 300)?;
-    let mut sector = [0; 512];
-    sector[7] = epoch;
-    sector[11] = used;
-    sector[10] = 0;
-    disk.write(3, &sector)?;
-    disk.sync()?;
+    put_header(&mut disk, epoch, used)?;
     Ok(disk)
 }
 
@@ -166,18 +196,28 @@ fn the_last_sector_fits_one_batch(rt: HostRuntime) -> Result<(), Fail> {
     Ok(())
 }
 
+// Whether a batch of the most bytes fits after an open.
+fn opens_empty(disk: &mut MemoryDisk, range: Range, epoch: u64) -> Result<bool, JournalError>
+    requires header { 0 < range.count }
+    requires within { IsWithin range (memory_size disk.old) }
+    ensures { memory_size disk.new ≡ memory_size disk.old }
+{
+    let journal = Journal::open(disk, range, epoch)?;
+    Ok(journal.fits(131072))
+}
+
 #[test]
 fn a_header_of_another_epoch(rt: HostRuntime) -> Result<(), Fail> {
     let mut disk = with_header(rt.alloc(), 2, 255)?;
-    assert_eq!(rt; Journal::open(&mut disk, WIDE, 3)?.fits(131072), true);
-    assert_eq!(rt;
-        Journal::open(&mut disk, WIDE, 1),
-        Err(JournalError::Damaged { sector: 3 })
-    );
-    assert_eq!(rt;
-        Journal::open(&mut disk, RANGE, 2),
-        Err(JournalError::Damaged { sector: 3 })
-    );
+    let damaged = Err(JournalError::Damaged { sector: 3 });
+    assert_eq!(rt; opens_empty(&mut disk, WIDE, 3), Ok(true));
+    assert_eq!(rt; opens_empty(&mut disk, WIDE, 1), damaged);
+    assert_eq!(rt; opens_empty(&mut disk, RANGE, 2), damaged);
+    Ok(())
+}
+
+#[test]
+fn what_stops_a_journal_is_told(rt: HostRuntime) -> Result<(), Fail> {
     let error = JournalError::Damaged { sector: 3 };
     let text = format!(in rt.alloc(); "{}; {}", error, JournalError::Device)?;
     assert_eq!(rt;

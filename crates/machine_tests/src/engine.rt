@@ -1,7 +1,6 @@
 //! The machine by hand, at the limits of a small server: each call done and each refusal once. Where memory was
 //! refused, a step is taken again, so that the tests pass whichever allocation is refused.
 
-ghost use Rattle.std.specs.Prelude.{◌≤◌};
 ghost use Rattle.ipc_engine.specs.Engine.{IsForProcess};
 ghost use Rattle.ipc_engine.specs.View.{plain_event};
 
@@ -80,18 +79,47 @@ fn hello(rt: &impl Abort, engine: &mut Engine, serial: u32) -> Result<(), AllocE
     )
 }
 
-/// The calls of a process, each with its answer.
-fn talk(
-    rt: &impl Abort,
-    engine: &mut Engine,
-    pid: Pid,
-    lines: &[(RequestKind<'_>, Answer<'_>)],
-) -> Result<(), AllocError> {
-    for (line, (kind, wanted)) in lines.iter().enumerate() {
+/// A request, as the tables below write it.
+#[derive(Clone, Copy)]
+enum Ask<'a> {
+    Hello,
+    Get(i32, u32),
+    Send(u32, i64, &'a [u8]),
+    Receive(u32, u32, i64),
+}
+
+fn kind_of(ask: Ask<'_>) -> RequestKind<'_> {
+    match ask {
+        Ask::Hello => RequestKind::Hello(Cred { uid: 0, gid: 0 }),
+        Ask::Get(key, flags) => RequestKind::Call(Call::Msgget {
+            key,
+            flags: GetFlags(flags),
+        }),
+        Ask::Send(id, mtype, text) => RequestKind::Call(Call::Msgsnd {
+            id: Id(id),
+            flags: MsgFlags(0),
+            mtype,
+            text,
+        }),
+        Ask::Receive(id, size, mtype) => RequestKind::Call(Call::Msgrcv {
+            id: Id(id),
+            flags: MsgFlags(0),
+            size,
+            mtype,
+        }),
+    }
+}
+
+/// A request, and its answer.
+type Line = (Ask<'static>, Answer<'static>);
+
+/// The requests of a process, each with its answer.
+fn talk(rt: &impl Abort, engine: &mut Engine, pid: Pid, lines: &[Line]) -> Result<(), AllocError> {
+    for (line, (ask, wanted)) in lines.iter().enumerate() {
         assert!(rt; engine.connected(pid));
         let request = Request {
             serial: 9,
-            kind: *kind,
+            kind: kind_of(*ask),
         };
         let moment = Moment(8);
         take(
@@ -108,163 +136,175 @@ fn talk(
     Ok(())
 }
 
-fn get(key: i32, flags: u32) -> RequestKind<'static> {
-    RequestKind::Call(Call::Msgget {
-        key,
-        flags: GetFlags(flags),
-    })
+/// The first process of a new engine talks.
+fn talk_first(rt: &impl Abort, alloc: Global, lines: &[Line]) -> Result<(), AllocError> {
+    let mut engine = small_engine(alloc)?;
+    hello(rt, &mut engine, 1)?;
+    talk(rt, &mut engine, Pid(1), lines)
 }
 
-fn send(id: u32, mtype: i64, text: &[u8]) -> RequestKind<'_> {
-    RequestKind::Call(Call::Msgsnd {
-        id: Id(id),
-        flags: MsgFlags(0),
-        mtype,
-        text,
-    })
+fn is_connected(engine: &Engine, pid: u32) -> bool {
+    engine.connected(Pid(pid))
 }
 
-fn receive(id: u32, size: u32, mtype: i64) -> RequestKind<'static> {
-    RequestKind::Call(Call::Msgrcv {
-        id: Id(id),
-        flags: MsgFlags(0),
-        size,
-        mtype,
-    })
+/// Whether the last event has no reply.
+fn is_quiet(engine: &Engine) -> bool {
+    engine.outcomes().is_empty()
+}
+
+fn most_processes(engine: &Engine) -> u32 {
+    engine.limits().processes
+}
+
+fn tick(rt: &impl Abort, engine: &mut Engine) -> Result<(), AllocError> {
+    let moment = Moment(8);
+    take(rt, engine, Event::Tick { moment })
+}
+
+fn exit(rt: &impl Abort, engine: &mut Engine, pid: u32) -> Result<(), AllocError> {
+    let (pid, moment) = (Pid(pid), Moment(8));
+    assert!(rt; engine.connected(pid));
+    take(rt, engine, Event::Exit { pid, moment })
+}
+
+/// A process comes, and is told its number.
+fn join(rt: &impl Abort, engine: &mut Engine, serial: u32, number: u32) -> Result<(), AllocError> {
+    hello(rt, engine, serial)?;
+    assert!(rt; is_answer(engine, Pid(number), serial, Answer::Number(number)));
+    assert!(rt; is_connected(engine, number));
+    Ok(())
+}
+
+/// The limit is 4 processes.
+fn come_until_there_are_too_many(rt: &impl Abort, engine: &mut Engine) -> Result<(), AllocError> {
+    assert!(rt; !is_connected(engine, 1));
+    for number in 1..5 {
+        join(rt, engine, 10 + number, number)?;
+    }
+    hello(rt, engine, 15)?;
+    assert!(rt; is_answer(engine, Pid(0), 15, Answer::Refused(Errno::ENFILE)));
+    assert!(rt; !is_connected(engine, 0) && !is_connected(engine, 5));
+    Ok(())
+}
+
+fn come_after_an_exit(rt: &impl Abort, engine: &mut Engine) -> Result<(), AllocError> {
+    exit(rt, engine, 2)?;
+    assert!(rt; is_quiet(engine));
+    assert!(rt; !is_connected(engine, 2) && is_connected(engine, 1));
+    join(rt, engine, 16, 5)?;
+    tick(rt, engine)?;
+    assert!(rt; is_quiet(engine) && is_connected(engine, 5));
+    Ok(())
 }
 
 #[test]
 fn numbers_processes_from_one_and_none_twice(rt: HostRuntime) -> Result<(), Fail> {
     let mut engine = small_engine(rt.alloc())?;
-    assert!(rt; !engine.connected(Pid(1)));
-    assert_eq!(rt; engine.limits().processes, 4);
-    for number in 1..5 {
-        hello(&rt, &mut engine, 10 + number)?;
-        assert!(rt; is_answer(&engine, Pid(number), 10 + number, Answer::Number(number)));
-        assert!(rt; engine.connected(Pid(number)));
-    }
-    hello(&rt, &mut engine, 15)?;
-    assert!(rt; is_answer(&engine, Pid(0), 15, Answer::Refused(Errno::ENFILE)));
-    assert!(rt; !engine.connected(Pid(0)) && !engine.connected(Pid(5)));
-
-    let (pid, moment) = (Pid(2), Moment(8));
-    assert!(rt; engine.connected(pid));
-    take(&rt, &mut engine, Event::Exit { pid, moment })?;
-    assert!(rt; engine.outcomes().is_empty());
-    assert!(rt; !engine.connected(Pid(2)) && engine.connected(Pid(1)));
-
-    hello(&rt, &mut engine, 16)?;
-    assert!(rt; is_answer(&engine, Pid(5), 16, Answer::Number(5)));
-    take(&rt, &mut engine, Event::Tick { moment })?;
-    assert!(rt; engine.outcomes().is_empty() && engine.connected(Pid(5)));
+    assert_eq!(rt; most_processes(&engine), 4);
+    come_until_there_are_too_many(&rt, &mut engine)?;
+    come_after_an_exit(&rt, &mut engine)?;
     Ok(())
 }
 
 /// The flags of a get: IPC_CREAT is 0o1000 and IPC_EXCL 0o2000.
+const GETS: [Line; 12] = [
+    (Ask::Get(1234, 0), Answer::Refused(Errno::ENOENT)),
+    (Ask::Get(1234, 0o1600), Answer::Number(1)),
+    (Ask::Get(1234, 0o1600), Answer::Number(1)),
+    (Ask::Get(1234, 0), Answer::Number(1)),
+    (Ask::Get(1234, 0o3600), Answer::Refused(Errno::EEXIST)),
+    (Ask::Get(1234, 0o2600), Answer::Number(1)),
+    (Ask::Get(-5, 0o600), Answer::Refused(Errno::ENOENT)),
+    (Ask::Get(0, 0o600), Answer::Number(2)),
+    (Ask::Get(0, 0o600), Answer::Refused(Errno::ENOSPC)),
+    (Ask::Get(-5, 0o3600), Answer::Refused(Errno::ENOSPC)),
+    (Ask::Get(-5, 0o600), Answer::Refused(Errno::ENOENT)),
+    (Ask::Get(1234, 0), Answer::Number(1)),
+];
+
 #[test]
 fn gets_queues_by_key(rt: HostRuntime) -> Result<(), Fail> {
-    let mut engine = small_engine(rt.alloc())?;
-    hello(&rt, &mut engine, 1)?;
-    let lines = [
-        (get(1234, 0), Answer::Refused(Errno::ENOENT)),
-        (get(1234, 0o1600), Answer::Number(1)),
-        (get(1234, 0o1600), Answer::Number(1)),
-        (get(1234, 0), Answer::Number(1)),
-        (get(1234, 0o3600), Answer::Refused(Errno::EEXIST)),
-        (get(1234, 0o2600), Answer::Number(1)),
-        (get(-5, 0o600), Answer::Refused(Errno::ENOENT)),
-        (get(0, 0o600), Answer::Number(2)),
-        (get(0, 0o600), Answer::Refused(Errno::ENOSPC)),
-        (get(-5, 0o3600), Answer::Refused(Errno::ENOSPC)),
-        (get(-5, 0o600), Answer::Refused(Errno::ENOENT)),
-        (get(1234, 0), Answer::Number(1)),
-    ];
-    talk(&rt, &mut engine, Pid(1), &lines)?;
+    talk_first(&rt, rt.alloc(), &GETS)?;
     Ok(())
 }
 
-/// So many bytes, at most 65.
-fn bytes(len: usize) -> &'static [u8]
-    requires { len ≤ 65 }
-{
-    &BYTES[..len]
-}
-
-static BYTES: [u8; 65] = [7; 65];
+/// A message has at most 64 bytes, and a queue 128.
+const SENDS: [Line; 13] = [
+    (Ask::Get(0, 0), Answer::Number(1)),
+    (Ask::Send(1, 1, &[7; 64]), Answer::Done),
+    (Ask::Send(1, 1, &[7; 64]), Answer::Done),
+    (Ask::Send(1, 1, &[7; 1]), Answer::Refused(Errno::EAGAIN)),
+    (Ask::Send(1, 1, &[]), Answer::Done),
+    (Ask::Send(1, 1, &[7; 65]), Answer::Refused(Errno::EINVAL)),
+    (Ask::Send(1, 0, &[]), Answer::Refused(Errno::EINVAL)),
+    (Ask::Send(1, -1, &[]), Answer::Refused(Errno::EINVAL)),
+    (Ask::Send(2, 1, &[]), Answer::Refused(Errno::EINVAL)),
+    (Ask::Receive(1, 64, 0), Answer::Message(1, &[7; 64])),
+    (Ask::Send(1, 1, &[7; 1]), Answer::Done),
+    (Ask::Receive(1, 64, 0), Answer::Message(1, &[7; 64])),
+    (Ask::Receive(1, 0, 0), Answer::Message(1, &[])),
+];
 
 #[test]
 fn sends_until_a_queue_is_full(rt: HostRuntime) -> Result<(), Fail> {
-    let mut engine = small_engine(rt.alloc())?;
-    hello(&rt, &mut engine, 1)?;
-    let lines = [
-        (get(0, 0), Answer::Number(1)),
-        (send(1, 1, bytes(64)), Answer::Done),
-        (send(1, 1, bytes(64)), Answer::Done),
-        (send(1, 1, bytes(1)), Answer::Refused(Errno::EAGAIN)),
-        (send(1, 1, bytes(0)), Answer::Done),
-        (send(1, 1, bytes(65)), Answer::Refused(Errno::EINVAL)),
-        (send(1, 0, bytes(0)), Answer::Refused(Errno::EINVAL)),
-        (send(1, -1, bytes(0)), Answer::Refused(Errno::EINVAL)),
-        (send(2, 1, bytes(0)), Answer::Refused(Errno::EINVAL)),
-        (receive(1, 64, 0), Answer::Message(1, bytes(64))),
-        (send(1, 1, bytes(1)), Answer::Done),
-        (receive(1, 64, 0), Answer::Message(1, bytes(64))),
-        (receive(1, 0, 0), Answer::Message(1, bytes(0))),
-    ];
-    talk(&rt, &mut engine, Pid(1), &lines)?;
+    talk_first(&rt, rt.alloc(), &SENDS)?;
     Ok(())
 }
 
+const RECEIVES: [Line; 16] = [
+    (Ask::Hello, Answer::Refused(Errno::EPROTO)),
+    (Ask::Get(0, 0), Answer::Number(1)),
+    (Ask::Receive(1, 8, 0), Answer::Refused(Errno::ENOMSG)),
+    (Ask::Receive(2, 8, 0), Answer::Refused(Errno::EINVAL)),
+    (Ask::Send(1, 5, b"a"), Answer::Done),
+    (Ask::Send(1, 3, b"b"), Answer::Done),
+    (Ask::Send(1, 1, b"c"), Answer::Done),
+    (Ask::Send(1, 2, b"d"), Answer::Done),
+    (Ask::Send(1, 1, b"e"), Answer::Done),
+    (Ask::Receive(1, 8, -3), Answer::Message(1, b"c")),
+    (Ask::Receive(1, 8, 0), Answer::Message(5, b"a")),
+    (Ask::Receive(1, 8, 4), Answer::Refused(Errno::ENOMSG)),
+    (Ask::Send(1, 6, b"ten bytes."), Answer::Done),
+    (Ask::Receive(1, 4, 6), Answer::Refused(Errno::E2BIG)),
+    (
+        Ask::Receive(1, 2147483648, 6),
+        Answer::Refused(Errno::EINVAL),
+    ),
+    (
+        Ask::Receive(1, 2147483647, 6),
+        Answer::Message(6, b"ten bytes."),
+    ),
+];
+
 #[test]
 fn receives_by_type_and_size(rt: HostRuntime) -> Result<(), Fail> {
-    let mut engine = small_engine(rt.alloc())?;
-    hello(&rt, &mut engine, 1)?;
-    let cred = Cred { uid: 0, gid: 0 };
-    let lines = [
-        (RequestKind::Hello(cred), Answer::Refused(Errno::EPROTO)),
-        (get(0, 0), Answer::Number(1)),
-        (receive(1, 8, 0), Answer::Refused(Errno::ENOMSG)),
-        (receive(2, 8, 0), Answer::Refused(Errno::EINVAL)),
-        (send(1, 5, b"a"), Answer::Done),
-        (send(1, 3, b"b"), Answer::Done),
-        (send(1, 1, b"c"), Answer::Done),
-        (send(1, 2, b"d"), Answer::Done),
-        (send(1, 1, b"e"), Answer::Done),
-        (receive(1, 8, -3), Answer::Message(1, b"c")),
-        (receive(1, 8, 0), Answer::Message(5, b"a")),
-        (receive(1, 8, 4), Answer::Refused(Errno::ENOMSG)),
-        (send(1, 6, b"ten bytes."), Answer::Done),
-        (receive(1, 4, 6), Answer::Refused(Errno::E2BIG)),
-        (receive(1, 2147483648, 6), Answer::Refused(Errno::EINVAL)),
-        (receive(1, 2147483647, 6), Answer::Message(6, b"ten bytes.")),
-    ];
-    talk(&rt, &mut engine, Pid(1), &lines)?;
+    talk_first(&rt, rt.alloc(), &RECEIVES)?;
     Ok(())
 }
+
+const BEFORE: [Line; 2] = [
+    (Ask::Get(1234, 0o1600), Answer::Number(1)),
+    (Ask::Send(1, 5, b"kept"), Answer::Done),
+];
+
+const AFTER: [Line; 3] = [
+    (Ask::Get(1234, 0), Answer::Number(1)),
+    (Ask::Receive(1, 8, 0), Answer::Message(5, b"kept")),
+    (Ask::Get(0, 0), Answer::Number(2)),
+];
 
 #[test]
 fn a_restart_leaves_the_queues_alone(rt: HostRuntime) -> Result<(), Fail> {
     let mut engine = small_engine(rt.alloc())?;
     hello(&rt, &mut engine, 1)?;
     hello(&rt, &mut engine, 2)?;
-    let lines = [
-        (get(1234, 0o1600), Answer::Number(1)),
-        (send(1, 5, b"kept"), Answer::Done),
-    ];
-    talk(&rt, &mut engine, Pid(1), &lines)?;
+    talk(&rt, &mut engine, Pid(1), &BEFORE)?;
     for _ in 0..2 {
         take(&rt, &mut engine, Event::Restart)?;
-        assert!(rt; engine.outcomes().is_empty());
-        assert!(rt; !engine.connected(Pid(1)) && !engine.connected(Pid(2)));
+        assert!(rt; is_quiet(&engine));
+        assert!(rt; !is_connected(&engine, 1) && !is_connected(&engine, 2));
     }
-
-    hello(&rt, &mut engine, 3)?;
-    assert!(rt; is_answer(&engine, Pid(3), 3, Answer::Number(3)));
-    let lines = [
-        (get(1234, 0), Answer::Number(1)),
-        (receive(1, 8, 0), Answer::Message(5, b"kept")),
-        (get(0, 0), Answer::Number(2)),
-    ];
-    talk(&rt, &mut engine, Pid(3), &lines)?;
+    join(&rt, &mut engine, 3, 3)?;
+    talk(&rt, &mut engine, Pid(3), &AFTER)?;
     Ok(())
 }

@@ -3,14 +3,14 @@
 ghost use Rattle.std.specs.Prelude.{IsSome};
 ghost use Rattle.ipc_state.specs.State.{queue_of};
 
-use super::{Answer, bytes, receive, talk};
+use super::{Answer, Ask, Line, talk};
 use ipc_base::{Cred, Id, Limits, Moment, Pid};
 use ipc_engine::{Engine, Row, StateFault};
 use ipc_state::{Perm, RestoreError, State};
 use std::alloc::{AllocError, Global};
 use std::process::Abort;
 use std::test::Fail;
-use sysv_msg::{QueueNumbers, QueueStat};
+use sysv_msg::{MsgQueue, QueueNumbers, QueueStat};
 
 const CRED: Cred = Cred {
     uid: 1000,
@@ -71,107 +71,177 @@ fn add_message(
     }
 }
 
+/// A part of a state.
+#[derive(Clone, Copy)]
+enum Part {
+    /// The next process and the next queue.
+    Numbers(u32, u32),
+    Process(u32),
+    Queue(u32, i32, Perm, QueueNumbers),
+    /// Of the queue 1.
+    Message(i64, &'static [u8]),
+}
+
+fn add(rt: &impl Abort, state: &mut State, part: Part) -> Result<(), RestoreError> {
+    match part {
+        Part::Numbers(pid, queue) => state.restore_numbers(Moment(9), pid, queue),
+        Part::Process(pid) => add_process(state, pid),
+        Part::Queue(id, key, perm, numbers) => add_queue(state, id, key, perm, numbers),
+        Part::Message(mtype, text) => add_message(rt, state, mtype, text),
+    }
+}
+
 /// Two processes, and a queue with one message.
+const SMALL: [Part; 5] = [
+    Part::Numbers(4, 2),
+    Part::Process(1),
+    Part::Process(3),
+    Part::Queue(1, 1234, PERM, NUMBERS),
+    Part::Message(5, b"hi"),
+];
+
+fn add_all(rt: &impl Abort, state: &mut State, parts: &[Part]) -> Result<(), RestoreError> {
+    for part in parts {
+        add(rt, state, *part)?;
+    }
+    Ok(())
+}
+
 fn small_state(rt: &impl Abort, alloc: Global) -> Result<State, RestoreError> {
     let mut state = State::new(alloc, Limits::small());
-    state.restore_numbers(Moment(9), 4, 2)?;
-    add_process(&mut state, 1)?;
-    add_process(&mut state, 3)?;
-    add_queue(&mut state, 1, 1234, PERM, NUMBERS)?;
-    add_message(rt, &mut state, 5, b"hi")?;
+    add_all(rt, &mut state, &SMALL)?;
     Ok(state)
+}
+
+const STAT: QueueStat = QueueStat {
+    qnum: 1,
+    bytes: 2,
+    qbytes: 128,
+    stime: Moment(7),
+    rtime: Moment(6),
+    ctime: Moment(5),
+    lspid: Pid(2),
+    lrpid: Pid(1),
+};
+
+fn numbers_of(state: &State) -> (Moment, u32, u32) {
+    (state.clock(), state.next_pid(), state.next_queue())
+}
+
+fn has_the_processes(state: &State) -> bool {
+    let [first, second] = state.processes() else {
+        return false;
+    };
+    first.pid == Pid(1) && first.cred == CRED && second.pid == Pid(3) && second.cred == CRED
+}
+
+fn has_the_message(queue: &MsgQueue) -> bool {
+    let Some(at) = queue.select(0, false) else {
+        return false;
+    };
+    let message = queue.message(at);
+    message.mtype == 5 && message.text.as_slice() == b"hi".as_slice()
+}
+
+fn has_the_queue(state: &State) -> bool {
+    let [entry] = state.queues() else {
+        return false;
+    };
+    entry.id == Id(1)
+        && entry.key == 1234
+        && entry.perm == PERM
+        && entry.object.stat() == STAT
+        && has_the_message(&entry.object)
 }
 
 #[test]
 fn reads_what_was_added(rt: HostRuntime) -> Result<(), Fail> {
     let state = small_state(&rt, rt.alloc()).ok().ok_or("no state")?;
-    assert_eq!(rt; state.clock(), Moment(9));
-    assert_eq!(rt; state.next_pid(), 4);
-    assert_eq!(rt; state.next_queue(), 2);
-    let [first, second] = state.processes() else {
-        return Err("not two processes".into());
-    };
-    assert!(rt; first.pid == Pid(1) && first.cred == CRED);
-    assert!(rt; second.pid == Pid(3) && second.cred == CRED);
-    let [entry] = state.queues() else {
-        return Err("not one queue".into());
-    };
-    assert!(rt; entry.id == Id(1) && entry.key == 1234 && entry.perm == PERM);
-    let stat = QueueStat {
-        qnum: 1,
-        bytes: 2,
-        qbytes: 128,
-        stime: Moment(7),
-        rtime: Moment(6),
-        ctime: Moment(5),
-        lspid: Pid(2),
-        lrpid: Pid(1),
-    };
-    assert_eq!(rt; entry.object.stat(), stat);
-    let at = entry.object.select(0, false).ok_or("no message")?;
-    let message = entry.object.message(at);
-    assert!(rt; message.mtype == 5 && message.text.as_slice() == b"hi".as_slice());
+    assert_eq!(rt; numbers_of(&state), (Moment(9), 4, 2));
+    assert!(rt; has_the_processes(&state));
+    assert!(rt; has_the_queue(&state));
     Ok(())
 }
 
-/// The limits are 4 processes, 2 queues, 64 bytes a message and 128 a queue.
+const WIDE: Perm = Perm {
+    uid: 1000,
+    gid: 100,
+    cuid: 1000,
+    cgid: 100,
+    mode: 0o1000,
+};
+
+const LARGE: QueueNumbers = QueueNumbers {
+    qbytes: 129,
+    stime: Moment(7),
+    rtime: Moment(6),
+    ctime: Moment(5),
+    lspid: Pid(2),
+    lrpid: Pid(1),
+};
+
+type Step = (Part, Result<(), RestoreError>);
+
+const UNSOUND: Result<(), RestoreError> = Err(RestoreError::Unsound);
+
+/// Parts that are added to the small state one after the other. The limits are 4 processes, 2 queues, 64 bytes a
+/// message and 128 a queue.
+const PARTS: [Step; 27] = [
+    (Part::Numbers(0, 2), UNSOUND),
+    (Part::Numbers(3, 2), UNSOUND),
+    (Part::Numbers(4, 1), UNSOUND),
+    (Part::Numbers(2147483649, 2), UNSOUND),
+    (Part::Numbers(4, 2147483649), UNSOUND),
+    (Part::Process(0), UNSOUND),
+    (Part::Process(2), UNSOUND),
+    (Part::Process(3), UNSOUND),
+    (Part::Process(4), UNSOUND),
+    (Part::Queue(0, 5, PERM, NUMBERS), UNSOUND),
+    (Part::Queue(1, 5, PERM, NUMBERS), UNSOUND),
+    (Part::Queue(2, 5, PERM, NUMBERS), UNSOUND),
+    (Part::Numbers(2147483648, 2147483648), Ok(())),
+    (Part::Process(4), Ok(())),
+    (Part::Process(2147483647), Ok(())),
+    (Part::Numbers(2147483647, 3), UNSOUND),
+    (Part::Queue(2, 1234, PERM, NUMBERS), UNSOUND),
+    (Part::Queue(2, 5, WIDE, NUMBERS), UNSOUND),
+    (Part::Queue(2, 5, PERM, LARGE), UNSOUND),
+    (Part::Queue(2, 5, PERM, NUMBERS), Ok(())),
+    (Part::Queue(3, 6, PERM, NUMBERS), UNSOUND),
+    (Part::Message(0, b"a"), UNSOUND),
+    (Part::Message(-1, b"a"), UNSOUND),
+    (Part::Message(1, &[7; 65]), UNSOUND),
+    (Part::Message(1, &[7; 64]), Ok(())),
+    (Part::Message(1, &[7; 63]), UNSOUND),
+    (Part::Message(1, &[7; 62]), Ok(())),
+];
+
 #[test]
 fn refuses_each_part_that_is_not_sound(rt: HostRuntime) -> Result<(), Fail> {
-    let unsound = Err(RestoreError::Unsound);
     let mut state = small_state(&rt, rt.alloc()).ok().ok_or("no state")?;
-    for (next_pid, next_queue) in [(0, 2), (3, 2), (4, 1), (2147483649, 2), (4, 2147483649)] {
-        assert_eq!(rt;
-            state.restore_numbers(Moment(9), next_pid, next_queue),
-            unsound
-        );
+    for (line, (part, wanted)) in PARTS.iter().enumerate() {
+        assert_eq!(rt; add(&rt, &mut state, *part), *wanted, "at line {line}");
     }
-    for pid in [0, 2, 3, 4] {
-        assert_eq!(rt; add_process(&mut state, pid), unsound);
-    }
-    for id in [0, 1, 2] {
-        assert_eq!(rt; add_queue(&mut state, id, 5, PERM, NUMBERS), unsound);
-    }
-
-    assert_eq!(rt;
-        state.restore_numbers(Moment(9), 2147483648, 2147483648),
-        Ok(())
-    );
-    assert_eq!(rt; add_process(&mut state, 4), Ok(()));
-    assert_eq!(rt; add_process(&mut state, 2147483647), Ok(()));
-    assert_eq!(rt; state.restore_numbers(Moment(9), 2147483647, 3), unsound);
-    let wide = Perm {
-        mode: 0o1000,
-        ..PERM
-    };
-    let large = QueueNumbers {
-        qbytes: 129,
-        ..NUMBERS
-    };
-    assert_eq!(rt; add_queue(&mut state, 2, 1234, PERM, NUMBERS), unsound);
-    assert_eq!(rt; add_queue(&mut state, 2, 5, wide, NUMBERS), unsound);
-    assert_eq!(rt; add_queue(&mut state, 2, 5, PERM, large), unsound);
-    assert_eq!(rt; add_queue(&mut state, 2, 5, PERM, NUMBERS), Ok(()));
-    assert_eq!(rt; add_queue(&mut state, 3, 6, PERM, NUMBERS), unsound);
-
-    assert_eq!(rt; add_message(&rt, &mut state, 0, b"a"), unsound);
-    assert_eq!(rt; add_message(&rt, &mut state, -1, b"a"), unsound);
-    assert_eq!(rt; add_message(&rt, &mut state, 1, bytes(65)), unsound);
-    assert_eq!(rt; add_message(&rt, &mut state, 1, bytes(64)), Ok(()));
-    assert_eq!(rt; add_message(&rt, &mut state, 1, bytes(63)), unsound);
-    assert_eq!(rt; add_message(&rt, &mut state, 1, bytes(62)), Ok(()));
     Ok(())
 }
+
+/// Parts of an empty state: a process too many, and a private key twice.
+const OTHERS: [Step; 8] = [
+    (Part::Numbers(6, 3), Ok(())),
+    (Part::Process(1), Ok(())),
+    (Part::Process(2), Ok(())),
+    (Part::Process(3), Ok(())),
+    (Part::Process(4), Ok(())),
+    (Part::Process(5), UNSOUND),
+    (Part::Queue(1, 0, PERM, NUMBERS), Ok(())),
+    (Part::Queue(2, 0, PERM, NUMBERS), Ok(())),
+];
 
 #[test]
 fn refuses_a_process_too_many_and_takes_private_keys_twice(rt: HostRuntime) -> Result<(), Fail> {
     let mut state = State::new(rt.alloc(), Limits::small());
-    assert_eq!(rt; state.restore_numbers(Moment(0), 6, 3), Ok(()));
-    for pid in 1..5 {
-        assert_eq!(rt; add_process(&mut state, pid), Ok(()));
-    }
-    assert_eq!(rt; add_process(&mut state, 5), Err(RestoreError::Unsound));
-    for id in 1..3 {
-        assert_eq!(rt; add_queue(&mut state, id, 0, PERM, NUMBERS), Ok(()));
+    for (line, (part, wanted)) in OTHERS.iter().enumerate() {
+        assert_eq!(rt; add(&rt, &mut state, *part), *wanted, "at line {line}");
     }
     Ok(())
 }
@@ -207,7 +277,7 @@ fn goes_on_from_a_rebuilt_state(rt: HostRuntime) -> Result<(), Fail> {
     };
     let rows = list(&engine, rt.alloc())?;
     assert_eq!(rt; rows.as_slice(), [row].as_slice());
-    let lines = [(receive(1, 8, 0), Answer::Message(5, b"hi"))];
+    let lines: [Line; 1] = [(Ask::Receive(1, 8, 0), Answer::Message(5, b"hi"))];
     talk(&rt, &mut engine, Pid(3), &lines)?;
     Ok(())
 }
