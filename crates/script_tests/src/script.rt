@@ -1,31 +1,23 @@
-//! What no clause says: whole scripts with their texts, the text of each fault, and streams that
-//! fail.
+//! What no clause says of a script: that it is run and listed at all, and streams that fail.
 
-ghost use Rattle.ipc_base.specs.Limits.{ArePassed};
-
-mod cuts;
-mod dumps;
 mod lasting;
-mod rows;
-mod standard;
 
 use ipc_base::Limits;
 use ipc_disk::{MemoryDisk, SectorDisk};
-use ipc_image::need;
-use ipc_script::{ScriptFault, run_script};
+use ipc_script::{ScriptFault, dump, run_script};
 use ipc_store::Store;
-use rows::ROWS;
 use std::alloc::Global;
 use std::io;
 use std::io::{Read, Write};
 use std::test::Fail;
 
-/// A new device under these limits, of as many sectors as they need.
-pub(crate) fn device(alloc: Global, limits: &Limits) -> Result<MemoryDisk, Fail>
-    requires { ArePassed limits.now }
-{
-    let mut disk = MemoryDisk::new(alloc, need(limits))?;
-    Store::format(&mut disk, limits)?;
+/// How many sectors a device needs under small limits.
+const SMALL_DEVICE: u32 = 448;
+
+/// A new device under small limits.
+pub(crate) fn device(alloc: Global) -> Result<MemoryDisk, Fail> {
+    let mut disk = MemoryDisk::new(alloc, SMALL_DEVICE)?;
+    Store::format(&mut disk, &Limits::small())?;
     Ok(disk)
 }
 
@@ -38,89 +30,55 @@ pub(crate) fn opened<D: SectorDisk + Drop>(alloc: Global, disk: D) -> Result<Sto
 }
 
 /// How a script ends on a new device under small limits.
-pub(crate) fn run<R: Read, W: Write>(
+fn run<R: Read, W: Write>(
     alloc: Global,
     reader: &mut R,
     writer: &mut W,
 ) -> Result<Result<(), ScriptFault>, Fail> {
-    let store = opened(alloc, device(alloc, &Limits::small())?)?;
+    let store = opened(alloc, device(alloc)?)?;
     let (outcome, _disk) = run_script(alloc, store, reader, writer);
     Ok(outcome)
 }
 
-#[test]
-fn scripts(rt: HostRuntime) -> Result<(), Fail> {
-    for row in &ROWS {
-        let mut output: Vec<u8> = Vec::new(rt.alloc());
-        let mut script = row.script.as_bytes();
-        let outcome = run(rt.alloc(), &mut script, &mut output)?;
-        assert_eq!(rt; outcome, Ok(()), "{}", row.name);
-        assert_eq!(rt; output.as_slice(), row.output.as_bytes(), "{}", row.name);
-    }
-    Ok(())
-}
+/// A user 1000 of group 100 makes the queue of key 1234 with mode 0600, sends `hi` to it and receives
+/// it; a second receive finds nothing.
+const SCRIPT: &str = "\
+    0 open 1\n\
+    0 data 1 0000000d0000000101000003e800000064\n\
+    0 data 1 0000000d000000020a000004d200000380\n\
+    0 data 1 00000017000000030b000000010000080000000000000000056869\n\
+    0 data 1 00000019000000040c0000000100000800000000400000000000000000\n\
+    0 data 1 00000019000000050c0000000100000800000000400000000000000000\n";
+
+const OUTPUT: &str = "\
+    1 0000000a00000001000000000001\n\
+    1 0000000a00000002000000000001\n\
+    1 00000006000000030000\n\
+    1 0000001000000004000000000000000000056869\n\
+    1 0000000600000005002a\n";
+
+const LISTING: &str =
+    "msg          1        1234 0600       1000        100          0          0\n";
 
 #[test]
-fn faults_of_a_script(rt: HostRuntime) -> Result<(), Fail> {
-    let faults = [
-        ("0 open 1\n0 open 1\n", "line 2: connection in use"),
-        ("0 end 1\n", "line 1: no such connection"),
-        ("0 data 1 00\n", "line 1: no such connection"),
-        ("\n", "line 1: bad line"),
-        ("0 tick\n\n", "line 2: bad line"),
-        ("0 open 1\n0 data 1 000\n", "line 2: bad line"),
-        ("0 open 1\n0 data 1 \n", "line 2: bad line"),
-        ("0 open 1\n0 data 1\n", "line 2: bad line"),
-        ("0 open 1\n0 data 1 0g\n", "line 2: bad line"),
-        ("18446744073709551616 tick\n", "line 1: bad line"),
-        ("0 open 4294967296\n", "line 1: bad line"),
-        ("+1 tick\n", "line 1: bad line"),
-        ("1 tick \n", "line 1: bad line"),
-        ("1  tick\n", "line 1: bad line"),
-        ("tick\n", "line 1: bad line"),
-        ("1 tick\r\n", "line 1: bad line"),
-        ("1 save\n", "line 1: bad line"),
-        (" save\n", "line 1: bad line"),
-        ("save \n", "line 1: bad line"),
-        ("0 save\n", "line 1: bad line"),
-        ("Save\n", "line 1: bad line"),
-        ("saves\n", "line 1: bad line"),
-        ("stop 1\n", "line 1: bad line"),
-        ("1 stop\n", "line 1: bad line"),
-        ("0 open 1\nstop\n0 end 1\n", "line 3: no such connection"),
-        ("0 open 1\nsave\n0 open 1\n", "line 3: connection in use"),
-    ];
-    for (script, text) in faults {
-        let mut output: Vec<u8> = Vec::new(rt.alloc());
-        let mut reader = script.as_bytes();
-        match run(rt.alloc(), &mut reader, &mut output)? {
-            Ok(()) => assert!(rt; false, "{script:?} has no fault"),
-            Err(fault) => {
-                let said = fault.to_string(rt.alloc())?;
-                assert_eq!(rt; said.as_str(), text, "{script:?}");
-            }
-        }
-        assert_eq!(rt; output.len(), 0, "{script:?}");
-    }
-    Ok(())
-}
+fn a_script_and_its_listing(rt: HostRuntime) -> Result<(), Fail> {
+    let alloc = rt.alloc();
+    let store = opened(alloc, device(alloc)?)?;
+    let mut output: Vec<u8> = Vec::new(alloc);
+    let (outcome, disk) = run_script(alloc, store, &mut SCRIPT.as_bytes(), &mut output);
+    assert_eq!(rt; outcome, Ok(()));
+    assert_eq!(rt; output.as_slice(), OUTPUT.as_bytes());
 
-#[test]
-fn lines_before_a_fault_stand(rt: HostRuntime) -> Result<(), Fail> {
-    let mut output: Vec<u8> = Vec::new(rt.alloc());
-    let mut script = "0 open 1\n0 data 1 00000000\n0 open 1\n0 data 1 00\n".as_bytes();
-    let outcome = run(rt.alloc(), &mut script, &mut output)?;
-    assert_eq!(rt; outcome, Err(ScriptFault::InUse(3)));
-    assert_eq!(rt;
-        output.as_slice(),
-        b"1 00000006000000000047\n1 end\n".as_slice()
-    );
+    let store = opened(alloc, disk)?;
+    let mut listing: Vec<u8> = Vec::new(alloc);
+    dump(alloc, &store, &mut listing)?;
+    assert_eq!(rt; listing.as_slice(), LISTING.as_bytes());
     Ok(())
 }
 
 /// Gives newlines for ever.
 #[derive(Drop)]
-pub(crate) struct Endless;
+struct Endless;
 
 impl Read for Endless {
     fn read(&mut self, into: &mut [u8]) -> io::Result<usize> {
@@ -131,7 +89,7 @@ impl Read for Endless {
 
 /// Fails at once.
 #[derive(Drop)]
-pub(crate) struct Broken;
+struct Broken;
 
 impl Read for Broken {
     fn read(&mut self, _: &mut [u8]) -> io::Result<usize> {
@@ -196,22 +154,14 @@ impl<S: Write> Write for Slow<S> {
 
 #[test]
 fn readers_and_writers_that_are_slow(rt: HostRuntime) -> Result<(), Fail> {
-    for row in &ROWS {
-        let mut script = Slow {
-            stream: row.script.as_bytes(),
-        };
-        let mut output = Slow {
-            stream: Vec::<u8>::new(rt.alloc()),
-        };
-        let outcome = run(rt.alloc(), &mut script, &mut output)?;
-        assert_eq!(rt; outcome, Ok(()), "{}", row.name);
-        assert_eq!(rt;
-            output.stream.as_slice(),
-            row.output.as_bytes(),
-            "{}",
-            row.name
-        );
-    }
+    let mut script = Slow {
+        stream: SCRIPT.as_bytes(),
+    };
+    let mut output = Slow {
+        stream: Vec::<u8>::new(rt.alloc()),
+    };
+    assert_eq!(rt; run(rt.alloc(), &mut script, &mut output)?, Ok(()));
+    assert_eq!(rt; output.stream.as_slice(), OUTPUT.as_bytes());
     Ok(())
 }
 
@@ -257,11 +207,10 @@ impl<S: Write> Write for Faulty<S> {
 /// A read that fails ends all; nothing is read after it, and nothing written.
 #[test]
 fn a_read_that_fails_is_not_tried_again(rt: HostRuntime) -> Result<(), Fail> {
-    let row = &ROWS[0];
     // A last read finds the end.
-    for fails_at in 1..=row.script.len() as u64 + 1 {
+    for fails_at in 1..=SCRIPT.len() as u64 + 1 {
         let mut script = Faulty {
-            stream: row.script.as_bytes(),
+            stream: SCRIPT.as_bytes(),
             calls: 0,
             fails_at,
         };
@@ -277,9 +226,8 @@ fn a_read_that_fails_is_not_tried_again(rt: HostRuntime) -> Result<(), Fail> {
 /// A write that fails ends all; nothing is written after it.
 #[test]
 fn a_write_that_fails_is_not_tried_again(rt: HostRuntime) -> Result<(), Fail> {
-    let row = &ROWS[0];
-    for written in 0..row.output.len() {
-        let mut script = row.script.as_bytes();
+    for written in 0..OUTPUT.len() {
+        let mut script = SCRIPT.as_bytes();
         let mut output = Faulty {
             stream: Vec::<u8>::new(rt.alloc()),
             calls: 0,
@@ -288,7 +236,7 @@ fn a_write_that_fails_is_not_tried_again(rt: HostRuntime) -> Result<(), Fail> {
         let outcome = run(rt.alloc(), &mut script, &mut output)?;
         assert_eq!(rt; outcome, Err(ScriptFault::Output), "write {written}");
         assert_eq!(rt; output.calls, output.fails_at);
-        assert_eq!(rt; output.stream.as_slice(), &row.output.as_bytes()[..written]);
+        assert_eq!(rt; output.stream.as_slice(), &OUTPUT.as_bytes()[..written]);
     }
     Ok(())
 }

@@ -1,8 +1,6 @@
-//! Scripts and their disk: a disk that fails, a journal that is full, and what lasts on the disk
-//! that is given back.
+//! Scripts and their disk: what is written if it fails, and what lasts on it.
 
-use super::{Broken, Endless, device, opened};
-use ipc_base::Limits;
+use super::{device, opened};
 use ipc_disk::{FuseDisk, MemoryDisk, SectorDisk};
 use ipc_script::{ScriptFault, run_script};
 use std::alloc::{AllocError, Global};
@@ -22,13 +20,6 @@ fn run_on<D: SectorDisk + Drop>(
     let (outcome, disk) = run_script(alloc, store, &mut script.as_bytes(), &mut output);
     Ok((outcome, output, disk))
 }
-
-/// A new device under small limits.
-fn small_device(alloc: Global) -> Result<MemoryDisk, Fail> {
-    device(alloc, &Limits::small())
-}
-
-// ---- a disk that fails
 
 /// The calls on a new device of an open, and those of a commit of events that fill one sector: a
 /// write and a sync of them, and a write and a sync of their count.
@@ -185,7 +176,7 @@ fn a_disk_that_fails(rt: HostRuntime) -> Result<(), Fail> {
     let alloc = rt.alloc();
     let script = all_lines(alloc)?;
     for calls in 0..=6 * COMMIT_CALLS {
-        let fuse = FuseDisk::new(small_device(alloc)?, OPEN_CALLS + calls, 0);
+        let fuse = FuseDisk::new(device(alloc)?, OPEN_CALLS + calls, 0);
         let (outcome, output, disk) = run_on(alloc, fuse, &script)?;
         let ending = ending_after(alloc, calls / COMMIT_CALLS)?;
         assert_eq!(rt; outcome, ending.outcome, "{calls} calls");
@@ -237,7 +228,7 @@ fn a_disk_that_fails_within_a_line(rt: HostRuntime) -> Result<(), Fail> {
     let script = long_requests(alloc)?;
     for (calls, answers, fails) in LONG_COMMITS {
         let calls = OPEN_CALLS + COMMIT_CALLS + calls;
-        let fuse = FuseDisk::new(small_device(alloc)?, calls, 0);
+        let fuse = FuseDisk::new(device(alloc)?, calls, 0);
         let (outcome, output, _disk) = run_on(alloc, fuse, &script)?;
         let mut text = String::new(alloc);
         writeln!(text, "1 0000000a00000001000000000001")?;
@@ -257,104 +248,5 @@ fn a_disk_that_fails_within_a_line(rt: HostRuntime) -> Result<(), Fail> {
 fn the_text_of_a_device_fault(rt: HostRuntime) -> Result<(), Fail> {
     let said = ScriptFault::Device.to_string(rt.alloc())?;
     assert_eq!(rt; said.as_str(), "device fault");
-    Ok(())
-}
-
-// ---- a journal that is full
-
-/// Each line but `open` accepts events, and makes a commit of at least one sector; a journal has 256.
-/// When it is full the next commit saves the state, and the lines go on.
-#[test]
-fn lines_go_on_over_a_full_journal(rt: HostRuntime) -> Result<(), Fail> {
-    let alloc = rt.alloc();
-    let mut script = String::new(alloc);
-    let mut text = String::new(alloc);
-    for pid in 1..=100u32 {
-        writeln!(
-            script,
-            "0 open 2\n0 data 2 0000000d0000000101000003e800000064\n0 end 2\n0 tick"
-        )?;
-        writeln!(text, "2 0000000a000000010000{pid:08x}")?;
-    }
-    let (outcome, output, disk) = run_on(alloc, small_device(alloc)?, &script)?;
-    assert_eq!(rt; outcome, Ok(()));
-    assert_eq!(rt; output.as_slice(), text.as_bytes());
-    is_next_process(&rt, alloc, disk, 100)
-}
-
-// ---- the disk that is given back
-
-/// Process 1 makes queue 1 and sends it `hi`.
-const SENDS: &str = "\
-    0 open 1\n\
-    0 data 1 0000000d0000000101000003e800000064\n\
-    0 data 1 0000000d000000020a000004d200000380\n\
-    0 data 1 00000017000000030b000000010000080000000000000000056869\n";
-
-const SENT: &str = "\
-    1 0000000a00000001000000000001\n\
-    1 0000000a00000002000000000001\n\
-    1 00000006000000030000\n";
-
-/// A new process, which is the second one, gets the queue and receives: the message, and then none.
-const RECEIVES: &str = "\
-    0 open 1\n\
-    0 data 1 0000000d0000000101000003e800000064\n\
-    0 data 1 0000000d000000020a000004d200000000\n\
-    0 data 1 00000019000000040c0000000100000800000000400000000000000000\n\
-    0 data 1 00000019000000050c0000000100000800000000400000000000000000\n";
-
-const RECEIVED: &str = "\
-    1 0000000a00000001000000000002\n\
-    1 0000000a00000002000000000001\n\
-    1 0000001000000004000000000000000000056869\n\
-    1 0000000600000005002a\n";
-
-/// How a script goes on after SENDS, and how it ends.
-const ENDINGS: [(&str, Result<(), ScriptFault>); 5] = [
-    ("", Ok(())),
-    ("0 end 1\n", Ok(())),
-    ("0 save\n", Err(ScriptFault::BadLine(5))),
-    ("0 open 1\n", Err(ScriptFault::InUse(5))),
-    ("0 end 2\n", Err(ScriptFault::Unknown(5))),
-];
-
-#[test]
-fn a_message_lasts(rt: HostRuntime) -> Result<(), Fail> {
-    let alloc = rt.alloc();
-    for (last, ending) in ENDINGS {
-        let script = format!(in alloc; "{SENDS}{last}")?;
-        let (outcome, output, disk) = run_on(alloc, small_device(alloc)?, &script)?;
-        assert_eq!(rt; outcome, ending, "{last:?}");
-        assert_eq!(rt; output.as_slice(), SENT.as_bytes(), "{last:?}");
-
-        let (outcome, output, _disk) = run_on(alloc, disk, RECEIVES)?;
-        assert_eq!(rt; outcome, Ok(()), "{last:?}");
-        assert_eq!(rt; output.as_slice(), RECEIVED.as_bytes(), "{last:?}");
-    }
-    Ok(())
-}
-
-/// Of a script that is not read nothing is done. A line's events last before its frames are
-/// written: the process of a HELLO is there, though its answer could not be written.
-#[test]
-fn streams_that_fail_leave_the_disk(rt: HostRuntime) -> Result<(), Fail> {
-    let alloc = rt.alloc();
-    let mut output: Vec<u8> = Vec::new(alloc);
-
-    let store = opened(alloc, small_device(alloc)?)?;
-    let (outcome, disk) = run_script(alloc, store, &mut Broken, &mut output);
-    assert_eq!(rt; outcome, Err(ScriptFault::Input));
-    is_next_process(&rt, alloc, disk, 0)?;
-
-    let store = opened(alloc, small_device(alloc)?)?;
-    let (outcome, disk) = run_script(alloc, store, &mut Endless, &mut output);
-    assert_eq!(rt; outcome, Err(ScriptFault::TooLong));
-    is_next_process(&rt, alloc, disk, 0)?;
-
-    let store = opened(alloc, small_device(alloc)?)?;
-    let (outcome, disk) = run_script(alloc, store, &mut SENDS.as_bytes(), &mut Broken);
-    assert_eq!(rt; outcome, Err(ScriptFault::Output));
-    is_next_process(&rt, alloc, disk, 1)?;
     Ok(())
 }

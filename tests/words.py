@@ -1,0 +1,145 @@
+"""Command lines of the built program: the words that it refuses, and what it takes from others.
+
+    python3 tests/words.py PROGRAM
+
+tests/runs.sh and tests/serve.py have the command lines that are not here. What is expected was
+reckoned from docs/PROTOCOL.md and docs/DEVICE.md, and never taken from the program. It takes two
+seconds, and most of that time for a server that makes twelve idle turns.
+"""
+
+from __future__ import annotations
+
+import os
+import pty
+import resource
+import signal
+import stat
+import struct
+import subprocess
+import sys
+import tempfile
+import tty
+from pathlib import Path
+
+PROGRAM = os.path.abspath(sys.argv[1])
+GREATEST = "4294967295"
+HELLO = b"0 open 1\n0 data 1 0000000d0000000101000003e800000064\n"
+
+# The words that are refused, each line for one reason.
+REFUSED = [
+    ("run", "queues", "--small"),
+    ("dump",),
+    ("dump", "queues", "more"),
+    ("format",),
+    ("format", "queues", "--sectors"),
+    ("format", "queues", "--sectors", "-1"),
+    ("format", "missing/queues", "--sectors", "4294967296"),
+]
+
+HELPED = ["run", "dump", "serve"]
+
+# Words that are taken, and what is said of what they ask for. There is no folder `missing`.
+FAILS = [
+    (("format", "queues", "--sectors", "0"), "too small, 45830 sectors needed"),
+    (("format", "queues", "--sectors", "0", "--small"), "too small, 448 sectors needed"),
+    (("format", "--small", "--sectors=447", "queues"), "too small, 448 sectors needed"),
+    (("format", "missing/queues", "--sectors", GREATEST), "device fault"),
+    (("serve", "missing/queues", "socket", "--turns", GREATEST), "device fault"),
+]
+
+
+def check(holds: bool, text: str) -> None:
+    if not holds:
+        sys.exit(f"words: {text}")
+
+
+def run(*words: str, script: bytes = b"", **named: object) -> tuple[int, bytes, bytes]:
+    """How the program ends: its status, what it prints, and what it says."""
+    named = {"stderr": subprocess.PIPE, **named}
+    ended = subprocess.run(
+        [PROGRAM, *words], input=script, stdout=subprocess.PIPE, timeout=60, **named
+    )
+    return ended.returncode, ended.stdout, ended.stderr or b""
+
+
+def ends(wanted: tuple[int, bytes, bytes], *words: str, **named: object) -> None:
+    ended = run(*words, **named)
+    check(ended == wanted, f"{words}: {ended}, and not {wanted}")
+
+
+def refusals() -> None:
+    for words in REFUSED:
+        status, output, errors = run(*words)
+        check((status, output) == (2, b""), f"{words}: status {status}, {output!r} is printed")
+        check(errors.startswith(b"error: "), f"{words}: {errors!r} is said")
+        check(errors.endswith(b"try '--help'.\n"), f"{words}: {errors!r} is said")
+
+
+def helps() -> None:
+    for command in HELPED:
+        status, output, errors = run(command, "--help")
+        check((status, errors) == (0, b""), f"{command} --help: status {status}, {errors!r}")
+        usage = f"\nUsage: ipcd {command} "
+        check(usage in output.decode(), f"{command} --help: {output!r} is printed")
+
+
+def failures() -> None:
+    for words, said in FAILS:
+        ends((1, b"", f"ipcd: {said}\n".encode()), *words)
+    check(os.listdir() == [], f"files are made: {os.listdir()}")
+
+
+def files_of_one_mib() -> None:
+    """No file of a program that begins so gets longer. The system says so."""
+    signal.signal(signal.SIGXFSZ, signal.SIG_IGN)
+    resource.setrlimit(resource.RLIMIT_FSIZE, (1 << 20, 1 << 20))
+
+
+def the_greatest_number() -> None:
+    """A terminal shows which number was taken, once there is a MiB of the device, 2048 sectors."""
+    terminal, errors = pty.openpty()
+    # A line's end is not to become two bytes.
+    tty.setraw(errors)
+    words = ("format", "queues", f"--sectors={GREATEST}")
+    ends((1, b"", b""), *words, stderr=errors, preexec_fn=files_of_one_mib)
+    shown = os.read(terminal, 4096)
+    wanted = f"\ripcd: 2048 of {GREATEST} sectors\nipcd: device fault\n".encode()
+    check(shown == wanted, f"{shown!r} is shown, and not {wanted!r}")
+    os.remove("queues")
+
+
+def names_with_spaces() -> None:
+    words = ("format", "--sectors", "448", "a b", "--small")
+    ends((0, b"formatted 448 sectors\n", b""), *words)
+    check(os.path.getsize("a b") == 448 * 512, "the file has not 448 sectors")
+    ends((0, b"1 0000000a00000001000000000001\n", b""), "run", "a b", script=HELLO)
+    ends((0, b"", b""), "dump", "a b")
+    check(os.listdir() == ["a b"], f"other files are made: {os.listdir()}")
+
+
+def used_sectors(device: str) -> int:
+    """How many sectors of the journal's body are used, as its header says, which is sector 3."""
+    return struct.unpack_from(">I", Path(device).read_bytes(), 3 * 512 + 8)[0]
+
+
+def twelve_turns() -> None:
+    """An idle turn ticks, and each tick takes a sector of the journal. So does the open."""
+    before = used_sectors("a b")
+    said = b"serving a b, 448 sectors, on c d, small limits\n"
+    ends((0, said, b""), "serve", "--turns=12", "a b", "c d")
+    more = used_sectors("a b") - before
+    check(more == 13, f"{more} sectors more are used, and not 13")
+    check(stat.S_ISSOCK(os.stat("c d").st_mode), "the socket is another one")
+
+
+def main() -> None:
+    for test in (refusals, helps, failures, the_greatest_number, names_with_spaces, twelve_turns):
+        test()
+    # The last five: one with a terminal, three for a file of two words, and one with turns.
+    print(f"words: {len(REFUSED) + len(HELPED) + len(FAILS) + 5} command lines")
+
+
+if __name__ == "__main__":
+    with tempfile.TemporaryDirectory() as folder:
+        os.chdir(folder)
+        main()
