@@ -213,45 +213,6 @@ pub(crate) fn replies_to<D: SectorDisk>(
     Ok(replies)
 }
 
-/// The bytes with a meaning of the superblock of a device of 448 sectors under small limits.
-pub(crate) const SUPERBLOCK: [u8; 100] = [
-    0x49, 0x50, 0x43, 0x53, 0x54, 0x4f, 0x52, 0x45, // IPCSTORE
-    0, 0, 0, 0, 0, 0, 1, 0xc0, // version 0, 448 sectors
-    0, 0, 0, 3, 0, 0, 1, 1, // the journal: from sector 3 on, 257 of them
-    0, 0, 1, 4, 0, 0, 0, 0xbc, // the objects: from sector 260 on, 188 of them
-    0, 0, 0, 1, // the root
-    0, 0, 0, 4, 0, 0, 0, 2, 0, 0, 0, 64, 0, 0, 0, 128, // processes, message queues
-    0, 0, 0, 2, 0, 0, 0, 4, 0, 0, 0, 8, 0, 0, 0, 4, // semaphore sets
-    0, 0, 0, 2, 0, 0, 0, 2, 0, 0, 0, 64, 0, 0, 0, 2, // POSIX queues, named semaphores
-    0, 0, 0, 2, 0, 0, 8, 0, 0, 0, 0, 64, 0, 0, 0, 4, // segments, descriptors
-];
-
-/// The header of an empty journal of epoch 1.
-pub(crate) const HEADER: [u8; 12] = [0, 0, 0, 0, 0, 0, 0, 1, 0, 0, 0, 0];
-
-/// The root: epoch 1, area 0, and the 112 bytes of the objects.
-pub(crate) const ROOT: [u8; 16] = [0, 0, 0, 0, 0, 0, 0, 1, 0, 0, 0, 0, 0, 0, 0, 112];
-
-/// The objects of the first state: how many there are, and of each its number, its length and its bytes.
-pub(crate) const OBJECTS: [u8; 112] = [
-    0, 0, 0, 4, //
-    0, 0, 0, 0, 0, 0, 0, 0, 0, 0, 0, 0, 0, 0, 0, 32, // the clock
-    0, 0, 0, 0, 0, 0, 0, 0, 0, 0, 0, 1, // at 0, and the next pid
-    0, 0, 0, 1, 0, 0, 0, 1, 0, 0, 0, 1, 0, 0, 0, 1, 0, 0, 0, 1, // the next number of each kind
-    0, 0, 0, 0, 0, 0, 0, 1, 0, 0, 0, 0, 0, 0, 0, 4, 0, 0, 0, 0, // no process
-    0, 0, 0, 0, 0, 0, 0, 2, 0, 0, 0, 0, 0, 0, 0, 4, 0, 0, 0, 0, // no waiting call
-    0, 0, 0, 0, 0, 0, 0, 3, 0, 0, 0, 0, 0, 0, 0, 4, 0, 0, 0, 0, // no adjustment
-];
-
-/// Whether a sector is these bytes and then zeros.
-pub(crate) fn is_sector<D: SectorDisk>(disk: &mut D, at: u32, bytes: &[u8]) -> Result<bool, Fail> {
-    let mut sector = [9; 512];
-    if at < disk.sectors() {
-        disk.read(at, &mut sector)?;
-    }
-    Ok(sector.starts_with(bytes) && sector.iter().skip(bytes.len()).all(|byte| *byte == 0))
-}
-
 /// The replies to a receive on a device, by a process that is new and has this pid.
 pub(crate) fn received_by(
     rt: &impl Abort,

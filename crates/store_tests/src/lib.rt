@@ -4,11 +4,7 @@
 #[cfg(test)]
 mod common;
 #[cfg(test)]
-mod damage;
-#[cfg(test)]
 mod format_stops;
-#[cfg(test)]
-mod objects;
 #[cfg(test)]
 mod records;
 #[cfg(test)]
@@ -19,5 +15,3 @@ mod saves;
 mod stops;
 #[cfg(test)]
 mod store;
-#[cfg(test)]
-mod superblock;

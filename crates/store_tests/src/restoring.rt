@@ -1,48 +1,58 @@
-//! Objects spelled by hand, read back, and each of their rules broken once.
+//! Objects and faults that a device in a file does not show: objects read back with their processes, from any mark, and
+//! texts of faults.
 
-use crate::objects::{CLOCK, NONE, PROCESSES, QUEUE, are_objects};
-use ipc_base::{Limits, ObjectMap, Objects};
-use ipc_image::{ImageError, engine_of, objects_of};
+use ipc_base::{Limits, ObjectMap, Objects, window_of};
+use ipc_image::{SuperblockFault, engine_of, objects_of, start_objects};
 use std::alloc::{AllocError, Global};
 use std::test::Fail;
 
-// The object of the queue 1.
-const FIRST_QUEUE: u64 = 4294967297;
-
-// The objects of one process and of its queue with one message, with one byte of one of them changed, and with this
-// number for the last.
-fn objects_with(
-    alloc: Global,
-    changed: usize,
-    at: usize,
-    value: u8,
-    last: u64,
-) -> Result<ObjectMap, AllocError> {
-    let mut objects = ObjectMap::new(alloc);
-    push(&mut objects, 0, &with_byte(CLOCK, changed == 0, at, value))?;
-    push(
-        &mut objects,
-        1,
-        &with_byte(PROCESSES, changed == 1, at, value),
-    )?;
-    push(&mut objects, 2, &with_byte(NONE, changed == 2, at, value))?;
-    push(&mut objects, 3, &with_byte(NONE, changed == 3, at, value))?;
-    push(
-        &mut objects,
-        last,
-        &with_byte(QUEUE, changed == 4, at, value),
-    )?;
-    Ok(objects)
-}
-
-// The bytes, with one of them changed or not.
-fn with_byte<const N: usize>(bytes: [u8; N], changed: bool, at: usize, value: u8) -> [u8; N] {
-    let mut bytes = bytes;
-    if changed && at < N {
-        bytes[at] = value;
+// Whether these are the objects and no others, by number, length and bytes, and each is changed.
+fn are_objects(objects: &impl Objects, wanted: &[(u64, &[u8])]) -> bool {
+    let count = objects.count();
+    if count as usize != wanted.len() {
+        return false;
     }
-    bytes
+    for i in 0..count {
+        let (number, bytes) = wanted[i as usize];
+        let mut window = [0xee; 512];
+        objects.bytes(i, 0, &mut objects.start(i), &mut window);
+        if objects.number(i) != number
+            || objects.len(i) != bytes.len() as u64
+            || window != window_of(bytes, 0)
+            || !objects.changed(i)
+        {
+            return false;
+        }
+    }
+    true
 }
+
+const NONE: [u8; 4] = [0, 0, 0, 0];
+
+// The clock, the next pid, and the next number of five kinds.
+const CLOCK: [u8; 32] = [
+    0, 0, 0, 0, 0, 0, 0, 9, // the moment of the last call
+    0, 0, 0, 2, 0, 0, 0, 2, // the next pid, and the next queue
+    0, 0, 0, 1, 0, 0, 0, 1, 0, 0, 0, 1, 0, 0, 0, 1, // kinds that are to come
+];
+
+// One process: its pid, user and group, and no descriptor.
+const PROCESSES: [u8; 20] = [
+    0, 0, 0, 1, 0, 0, 0, 1, 0, 0, 0x03, 0xe8, 0, 0, 0, 0x64, 0, 0, 0, 0,
+];
+
+const QUEUE: [u8; 78] = [
+    0, 0, 0x04, 0xd2, // the key
+    0, 0, 0x03, 0xe8, 0, 0, 0, 0x64, 0, 0, 0x03, 0xe8, 0, 0, 0, 0x64, // the owner, and who made it
+    0, 0, 0x01, 0x80, // the mode, 0o600
+    0, 0, 0, 0, 0, 0, 0, 9, // the last send
+    0, 0, 0, 0, 0, 0, 0, 0, // no receive
+    0, 0, 0, 0, 0, 0, 0, 3, // the last change
+    0, 0, 0, 1, 0, 0, 0, 0, // who sent last, and nobody received
+    0, 0, 0, 0x80, // the most bytes
+    0, 0, 0, 1, // one message
+    0, 0, 0, 0, 0, 0, 0, 5, 0, 0, 0, 2, 0x68, 0x69,
+];
 
 // Adds an object that may come next; if memory was refused, once more.
 fn push(objects: &mut ObjectMap, number: u64, bytes: &[u8]) -> Result<(), AllocError> {
@@ -55,15 +65,26 @@ fn push(objects: &mut ObjectMap, number: u64, bytes: &[u8]) -> Result<(), AllocE
     }
 }
 
+// The objects of one process and of this queue.
+fn objects_with(alloc: Global, queue: &[u8]) -> Result<ObjectMap, AllocError> {
+    let mut objects = ObjectMap::new(alloc);
+    push(&mut objects, 0, &CLOCK)?;
+    push(&mut objects, 1, &PROCESSES)?;
+    push(&mut objects, 2, &NONE)?;
+    push(&mut objects, 3, &NONE)?;
+    push(&mut objects, 4294967297, queue)?;
+    Ok(objects)
+}
+
 #[test]
 fn a_queue_with_a_message_is_read_back(rt: HostRuntime) -> Result<(), Fail> {
-    let objects = objects_with(rt.alloc(), 9, 78, 0, FIRST_QUEUE)?;
+    let objects = objects_with(rt.alloc(), &QUEUE)?;
     let wanted: [(u64, &[u8]); 5] = [
         (0, &CLOCK),
         (1, &PROCESSES),
         (2, &NONE),
         (3, &NONE),
-        (FIRST_QUEUE, &QUEUE),
+        (4294967297, &QUEUE),
     ];
     match engine_of(rt.alloc(), &objects, Limits::small()) {
         Ok(engine) => assert!(rt; are_objects(&objects_of(&engine), &wanted)),
@@ -73,37 +94,76 @@ fn a_queue_with_a_message_is_read_back(rt: HostRuntime) -> Result<(), Fail> {
 }
 
 #[test]
-fn objects_of_no_state(rt: HostRuntime) -> Result<(), Fail> {
-    // The object, the byte in it, and its value.
-    let rows: [(usize, usize, u8); 15] = [
-        (0, 11, 1), // the next pid is that of the process
-        (0, 15, 1), // the next identifier is that of the queue
-        (0, 19, 2), // a kind that is to come has had an object
-        (1, 3, 2), // one process more than there are
-        (1, 7, 2), // a process with the next pid
-        (1, 19, 1), // a descriptor
-        (2, 3, 1), // a call that waits
-        (3, 3, 1), // an adjustment
-        (4, 22, 3), // a mode of ten bits
-        (4, 58, 1), // more bytes than a queue may have
-        (4, 63, 2), // one message more than there are
-        (4, 63, 0), // one message less
-        (4, 71, 0), // a message of type 0
-        (4, 75, 1), // a byte left over
-        (4, 75, 3), // a text past the end
+fn nothing_has_happened(rt: HostRuntime) {
+    let clock = [
+        0, 0, 0, 0, 0, 0, 0, 0, 0, 0, 0, 1, 0, 0, 0, 1, 0, 0, 0, 1, 0, 0, 0, 1, 0, 0, 0, 1, 0, 0,
+        0, 1,
     ];
-    for (changed, at, value) in rows {
-        let objects = objects_with(rt.alloc(), changed, at, value, FIRST_QUEUE)?;
-        let error = engine_of(rt.alloc(), &objects, Limits::small()).err();
-        assert!(rt;
-            error == Some(ImageError::Damaged),
-            "object {changed}, byte {at}"
-        );
+    let wanted: [(u64, &[u8]); 4] = [(0, &clock), (1, &NONE), (2, &NONE), (3, &NONE)];
+    assert!(rt; are_objects(&start_objects(), &wanted));
+}
+
+// The numbers 0 to 250 again and again.
+fn long_text() -> [u8; 524] {
+    let mut text = [0; 524];
+    for (i, byte) in text.iter_mut().enumerate() {
+        *byte = (i % 251) as u8;
     }
-    for last in [4, FIRST_QUEUE + 1, 8589934593] {
-        let objects = objects_with(rt.alloc(), 9, 78, 0, last)?;
-        let error = engine_of(rt.alloc(), &objects, Limits::small()).err();
-        assert!(rt; error == Some(ImageError::Damaged), "number {last}");
+    text
+}
+
+// A queue under standard limits, up to the text of its one message, which has 524 bytes.
+const LONG_QUEUE: [u8; 76] = [
+    0, 0, 0x04, 0xd2, // the key
+    0, 0, 0x03, 0xe8, 0, 0, 0, 0x64, 0, 0, 0x03, 0xe8, 0, 0, 0, 0x64, // the owner, and who made it
+    0, 0, 0x01, 0x80, // the mode
+    0, 0, 0, 0, 0, 0, 0, 9, 0, 0, 0, 0, 0, 0, 0, 0, 0, 0, 0, 0, 0, 0, 0, 3, // the moments
+    0, 0, 0, 1, 0, 0, 0, 0, // who sent last, and nobody received
+    0, 0, 0x40, 0, // the most bytes
+    0, 0, 0, 1, // one message
+    0, 0, 0, 0, 0, 0, 0, 5, 0, 0, 0x02, 0x0c,
+];
+
+#[test]
+fn an_object_of_600_bytes(rt: HostRuntime) -> Result<(), Fail> {
+    let mut whole = [0; 1536];
+    whole[..76].copy_from_slice(&LONG_QUEUE);
+    whole[76..600].copy_from_slice(&long_text());
+
+    let read = objects_with(rt.alloc(), &whole[..600])?;
+    let engine = match engine_of(rt.alloc(), &read, Limits::standard()) {
+        Ok(engine) => engine,
+        Err(error) => return Err(Fail::new(error)),
+    };
+    let objects = objects_of(&engine);
+    assert_eq!(rt; objects.count(), 5);
+    assert_eq!(rt; objects.len(4), 600);
+    let mut window = [0xee; 512];
+    let mut mark = objects.start(4);
+    objects.bytes(4, 0, &mut mark, &mut window);
+    assert!(rt; window == window_of(&whole, 0));
+    objects.bytes(4, 512, &mut mark, &mut window);
+    assert!(rt; window == window_of(&whole, 512));
+    objects.bytes(4, 1024, &mut mark, &mut window);
+    assert!(rt; window == window_of(&whole, 1024));
+    // With the mark of a later place.
+    objects.bytes(4, 0, &mut mark, &mut window);
+    assert!(rt; window == window_of(&whole, 0));
+    Ok(())
+}
+
+#[test]
+fn texts_of_faults(rt: HostRuntime) -> Result<(), Fail> {
+    let faults = [
+        (SuperblockFault::NotFormatted, "the device is not formatted"),
+        (
+            SuperblockFault::Version { found: 7 },
+            "the device is of version 7",
+        ),
+        (SuperblockFault::Damaged, "the superblock is damaged"),
+    ];
+    for (fault, text) in faults {
+        assert_eq!(rt; format!(in rt.alloc(); "{}", fault)?.as_str(), text);
     }
     Ok(())
 }

@@ -5,7 +5,6 @@ use crate::common::{
     Opened, SMALL_DEVICE, TICK, add_replies, boxed, call, closed, commit_all, get, hello, holds,
     is_number, new_store, opened, receive, send, small_device, take, text, unopened,
 };
-use crate::damage::copied;
 use ipc_base::{Cred, GetFlags, Id, Limits, Moment, MsgFlags, Pid};
 use ipc_disk::{FuseDisk, MemoryDisk, SectorDisk};
 use ipc_engine::{Engine, Event};
@@ -457,6 +456,28 @@ fn is_opening_stopped(
     Ok(true)
 }
 
+// A sector of a disk; zeros if it has no such sector.
+fn sector_of<D: SectorDisk>(disk: &mut D, at: u32) -> Result<[u8; 512], Fail> {
+    let mut sector = [0; 512];
+    if at < disk.sectors() {
+        disk.read(at, &mut sector)?;
+    }
+    Ok(sector)
+}
+
+// What stands on a disk, on a disk of its own.
+fn copied(alloc: Global, disk: &mut MemoryDisk) -> Result<MemoryDisk, Fail> {
+    let mut copy = MemoryDisk::new(alloc, SMALL_DEVICE)?;
+    for at in 0..disk.sectors().min(SMALL_DEVICE) {
+        let sector = sector_of(disk, at)?;
+        if at < copy.sectors() {
+            copy.write(at, &sector)?;
+        }
+    }
+    copy.sync()?;
+    Ok(copy)
+}
+
 // Stops the opening of a device at each of its calls but so many first ones, and opens what a crash leaves. An open
 // writes no second sector before a sync, so to keep none and to keep all are all the choices. How many calls it makes.
 fn stop_openings(
@@ -465,10 +486,10 @@ fn stop_openings(
     disk: &mut MemoryDisk,
     first: u64,
 ) -> Result<u64, Fail> {
-    let wanted = probe_disk(rt, alloc, copied(alloc, disk, SMALL_DEVICE)?)?;
+    let wanted = probe_disk(rt, alloc, copied(alloc, disk)?)?;
     for calls in first..300 {
         for keep in [0, u64::MAX] {
-            let copy = copied(alloc, disk, SMALL_DEVICE)?;
+            let copy = copied(alloc, disk)?;
             if !is_opening_stopped(rt, alloc, copy, (calls, keep), &wanted)? {
                 return Ok(calls);
             }

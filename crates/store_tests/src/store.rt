@@ -1,10 +1,9 @@
 //! The numbers of a device, a commit that is stopped, where a store stops, and what a restart leaves.
 
 use crate::common::{
-    HEADER, HI, OBJECTS, Opened, ROOT, SMALL_DEVICE, SUPERBLOCK, TEXT, TICK, call, closed,
-    commit_all, commit_fails, get, has_made, hello, holds, is_answered, is_number, is_sector,
-    is_stopped, new_store, opened, receive, received_by, send, send_texts, small_device, take,
-    take_all, text, unopened, unsynced,
+    HI, Opened, SMALL_DEVICE, TEXT, TICK, call, closed, commit_all, commit_fails, get, has_made,
+    hello, holds, is_answered, is_number, is_stopped, new_store, opened, receive, received_by,
+    send, send_texts, small_device, take, take_all, unopened, unsynced,
 };
 use ipc_base::{BadLimits, Limits, Pid};
 use ipc_disk::{FuseDisk, MemoryDisk, SectorDisk};
@@ -16,26 +15,11 @@ use std::test::Fail;
 // What process 2 gets for a `receive` if there is no message: ENOMSG.
 const NO_MESSAGE: [u8; 14] = [0, 0, 0, 2, 0, 0, 0, 6, 0, 0, 0, 4, 0, 0x2a];
 
-// The bytes of a sector of a new device before its zeros.
-fn new_bytes(at: u32) -> &'static [u8] {
-    match at {
-        0 => &SUPERBLOCK,
-        1 => &ROOT,
-        3 => &HEADER,
-        260 => &OBJECTS,
-        _ => &[],
-    }
-}
-
 #[test]
-fn a_device_to_the_byte(rt: HostRuntime) -> Result<(), Fail> {
-    let mut disk = small_device(rt.alloc())?;
+fn a_new_device_lasts(rt: HostRuntime) -> Result<(), Fail> {
+    let disk = small_device(rt.alloc())?;
     is_number(&rt, disk.sectors() as u64, 448, "sectors");
     has_made(&rt, &disk, (0, 0), (5, 3));
-    for at in 0..448 {
-        let is_so = is_sector(&mut disk, at, new_bytes(at))?;
-        holds(&rt, is_so, "sector", at as u64);
-    }
     // All of it lasts.
     is_number(&rt, unsynced(disk), 0, "unsynced");
     Ok(())
@@ -78,6 +62,26 @@ fn formats_that_are_refused(rt: HostRuntime) -> Result<(), Fail> {
     for (sectors, wanted) in &STANDARD_FORMATS {
         is_formatted(&rt, rt.alloc(), (*sectors, &limits), *wanted)?;
     }
+    Ok(())
+}
+
+// An open of the disk answers this fault, writes nothing, and hands the disk back.
+fn refused(rt: &impl Abort, alloc: Global, disk: MemoryDisk, fault: OpenError) -> MemoryDisk {
+    let writes = disk.writes();
+    let Some(unopened) = unopened(alloc, disk) else {
+        panic!(rt; "opened, in place of: {fault}");
+    };
+    assert!(rt; unopened.error == fault, "{fault}");
+    is_number(rt, unopened.disk.writes(), writes, "writes");
+    unopened.disk
+}
+
+#[test]
+fn a_device_of_zeros_is_not_formatted(rt: HostRuntime) -> Result<(), Fail> {
+    let zeros = MemoryDisk::new(rt.alloc(), SMALL_DEVICE)?;
+    let mut disk = refused(&rt, rt.alloc(), zeros, OpenError::NotFormatted);
+    Store::format(&mut disk, &Limits::small())?;
+    opened(rt.alloc(), disk)?;
     Ok(())
 }
 

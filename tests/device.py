@@ -1,0 +1,526 @@
+"""What stands on a device, byte by byte, and which devices open.
+
+    python3 tests/device.py PROGRAM
+
+Devices are written by device_layout.py, and the program opens them. Those that hold a state show
+it. Each byte that an open tests is wrong once (device_damage.py): the program names the fault, and
+leaves the file as it was. What the program writes itself is compared with what docs/DEVICE.md says,
+the whole file. What is expected was reckoned from that page, and never taken from the program. It
+takes some seconds.
+"""
+
+from __future__ import annotations
+
+import itertools
+import os
+import subprocess
+import sys
+import tempfile
+from concurrent.futures import ThreadPoolExecutor
+from functools import partial
+from threading import Lock
+from typing import Generator, Iterator
+
+sys.dont_write_bytecode = True
+
+from device_damage import (  # noqa: E402
+    connections,
+    damages,
+    each_byte,
+    free_bytes,
+    holding,
+    long_objects,
+    longest,
+    no_states,
+    order,
+    other_records,
+    record_cuts,
+    sizes,
+    superblocks,
+    turned,
+)
+from device_layout import (  # noqa: E402
+    BODY,
+    BODY_COUNT,
+    JOURNAL,
+    LAST_EPOCH,
+    LAST_NUMBER,
+    RESTART,
+    ROOT,
+    SECTOR,
+    SMALL,
+    STANDARD,
+    START,
+    Device,
+    Limits,
+    Queue,
+    area,
+    area_of,
+    batch,
+    clock,
+    connect,
+    header,
+    hello,
+    leave,
+    msgget,
+    msgrcv,
+    msgsnd,
+    need_of,
+    processes,
+    request,
+    root,
+    state,
+    superblock,
+    tick,
+)
+from device_runs import (  # noqa: E402
+    EXIT_RECORD,
+    GOOD_BATCHES,
+    GOOD_LISTED,
+    GOOD_QUEUE,
+    HELLO_RECORD,
+    LATE,
+    NEW_HEADER,
+    NEW_OBJECTS,
+    NEW_ROOT,
+    NUMBERS,
+    PROGRAM,
+    RESTART_RECORD,
+    SAVED_OBJECTS,
+    SAVED_QUEUE,
+    SEND_RECORD,
+    SMALL_SUPERBLOCK,
+    STANDARD_SUPERBLOCK,
+    TICK_RECORD,
+    Check,
+    check,
+    errored,
+    good,
+    ipcd,
+    is_image,
+    numbered,
+    opens,
+    received,
+    refuses,
+    row,
+    runs,
+    sector,
+    sends,
+    stops_at,
+)
+
+# ---- the writer
+
+
+def spelled() -> None:
+    """The writer's bytes are those that are spelled by hand, and sizes those of the page."""
+    one = state(clock(9, 2, 2), processes((1, 1000, 100)), {1: SAVED_QUEUE})
+    requests = (request(0, 1, msgget(4, 1234)), request(0, 1, msgsnd(4, 1, 5, 500 * b"\7")))
+    pairs = (
+        (superblock(SMALL, 448), SMALL_SUPERBLOCK),
+        (superblock(STANDARD, 45830), STANDARD_SUPERBLOCK),
+        (sector(Device().image, 1), NEW_ROOT.ljust(SECTOR, b"\0")),
+        (sector(Device().image, 3), NEW_HEADER.ljust(SECTOR, b"\0")),
+        (area(START), NEW_OBJECTS),
+        (area(one), SAVED_OBJECTS),
+        (connect(7, 1, 1000, 100), HELLO_RECORD),
+        (request(LATE, 1, msgsnd(3, 1, 5, b"hi")), SEND_RECORD),
+        (tick(258), TICK_RECORD),
+        (leave(9, 3), EXIT_RECORD),
+        (RESTART, RESTART_RECORD),
+        (batch(RESTART), GOOD_BATCHES[4]),
+        (batch(connect(0, 1, 1000, 100), requests[0]), GOOD_BATCHES[5]),
+        (batch(requests[1], tick(0)), GOOD_BATCHES[6]),
+        (batch(tick(0), leave(0, 1)), GOOD_BATCHES[8]),
+    )
+    for number, (found, wanted) in enumerate(pairs):
+        check(found == wanted, f"the writer's bytes {number}: {found.hex()}")
+    check((area_of(SMALL), need_of(SMALL)) == (94, 448), "small sizes")
+    check((area_of(STANDARD), need_of(STANDARD)) == (22785, 45830), "standard sizes")
+
+
+# ---- formats
+
+
+def formatted(limits: Limits, sectors: int, *words: str) -> None:
+    """A format of a file that is not zeros leaves its bytes, but for four sectors."""
+    before = sectors * SECTOR * b"\xee"
+    ended = ipcd(before, "format", "", *words)
+    wanted = (0, "", f"formatted {sectors} sectors\n")
+    check(ended[:3] == wanted, f"{ended[:3]}, and not {wanted}")
+    named = SMALL_SUPERBLOCK if limits == SMALL else STANDARD_SUPERBLOCK
+    if sectors != need_of(limits):
+        named = superblock(limits, sectors)
+    parts = {0: named, 1: NEW_ROOT, 3: NEW_HEADER, 260: NEW_OBJECTS}
+    image = bytearray(before)
+    for at, data in parts.items():
+        image[SECTOR * at : SECTOR * (at + 1)] = data.ljust(SECTOR, b"\0")
+    is_image(ended.image, bytes(image), f"a format of {sectors} sectors")
+    opens(ended.image, "", f"{sectors} sectors")
+
+
+def not_formatted(need: int, sectors: int, *words: str) -> None:
+    before = 700 * b"\xee"
+    ended = ipcd(before, "format", "", "--sectors", str(sectors), *words)
+    wanted = (1, f"ipcd: too small, {need} sectors needed\n", "", before)
+    check(ended == wanted, f"a format of {sectors} sectors: {ended}")
+
+
+def formats() -> Iterator[Check]:
+    yield partial(formatted, SMALL, 448, "--small")
+    yield partial(formatted, SMALL, 500, "--small", "--sectors", "500")
+    yield partial(formatted, STANDARD, 45830)
+    yield partial(formatted, STANDARD, 50000, "--sectors", "50000")
+    for sectors in (0, 447):
+        yield partial(not_formatted, 448, sectors, "--small")
+    yield partial(not_formatted, 45830, 45829)
+
+
+def largest() -> None:
+    """A device of 4294967295 sectors, most of them a hole; and with another superblock there."""
+    path, sectors = f"device{next(NUMBERS)}", 2**32 - 1
+    parts = {0: superblock(STANDARD, sectors), 1: NEW_ROOT, 3: NEW_HEADER, 260: NEW_OBJECTS}
+    with open(path, "xb") as file:
+        try:
+            file.truncate(SECTOR * sectors)
+        except OSError:
+            # A file system without files of two TiB.
+            return
+        for at, data in parts.items():
+            file.seek(SECTOR * at)
+            file.write(data)
+    ended = subprocess.run([PROGRAM, "dump", path], capture_output=True, timeout=120)
+    check((ended.returncode, ended.stdout, ended.stderr) == (0, b"", b""), f"{ended}")
+    with open(path, "r+b") as file:
+        file.write(SMALL_SUPERBLOCK)
+    ended = subprocess.run([PROGRAM, "dump", path], capture_output=True, timeout=120)
+    wanted = (1, b"", b"ipcd: damaged sector 0\n")
+    check((ended.returncode, ended.stdout, ended.stderr) == wanted, f"{ended}")
+    os.unlink(path)
+
+
+# ---- devices that hold something
+
+
+def held() -> Device:
+    """Epoch 7 in area 0, with two queues and a process, and a journal of two batches."""
+    three = ((3, b"three"), (1, b""), (3, b"more"))
+    queues = {
+        2: Queue(-2, three, (7, 8), (9, 10), 0o777, (4, 5, 6), (11, 12), 99),
+        5: Queue(0, (), (2**32 - 1, 2**31), mode=0),
+    }
+    objects = state(clock(50, 21, 6), processes((20, 2000, 200)), queues)
+    first = batch(request(60, 20, msgrcv(1, 2)), tick(70))
+    sent = request(80, 20, msgsnd(2, 5, 2, b"two"))
+    second = batch(sent, connect(80, 1, 3, 4), leave(90, 20))
+    return Device().save(7, 0, objects).journal(7, first, second)
+
+
+HELD_LISTED = (
+    "msg          2          -2 0777          7          8          4          2\n"
+    "msg          5           0 0000 4294967295 2147483648          3          1\n"
+)
+
+
+def shows() -> None:
+    """A device that was written here is listed, a script goes on from it, and a save keeps it."""
+    opens(held().image, HELD_LISTED, "a device that was written by hand")
+    frames = (hello(1), msgget(2, -2, 0), msgrcv(3, 2), msgsnd(4, 5, 9, b"nine"), msgrcv(5, 2, 3))
+    script = ["100 open 1", sends(100, 1, *frames), "save"]
+    printed = [numbered(1, 1, 22), numbered(1, 2, 2), received(1, 3, 1, b"")]
+    printed += [errored(1, 4, 0), errored(1, 5, 7)]
+
+    asked = [request(100, 22, frame) for frame in frames[1:]]
+    line = batch(tick(100), connect(100, 1, 1000, 100), *asked)
+    nine = ((2, b"two"), (9, b"nine"))
+    queues = {
+        2: Queue(-2, ((3, b"more"),), (7, 8), (9, 10), 0o777, (4, 100, 6), (11, 22), 99),
+        5: Queue(0, nine, (2**32 - 1, 2**31), mode=0, times=(100, 0, 0), pids=(22, 0)),
+    }
+    objects = state(clock(100, 23, 6), processes((22, 1000, 100)), queues)
+    wanted = held().put(BODY + 2, 0, batch(RESTART)).put(BODY + 3, 0, line)
+    wanted.put(JOURNAL, 0, header(7, 4)).save(8, 1, objects)
+    runs(held(), script, printed, wanted, "a script on a device that was written by hand")
+    opens(wanted.image, row(2, queues[2]) + row(5, queues[5]), "what it has saved")
+
+
+def keeps_owners() -> None:
+    """A queue is of the user and group that its maker had in the objects."""
+    objects = state(clock(0, 4, 1), processes((3, 5, 6)), {})
+    device = holding(objects).journal(1, batch(request(0, 3, msgget(1, 9))))
+    opens(device.image, row(1, Queue(9, owner=(5, 6))), "a queue of a process of the objects")
+
+
+def no_more_pids() -> None:
+    device = holding(state(clock(0, LAST_NUMBER, LAST_NUMBER), processes(), {}))
+    script = ["0 open 1", sends(0, 1, hello(1), msgget(2, 0), msgget(3, 0))]
+    script += ["0 open 2", sends(0, 2, hello(4))]
+    printed = [numbered(1, 1, LAST_NUMBER), numbered(1, 2, LAST_NUMBER)]
+    printed += [errored(1, 3, 28), errored(2, 4, 23)]
+    asked = [request(0, LAST_NUMBER, msgget(serial, 0)) for serial in (2, 3)]
+    first = batch(tick(0), connect(0, 1, 1000, 100), *asked)
+    second = batch(tick(0), connect(0, 4, 1000, 100))
+    wanted = holding(state(clock(0, LAST_NUMBER, LAST_NUMBER), processes(), {}))
+    wanted.journal(1, batch(RESTART), first, second)
+    runs(device, script, printed, wanted, "the last pid and identifier")
+
+
+# ---- what the program writes
+
+
+def events() -> None:
+    """Each line of a script is a batch: a tick, and its events. A `stop` is a restart."""
+    script = ["0 open 1", "0 open 2", "0 open 3"]
+    script += [sends(7, number, hello(number)) for number in (1, 2, 3)]
+    script += ["9 end 3", "258 tick", "stop", "258 open 5", sends(LATE, 5, hello(1, 0, 2**32 - 1))]
+    script += [sends(LATE, 5, msgget(2, 1234), msgsnd(3, 1, 5, b"hi")), f"{2**64 - 1} tick"]
+    printed = [numbered(number, number, number) for number in (1, 2, 3)]
+    printed += [numbered(5, 1, 4), numbered(5, 2, 1), errored(5, 3, 0)]
+    batches = [batch(RESTART)]
+    batches += [batch(tick(7), connect(7, number, 1000, 100)) for number in (1, 2, 3)]
+    batches += [batch(tick(9), EXIT_RECORD), batch(TICK_RECORD), batch(RESTART_RECORD)]
+    batches += [batch(tick(LATE), connect(LATE, 1, 0, 2**32 - 1))]
+    asked = (request(LATE, 4, msgget(2, 1234)), request(LATE, 4, msgsnd(3, 1, 5, b"hi")))
+    batches += [batch(tick(LATE), *asked), batch(tick(2**64 - 1))]
+    check(batches[1][4 + 13 :] == HELLO_RECORD, "the record of a HELLO")
+    check(asked[1][:13] + asked[1][17:] == SEND_RECORD[:13] + SEND_RECORD[17:], "that of a send")
+    runs(Device(), script, printed, Device().journal(1, *batches), "an event of each kind")
+
+
+def long_text() -> None:
+    """A text as long as a request may have: its record takes 17 sectors, though it is refused."""
+    text = bytes(number % 251 for number in range(8427))
+    script = ["0 open 1", sends(0, 1, hello(1)), sends(0, 1, msgsnd(2, 1, 1, text))]
+    first = batch(tick(0), connect(0, 1, 1000, 100))
+    second = batch(tick(0), request(0, 1, msgsnd(2, 1, 1, text)))
+    wanted = Device().journal(1, batch(RESTART), first, second)
+    check(wanted.image[SECTOR * JOURNAL :][:12] == header(1, 19), "19 sectors")
+    runs(Device(), script, [numbered(1, 1, 1), errored(1, 2, 22)], wanted, "the longest text")
+
+
+# What a save of process 1 with its queue begins with, and what is printed.
+FIRST_QUEUE = ["0 open 1", sends(0, 1, hello(1)), sends(3, 1, msgget(4, 1234))]
+FIRST_REPLIES = [numbered(1, 1, 1), numbered(1, 4, 1)]
+
+
+def first_queue(*more: bytes) -> list[bytes]:
+    """The batches of these lines, after the open."""
+    first = batch(tick(0), connect(0, 1, 1000, 100))
+    return [batch(RESTART), first, batch(tick(3), request(3, 1, msgget(4, 1234))), *more]
+
+
+def save() -> None:
+    """A save writes the objects into the other area, and the root. Then the journal begins anew."""
+    script = [*FIRST_QUEUE, sends(9, 1, msgsnd(4, 1, 5, b"hi")), "save"]
+    printed = [*FIRST_REPLIES, errored(1, 4, 0)]
+    sent = batch(tick(9), request(9, 1, msgsnd(4, 1, 5, b"hi")))
+    wanted = Device().journal(1, *first_queue(sent))
+    wanted.put(354, 0, SAVED_OBJECTS).put(ROOT, 0, root(2, 1, 222))
+    runs(Device(), script, printed, wanted, "a save")
+
+    script = ["9 open 1", sends(9, 1, hello(1), msgrcv(4, 1)), "9 end 1", "save", "10 tick"]
+    after = wanted.copy()
+    asked = (connect(9, 1, 1000, 100), request(9, 2, msgrcv(4, 1)))
+    after.put(BODY, 0, batch(RESTART).ljust(SECTOR, b"\0"))
+    after.put(BODY + 1, 0, batch(tick(9), *asked).ljust(SECTOR, b"\0"))
+    after.put(BODY + 2, 0, batch(tick(9), leave(9, 2)).ljust(SECTOR, b"\0"))
+    queue = Queue(1234, times=(9, 9, 3), pids=(1, 2))
+    after.save(3, 0, state(clock(9, 3, 2), processes(), {1: queue}))
+    after.put(BODY, 0, batch(tick(10)).ljust(SECTOR, b"\0")).put(JOURNAL, 0, header(3, 1))
+    runs(wanted, script, [numbered(1, 1, 2), received(1, 4, 5, b"hi")], after, "a second save")
+    opens(after.image, GOOD_LISTED, "a device that was saved twice")
+
+
+def save_of_nothing() -> None:
+    """Four saves turn the areas: the fifth epoch is in area 0."""
+    wanted = Device().journal(1, batch(RESTART)).save(4, 1, START).save(5, 0, START)
+    runs(Device(), 4 * ["save"], [], wanted, "four saves of nothing")
+
+
+def save_of_much() -> None:
+    """Under standard limits: an object of 600 bytes, and one that fills its queue."""
+    text = bytes(number % 251 for number in range(524))
+    sent = (msgsnd(6, 2, 1, 8192 * b"x"), msgsnd(7, 2, 1, 8192 * b"y"), msgsnd(8, 2, 1, b"z"))
+    frames = (msgget(5, 0), *sent)
+    frames = (msgsnd(4, 1, 5, text), *frames)
+    script = [*FIRST_QUEUE, *(sends(9, 1, frame) for frame in frames), "save", "save"]
+    printed = [*FIRST_REPLIES, errored(1, 4, 0), numbered(1, 5, 2)]
+    printed += [errored(1, 6, 0), errored(1, 7, 0), errored(1, 8, 11)]
+    asked = [request(9, 1, frame) for frame in frames]
+    one = Queue(1234, ((5, text),), times=(9, 0, 3), pids=(1, 0), qbytes=16384)
+    full = ((1, 8192 * b"x"), (1, 8192 * b"y"))
+    two = Queue(0, full, times=(9, 0, 9), pids=(1, 0), qbytes=16384)
+    check(len(one.data()) == 600, "an object of 600 bytes")
+    objects = state(clock(9, 2, 3), processes((1, 1000, 100)), {1: one, 2: two})
+    new = Device(STANDARD)
+    wanted = new.copy().journal(1, *first_queue(*(batch(tick(9), one) for one in asked)))
+    wanted.save(2, 1, objects).save(3, 0, objects)
+    check(wanted.image[SECTOR * 23045 :][:4] == b"\0\0\0\6", "area 1 begins at sector 23045")
+    runs(new, script, printed, wanted, "saves under standard limits")
+    opens(wanted.image, row(1, one) + row(2, two), "what they have saved")
+
+
+def full(*batches: bytes, used: int = BODY_COUNT, epoch: int = 1) -> Device:
+    """A device whose journal has these batches of a sector, and then ticks."""
+    ticks = (used - len(batches)) * [batch(tick(0))]
+    return Device().journal(1, *batches, *ticks).put(JOURNAL, 0, header(epoch, used))
+
+
+def last_commit(length: int, fits: bool) -> None:
+    """A commit on 255 used sectors appends one of 512 bytes, and saves one of 513."""
+    send = msgsnd(2, 1, 1, (length - 55) * b"\7")
+    script = ["0 open 1", sends(0, 1, hello(1)), sends(0, 1, send)] + ([] if fits else ["0 tick"])
+    data = batch(tick(0), request(0, 1, send))
+    check(len(data) == length, f"a batch of {length} bytes")
+    wanted = full(used=253).put(BODY + 253, 0, batch(RESTART))
+    wanted.put(BODY + 254, 0, batch(tick(0), connect(0, 1, 1000, 100)))
+    if fits:
+        wanted.put(BODY + 255, 0, data).put(JOURNAL, 0, header(1, 256))
+    else:
+        objects = state(clock(0, 2, 1), processes((1, 1000, 100)), {})
+        wanted.save(2, 1, objects).put(JOURNAL, 0, header(2, 1))
+        wanted.put(BODY, 0, batch(tick(0)).ljust(SECTOR, b"\0"))
+        check(wanted.image[SECTOR:][:16] == root(2, 1, 128), "128 bytes of objects")
+    printed = [numbered(1, 1, 1), errored(1, 2, 22)]
+    runs(full(used=253), script, printed, wanted, f"a last commit of {length} bytes")
+
+
+def many_ticks() -> None:
+    """The restart and 255 ticks fill the journal, the next one is saved, and 44 begin a new one."""
+    ticks = [batch(tick(moment)) for moment in range(300)]
+    wanted = Device().journal(1, batch(RESTART), *ticks[:255]).journal(2, *ticks[256:])
+    wanted.save(2, 1, state(clock(255, 1, 1), processes(), {}))
+    runs(Device(), [f"{moment} tick" for moment in range(300)], [], wanted, "300 ticks")
+    after = wanted.copy().put(BODY + 44, 0, batch(RESTART)).put(JOURNAL, 0, header(2, 45))
+    after.save(3, 0, state(clock(299, 1, 1), processes(), {}))
+    runs(wanted, ["save"], [], after, "a save after 300 ticks")
+
+
+def many_opens(opens_made: int) -> None:
+    """Each open takes a sector of the journal, and the one after 256 saves."""
+    wanted = Device().journal(1, *min(opens_made, 256) * [batch(RESTART)])
+    if opens_made > 256:
+        wanted.save(2, 1, START)
+    if opens_made > 257:
+        wanted.put(JOURNAL, 0, header(2, opens_made - 257))
+    name = f"{opens_made} opens"
+    runs(Device(), (opens_made - 1) * ["stop"], [], wanted, name)
+
+
+def open_that_saves() -> None:
+    """An open on a full journal saves what the restart leaves: no process, and the queue."""
+    asked = (request(3, 1, msgget(2, 1234)), request(9, 1, msgsnd(3, 1, 5, b"hi")))
+    device = full(batch(connect(0, 1, 1000, 100), *asked))
+    wanted = device.copy().save(2, 1, state(clock(9, 2, 2), processes(), {1: SAVED_QUEUE}))
+    runs(device, [], [], wanted, "an open that saves")
+
+
+def journal_of_all() -> None:
+    """All sectors of the body count: those after the batches are batches without records."""
+    device = good().put(JOURNAL, 8, b"\0\0\1\0")
+    objects = state(clock(0, 2, 2), processes(), {1: GOOD_QUEUE})
+    wanted = device.copy().save(2, 1, objects)
+    check(wanted.image[SECTOR:][:16] == root(2, 1, 192), "192 bytes of objects")
+    runs(device, [], [], wanted, "a journal that counts all its sectors")
+    image = device.put(259, 3, b"\1").image
+    refuses(image, "damaged sector 259", "a byte in the last sector of the body")
+
+
+# ---- the last epoch
+
+
+def at_epoch(epoch: int, used: int) -> Device:
+    return full(used=used, epoch=epoch).put(ROOT, 0, root(epoch, 0, 112))
+
+
+def last_save() -> None:
+    """A save at the last epoch is a device fault, and writes nothing."""
+    device = at_epoch(LAST_EPOCH, 0)
+    script = ["0 open 1", sends(0, 1, hello(1)), "save", "0 tick"]
+    printed = [numbered(1, 1, 1), errored(1, 0, 5), "1 end"]
+    wanted = device.copy().put(BODY, 0, batch(RESTART))
+    wanted.put(BODY + 1, 0, batch(tick(0), connect(0, 1, 1000, 100)))
+    wanted.put(JOURNAL, 0, header(LAST_EPOCH, 2))
+    stops_at(device, script, printed, wanted)
+    opens(wanted.image, "", "a device after the save that was refused")
+
+
+def last_sector() -> None:
+    """At the last epoch the journal is filled, and then the device stops for good."""
+    device = at_epoch(LAST_EPOCH, 254)
+    wanted = device.copy().put(BODY + 254, 0, batch(RESTART)).put(BODY + 255, 0, batch(tick(0)))
+    wanted.put(JOURNAL, 0, header(LAST_EPOCH, 256))
+    stops_at(device, ["0 tick", "0 tick"], [], wanted)
+    refuses(wanted.image, "damaged sector 1", "the end of the last epoch", "dump", "run")
+
+
+def last_turn() -> None:
+    """An open saves at the last epoch but one; at the last one a journal of that one is empty."""
+    device = at_epoch(LAST_EPOCH - 1, 256)
+    runs(device, [], [], device.copy().save(LAST_EPOCH, 1, START), "the last epoch but one")
+    device = at_epoch(LAST_EPOCH - 1, 256).save(LAST_EPOCH, 1, START)
+    wanted = device.copy().put(BODY, 0, batch(RESTART).ljust(SECTOR, b"\0"))
+    runs(device, [], [], wanted.put(JOURNAL, 0, header(LAST_EPOCH, 1)), "the last epoch")
+
+
+# ---- all of it
+
+
+def checks() -> Generator[Check, None, None]:
+    yield spelled
+    # The longest first.
+    yield save_of_much
+    yield largest
+    yield from formats()
+    yield from (shows, keeps_owners, no_more_pids, events, long_text, save, save_of_nothing)
+    yield partial(last_commit, 512, True)
+    yield partial(last_commit, 513, False)
+    yield many_ticks
+    yield from (partial(many_opens, opens_made) for opens_made in (1, 256, 257, 300))
+    yield from (open_that_saves, journal_of_all, last_save, last_sector, last_turn)
+    yield from superblocks()
+    yield from sizes()
+    yield from damages()
+    yield from order()
+    yield from free_bytes()
+    yield from turned()
+    yield from no_states()
+    yield from long_objects()
+    yield from record_cuts()
+    yield from other_records()
+    yield from longest()
+    yield from connections()
+    yield from each_byte()
+
+
+def work(waiting: Generator[Check, None, None], turn: Lock) -> int:
+    """Makes checks until none is left, or one has failed. How many it has made."""
+    for made in itertools.count():
+        with turn:
+            one = next(waiting, None)
+        if one is None:
+            return made
+        try:
+            one()
+        except BaseException:
+            with turn:
+                waiting.close()
+            raise
+
+
+def main() -> None:
+    waiting, turn = checks(), Lock()
+    workers = 2 * (os.cpu_count() or 1)
+    with ThreadPoolExecutor(workers) as pool:
+        made = [pool.submit(work, waiting, turn) for _ in range(workers)]
+    try:
+        total = sum(one.result() for one in made)
+    except (AssertionError, OSError, subprocess.SubprocessError) as fault:
+        sys.exit(f"device: {fault}")
+    print(f"device: {total} checks, {next(NUMBERS) - 1} runs of the program")
+
+
+if __name__ == "__main__":
+    with tempfile.TemporaryDirectory() as folder:
+        os.chdir(folder)
+        main()

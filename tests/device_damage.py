@@ -1,0 +1,592 @@
+"""Devices with a byte or a part that is wrong: which are refused, with which words.
+
+Where no fault stands beside a wrong byte, it is what the checker of device_layout.py says.
+"""
+
+from __future__ import annotations
+
+import itertools
+from functools import partial
+from typing import Iterator
+
+from device_layout import (
+    JOURNAL,
+    LAST_NUMBER,
+    NONE,
+    QUEUE_KIND,
+    RESTART,
+    SECTOR,
+    SMALL,
+    START,
+    Device,
+    Limits,
+    Queue,
+    batch,
+    clock,
+    connect,
+    hello,
+    leave,
+    msgget,
+    msgrcv,
+    msgsnd,
+    need_of,
+    processes,
+    read,
+    record,
+    request,
+    root,
+    state,
+    superblock,
+    tick,
+)
+from device_runs import (
+    EXIT_RECORD,
+    GOOD_BATCHES,
+    GOOD_LISTED,
+    HELLO_RECORD,
+    NEW_HEADER,
+    NEW_OBJECTS,
+    NEW_ROOT,
+    RESTART_RECORD,
+    SAVED_LISTED,
+    SAVED_QUEUE,
+    SEND_RECORD,
+    SMALL_SUPERBLOCK,
+    TICK_RECORD,
+    Check,
+    check,
+    fault_of,
+    good,
+    ipcd,
+    is_image,
+    opens,
+    refuses,
+    restarted,
+    row,
+    saved,
+)
+
+# ---- the superblock
+
+# A place in the superblock, other bytes there, and the fault.
+SUPERBLOCKS: tuple[tuple[int, str, str], ...] = (
+    (0, "69", "not formatted"),
+    (7, "00", "not formatted"),
+    (11, "01", "version 1"),
+    (11, "07", "version 7"),
+    (8, "01", "version 16777216"),
+    (15, "c1", "damaged sector 0"),  # 449 sectors
+    (15, "bf", "damaged sector 0"),  # 447
+    (19, "02", "damaged sector 0"),  # the journal one sector earlier
+    (23, "00", "damaged sector 0"),  # the journal one sector shorter
+    (27, "05", "damaged sector 0"),  # the object area one sector later
+    (31, "bb", "damaged sector 0"),  # the object area one sector shorter
+    (35, "02", "damaged sector 0"),  # the root in the sector that is kept free
+    (39, "00", "damaged sector 0"),  # no process
+    (39, "41", "damaged sector 0"),  # more processes than the standard
+    (47, "81", "damaged sector 0"),  # a message longer than a queue
+    (59, "09", "damaged sector 0"),  # a set larger than all sets
+    (75, "0b", "damaged sector 0"),  # more POSIX messages than the standard
+    (94, "21", "damaged sector 0"),  # more bytes for a call than the standard
+    (99, "21", "damaged sector 0"),  # more descriptors than the standard
+    (39, "05", "damaged sector 0"),  # more processes than there is room for
+    (43, "03", "damaged sector 0"),  # more queues than there is room for
+)
+
+
+def superblocks() -> Iterator[Check]:
+    """Wrong bytes of a superblock after which 412 bytes are not zeros."""
+    base = good().put(0, 100, 412 * b"\xee")
+    yield partial(opens, base.image, GOOD_LISTED, "a superblock without zeros")
+    for offset, bytes_there, fault in SUPERBLOCKS:
+        image = base.copy().put(0, offset, bytes.fromhex(bytes_there)).image
+        yield partial(refuses, image, fault, f"superblock {offset} {bytes_there}")
+    for offset, byte in itertools.product(range(12, 100, 4), (b"\0", b"\xff")):
+        image = base.copy().put(0, offset, 4 * byte).image
+        yield partial(refuses, image, "damaged sector 0", f"superblock {offset} {byte.hex()}")
+
+
+def sizes() -> Iterator[Check]:
+    """Devices that were cut or have grown, and limits for which a device is too small."""
+    image = bytes(good().image)
+    faults = {0: "not formatted", 2: "not formatted"}
+    faults |= dict.fromkeys((3, 4, 260, 447, 449), "damaged sector 0")
+    for sectors, fault in faults.items():
+        cut = image[: SECTOR * sectors].ljust(SECTOR * sectors, b"\0")
+        yield partial(refuses, cut, fault, f"{sectors} sectors")
+    for sectors in (259, 447):
+        small = bytearray(image[: SECTOR * sectors])
+        small[:100] = superblock(SMALL, sectors)
+        yield partial(refuses, small, "damaged sector 0", f"{sectors} sectors, as they are named")
+    odd = Limits(3, 2, 7, 9, 2, 1, 9, 1, 2, 3, 5, 6, 7, 9, 9, 2)
+    for limits in (SMALL, Limits(*16 * [1]), odd):
+        need = need_of(limits)
+        yield partial(opens, Device(limits).image, "", f"{limits}")
+        yield partial(opens, Device(limits, need + 1).image, "", f"{limits}, a sector more")
+        few = Device(limits, need - 1).image
+        yield partial(refuses, few, "damaged sector 0", f"{limits}, a sector less")
+    zeros = bytes(SECTOR * 448)
+    yield partial(refuses, zeros, "not formatted", "zeros", "dump", "run")
+
+
+# ---- wrong bytes of the root, the objects, the header and the batches
+
+# Of the good device: a sector, a place in it, other bytes there, and the sector that is named.
+DAMAGES: tuple[tuple[int, int, str, int], ...] = (
+    # The root: epoch 0, a third area, the other area, which is zeros, and lengths below 4 and past
+    # the area.
+    (1, 7, "00", 1),
+    (1, 11, "02", 1),
+    (1, 8, "01", 1),
+    (1, 11, "01", 354),
+    (1, 15, "03", 1),
+    (1, 12, "0000bc01", 1),
+    (1, 12, "ffffffff", 1),
+    # It counts all bytes of the area, one byte more than the objects have, one less, and those of
+    # their count.
+    (1, 12, "0000bc00", 260),
+    (1, 15, "71", 260),
+    (1, 15, "6f", 260),
+    (1, 15, "04", 260),
+    # The objects: one fewer, one more, a number that comes twice, a clock of 31 bytes.
+    (260, 3, "03", 260),
+    (260, 3, "05", 260),
+    (260, 11, "01", 260),
+    (260, 19, "1f", 260),
+    # They stand for no state: the next pid is 0, a process that is not there, and another number
+    # for the adjustments.
+    (260, 31, "00", 1),
+    (260, 71, "01", 1),
+    (260, 99, "04", 1),
+    # The header: a later epoch, and more sectors than there are.
+    (3, 7, "02", 3),
+    (3, 0, "80", 3),
+    (3, 8, "00000101", 3),
+    (3, 8, "ffffffff", 3),
+    # It counts one sector of the two of a batch.
+    (3, 11, "03", 6),
+    # The lengths of the batches: past what is used, into the zeros, one byte too few or too many.
+    (4, 0, "ffffffff", 4),
+    (6, 0, "000005fd", 6),
+    (8, 0, "000001fd", 8),
+    (8, 0, "000001fc", 8),
+    (4, 3, "0c", 4),
+    (4, 3, "0e", 4),
+    (5, 3, "36", 5),
+    (6, 3, "26", 6),
+    (8, 3, "1f", 8),
+    # The kinds and lengths of records.
+    (5, 8, "00", 5),
+    (5, 8, "03", 5),
+    (5, 8, "04", 5),
+    (7, 34, "07", 6),
+    (5, 7, "14", 5),
+    (5, 7, "16", 5),
+    (7, 33, "0a", 6),
+    (8, 20, "0c", 8),
+    (8, 17, "ffffffff", 8),
+    # A restart that has a moment.
+    (4, 16, "01", 4),
+    # A request without a serial, with an opcode that none has, and with another size than msgget's.
+    (5, 49, "00", 5),
+    (5, 50, "ff", 5),
+    (5, 50, "0c", 5),
+    # Processes that are not connected: in a request, in an exit, and after a restart in place of
+    # the tick.
+    (5, 45, "02", 5),
+    (5, 45, "00", 5),
+    (6, 20, "02", 6),
+    (8, 33, "02", 8),
+    (8, 8, "06", 8),
+)
+
+# A sector of the good device, a place in it, other bytes there with which it opens, and whether the
+# queue is there then: a later epoch of the objects; an earlier one of the journal, whatever it
+# counts; a count without the last batch, or with a batch of no records; a batch emptied; and bytes
+# that mean nothing.
+FREE: tuple[tuple[int, int, str, bool], ...] = (
+    (1, 7, "02", False),
+    (1, 0, "ffffffffffffffff", False),
+    (3, 7, "00", False),
+    (3, 7, "00ffffffff", False),
+    (3, 11, "00", False),
+    (3, 11, "04", True),
+    (3, 11, "06", True),
+    (4, 3, "00", True),
+    (0, 100, "01", True),
+    (0, 511, "01", True),
+    (2, 0, "01", True),
+    (3, 12, "01", True),
+    (4, 17, "01", True),
+    (7, 43, "01", True),
+    (8, 34, "01", True),
+    (9, 0, "01", True),
+    (1, 16, "01", True),
+    (260, 112, "01", True),
+    (261, 0, "01", True),
+    (354, 0, "01", True),
+)
+
+# A sector, a place in it, and what is said if this byte is wrong, and those of the rows before.
+ORDER: tuple[tuple[int, int, str], ...] = (
+    (8, 8, "damaged sector 8"),
+    (5, 8, "damaged sector 5"),
+    (3, 0, "damaged sector 3"),
+    (260, 51, "damaged sector 1"),
+    (260, 3, "damaged sector 260"),
+    (1, 8, "damaged sector 1"),
+    (0, 99, "damaged sector 0"),
+    (0, 8, "version 4278190080"),
+    (0, 0, "not formatted"),
+)
+
+
+def damages() -> Iterator[Check]:
+    yield partial(opens, good().image, GOOD_LISTED, "the good device")
+    for at, offset, bytes_there, named in DAMAGES:
+        image = good().put(at, offset, bytes.fromhex(bytes_there)).image
+        name = f"sector {at}, {offset}: {bytes_there}"
+        yield partial(refuses, image, f"damaged sector {named}", name)
+
+
+def order() -> Iterator[Check]:
+    """The first fault decides: each byte is wrong, from the last to the first."""
+    device = good()
+    for at, offset, fault in ORDER:
+        device.put(at, offset, b"\xff")
+        name = f"sector {at}, {offset}, and others"
+        yield partial(refuses, device.copy().image, fault, name, "dump", "run")
+
+
+def free_bytes() -> Iterator[Check]:
+    for at, offset, bytes_there, has_queue in FREE:
+        image = good().put(at, offset, bytes.fromhex(bytes_there)).image
+        listed = GOOD_LISTED if has_queue else ""
+        yield partial(opens, image, listed, f"sector {at}, {offset}: {bytes_there}")
+
+
+def answers(image: bytes, name: str) -> None:
+    """The program says what the checker says. What it lists is known if there is no journal."""
+    fault = fault_of(image)
+    if fault:
+        return refuses(image, fault, name)
+    content = read(image)
+    ended = ipcd(image, "dump")
+    check(ended[:2] == (0, ""), f"{name}: {ended[:2]}")
+    is_image(ended.image, restarted(image), name)
+    if not content.batches:
+        check(ended.printed == listing(content.objects), f"{name}: {ended.printed}")
+
+
+def listing(objects: list[tuple[int, bytes]]) -> str:
+    """The queues of these objects, with fields from their places."""
+    lines = []
+    for number, data in objects[4:]:
+        key = int.from_bytes(data[:4], "big", signed=True)
+        uid, gid, mode, count = (int.from_bytes(data[at : at + 4], "big") for at in (4, 8, 20, 60))
+        total = len(data) - 64 - 12 * count
+        messages = ((1, bytes(total)),) + (count - 1) * ((1, b""),) if count else ()
+        lines.append(row(number - QUEUE_KIND, Queue(key, messages, (uid, gid), mode=mode)))
+    return "".join(lines)
+
+
+def places(parts: dict[int, bytes]) -> Iterator[tuple[int, int]]:
+    for at, data in parts.items():
+        yield from ((at, offset) for offset in range(len(data)))
+
+
+def each_byte() -> Iterator[Check]:
+    """Each byte with a meaning, with one bit wrong; in the journal, also with all bits wrong."""
+    parts = {0: SMALL_SUPERBLOCK, 1: NEW_ROOT, 260: NEW_OBJECTS}
+    for at, offset in places(parts):
+        yield with_bits(at, offset, 0x01)
+    parts = {3: NEW_HEADER} | {at: data for at, data in GOOD_BATCHES.items() if at != 6}
+    # A few bytes of the text.
+    text = [(6, offset) for offset in range(46)] + [(7, offset) for offset in range(26, 44)]
+    for at, offset in itertools.chain(places(parts), text):
+        yield with_bits(at, offset, 0x01)
+        yield with_bits(at, offset, 0xFF)
+
+
+def with_bits(at: int, offset: int, bits: int) -> Check:
+    """The good device with these bits of a byte turned over."""
+    device = good()
+    byte = device.image[SECTOR * at + offset] ^ bits
+    image = device.put(at, offset, bytes([byte])).image
+    return partial(answers, image, f"sector {at}, {offset}: {byte}")
+
+
+# Of the saved device: a sector, the first and the last of some bytes of it, and the sector that is
+# named if one of them is turned over. With 0 it opens.
+TURNED: tuple[tuple[int, int, int, int], ...] = (
+    (1, 0, 7, 0),  # the epoch, which is later then
+    (1, 8, 14, 1),  # the area, and the length: past the area
+    (1, 15, 15, 354),  # 33 bytes of objects
+    (354, 0, 3, 354),  # the count
+    (354, 4, 19, 354),  # the number and the length of the clock
+    (354, 20, 27, 0),  # the moment
+    (354, 28, 28, 1),  # the next pid: past the last, or another one
+    (354, 29, 31, 0),
+    (354, 32, 32, 1),  # the next number of a queue
+    (354, 33, 35, 0),
+    (354, 36, 51, 1),  # those of other kinds
+    (354, 52, 67, 354),  # the number and the length of the processes
+    (354, 68, 71, 1),  # how many there are
+    (354, 72, 75, 1),  # the pid: not below the next one
+    (354, 76, 83, 0),  # uid and gid
+    (354, 84, 87, 1),  # descriptors
+    (354, 88, 103, 354),  # the number and the length of the waiting calls
+    (354, 104, 107, 1),  # how many there are
+    (354, 108, 111, 354),  # the number of the adjustments: above the queue's
+    (354, 112, 115, 1),  # or not
+    (354, 116, 123, 354),  # their length
+    (354, 124, 127, 1),  # how many there are
+    (354, 128, 135, 1),  # the number of the queue: past the next one
+    (354, 136, 143, 354),  # its length
+    (354, 144, 147, 0),  # the key
+    (354, 148, 163, 0),  # uid, gid, cuid and cgid
+    (354, 164, 166, 1),  # the mode: more than nine bits
+    (354, 167, 167, 0),
+    (354, 168, 191, 0),  # stime, rtime and ctime
+    (354, 192, 199, 0),  # lspid and lrpid
+    (354, 200, 202, 1),  # qbytes: above the limit
+    (354, 203, 203, 0),
+    (354, 204, 207, 1),  # how many messages there are
+    (354, 208, 208, 1),  # the type: below 0
+    (354, 209, 215, 0),
+    (354, 216, 219, 1),  # the length of the text
+    (354, 220, 221, 0),  # the text
+    (354, 222, 231, 0),  # nothing
+    (1, 16, 23, 0),
+    (3, 0, 7, 3),  # the epoch of the journal: later
+    (3, 8, 11, 0),  # how many sectors it counts, at an earlier epoch
+)
+
+
+def turned() -> Iterator[Check]:
+    """Each byte of the root and of the objects, and some of those after them."""
+    yield partial(opens, saved().image, SAVED_LISTED, "the saved device")
+    for at, first, last, named in TURNED:
+        for offset in range(first, last + 1):
+            device = saved()
+            byte = device.image[SECTOR * at + offset] ^ 0xFF
+            image = device.put(at, offset, bytes([byte])).image
+            name = f"saved sector {at}, {offset}: {byte}"
+            if named:
+                yield partial(refuses, image, f"damaged sector {named}", name)
+            else:
+                check(fault_of(image) == "", f"{name}: {fault_of(image)}")
+                yield partial(answers, image, name)
+
+
+# ---- objects that stand for no state
+
+Objects = list[tuple[int, bytes]]
+
+
+def holding(objects: Objects) -> Device:
+    return Device().save(1, 0, objects)
+
+
+def objects_with(
+    number: int = 9, at: int = 0, byte: int = 0, last: int = QUEUE_KIND + 1
+) -> Objects:
+    """Process 1 and its queue, with a byte of an object changed, and this number for the queue."""
+    objects = state(clock(9, 2, 2), processes((1, 1000, 100)), {1: SAVED_QUEUE})
+    changed = []
+    for index, (name, data) in enumerate(objects):
+        if index == number:
+            data = data[:at] + bytes([byte]) + data[at + 1 :]
+        changed.append((last if index == 4 else name, data))
+    return changed
+
+
+# The object, the byte in it, and its value.
+NO_STATE: tuple[tuple[int, int, int], ...] = (
+    (0, 11, 1),  # the next pid is that of the process
+    (0, 15, 1),  # the next identifier is that of the queue
+    (0, 19, 2),  # a kind that is to come has had an object
+    (1, 3, 2),  # one process more than there are
+    (1, 7, 2),  # a process with the next pid
+    (1, 19, 1),  # a descriptor
+    (2, 3, 1),  # a call that waits
+    (3, 3, 1),  # an adjustment
+    (4, 22, 3),  # a mode of ten bits
+    (4, 58, 1),  # more bytes than a queue may have
+    (4, 63, 2),  # one message more than there are
+    (4, 63, 0),  # one message less
+    (4, 71, 0),  # a message of type 0
+    (4, 75, 1),  # a byte left over
+    (4, 75, 3),  # a text past the end
+)
+
+
+def unsound() -> Iterator[tuple[str, Objects]]:
+    """States that break a rule, each once."""
+    at_nine = clock(9, 9, 9)
+    for name, pids in {
+        "two processes of one pid": (1, 1),
+        "pids that fall": (2, 1),
+        "pid 0": (0,),
+        "five processes": (1, 2, 3, 4, 5),
+    }.items():
+        yield name, state(at_nine, processes(*((pid, 0, 0) for pid in pids)), {})
+    for name, queues in {
+        "two queues of one key": {1: Queue(5), 2: Queue(5)},
+        "three queues": {1: Queue(0), 2: Queue(0), 3: Queue(0)},
+        "queue 0": {0: Queue(5)},
+        "a type below 0": {1: Queue(5, ((-1, b""),))},
+        "a text of 65 bytes": {1: Queue(5, ((1, bytes(65)),))},
+        "129 bytes": {1: Queue(5, ((1, bytes(64)), (1, bytes(64)), (1, b"a")))},
+        "129 messages": {1: Queue(5, 129 * ((1, b""),))},
+        "129 bytes for qbytes": {1: Queue(5, qbytes=129)},
+        "ten bits of mode": {1: Queue(5, mode=0o1000)},
+    }.items():
+        yield name, state(at_nine, processes(), queues)
+    for pid, queue in ((0, 1), (LAST_NUMBER + 2, 1), (1, 0), (1, LAST_NUMBER + 2)):
+        yield f"next numbers {pid} and {queue}", state(clock(0, pid, queue), processes(), {})
+    for index, data in ((0, clock(0, 1, 1) + NONE), (1, NONE + b"\0"), (2, b"\0"), (3, bytes(5))):
+        others = START[:index], START[index + 1 :]
+        yield f"{len(data)} bytes of object {index}", [*others[0], (index, data), *others[1]]
+    for index in range(4):
+        yield f"no object {index}", START[:index] + START[index + 1 :]
+    yield "an object more", [*START, (4, NONE)]
+    yield "an object of a later kind", [*START, (2 * QUEUE_KIND + 1, NONE)]
+    yield "no object", []
+
+
+def no_states() -> Iterator[Check]:
+    yield partial(opens, holding(objects_with()).image, SAVED_LISTED, "objects as they are")
+    for row_of in NO_STATE:
+        image = holding(objects_with(*row_of)).image
+        yield partial(refuses, image, "damaged sector 1", f"object, byte and value {row_of}")
+    for last in (4, QUEUE_KIND + 2, 2 * QUEUE_KIND + 1):
+        image = holding(objects_with(last=last)).image
+        yield partial(refuses, image, "damaged sector 1", f"number {last} of a queue")
+    for name, objects in unsound():
+        yield partial(refuses, holding(objects).image, "damaged sector 1", name)
+
+
+def long_objects() -> Iterator[Check]:
+    """592 bytes of objects, 80 of them in a second sector, which is named if more are counted."""
+    texts = ((5, 64 * b"\7"), (5, 64 * b"\7"))
+    queues = {1: Queue(1, texts, pids=(1, 0)), 2: Queue(2, texts, pids=(1, 0))}
+    objects = state(clock(0, 2, 3), processes((1, 1000, 100)), queues)
+    device = Device().save(2, 1, objects)
+    check(device.image[SECTOR : SECTOR + 16] == root(2, 1, 592), "592 bytes of objects")
+    listed = row(1, queues[1]) + row(2, queues[2])
+    yield partial(opens, device.image, listed, "two queues")
+    for at, offset, byte in ((1, 15, 0x51), (354, 3, 7)):
+        image = device.copy().put(at, offset, bytes([byte])).image
+        yield partial(refuses, image, "damaged sector 355", f"two queues, {at}, {offset}: {byte}")
+    image = device.copy().put(355, 3, b"\x08").image
+    yield partial(opens, image, listed, "two queues with another text")
+
+
+# ---- records
+
+# What a journal begins with: processes 1 to 3, and queue 1.
+BEGINNING = batch(*3 * [connect(0, 1, 1000, 100)], request(0, 1, msgget(2, 1234)))
+KINDS = {
+    "a HELLO": HELLO_RECORD,
+    "a send": SEND_RECORD,
+    "a tick": TICK_RECORD,
+    "an exit": EXIT_RECORD,
+    "a restart": RESTART_RECORD,
+}
+
+
+def with_record(*records: bytes) -> bytes:
+    return Device().journal(1, BEGINNING, batch(*records)).image
+
+
+def no_record(record_there: bytes, name: str) -> Check:
+    """Bytes after a tick that are no record: their batch begins in sector 5."""
+    return partial(refuses, with_record(tick(0), record_there), "damaged sector 5", name)
+
+
+def record_cuts() -> Iterator[Check]:
+    """Each kind is read, whatever follows, and at no length below its own."""
+    for name, here in KINDS.items():
+        listed = SAVED_LISTED if here == SEND_RECORD else GOOD_LISTED
+        yield partial(opens, with_record(here), listed, name)
+        yield partial(opens, with_record(here, tick(9)), listed, f"{name} with a tick")
+        for cut in range(1, len(here)):
+            yield no_record(here[:cut], f"{cut} bytes of {name}")
+        for length in (0, len(here) - 5, len(here) - 3, 0xFF):
+            # A send may have any length: one byte less leaves a byte over.
+            yield no_record(bytes([0, 0, 0, length]) + here[4:], f"length {length} of {name}")
+
+
+def other_records() -> Iterator[Check]:
+    for kind in (0, 3, 7, 255):
+        yield no_record(record(kind, 0), f"kind {kind}")
+        yield no_record(record(kind, 0, b"\0\0\0\3"), f"kind {kind} with a pid")
+    yield no_record(bytes(4), "a record of no bytes")
+    yield no_record(bytes.fromhex("0000000104"), "a record of a kind alone")
+    for moment in (5, 1 << 56):
+        yield no_record(record(6, moment), f"a restart at moment {moment}")
+    yield from requests()
+
+
+def requests() -> Iterator[Check]:
+    """A request of a record is one that the server reads of a connection; HELLO is one too."""
+    frames = {
+        "HELLO": hello(9),
+        "msgget": msgget(9, 1000, 100),
+        "a send of no bytes": msgsnd(9, 1, 1, b""),
+        "a receive": msgrcv(9, 1),
+    }
+    for name, frame in frames.items():
+        count = 1 if name == "a send of no bytes" else 0
+        listed = row(1, Queue(1234, count * ((1, b""),)))
+        yield partial(opens, with_record(request(7, 2, frame)), listed, f"{name}, a request")
+        yield no_record(request(7, 2, bytes(4) + frame[4:]), f"{name} with serial 0")
+        yield no_record(request(7, 2, frame[:4] + b"\x20" + frame[5:]), f"{name}, opcode 0x20")
+        yield no_record(request(7, 2, frame[:-1]), f"{name}, a byte too short")
+        if not count:
+            yield no_record(request(7, 2, frame + b"\0"), f"{name}, a byte too long")
+    yield no_record(request(7, 2, b""), "a pid alone")
+
+
+def longest() -> Iterator[Check]:
+    """A record has 8465 bytes at most, and a batch 32768."""
+    lengths = (7331, 7332, 8427, 8428)
+    sent = {length: request(0, 1, msgsnd(1, 1, 1, length * b"\7")) for length in lengths}
+    check(len(sent[8427]) == 8465, "the longest record")
+    yield partial(opens, with_record(sent[8427]), GOOD_LISTED, "a record of 8465 bytes")
+    yield no_record(sent[8428], "a record of 8466 bytes")
+    for last, length in ((7331, 32768), (7332, 32769)):
+        data = batch(sent[8427], sent[8427], sent[last], sent[8427])
+        check(len(data) == length, f"a batch of {length} bytes")
+        image = Device().journal(1, BEGINNING, data).image
+        if length == 32768:
+            yield partial(opens, image, GOOD_LISTED, "a batch of 32768 bytes")
+        else:
+            yield partial(refuses, image, "damaged sector 5", "a batch of 32769 bytes")
+    image = good().put(JOURNAL, 8, b"\0\0\1\0").put(8, 0, b"\0\0\x7f\xfd").image
+    yield partial(refuses, image, "damaged sector 8", "a batch of 32769 bytes, most of them zeros")
+
+
+def connections() -> Iterator[Check]:
+    """Who is connected when a request or an exit comes."""
+    came = connect(0, 1, 1000, 100)
+    four = processes(*((pid, 0, 0) for pid in (2, 3, 5, 7)))
+    tests = {
+        "a process of the objects": (four, 9, [leave(0, 3)], True),
+        "one that is not of the objects": (four, 9, [leave(0, 4)], False),
+        "one that was": (four, 9, [leave(0, 3), leave(0, 3)], False),
+        "a fifth process": (four, 9, [came, leave(0, 9)], False),
+        "a fourth after an exit": (four, 9, [leave(0, 3), came, leave(0, 9)], True),
+        "no number twice": (four, 9, [leave(0, 7), came, leave(0, 7)], False),
+        "one before a restart": (four, 9, [RESTART, leave(0, 7)], False),
+        "one after a restart": (four, 9, [RESTART, came, leave(0, 9)], True),
+        "the last pid": (NONE, LAST_NUMBER, [came, leave(0, LAST_NUMBER)], True),
+        "none after the last": (NONE, LAST_NUMBER + 1, [came, leave(0, LAST_NUMBER + 1)], False),
+    }
+    for name, (them, next_pid, records, is_so) in tests.items():
+        image = holding(state(clock(0, next_pid, 1), them, {})).journal(1, batch(*records)).image
+        if is_so:
+            yield partial(opens, image, "", name)
+        else:
+            yield partial(refuses, image, "damaged sector 4", name)

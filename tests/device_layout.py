@@ -1,0 +1,406 @@
+"""A device of ipcd: its bytes are written and read here as docs/DEVICE.md has them.
+
+`Device` writes one from its parts. `read` is a checker of devices: it goes through one as an open
+does, and gives what stands there, or raises the first fault. Both were made from that page alone.
+"""
+
+from __future__ import annotations
+
+import struct
+from typing import NamedTuple
+
+SECTOR = 512
+ROOT, JOURNAL, BODY, OBJECTS = 1, 3, 4, 260
+BODY_COUNT = 256
+BATCH_MOST = 32768
+LAST_NUMBER = 2147483647
+LAST_EPOCH = 2**64 - 1
+QUEUE_KIND = 4294967296
+NONE = bytes(4)
+
+# ---- limits and sizes
+
+
+class Limits(NamedTuple):
+    """In the order in which they stand in a superblock."""
+
+    processes: int
+    msgmni: int
+    msgmax: int
+    msgmnb: int
+    semmni: int
+    semmsl: int
+    semmns: int
+    semopm: int
+    posix_queues: int
+    posix_messages: int
+    posix_bytes: int
+    named: int
+    segments: int
+    segment_bytes: int
+    segment_call: int
+    descriptors: int
+
+
+SMALL = Limits(4, 2, 64, 128, 2, 4, 8, 4, 2, 2, 64, 2, 2, 2048, 64, 4)
+STANDARD = Limits(64, 32, 8192, 16384, 32, 64, 512, 32, 32, 10, 8192, 64, 32, 1048576, 8192, 32)
+
+
+def sectors_of(length: int) -> int:
+    return -(-length // SECTOR)
+
+
+def area_of(limits: Limits) -> int:
+    """How many sectors a state takes."""
+    of = limits
+    total = (
+        sectors_of(32)
+        + sectors_of(4 + of.processes * (16 + 16 * of.descriptors))
+        + sectors_of(4 + of.processes * 8464)
+        + sectors_of(4 + 12 * of.processes * of.semmns)
+        + of.msgmni * sectors_of(64 + 13 * of.msgmnb)
+        + of.semmni * sectors_of(44 + 6 * of.semmsl)
+        + of.posix_queues * sectors_of(299 + of.posix_messages * (8 + of.posix_bytes))
+        + of.named * sectors_of(271)
+        + 2 * of.segments
+        + sectors_of(of.segment_bytes)
+    )
+    entries = 4 + of.msgmni + of.semmni + of.posix_queues + of.named + of.segments
+    return total + -(-(4 + 16 * entries + 4 * total) // 508)
+
+
+def need_of(limits: Limits) -> int:
+    return OBJECTS + 2 * area_of(limits)
+
+
+# ---- the parts of a device, as bytes
+
+
+def superblock(limits: Limits, sectors: int) -> bytes:
+    places = (0, sectors, JOURNAL, 1 + BODY_COUNT, OBJECTS, max(sectors - OBJECTS, 0), ROOT)
+    return b"IPCSTORE" + struct.pack(">7I16I", *places, *limits)
+
+
+def root(epoch: int, area: int, length: int) -> bytes:
+    return struct.pack(">QII", epoch, area, length)
+
+
+def header(epoch: int, used: int) -> bytes:
+    return struct.pack(">QI", epoch, used)
+
+
+def area(objects: list[tuple[int, bytes]]) -> bytes:
+    parts = [struct.pack(">QQ", number, len(data)) + data for number, data in objects]
+    return struct.pack(">I", len(objects)) + b"".join(parts)
+
+
+def record(kind: int, moment: int, rest: bytes = b"") -> bytes:
+    return struct.pack(">IBQ", 9 + len(rest), kind, moment) + rest
+
+
+def connect(moment: int, serial: int, uid: int, gid: int) -> bytes:
+    return record(1, moment, struct.pack(">III", serial, uid, gid))
+
+
+def request(moment: int, pid: int, frame: bytes) -> bytes:
+    return record(2, moment, struct.pack(">I", pid) + frame)
+
+
+def tick(moment: int) -> bytes:
+    return record(4, moment)
+
+
+def leave(moment: int, pid: int) -> bytes:
+    return record(5, moment, struct.pack(">I", pid))
+
+
+RESTART = record(6, 0)
+
+
+def batch(*records: bytes) -> bytes:
+    data = b"".join(records)
+    return struct.pack(">I", len(data)) + data
+
+
+# ---- frames of requests, without their length
+
+
+def hello(serial: int, uid: int = 1000, gid: int = 100) -> bytes:
+    return struct.pack(">IBII", serial, 0x01, uid, gid)
+
+
+def msgget(serial: int, key: int, flags: int = 0x380) -> bytes:
+    return struct.pack(">IBiI", serial, 0x0A, key, flags)
+
+
+def msgsnd(serial: int, queue: int, mtype: int, text: bytes) -> bytes:
+    return struct.pack(">IBIIq", serial, 0x0B, queue, 0x800, mtype) + text
+
+
+def msgrcv(serial: int, queue: int, size: int = 64, mtype: int = 0) -> bytes:
+    return struct.pack(">IBIIIq", serial, 0x0C, queue, 0x800, size, mtype)
+
+
+# ---- objects of a state
+
+
+def clock(moment: int, next_pid: int, next_queue: int) -> bytes:
+    return struct.pack(">QIIIIII", moment, next_pid, next_queue, 1, 1, 1, 1)
+
+
+def processes(*them: tuple[int, int, int]) -> bytes:
+    """Of each its pid, uid and gid."""
+    return struct.pack(">I", len(them)) + b"".join(struct.pack(">IIII", *one, 0) for one in them)
+
+
+class Queue(NamedTuple):
+    key: int
+    messages: tuple[tuple[int, bytes], ...] = ()
+    owner: tuple[int, int] = (1000, 100)
+    creator: tuple[int, int] = (1000, 100)
+    mode: int = 0o600
+    times: tuple[int, int, int] = (0, 0, 0)
+    pids: tuple[int, int] = (0, 0)
+    qbytes: int = 128
+
+    def data(self) -> bytes:
+        parts = [struct.pack(">qI", mtype, len(text)) + text for mtype, text in self.messages]
+        return (
+            struct.pack(">iIIIII", self.key, *self.owner, *self.creator, self.mode)
+            + struct.pack(">QQQ", *self.times)
+            + struct.pack(">IIII", *self.pids, self.qbytes, len(self.messages))
+            + b"".join(parts)
+        )
+
+
+def state(
+    the_clock: bytes, the_processes: bytes, queues: dict[int, Queue]
+) -> list[tuple[int, bytes]]:
+    parts = [(0, the_clock), (1, the_processes), (2, NONE), (3, NONE)]
+    return parts + [(QUEUE_KIND + number, queue.data()) for number, queue in queues.items()]
+
+
+START = state(clock(0, 1, 1), processes(), {})
+
+# ---- a whole device
+
+
+class Device:
+    """A new device, of as many sectors as its limits need; and what is put there."""
+
+    def __init__(self, limits: Limits = SMALL, sectors: int = 0) -> None:
+        self.limits = limits
+        self.image = bytearray(SECTOR * (sectors or need_of(limits)))
+        self.put(0, 0, superblock(limits, len(self.image) // SECTOR))
+        self.save(1, 0, START)
+        self.journal(1)
+
+    def put(self, sector: int, offset: int, data: bytes) -> Device:
+        at = SECTOR * sector + offset
+        self.image[at : at + len(data)] = data
+        return self
+
+    def save(self, epoch: int, which: int, objects: list[tuple[int, bytes]]) -> Device:
+        data = area(objects)
+        self.put(OBJECTS + which * area_of(self.limits), 0, data)
+        return self.put(ROOT, 0, root(epoch, which, len(data)))
+
+    def journal(self, epoch: int, *batches: bytes) -> Device:
+        """Batches one after another from the first sector of the body on."""
+        used = 0
+        for data in batches:
+            self.put(BODY + used, 0, data)
+            used += sectors_of(len(data))
+        return self.put(JOURNAL, 0, header(epoch, used))
+
+    def copy(self) -> Device:
+        other = Device.__new__(Device)
+        other.limits = self.limits
+        other.image = self.image[:]
+        return other
+
+
+# ---- the checker
+
+
+class Fault(Exception):
+    """What an open says of a device."""
+
+
+class Content(NamedTuple):
+    limits: Limits
+    epoch: int
+    area: int
+    objects: list[tuple[int, bytes]]
+    batches: list[list[bytes]]
+
+
+def demand(holds: bool, sector: int) -> None:
+    if not holds:
+        raise Fault(f"damaged sector {sector}")
+
+
+def read_superblock(image: bytes) -> Limits:
+    if image[:8] != b"IPCSTORE":
+        raise Fault("not formatted")
+    (version,) = struct.unpack(">I", image[8:12])
+    if version:
+        raise Fault(f"version {version}")
+    sectors = len(image) // SECTOR
+    limits = Limits(*struct.unpack(">16I", image[36:100]))
+    demand(image[:100] == superblock(limits, sectors), 0)
+    demand(all(0 < here <= most for here, most in zip(limits, STANDARD)), 0)
+    demand(limits.msgmax <= limits.msgmnb and limits.semmsl <= limits.semmns, 0)
+    demand(sectors >= need_of(limits), 0)
+    return limits
+
+
+def read_objects(image: bytes, limits: Limits) -> tuple[int, int, list[tuple[int, bytes]]]:
+    """The epoch, the live area, and the objects there."""
+    epoch, which, length = struct.unpack(">QII", image[SECTOR : SECTOR + 16])
+    demand(epoch > 0 and which < 2 and 4 <= length <= SECTOR * area_of(limits), ROOT)
+    first = OBJECTS + which * area_of(limits)
+    data = image[SECTOR * first :][:length]
+    (count,) = struct.unpack(">I", data[:4])
+    at, before, objects = 4, -1, []
+    while len(objects) < count:
+        sector = first + at // SECTOR
+        demand(at + 16 <= length, sector)
+        number, size = struct.unpack(">QQ", data[at : at + 16])
+        demand(number > before and 0 < size <= length - at - 16, sector)
+        objects.append((number, bytes(data[at + 16 : at + 16 + size])))
+        at, before = at + 16 + size, number
+    demand(at == length, first + at // SECTOR)
+    return epoch, which, objects
+
+
+def read_clock(data: bytes) -> tuple[int, int]:
+    """The next pid and the next queue."""
+    demand(len(data) == 32, ROOT)
+    _, pid, queue, *others = struct.unpack(">QIIIIII", data)
+    demand(0 < pid <= LAST_NUMBER + 1 and 0 < queue <= LAST_NUMBER + 1, ROOT)
+    demand(others == [1, 1, 1, 1], ROOT)
+    return pid, queue
+
+
+def read_processes(data: bytes, limits: Limits, next_pid: int) -> set[int]:
+    (count,) = struct.unpack(">I", data[:4].ljust(4, b"\0"))
+    demand(len(data) == 4 + 16 * count and count <= limits.processes, ROOT)
+    before = 0
+    pids = set()
+    for at in range(4, len(data), 16):
+        pid, _, _, descriptors = struct.unpack(">IIII", data[at : at + 16])
+        demand(before < pid < next_pid and descriptors == 0, ROOT)
+        pids.add(pid)
+        before = pid
+    return pids
+
+
+def read_queue(data: bytes, limits: Limits) -> int:
+    """Its key."""
+    demand(len(data) >= 64, ROOT)
+    key, mode, qbytes, count = struct.unpack(">i16xI32xII", data[:64])
+    demand(mode < 0o1000 and max(qbytes, count) <= limits.msgmnb, ROOT)
+    at, total = 64, 0
+    for _ in range(count):
+        demand(at + 12 <= len(data), ROOT)
+        mtype, length = struct.unpack(">qI", data[at : at + 12])
+        at, total = at + 12 + length, total + length
+        demand(mtype > 0 and length <= limits.msgmax and at <= len(data), ROOT)
+    demand(at == len(data) and total <= limits.msgmnb, ROOT)
+    return key
+
+
+def read_state(objects: list[tuple[int, bytes]], limits: Limits) -> tuple[int, set[int]]:
+    """The next pid, and the processes that are connected."""
+    demand([number for number, _ in objects[:4]] == [0, 1, 2, 3], ROOT)
+    next_pid, next_queue = read_clock(objects[0][1])
+    pids = read_processes(objects[1][1], limits, next_pid)
+    demand(objects[2][1] == NONE and objects[3][1] == NONE, ROOT)
+    queues = objects[4:]
+    demand(len(queues) <= limits.msgmni, ROOT)
+    demand(all(0 < number - QUEUE_KIND < next_queue for number, _ in queues), ROOT)
+    keys = [key for _, data in queues if (key := read_queue(data, limits))]
+    demand(len(keys) == len(set(keys)), ROOT)
+    return next_pid, pids
+
+
+def is_request(frame: bytes) -> bool:
+    """A frame without its length, of which the server can read a request."""
+    if len(frame) < 5 or not any(frame[:4]):
+        return False
+    fields = len(frame) - 5
+    sizes = {0x01: (8, 8), 0x0A: (8, 8), 0x0B: (16, 8443), 0x0C: (20, 20)}
+    least, most = sizes.get(frame[4], (1, 0))
+    return least <= fields <= most
+
+
+def is_record(kind: int, moment: int, rest: bytes) -> bool:
+    if kind == 2:
+        return is_request(rest[4:])
+    if kind == 6 and moment:
+        return False
+    return len(rest) == {1: 12, 4: 0, 5: 4, 6: 0}.get(kind)
+
+
+def read_batch(data: bytes, sector: int) -> list[bytes]:
+    """The records of a batch, from its kind on."""
+    at, records = 0, []
+    while at < len(data):
+        demand(at + 13 <= len(data), sector)
+        length, kind, moment = struct.unpack(">IBQ", data[at : at + 13])
+        here = data[at + 4 : at + 4 + length]
+        demand(len(here) == length >= 9 and is_record(kind, moment, here[9:]), sector)
+        records.append(here)
+        at += 4 + length
+    return records
+
+
+class Connected:
+    """Which processes are connected, event by event."""
+
+    def __init__(self, next_pid: int, pids: set[int], most: int) -> None:
+        self.next_pid, self.pids, self.most = next_pid, pids, most
+
+    def takes(self, here: bytes) -> bool:
+        kind, rest = here[0], here[9:]
+        if kind == 6:
+            self.pids.clear()
+        if kind == 1 and len(self.pids) < self.most and self.next_pid <= LAST_NUMBER:
+            self.pids.add(self.next_pid)
+            self.next_pid += 1
+        if kind in (2, 5):
+            (pid,) = struct.unpack(">I", rest[:4])
+            if pid not in self.pids:
+                return False
+            if kind == 5:
+                self.pids.discard(pid)
+        return True
+
+
+def read_journal(image: bytes, epoch: int, connected: Connected) -> list[list[bytes]]:
+    journal_epoch, used = struct.unpack(">QI", image[SECTOR * JOURNAL :][:12])
+    if journal_epoch < epoch:
+        return []
+    demand(journal_epoch == epoch and used <= BODY_COUNT, JOURNAL)
+    at, end, batches = BODY, BODY + used, []
+    while at < end:
+        (length,) = struct.unpack(">I", image[SECTOR * at :][:4])
+        demand(length + 4 <= min(BATCH_MOST, SECTOR * (end - at)), at)
+        records = read_batch(bytes(image[SECTOR * at + 4 :][:length]), at)
+        demand(all(connected.takes(here) for here in records), at)
+        batches.append(records)
+        at += sectors_of(length + 4)
+    demand(used < BODY_COUNT or epoch < LAST_EPOCH, ROOT)
+    return batches
+
+
+def read(image: bytes) -> Content:
+    image = memoryview(image)
+    if len(image) < 3 * SECTOR:
+        raise Fault("not formatted")
+    limits = read_superblock(image)
+    epoch, which, objects = read_objects(image, limits)
+    next_pid, pids = read_state(objects, limits)
+    connected = Connected(next_pid, pids, limits.processes)
+    return Content(limits, epoch, which, objects, read_journal(image, epoch, connected))
