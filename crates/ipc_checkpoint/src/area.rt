@@ -10,7 +10,7 @@ use ipc_base::{Cursor, ObjectMap};
 use std::alloc::{AllocError, Global};
 
 /// Why bytes could not be read as objects.
-#[derive(Debug, Clone, Copy, PartialEq, Eq)]
+#[derive(Clone, Copy)]
 pub(crate) enum AreaFault {
     /// They are none.
     Damaged {

@@ -31,7 +31,7 @@ use ipc_store::{StepError, Store};
 use ipc_wire::{Frame, Request, RequestKind, read_frame};
 
 /// What came of what stands at the front of a connection.
-#[derive(Clone, Copy, Debug)]
+#[derive(Clone, Copy)]
 pub(crate) enum Asked {
     /// No frame is whole yet.
     More,

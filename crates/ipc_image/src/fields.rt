@@ -7,7 +7,7 @@ ghost use Rattle.ipc_image.specs.Fields.{fields_bytes, FitFields, most_of, width
 use ipc_base::Cursor;
 
 /// How many bytes a number has.
-#[derive(Clone, Copy, Debug, PartialEq, Eq)]
+#[derive(Clone, Copy)]
 pub(crate) enum Size {
     Four,
     Eight,

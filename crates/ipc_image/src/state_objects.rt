@@ -135,7 +135,7 @@ fn put_object(window: &mut Window, state: &State, i: u32, mark: &mut Mark)
 }
 
 /// The objects of the state to which nothing has happened. It needs no machine.
-#[derive(Clone, Copy, Debug, PartialEq, Eq)]
+#[derive(Clone, Copy)]
 pub struct StartObjects;
 
 /// The state to which nothing has happened, as objects. They fit under all limits.

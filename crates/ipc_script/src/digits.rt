@@ -9,7 +9,7 @@ use hex::FromHexError;
 use std::alloc::{AllocError, Global};
 
 /// Digits of at least one byte: two for each, of either case, the high one first.
-#[derive(Clone, Copy, Debug)]
+#[derive(Clone, Copy)]
 pub struct Hex<'a> {
     digits: &'a [u8],
     ghost well_formed: { IsSome (bytes_of_hex digits.now) },

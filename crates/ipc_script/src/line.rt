@@ -8,7 +8,7 @@ ghost use Rattle.ipc_script.specs.Relations.Lines.{plain_line, words_after};
 use crate::digits::Hex;
 
 /// A line, with its connection and its moment. The moment of `open` means nothing, and is not kept.
-#[derive(Clone, Copy, Debug)]
+#[derive(Clone, Copy)]
 pub enum Line<'a> {
     Open {
         conn: u32,

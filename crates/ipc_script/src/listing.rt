@@ -60,7 +60,7 @@ pub fn dump<D: SectorDisk, W: Write>(
 }
 
 /// A number in ten places.
-#[derive(Clone, Copy, Debug)]
+#[derive(Clone, Copy)]
 struct Number(u128);
 
 impl fmt::Display for Number {
@@ -72,7 +72,7 @@ impl fmt::Display for Number {
 }
 
 /// A key in eleven places.
-#[derive(Clone, Copy, Debug)]
+#[derive(Clone, Copy)]
 struct Key(i32);
 
 impl fmt::Display for Key {
@@ -84,7 +84,7 @@ impl fmt::Display for Key {
 }
 
 /// A mode in four octal digits.
-#[derive(Clone, Copy, Debug)]
+#[derive(Clone, Copy)]
 struct Mode(u32);
 
 impl fmt::Display for Mode {
@@ -96,7 +96,7 @@ impl fmt::Display for Mode {
 }
 
 /// The line of a message queue.
-#[derive(Clone, Copy, Debug)]
+#[derive(Clone, Copy)]
 struct MsgLine {
     id: Number,
     key: Key,

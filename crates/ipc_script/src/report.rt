@@ -23,7 +23,7 @@ use std::alloc::{AllocError, Global};
 use std::io::Write;
 
 /// A connection that the script has open.
-#[derive(Clone, Copy, Debug)]
+#[derive(Clone, Copy)]
 pub struct Opened {
     pub conn: u32,
     /// Its end was written.

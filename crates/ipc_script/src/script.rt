@@ -266,7 +266,7 @@ fn place_of(opened: &[Opened], conn: u32) -> Option<usize>
 }
 
 /// Who sends the bytes of a line, when, and in which line.
-#[derive(Clone, Copy, Debug)]
+#[derive(Clone, Copy)]
 struct Sender {
     conn: u32,
     moment: Moment,

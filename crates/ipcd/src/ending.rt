@@ -13,7 +13,7 @@ use std::fmt;
 
 /// Why a command did not do all that it was asked for. Its `Display` is what standard error says: the
 /// program's name, and the fault's text.
-#[derive(Clone, Copy, Debug, PartialEq, Eq)]
+#[derive(Clone, Copy)]
 pub enum Fault {
     /// What may end a script: a fault of memory, of a stream or of a device, or a line that is wrong.
     Run(ScriptFault),
