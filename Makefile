@@ -12,7 +12,8 @@ help:
 	@echo "            the program; and then what 'make runs', 'make serves' and 'make memory' run, on what the gate has"
 	@echo "            built. It takes 40 to 100 minutes on four cores"
 	@echo "make imports  that no crate names what is another's own, nor one that carries requests a call"
-	@echo "make runs   the program on scripts, command lines and a terminal: what it prints and says, and its exit status"
+	@echo "make runs   the program on scripts, command lines, a terminal and devices, also with each byte of one wrong:"
+	@echo "            what it prints and says, its exit status, and what it leaves in the file"
 	@echo "make serves the program as a server: clients by the dozen, crashes under load, what ends a connection; and"
 	@echo "            examples/serve.sh, in which a message outlives a crash. Half a minute, once built"
 	@echo "make memory the engine's tests and the program, with each allocation refused in turn"
@@ -57,7 +58,9 @@ $(MACHINE_TESTS): $(wildcard crates/*/src/*.rt)
 imports:
 	@sh tests/imports.sh
 
-RUNS = sh tests/runs.sh crates/ipcd/out/ipcd && python3 tests/terminal.py crates/ipcd/out/ipcd
+RUNS = sh tests/runs.sh crates/ipcd/out/ipcd && python3 tests/terminal.py crates/ipcd/out/ipcd && \
+	python3 tests/words.py crates/ipcd/out/ipcd && python3 tests/scripts.py crates/ipcd/out/ipcd && \
+	python3 tests/device.py crates/ipcd/out/ipcd
 
 runs: program
 	@$(RUNS)
