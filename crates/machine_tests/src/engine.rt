@@ -1,6 +1,7 @@
 //! The machine by hand, at the limits of a small server: each call done and each refusal once. Where memory was
 //! refused, a step is taken again, so that the tests pass whichever allocation is refused.
 
+ghost use Rattle.ipc_base.specs.Limits.{ArePassed};
 ghost use Rattle.ipc_engine.specs.Engine.{IsForProcess};
 ghost use Rattle.ipc_engine.specs.View.{plain_event};
 
@@ -41,10 +42,17 @@ fn is_answer(engine: &Engine, pid: Pid, serial: u32, wanted: Answer<'_>) -> bool
     }
 }
 
+/// The small limits, without their values.
+fn small() -> Limits
+    ensures { ArePassed result }
+{
+    Limits::small()
+}
+
 fn small_engine(alloc: Global) -> Result<Engine, AllocError> {
-    match Engine::new(alloc, Limits::small()) {
+    match Engine::new(alloc, small()) {
         Ok(engine) => Ok(engine),
-        Err(_) => Engine::new(alloc, Limits::small()),
+        Err(_) => Engine::new(alloc, small()),
     }
 }
 

@@ -3,8 +3,8 @@
 ghost use Rattle.std.specs.Prelude.{IsSome};
 ghost use Rattle.ipc_state.specs.State.{queue_of};
 
-use super::{Answer, Ask, Line, talk};
-use ipc_base::{Cred, Id, Limits, Moment, Pid};
+use super::{Answer, Ask, Line, small, talk};
+use ipc_base::{Cred, Id, Moment, Pid};
 use ipc_engine::{Engine, Row, StateFault};
 use ipc_state::{Perm, RestoreError, State};
 use std::alloc::{AllocError, Global};
@@ -108,7 +108,7 @@ fn add_all(rt: &impl Abort, state: &mut State, parts: &[Part]) -> Result<(), Res
 }
 
 fn small_state(rt: &impl Abort, alloc: Global) -> Result<State, RestoreError> {
-    let mut state = State::new(alloc, Limits::small());
+    let mut state = State::new(alloc, small());
     add_all(rt, &mut state, &SMALL)?;
     Ok(state)
 }
@@ -180,9 +180,16 @@ const LARGE: QueueNumbers = QueueNumbers {
     lrpid: Pid(1),
 };
 
+/// A part, and what an attempt to add it answers.
 type Step = (Part, Result<(), RestoreError>);
 
 const UNSOUND: Result<(), RestoreError> = Err(RestoreError::Unsound);
+
+fn add_each(rt: &impl Abort, state: &mut State, steps: &[Step]) {
+    for (line, (part, wanted)) in steps.iter().enumerate() {
+        assert_eq!(rt; add(rt, state, *part), *wanted, "at line {line}");
+    }
+}
 
 /// Parts that are added to the small state one after the other. The limits are 4 processes, 2 queues, 64 bytes a
 /// message and 128 a queue.
@@ -219,9 +226,7 @@ const PARTS: [Step; 27] = [
 #[test]
 fn refuses_each_part_that_is_not_sound(rt: HostRuntime) -> Result<(), Fail> {
     let mut state = small_state(&rt, rt.alloc()).ok().ok_or("no state")?;
-    for (line, (part, wanted)) in PARTS.iter().enumerate() {
-        assert_eq!(rt; add(&rt, &mut state, *part), *wanted, "at line {line}");
-    }
+    add_each(&rt, &mut state, &PARTS);
     Ok(())
 }
 
@@ -239,10 +244,8 @@ const OTHERS: [Step; 8] = [
 
 #[test]
 fn refuses_a_process_too_many_and_takes_private_keys_twice(rt: HostRuntime) -> Result<(), Fail> {
-    let mut state = State::new(rt.alloc(), Limits::small());
-    for (line, (part, wanted)) in OTHERS.iter().enumerate() {
-        assert_eq!(rt; add(&rt, &mut state, *part), *wanted, "at line {line}");
-    }
+    let mut state = State::new(rt.alloc(), small());
+    add_each(&rt, &mut state, &OTHERS);
     Ok(())
 }
 
