@@ -563,7 +563,9 @@ fn goes_on(
     state: State,
 ) -> Result<(), Fail> {
     stage.round()?;
-    let wanted = REFUSALS.get(..answers).unwrap_or(&[]);
+    let Some(wanted) = REFUSALS.get(..answers) else {
+        return Err(Fail::new("no such answers"));
+    };
     assert!(rt; were_written(alloc, client, wanted)?);
     assert_eq!(rt; moved(client).map(|(read, _)| read), Some(read));
     assert_eq!(rt; stage.state(0), state);
@@ -580,18 +582,17 @@ fn what_is_left_after_16_reads_waits(rt: HostRuntime) -> Result<(), Fail> {
 }
 
 /// Three clients, of which the first makes queue 1; all send a message in the second turn.
-fn add_senders(alloc: Global, stage: &mut Stage) -> Result<[Peer; 3], Fail> {
+fn add_senders(alloc: Global, stage: &mut Stage) -> Result<(Peer, Peer, Peer), Fail> {
     const AFTER_34: &[Answer] = &[Moves(34), BLOCKS, ALL];
-    Ok([
-        stage.add_pieces(alloc, &[HELLO, GET, SEND], AFTER_34, &[ALL])?,
-        stage.add_pieces(alloc, &[HELLO, SEND], IN_TWO, &[ALL])?,
-        stage.add_pieces(alloc, &[HELLO, SEND], IN_TWO, &[ALL])?,
-    ])
+    let first = stage.add_pieces(alloc, &[HELLO, GET, SEND], AFTER_34, &[ALL])?;
+    let second = stage.add_pieces(alloc, &[HELLO, SEND], IN_TWO, &[ALL])?;
+    let third = stage.add_pieces(alloc, &[HELLO, SEND], IN_TWO, &[ALL])?;
+    Ok((first, second, third))
 }
 
 /// Each message is answered after two turns.
 fn send_thrice(rt: &impl Abort, alloc: Global, stage: &mut Stage) -> Result<(), Fail> {
-    let [first, second, third] = add_senders(alloc, stage)?;
+    let (first, second, third) = add_senders(alloc, stage)?;
     stage.turn()?;
     stage.turn()?;
     assert!(rt; were_written(alloc, &first, &[WELCOME, GOT, SENT])?);

@@ -130,7 +130,7 @@ fn an_object_of_600_bytes(rt: HostRuntime) -> Result<(), Fail> {
     whole[..76].copy_from_slice(&LONG_QUEUE);
     whole[76..600].copy_from_slice(&long_text());
 
-    let read = objects_with(rt.alloc(), &whole[..600])?;
+    let read = objects_with(rt.alloc(), whole.get(..600).unwrap_or(&[]))?;
     let engine = match engine_of(rt.alloc(), &read, Limits::standard()) {
         Ok(engine) => engine,
         Err(error) => return Err(Fail::new(error)),
