@@ -60,7 +60,11 @@ pub(crate) fn is_fed<D: SectorDisk>(
     piece: &[u8],
     wanted: Result<usize, ServeError>,
 ) {
-    assert_eq!(rt; hub.feed(conn, piece, Moment(moment)), wanted, "connection {conn}");
+    assert_eq!(rt;
+        hub.feed(conn, piece, Moment(moment)),
+        wanted,
+        "connection {conn}"
+    );
 }
 
 /// A feed at moment 0 takes the whole piece.
@@ -75,7 +79,11 @@ pub(crate) fn hangs_up<D: SectorDisk>(
     (conn, moment): (u32, u64),
     wanted: Result<(), ServeError>,
 ) {
-    assert_eq!(rt; hub.hangup(conn, Moment(moment)), wanted, "connection {conn}");
+    assert_eq!(rt;
+        hub.hangup(conn, Moment(moment)),
+        wanted,
+        "connection {conn}"
+    );
 }
 
 /// Time passes, or does not.

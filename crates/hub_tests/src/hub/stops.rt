@@ -510,12 +510,7 @@ fn a_hub_that_is_stopped_anywhere(rt: HostRuntime) -> Result<(), Fail> {
 }
 
 /// What is found after so many releases is not what was found before.
-fn tells(
-    rt: &impl Abort,
-    alloc: Global,
-    releases: u32,
-    before: &mut Vec<u8>,
-) -> Result<(), Fail> {
+fn tells(rt: &impl Abort, alloc: Global, releases: u32, before: &mut Vec<u8>) -> Result<(), Fail> {
     let (after, _) = reached(rt, alloc, releases)?;
     assert!(rt; *before != after, "{releases} releases");
     assert!(rt; after.ends_with(&NO_MESSAGE));
