@@ -1,16 +1,18 @@
-# ipcd: the commands of this repository. They need the Rattle toolchain's `rt` on the path, `runs` awk and Python,
-# `serves` Python, `bench` awk, `bench-serve` Python and a C compiler, and `memory` awk and a C compiler: without that
-# one it says so and refuses nothing.
+# ipcd: the commands of this repository. They need the Rattle toolchain's `rt` on the path, `edits` awk, `runs` awk and
+# Python, `serves` Python, `bench` awk, `bench-serve` Python and a C compiler, and `memory` awk and a C compiler: without
+# that one it says so and refuses nothing.
 
-.PHONY: help run test imports runs serves memory program bench bench-serve
+.PHONY: help run test edits imports runs serves memory program bench bench-serve
 
 help:
 	@echo "make run    proves and builds what is needed, some minutes the first time, and runs examples/device.sh: a"
 	@echo "            message outlives the program. It may be stopped: crates that are proved stay proved, and the"
 	@echo "            next run goes on after them"
-	@echo "make test   what 'make imports' runs; the gate: every proof and the edits that must fail, the tests,"
+	@echo "make test   what 'make imports' runs; the gate: every proof, the wrong bodies that stand for a promise, the tests,"
 	@echo "            the program; and then what 'make runs', 'make serves' and 'make memory' run, on what the gate has"
 	@echo "            built. It takes 40 to 100 minutes on four cores"
+	@echo "make edits  the other wrong bodies, of all crates, or of those of 'make edits CRATE=\"ipc_wire ipc_hub\"'. Each"
+	@echo "            takes 15 to 60 seconds of a processor, the first of a crate a proof of the crate"
 	@echo "make imports  that no crate names what is another's own, nor one that carries requests a call"
 	@echo "make runs   the program on scripts, command lines, a terminal and devices, also with each byte of one wrong:"
 	@echo "            what it prints and says, its exit status, and what it leaves in the file"
@@ -71,10 +73,15 @@ serves: program
 	@$(SERVES)
 
 test: imports
+	@sh tests/edits.sh --apply
 	rt ci
 	@$(RUNS)
 	@$(SERVES)
 	@$(REFUSE_EACH)
+
+# For each crate that a change touches, and for all before a release; docs/PROOF.md says when that was.
+edits:
+	@sh tests/edits.sh $(CRATE)
 
 # Twenty groups of runs of each script, and turns of commits on a file. It needs awk, and for the turns a C compiler.
 bench: program
