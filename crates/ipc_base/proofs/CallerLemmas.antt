@@ -1,6 +1,6 @@
 -- What the crates above cite of fields side by side, of tables, of numbers that rise, and of limits that were checked.
 use Rattle.std.proofs.Common.{◌≡◌, ◌≢◌, ℕ, zero, suc, ◌+◌, ◌<◌, ◌≤◌, Bool, true, false, not, ◌&&◌, leb, cond, ◌⊎◌, inl, inr, List, [], ◌∷◌, ◌++◌, length}
-use Rattle.std.proofs.Common.{take, drop, ◌*◌, ◌^◌, map, find, get_or, set, is_some, Option, Some, None, refl, sym, ap, subst, ◌∙◌, arith}
+use Rattle.std.proofs.Common.{map, find, get_or, set, is_some, Option, Some, None, refl, sym, ap, subst, ◌∙◌, arith}
 use Rattle.std.specs.Prelude.{nat_eq, nat_lt, if◌then◌else◌, All, ◌||◌, option_map}
 use Rattle.std.specs.List.{list_any, remove, position, position_or_len, IsDistinct, AllByRecursion}
 use Rattle.std.specs.Cmp.{IsEquivalence}
@@ -13,14 +13,14 @@ use Rattle.std.proofs.lemmas.Map.Keys.{IsDistinct-head, IsDistinct-tail, IsDisti
 use Rattle.ipc_base.specs.declared.limits.Limits.{Limits}
 use Rattle.ipc_base.specs.Limits.{tests, is_within, ArePassed, longest_body, longest_reply}
 use Rattle.ipc_base.specs.Table.{value_at, with_value, without, with_entry, keys_of, seen_as, EachValue, ArePaired, IsRising}
-use Rattle.std.specs.Int.{Width, w32, w64, from_be_bytes, to_be_bytes}
 use Rattle.std.specs.List.{flat_map}
 use Rattle.std.proofs.lemmas.Grind.{flat_map-append}
-use Rattle.std.proofs.lemmas.List.{append_assoc, append-nil, take_at, drop_at, length-take, length-take-le, take-append-drop}
-use Rattle.std.proofs.lemmas.List.{get_or-drop, get_or-take, get_or_past}
-use Rattle.std.proofs.lemmas.Nat.{be_bytes_4, be_bytes_8, from_be_bytes-to_be_bytes_4, from_be_bytes-to_be_bytes_8}
-use Rattle.std.proofs.lemmas.Bool.{cases_lt}
+use Rattle.std.proofs.lemmas.List.{append_assoc, append-nil}
 pub use Rattle.ipc_base.proofs.Puts.{puts_both, puts_room, puts_more, puts_next}
+pub use Rattle.ipc_base.proofs.Numbers.{AreBytes, bytes-all, bytes-take, bytes-drop, Found, Got, number_got, number_known, number_one, length-number, read_below}
+pub use Rattle.ipc_base.proofs.Numbers.{number32_got, number32_known, number64_got, number64_known}
+pub use Rattle.ipc_base.proofs.Numbers.{length-values, values_again, values_back, values_range}
+pub use Rattle.ipc_base.proofs.FieldLists.{fields_one, listed, listed-drop, length-fit, numbers_are}
 
 -- ---- a table kept as a list of entries, each seen as a row of a key and a value
 
@@ -772,70 +772,6 @@ longest_reply-bound l passed =
 -- a message of at most msgmax bytes, its type before it, is no longer than the longest body
 pub message-is_bounded : (l : Limits) (n : ℕ) → n ≤ l.msgmax → 8 + n ≤ longest_body l
 message-is_bounded l n le = omega arith
-
--- ---- a number at the front of some bytes
-
--- each of them is a byte
-abbrev pub AreBytes : List ℕ → Type 0
-AreBytes bytes = (i : ℕ) → get_or bytes i 0 < 256
-
-pub bytes-take : (n : ℕ) (bytes : List ℕ) → AreBytes bytes → AreBytes (take n bytes)
-bytes-take n bytes are i =
-    elim (cases_lt i n) [
-      | inl lt ↦ rw (get_or-take n bytes i 0 lt) (are i)
-      | inr le ↦ rw (get_or_past (take n bytes) i 0 (omega (arith, length-take n bytes))) (omega arith)
-    ]
-
-pub bytes-drop : (n : ℕ) (bytes : List ℕ) → AreBytes bytes → AreBytes (drop n bytes)
-bytes-drop n bytes are i = rw get_or-drop (are (n + i))
-
--- a number of a width was taken from the front: the bytes spell it, and these are left
-pub record Number (w : Width) (n : ℕ) (old new : List ℕ) (x : ℕ) : Type 0 where
-  pub spelled : old ≡ to_be_bytes w x ++ new
-  pub below : x < 2 ^ (8 * n)
-  pub left : AreBytes new
-
-abbrev pub Got : Width → ℕ → List ℕ → List ℕ → ℕ → Type 0
-Got w n old new x = (n ≤ length old) × (x ≡ from_be_bytes w (take n old)) × (new ≡ drop n old)
-
-module _ (w : Width) (n : ℕ)
-    (spells : (bs : List ℕ) (x : ℕ) → length bs ≡ n → AreBytes bs → x ≡ from_be_bytes w bs → to_be_bytes w x ≡ bs)
-    (fits : (bs : List ℕ) → AreBytes bs → from_be_bytes w bs < 2 ^ (8 * n))
-    (reads : (x : ℕ) → x < 2 ^ (8 * n) → from_be_bytes w (to_be_bytes w x) ≡ x)
-    (long : (x : ℕ) → length (to_be_bytes w x) ≡ n) where
-  got : (old new : List ℕ) (x : ℕ) → AreBytes old → Got w n old new x → Number w n old new x
-  got old new x are it =
-      let front = spells (take n old) x (length-take-le n old it.0) (bytes-take n old are) it.1 in
-      record {
-        spelled = sym (take-append-drop n old) ∙ ap (λ (l : List ℕ). l ++ drop n old) (sym front)
-            ∙ ap (λ (l : List ℕ). to_be_bytes w x ++ l) (sym it.2);
-        below = rw it.1 (fits (take n old) (bytes-take n old are));
-        left = rw it.2 (bytes-drop n old are);
-      }
-
-  known : (y : ℕ) (rest old new : List ℕ) (x : ℕ) → y < 2 ^ (8 * n) → old ≡ to_be_bytes w y ++ rest → Got w n old new x
-      → (x ≡ y) × (new ≡ rest)
-  known y rest old new x lt is it =
-      let front : take n old ≡ to_be_bytes w y = ap (take n) is ∙ take_at (to_be_bytes w y) rest n (long y) in
-      let back : drop n old ≡ rest = ap (drop n) is ∙ drop_at (to_be_bytes w y) rest n (long y) in
-      (it.1 ∙ ap (from_be_bytes w) front ∙ reads y lt, it.2 ∙ back)
-
--- of four bytes, and of eight
-pub number32_got : (old new : List ℕ) (x : ℕ) → AreBytes old → Got w32 4 old new x → Number w32 4 old new x
-number32_got = got w32 4 be_bytes_4 (λ bs are. omega (arith, are 0, are 1, are 2, are 3)) from_be_bytes-to_be_bytes_4 (λ x. refl)
-
-pub number32_known : (y : ℕ) (rest old new : List ℕ) (x : ℕ) → y < 2 ^ 32 → old ≡ to_be_bytes w32 y ++ rest
-    → Got w32 4 old new x → (x ≡ y) × (new ≡ rest)
-number32_known = known w32 4 be_bytes_4 (λ bs are. omega (arith, are 0, are 1, are 2, are 3)) from_be_bytes-to_be_bytes_4 (λ x. refl)
-
-pub number64_got : (old new : List ℕ) (x : ℕ) → AreBytes old → Got w64 8 old new x → Number w64 8 old new x
-number64_got = got w64 8 be_bytes_8
-    (λ bs are. omega (arith, are 0, are 1, are 2, are 3, are 4, are 5, are 6, are 7)) from_be_bytes-to_be_bytes_8 (λ x. refl)
-
-pub number64_known : (y : ℕ) (rest old new : List ℕ) (x : ℕ) → y < 2 ^ 64 → old ≡ to_be_bytes w64 y ++ rest
-    → Got w64 8 old new x → (x ≡ y) × (new ≡ rest)
-number64_known = known w64 8 be_bytes_8
-    (λ bs are. omega (arith, are 0, are 1, are 2, are 3, are 4, are 5, are 6, are 7)) from_be_bytes-to_be_bytes_8 (λ x. refl)
 
 -- ---- things spelled one after another
 

@@ -1,3 +1,5 @@
 mod ObjectLists
+mod Numbers
+mod FieldLists
 pub mod Puts
 pub mod CallerLemmas

@@ -1,6 +1,6 @@
 -- Objects by rising number, and one more after them.
-use Rattle.std.specs.Prelude.{◌≡◌, ℕ, zero, suc, ◌+◌, ◌-◌, ◌^◌, ◌<◌, List, [], ◌∷◌, ◌++◌, length, map, slice_get, Some, All}
-use Rattle.std.proofs.Common.{subst, sym, ap, ◌∙◌, arith, refl}
+use Rattle.std.specs.Prelude.{◌≡◌, ℕ, zero, suc, ◌+◌, ◌-◌, ◌^◌, ◌<◌, List, [], ◌∷◌, ◌++◌, length, map, slice_get, Some}
+use Rattle.std.proofs.Common.{subst, sym, ap, arith}
 use Rattle.std.proofs.lemmas.List.Elements.{All-append}
 use Rattle.std.proofs.lemmas.List.{length-append, map-append}
 use Rattle.ipc_base.specs.declared.objects.Object.{Object}

@@ -1,6 +1,7 @@
 pub mod Errno
 pub mod Fields
 pub mod Limits
+pub mod Numbers
 pub mod Objects
 pub mod ObjectRows
 pub mod Table

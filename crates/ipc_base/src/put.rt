@@ -3,7 +3,9 @@
 ghost use Rattle.std.specs.Prelude.{◌≡◌, ℕ, [], ◌∷◌};
 ghost use Rattle.std.specs.Int.{w16, w32, w64, to_be_bytes};
 ghost use Rattle.ipc_base.specs.Fields.{Puts, signed_bytes};
+ghost use Rattle.ipc_base.specs.Numbers.{field_bytes};
 
+use crate::field::Field;
 use std::marker::Model;
 
 /// The place in a buffer where the next field goes. A contract sees it as a number. A field that
@@ -94,5 +96,20 @@ impl Put {
         ensures { Puts (signed_bytes w64 number) self.old self.new buffer.old buffer.new result }
     {
         self.u64(buffer, number.cast_unsigned())
+    }
+
+    /// A number in its field.
+    pub fn field(&mut self, buffer: &mut [u8], field: Field) -> bool
+        ensures { Puts (field_bytes field) self.old self.new buffer.old buffer.new result }
+    {
+        match field {
+            Field::U8(number) => self.bytes(buffer, &number.to_be_bytes()),
+            Field::U16(number) => self.u16(buffer, number),
+            Field::U32(number) => self.u32(buffer, number),
+            Field::U64(number) => self.u64(buffer, number),
+            Field::I16(number) => self.i16(buffer, number),
+            Field::I32(number) => self.i32(buffer, number),
+            Field::I64(number) => self.i64(buffer, number),
+        }
     }
 }

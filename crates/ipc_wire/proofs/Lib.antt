@@ -1,4 +1,3 @@
-pub mod Fields
 pub mod Rows
 pub mod Frames
 pub mod Read

@@ -10,13 +10,13 @@ use Rattle.ipc_wire.specs.Request.{PlainKind, PlainRequest}
 use Rattle.ipc_wire.specs.Stream.{PlainFrame, part, u32_at, kind_of, request_or_fault, frame_of, first}
 use Rattle.ipc_wire.specs.Stream.PlainFrame.{More, Whole, Fault}
 use Rattle.ipc_wire.specs.Spelling.{opcode_of, fields_of, request_bytes, frame, HasFrame}
-use Rattle.ipc_wire.proofs.Fields.{IsBytes, from_all, drop_bytes, take_bytes}
+use Rattle.ipc_base.proofs.CallerLemmas.{AreBytes, bytes-all, bytes-drop, bytes-take}
 use Rattle.ipc_wire.proofs.Frames.{first_short, first_long, is_out_of_range, in_range}
 use Rattle.ipc_wire.proofs.Rows.{kind_again, kind_back}
 use Rattle.ipc_wire.proofs.Spellings.{text_of, text_again}
 
-part_bytes : (at n : ℕ) (bytes : List ℕ) → IsBytes bytes → IsBytes (part at n bytes)
-part_bytes at n bytes fits = take_bytes n (drop at bytes) (drop_bytes at bytes fits)
+part_bytes : (at n : ℕ) (bytes : List ℕ) → AreBytes bytes → AreBytes (part at n bytes)
+part_bytes at n bytes fits = bytes-take n (drop at bytes) (bytes-drop at bytes fits)
 
 length_part : (at n : ℕ) (bytes : List ℕ) → at + n ≤ length bytes → length (part at n bytes) ≡ n
 length_part at n bytes enough = length-take-le n (drop at bytes) (omega (arith, length-drop at bytes))
@@ -30,13 +30,13 @@ grows at n bytes =
 
 -- ---- numbers
 
-number_below : (at : ℕ) (bytes : List ℕ) → IsBytes bytes → u32_at at bytes < 2 ^ 32
+number_below : (at : ℕ) (bytes : List ℕ) → AreBytes bytes → u32_at at bytes < 2 ^ 32
 unfolding u32_at
 number_below at bytes fits =
     let p = part_bytes at 4 bytes fits in
     omega (arith, p 0, p 1, p 2, p 3)
 
-number_back : (at : ℕ) (bytes : List ℕ) → IsBytes bytes → at + 4 ≤ length bytes → to_be_bytes w32 (u32_at at bytes) ≡ part at 4 bytes
+number_back : (at : ℕ) (bytes : List ℕ) → AreBytes bytes → at + 4 ≤ length bytes → to_be_bytes w32 (u32_at at bytes) ≡ part at 4 bytes
 unfolding u32_at
 number_back at bytes fits enough = be_bytes_4 (part at 4 bytes) _ (length_part at 4 bytes enough) (part_bytes at 4 bytes fits) refl
 
@@ -65,7 +65,7 @@ record Read (text : List ℕ) (used : ℕ) (request : PlainRequest) : Type 0 whe
   text_is : text ≡ text_of request.serial (opcode_of request.kind) (fields_of request.kind)
   has : HasFrame request
 
-text_back : (text : List ℕ) (used : ℕ) (request : PlainRequest) → IsBytes text → 5 ≤ length text → length text ≤ 8448 → frame_of text ≡ Whole used request
+text_back : (text : List ℕ) (used : ℕ) (request : PlainRequest) → AreBytes text → 5 ≤ length text → length text ≤ 8448 → frame_of text ≡ Whole used request
     → Read text used request
 unfolding frame_of
 text_back text used request fits least most e =
@@ -74,7 +74,7 @@ text_back text used request fits least most e =
       | inl p ↦ absurd (let fault = p.1 in cc)
       | inr p ↦
           let found = request_found call (4 + length text) (u32_at 0 text) used request p.1 in
-          let spelled = kind_back (slice_index text 4) (drop 5 text) request.kind (drop_bytes 5 text fits) found.0 in
+          let spelled = kind_back (slice_index text 4) (drop 5 text) request.kind (bytes-drop 5 text fits) found.0 in
           let nonzero : u32_at 0 text ≡ 0 → ⊥ = eqb-false _ _ p.0 in
           let below = number_below 0 text fits in
           let serial : to_be_bytes w32 request.serial ≡ take 4 text = ap (to_be_bytes w32) (sym found.2) ∙ number_back 0 text fits (omega arith) in
@@ -90,6 +90,7 @@ text_back text used request fits least most e =
             has = record {
               serial = (least_serial, most_serial);
               fields = spelled.fit;
+              rest = spelled.rest;
               short = omega
                   (arith, ap length spelled.fields_are, length-drop 5 text);
             };
@@ -97,7 +98,7 @@ text_back text used request fits least most e =
     ]
 
 -- what is read of a frame without its length
-pub request_read : (text : List ℕ) (used : ℕ) (request : PlainRequest) → IsBytes text → 5 ≤ length text → length text ≤ 8448
+pub request_read : (text : List ℕ) (used : ℕ) (request : PlainRequest) → AreBytes text → 5 ≤ length text → length text ≤ 8448
     → frame_of text ≡ Whole used request → HasFrame request × (text ≡ request_bytes request)
 request_read text used request fits least most e = let read = text_back text used request fits least most e in (read.has, read.text_is)
 
@@ -114,7 +115,7 @@ request_text text request has is =
     record {
       least = omega arith;
       most = omega (arith, has.short);
-      whole = ap frame_of is ∙ text_again request.serial (opcode_of kind) (fields_of kind) kind has.serial.0 has.serial.1 (kind_again kind has.fields);
+      whole = ap frame_of is ∙ text_again request.serial (opcode_of kind) (fields_of kind) kind has.serial.0 has.serial.1 (kind_again kind has.fields has.rest);
     }
 
 pub one_request : (f : PlainFrame) (used n : ℕ) (request other : PlainRequest) → f ≡ Whole used request → f ≡ Whole n other → Some request ≡ Some other
@@ -128,7 +129,7 @@ one_text request other has also is =
     one_request (frame_of (request_bytes request)) _ _ request other (request_text (request_bytes request) request has refl).whole
     (request_text (request_bytes request) other also is).whole
 
-request_back : (bytes : List ℕ) (used : ℕ) (request : PlainRequest) → IsBytes bytes → first bytes ≡ Whole used request
+request_back : (bytes : List ℕ) (used : ℕ) (request : PlainRequest) → AreBytes bytes → first bytes ≡ Whole used request
     → (take used bytes ≡ frame request) × HasFrame request
 unfolding frame
 request_back bytes used request fits e =
@@ -161,11 +162,11 @@ request_back bytes used request fits e =
 
 pub bytes_back : (bytes : List ℕ) (used : ℕ) (request : PlainRequest) → All (λ byte. byte < 256) bytes → first bytes ≡ Whole used request
     → take used bytes ≡ frame request
-bytes_back bytes used request all e = (request_back bytes used request (from_all bytes all) e).0
+bytes_back bytes used request all e = (request_back bytes used request (bytes-all bytes all) e).0
 
 pub has_back : (bytes : List ℕ) (used : ℕ) (request : PlainRequest) → All (λ byte. byte < 256) bytes → first bytes ≡ Whole used request → HasFrame request
-has_back bytes used request all e = (request_back bytes used request (from_all bytes all) e).1
+has_back bytes used request all e = (request_back bytes used request (bytes-all bytes all) e).1
 
 -- so it is of the bytes of the code
-pub frame_back : (bytes : List ℕ) (used : ℕ) (request : PlainRequest) → IsBytes bytes → first bytes ≡ Whole used request → HasFrame request
+pub frame_back : (bytes : List ℕ) (used : ℕ) (request : PlainRequest) → AreBytes bytes → first bytes ≡ Whole used request → HasFrame request
 frame_back bytes used request all e = (request_back bytes used request all e).1

@@ -52,5 +52,5 @@ request_again request rest has =
     let size : length text ≡ 5 + length fields = omega arith in
     let total : length (frame request) ≡ 9 + length fields = omega arith in
     framed_again text rest (5 + length fields) size (omega arith) (omega arith)
-    ∙ text_again request.serial (opcode_of request.kind) fields request.kind has.serial.0 has.serial.1 (kind_again request.kind has.fields)
+    ∙ text_again request.serial (opcode_of request.kind) fields request.kind has.serial.0 has.serial.1 (kind_again request.kind has.fields has.rest)
     ∙ ap (λ (n : ℕ). Whole n request) (sym total)

@@ -1,27 +1,14 @@
 -- Replies as plain values, and the bytes of one: the length of what follows (four bytes), the serial (four),
 -- the error number (two, 0 for success) and the body.
-use Rattle.std.specs.Prelude.{ℕ, ◌+◌, List, [], ◌++◌, length, flat_map, Option, Some, None}
+use Rattle.std.specs.Prelude.{ℕ, ◌+◌, List, [], ◌++◌, length, Option, Some, None}
 use Rattle.std.specs.Borrow.{Bor}
 use Rattle.std.specs.Int.{w16, w32, w64, to_be_bytes}
 use Rattle.ipc_base.specs.declared.errno.Errno.{Errno}
 use Rattle.ipc_base.specs.Errno.{number_of}
 use Rattle.ipc_base.specs.Fields.{signed_bytes}
-use Rattle.ipc_wire.specs.declared.record.Field.{Field}
-use Rattle.ipc_wire.specs.declared.record.Field.TheVariants.{U32, I32, U64, I64}
 use Rattle.ipc_wire.specs.declared.reply.Body.{Body}
 use Rattle.ipc_wire.specs.declared.reply.Body.TheVariants.{Empty, Number, Message, Record}
 use Rattle.ipc_wire.specs.declared.reply.Reply.{Reply}
-
--- a number of a record: of four bytes, a signed one of four, one of eight, and a signed one of eight
-abbrev pub field_bytes : Field → List ℕ
-field_bytes (U32 n) = to_be_bytes w32 n
-field_bytes (I32 n) = signed_bytes w32 n
-field_bytes (U64 n) = to_be_bytes w64 n
-field_bytes (I64 n) = signed_bytes w64 n
-
--- numbers side by side
-abbrev pub fields_bytes : List Field → List ℕ
-fields_bytes fields = flat_map field_bytes fields
 
 -- a body whose text is a list of bytes
 abbrev pub PlainBody : Type 0

@@ -1,11 +1,12 @@
 -- The requests of a stream of bytes. A frame is the length of what follows (four bytes, from 5 to 8448), a
 -- serial of four bytes that is not 0, an opcode of one byte, and the fields of the opcode's row.
 use Rattle.std.specs.Prelude.{◌≤◌, ◌+◌, ◌-◌, ℕ, zero, suc, Bool, true, false, List, [], ◌∷◌, ◌++◌, length, take, drop}
-use Rattle.std.specs.Prelude.{slice_index, nat_lt, nat_le, ◌==◌, ◌||◌, if◌then◌else◌, Option, Some, None}
+use Rattle.std.specs.Prelude.{slice_index, nat_lt, ◌==◌, ◌||◌, if◌then◌else◌, Option, Some, None}
 use Rattle.std.specs.Int.{w32, from_be_bytes}
 use Rattle.ipc_wire.specs.declared.request.Frame.{Frame}
 use Rattle.ipc_wire.specs.declared.request.Frame.TheVariants as frames
-use Rattle.ipc_wire.specs.Fields.{total, values_of}
+use Rattle.ipc_base.specs.Numbers.{total, values_of}
+use Rattle.ipc_wire.specs.Fields.{fits}
 use Rattle.ipc_wire.specs.Request.{PlainKind, PlainRequest, plain_request}
 use Rattle.ipc_wire.specs.Table.{Row, row_of}
 
@@ -33,7 +34,7 @@ u32_at at bytes = from_be_bytes w32 (part at 4 bytes)
 
 -- whether the bytes have the size that a row wants
 abbrev pub fits_row : Row → List ℕ → Bool
-fits_row row bytes = if row.has_rest then nat_le (total row.fields) (length bytes) else length bytes == total row.fields
+fits_row row bytes = fits (total row.fields) row.rest (length bytes)
 
 abbrev pub made_by : Row → List ℕ → Option PlainKind
 made_by row bytes =

@@ -1,14 +1,15 @@
--- The table of requests: a row for each has its opcode, what stands behind it, and the request that this makes.
-use Rattle.std.specs.Prelude.{ℕ, Bool, true, false, List, [], ◌∷◌, ◌==◌, if◌then◌else◌, Option, Some, None}
-use Rattle.ipc_wire.specs.Fields.{Kind, U32, I32, I64, Values}
+-- The table of requests: a row for each has its opcode, what follows it, and the request that this makes.
+use Rattle.std.specs.Prelude.{ℕ, List, [], ◌∷◌, ◌==◌, if◌then◌else◌, Option, Some, None}
+use Rattle.ipc_base.specs.Numbers.{Kind, U32, I32, I64, Values}
+use Rattle.ipc_wire.specs.Fields.{Rest, Nothing, Bytes}
 use Rattle.ipc_wire.specs.Request.{PlainKind, Hello, Calls}
 use Rattle.ipc_wire.specs.Request as requests
 
--- a row: the opcode, the fields, whether the rest of the frame follows them as bytes, and the request
+-- a row: the opcode, the fields, what the rest of the frame after them is, and the request
 pub record Row : Type 0 where
   pub opcode : ℕ
   pub fields : List Kind
-  pub has_rest : Bool
+  pub rest : Rest
   pub make : Values fields → List ℕ → PlainKind
 
 -- uid, gid
@@ -17,7 +18,7 @@ hello =
     record {
       opcode = 0x01;
       fields = U32 ∷ U32 ∷ [];
-      has_rest = false;
+      rest = Nothing;
       make = λ v rest. Hello (record { uid = v.0; gid = v.1.0 });
     }
 
@@ -27,7 +28,7 @@ msgget =
     record {
       opcode = 0x0a;
       fields = I32 ∷ U32 ∷ [];
-      has_rest = false;
+      rest = Nothing;
       make = λ v rest. Calls (requests.Msgget v.0 v.1.0);
     }
 
@@ -37,7 +38,7 @@ msgsnd =
     record {
       opcode = 0x0b;
       fields = U32 ∷ U32 ∷ I64 ∷ [];
-      has_rest = true;
+      rest = Bytes;
       make = λ v rest. Calls (requests.Msgsnd v.0 v.1.0 v.1.1.0 rest);
     }
 
@@ -47,7 +48,7 @@ msgrcv =
     record {
       opcode = 0x0c;
       fields = U32 ∷ U32 ∷ U32 ∷ I64 ∷ [];
-      has_rest = false;
+      rest = Nothing;
       make = λ v rest. Calls (requests.Msgrcv v.0 v.1.0 v.1.1.0 v.1.1.1.0);
     }
 

@@ -133,7 +133,7 @@ fn read_kind(opcode: u8, fields: &[u8]) -> Option<RequestKind<'_>>
     }
 }
 
-#[tactic(auto, unfolding(crate::specs::Fields::number_of))]
+#[tactic(auto, unfolding(ipc_base::specs::Numbers::number_of))]
 fn read_hello(fields: &[u8]) -> Option<RequestKind<'_>>
     ensures { option_map plain_kind result ≡ made_by table.hello fields.now }
 {
@@ -146,7 +146,7 @@ fn read_hello(fields: &[u8]) -> Option<RequestKind<'_>>
     Some(RequestKind::Hello(Cred { uid, gid }))
 }
 
-#[tactic(auto, unfolding(crate::specs::Fields::number_of))]
+#[tactic(auto, unfolding(ipc_base::specs::Numbers::number_of))]
 fn read_msgget(fields: &[u8]) -> Option<RequestKind<'_>>
     ensures { option_map plain_kind result ≡ made_by table.msgget fields.now }
 {
@@ -159,7 +159,7 @@ fn read_msgget(fields: &[u8]) -> Option<RequestKind<'_>>
     Some(RequestKind::Call(Call::Msgget { key, flags }))
 }
 
-#[tactic(auto, unfolding(crate::specs::Fields::number_of))]
+#[tactic(auto, unfolding(ipc_base::specs::Numbers::number_of))]
 fn read_msgsnd(fields: &[u8]) -> Option<RequestKind<'_>>
     ensures { option_map plain_kind result ≡ made_by table.msgsnd fields.now }
 {
@@ -176,7 +176,7 @@ fn read_msgsnd(fields: &[u8]) -> Option<RequestKind<'_>>
     }))
 }
 
-#[tactic(auto, unfolding(crate::specs::Fields::number_of))]
+#[tactic(auto, unfolding(ipc_base::specs::Numbers::number_of))]
 fn read_msgrcv(fields: &[u8]) -> Option<RequestKind<'_>>
     ensures { option_map plain_kind result ≡ made_by table.msgrcv fields.now }
 {

@@ -1,21 +1,10 @@
 //! Records: numbers of fixed sizes side by side, as the body of a reply or the fields of a request.
 
 ghost use Rattle.std.specs.Prelude.{◌≡◌, ◌≤◌, length};
-ghost use Rattle.std.specs.Bool.{OnTrue};
-ghost use Rattle.ipc_base.specs.Fields.{Puts};
-ghost use Rattle.ipc_wire.specs.Reply.{field_bytes, fields_bytes};
+ghost use Rattle.ipc_base.specs.Numbers.{record_bytes};
 
-use ipc_base::Put;
+use ipc_base::{Field, Put};
 use std::marker::Model;
-
-/// One number of a record.
-#[derive(Clone, Copy, Debug)]
-pub enum Field {
-    U32(u32),
-    I32(i32),
-    U64(u64),
-    I64(i64),
-}
 
 /// The most bytes of a record: those of what msgctl(2) tells of a queue.
 const RECORD: usize = 68;
@@ -40,13 +29,13 @@ impl Model for Record {
 impl Record {
     /// These fields, side by side. It takes no memory.
     pub fn new(fields: &[Field]) -> Record
-        requires { length (fields_bytes fields.now) ≤ 68 }
-        ensures { result ≡ fields_bytes fields.now }
+        requires { length (record_bytes fields.now) ≤ 68 }
+        ensures { result ≡ record_bytes fields.now }
     {
         let mut bytes = [0; RECORD];
         let mut put = Put::new(0);
         for field in fields {
-            put_field(&mut put, &mut bytes, *field);
+            put.field(&mut bytes, *field);
         }
         Record {
             bytes,
@@ -69,17 +58,5 @@ impl Record {
             bytes: self.bytes,
             len: self.len,
         }
-    }
-}
-
-/// Puts one number.
-fn put_field(put: &mut Put, out: &mut [u8], field: Field) -> bool
-    ensures { Puts (field_bytes field) put.old put.new out.old out.new result }
-{
-    match field {
-        Field::U32(number) => put.u32(out, number),
-        Field::I32(number) => put.i32(out, number),
-        Field::U64(number) => put.u64(out, number),
-        Field::I64(number) => put.i64(out, number),
     }
 }

@@ -15,15 +15,15 @@ ghost use Rattle.std.specs.Prelude.{
 };
 ghost use Rattle.std.specs.Bool.{OnTrue, OnFalse};
 ghost use Rattle.ipc_base.specs.Fields.{Puts};
-ghost use Rattle.ipc_wire.specs.Reply.{fields_bytes};
+ghost use Rattle.ipc_base.specs.Numbers.{record_bytes};
 ghost use Rattle.ipc_wire.specs.Request.{Calls, plain_call, plain_kind, plain_request};
 ghost use Rattle.ipc_wire.specs.Spelling.{HasFrame, opcode_of, fields_of, request_bytes, frame};
 
 use crate::reading::{HELLO, MSGGET, MSGRCV, MSGSND};
-use crate::record::{Field, Record};
+use crate::record::Record;
 use crate::request::{Call, Request, RequestKind};
 use crate::writing::text_len;
-use ipc_base::Put;
+use ipc_base::{Field, Put};
 
 /// A request taken apart, as it stands in its frame.
 #[derive(Drop)]
@@ -135,9 +135,9 @@ fn call_parts(call: Call<'_>) -> Parts<'_>
 
 /// These parts.
 fn spelled<'a>(opcode: u8, fields: &[Field], rest: &'a [u8]) -> Parts<'a>
-    requires { length (fields_bytes fields.now) ≤ 68 }
+    requires { length (record_bytes fields.now) ≤ 68 }
     ensures opcode { result.opcode ≡ opcode }
-    ensures fields { result.fields ++ result.rest.now ≡ fields_bytes fields.now ++ rest.now }
+    ensures fields { result.fields ++ result.rest.now ≡ record_bytes fields.now ++ rest.now }
 {
     Parts {
         opcode,

@@ -1,8 +1,8 @@
 //! Frames to the byte.
 
-use ipc_base::{Cred, Errno, GetFlags, Id, MsgFlags};
+use ipc_base::{Cred, Errno, Field, GetFlags, Id, MsgFlags};
 use ipc_wire::{
-    Body, Call, Field, Frame, Record, Reply, Request, RequestKind, read_frame, read_request,
+    Body, Call, Frame, Record, Reply, Request, RequestKind, read_frame, read_request,
     reply_len, request_len, write_reply, write_request,
 };
 

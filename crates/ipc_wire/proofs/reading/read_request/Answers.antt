@@ -2,13 +2,13 @@ use Rattle.std.proofs.Common.{◌≡◌, ◌∙◌, sym, ap, arith}
 use Rattle.ipc_wire.specs.Request.{plain_request}
 use Rattle.ipc_wire.specs.Stream.{plain_frame, frame_of}
 use Rattle.ipc_wire.specs.Stream.PlainFrame.{Whole, Fault, More}
-use Rattle.ipc_wire.proofs.Fields.{IsBytes}
+use Rattle.ipc_base.proofs.CallerLemmas.{AreBytes}
 use Rattle.ipc_wire.proofs.Read.{request_read, request_text, one_request}
 use Rattle.ipc_wire.proofs.reading.read_request.Goals as goal
 
 pub returns-in-Whole-clause-some : goal.returns-in-Whole-clause-some
 returns-in-Whole-clause-some c =
-    let fits : IsBytes c.args.text.now = λ i. omega (arith, c.type_inv.text i) in
+    let fits : AreBytes c.args.text.now = λ i. omega (arith, c.type_inv.text i) in
     let is : frame_of c.args.text.now ≡ Whole c.in-Whole.used (plain_request c.in-Whole.request) =
     sym c.whole_frame.ensures ∙ ap plain_frame c.in-Whole.is in
     request_read c.args.text.now c.in-Whole.used (plain_request c.in-Whole.request) fits (omega (arith, c.if-text.false)) (omega (arith, c.if-text-2.false)) is

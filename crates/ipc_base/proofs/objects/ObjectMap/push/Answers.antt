@@ -1,5 +1,5 @@
 -- The objects that there were, and one more.
-use Rattle.std.proofs.Common.{◌≡◌, ◌<◌, ◌^◌, ℕ, List, [], ◌∷◌, ◌++◌, map, length, subst, sym, ap, ◌∙◌, arith}
+use Rattle.std.proofs.Common.{◌≡◌, ℕ, List, [], ◌∷◌, ◌++◌, map, length, subst, sym, ap, ◌∙◌, arith}
 use Rattle.std.proofs.lemmas.List.{map-append}
 use Rattle.ipc_base.specs.declared.objects.Object.{Object}
 use Rattle.ipc_base.specs.Objects.{PlainObjects, AreObjects}
