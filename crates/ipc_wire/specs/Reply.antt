@@ -10,7 +10,7 @@ use Rattle.ipc_wire.specs.declared.reply.Body.{Body}
 use Rattle.ipc_wire.specs.declared.reply.Body.TheVariants.{Empty, Number, Message, Record}
 use Rattle.ipc_wire.specs.declared.reply.Reply.{Reply}
 
--- a body whose text is a list of bytes
+-- a body whose bytes are a list
 abbrev pub PlainBody : Type 0
 PlainBody = Body (List ℕ)
 
@@ -19,15 +19,15 @@ pub record PlainReply : Type 0 where
   pub errno : Option Errno
   pub body : PlainBody
 
--- a body, where the bytes of its text are given
+-- a body, if it is told what the bytes are
 abbrev pub body_of : {T : Type 0} → (T → List ℕ) → Body T → PlainBody
 body_of bytes Empty = Empty
 body_of bytes (Number number) = Number number
 body_of bytes (Message mtype text) = Message mtype (bytes text)
-body_of bytes (Record fields) = Record fields
+body_of bytes (Record fields) = Record (bytes fields)
 
 abbrev pub plain_body : Body (Bor (List ℕ)) → PlainBody
-plain_body body = body_of (λ text. text.now) body
+plain_body body = body_of (λ bytes. bytes.now) body
 
 abbrev pub plain_reply : Reply → PlainReply
 plain_reply r = record { serial = r.serial; errno = r.errno; body = plain_body r.body }

@@ -16,7 +16,7 @@ pub use laws::{
 pub use reading::{
     GREATEST_FRAME, GREATEST_LENGTH, LEAST_LENGTH, bytes_missing, read_frame, read_request,
 };
-pub use record::Record;
+pub use record::push_fields;
 pub use reply::{Body, Reply};
 pub use request::{Call, Frame, Request, RequestKind};
 pub use spelling::{put_request, request_len, write_request};

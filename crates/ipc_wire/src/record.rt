@@ -1,17 +1,44 @@
-//! Records: numbers of fixed sizes side by side, as the body of a reply or the fields of a request.
+//! Records: numbers of fixed sizes side by side, as the body of a reply or the fields of a request. None takes memory.
 
-ghost use Rattle.std.specs.Prelude.{◌≡◌, ◌≤◌, length};
-ghost use Rattle.ipc_base.specs.Numbers.{record_bytes};
+ghost use Rattle.std.specs.Prelude.{◌≡◌, ◌≤◌, ◌+◌, ◌++◌, length, vec_len, vec_capacity};
+ghost use Rattle.ipc_base.specs.Numbers.{field_bytes, record_bytes};
 
 use ipc_base::{Field, Put};
 use std::marker::Model;
 
-/// The most bytes of a record: those of what msgctl(2) tells of a queue.
+/// Adds these fields to the body of a reply, in a buffer that has room for them.
+pub fn push_fields(body: &mut Vec<u8>, fields: &[Field])
+    requires { vec_len body.old + length (record_bytes fields.now) ≤ vec_capacity body.old }
+    ensures bytes { body.new.items ≡ body.old.items ++ record_bytes fields.now }
+    ensures room { vec_capacity body.old ≤ vec_capacity body.new }
+{
+    for field in fields {
+        push_field(body, *field);
+    }
+}
+
+fn push_field(body: &mut Vec<u8>, field: Field)
+    requires { vec_len body.old + length (field_bytes field) ≤ vec_capacity body.old }
+    ensures bytes { body.new.items ≡ body.old.items ++ field_bytes field }
+    ensures room { vec_capacity body.old ≤ vec_capacity body.new }
+{
+    match field {
+        Field::U8(number) => body.extend_from_slice(&number.to_be_bytes()).unwrap(),
+        Field::U16(number) => body.extend_from_slice(&number.to_be_bytes()).unwrap(),
+        Field::U32(number) => body.extend_from_slice(&number.to_be_bytes()).unwrap(),
+        Field::U64(number) => body.extend_from_slice(&number.to_be_bytes()).unwrap(),
+        Field::I16(number) => body.extend_from_slice(&number.to_be_bytes()).unwrap(),
+        Field::I32(number) => body.extend_from_slice(&number.to_be_bytes()).unwrap(),
+        Field::I64(number) => body.extend_from_slice(&number.to_be_bytes()).unwrap(),
+    }
+}
+
+/// The most bytes of a request's fields.
 const RECORD: usize = 68;
 
-/// A record. A contract sees it as its bytes.
-#[derive(Debug, Drop)]
-pub struct Record {
+/// The fields of a request. A contract sees them as their bytes.
+#[derive(Drop)]
+pub(crate) struct Record {
     bytes: [u8; RECORD],
     len: usize,
 }
@@ -27,8 +54,8 @@ impl Model for Record {
 }
 
 impl Record {
-    /// These fields, side by side. It takes no memory.
-    pub fn new(fields: &[Field]) -> Record
+    /// These fields, side by side.
+    pub(crate) fn new(fields: &[Field]) -> Record
         requires { length (record_bytes fields.now) ≤ 68 }
         ensures { result ≡ record_bytes fields.now }
     {
@@ -44,19 +71,9 @@ impl Record {
     }
 
     /// The bytes.
-    pub fn as_slice(&self) -> &[u8]
+    pub(crate) fn as_slice(&self) -> &[u8]
         ensures { result.now ≡ self.now }
     {
         &self.bytes[..self.len]
-    }
-
-    /// The same record once more.
-    pub fn copied(&self) -> Record
-        ensures { result ≡ self.now }
-    {
-        Record {
-            bytes: self.bytes,
-            len: self.len,
-        }
     }
 }

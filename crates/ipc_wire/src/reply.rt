@@ -3,7 +3,6 @@
 ghost use Rattle.std.specs.Prelude.{◌≡◌};
 ghost use Rattle.ipc_wire.specs.Reply.{plain_body, body_of};
 
-use crate::record::Record;
 use ipc_base::Errno;
 
 /// What the server answers to the request with this serial; 0 where no request has one.
@@ -15,8 +14,8 @@ pub struct Reply<'a> {
     pub body: Body<&'a [u8]>,
 }
 
-/// What a reply brings besides its error number; a refusal brings nothing. A text is a `T`: bytes that lie
-/// elsewhere, or a buffer of the body's own.
+/// What a reply brings besides its error number; a refusal brings nothing. Bytes are a `T`: they lie elsewhere,
+/// or in a buffer of the body's own.
 #[derive(Debug, Drop)]
 pub enum Body<T> {
     Empty,
@@ -24,14 +23,14 @@ pub enum Body<T> {
     Number(u32),
     /// A message of msgrcv(2): its type and its text.
     Message { mtype: i64, text: T },
-    /// Numbers of fixed sizes.
-    Record(Record),
+    /// Numbers of fixed sizes, or other bytes.
+    Record(T),
 }
 
 impl Body<Vec<u8>> {
-    /// The same body, with its text where it lies.
+    /// The same body, with its bytes where they lie.
     pub fn borrowed(&self) -> Body<&[u8]>
-        ensures { plain_body result ≡ body_of (λ text. text.items) self.now }
+        ensures { plain_body result ≡ body_of (λ bytes. bytes.items) self.now }
     {
         match self {
             Body::Empty => Body::Empty,
@@ -40,7 +39,7 @@ impl Body<Vec<u8>> {
                 mtype: *mtype,
                 text: text.as_slice(),
             },
-            Body::Record(record) => Body::Record(record.copied()),
+            Body::Record(bytes) => Body::Record(bytes.as_slice()),
         }
     }
 }

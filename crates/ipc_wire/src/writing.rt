@@ -24,7 +24,7 @@ fn body_len(body: &Body<&[u8]>) -> usize
         Body::Empty => 0,
         Body::Number(_) => 4,
         Body::Message { text, .. } => 8 + text_len(text),
-        Body::Record(record) => record.as_slice().len(),
+        Body::Record(bytes) => text_len(bytes),
     }
 }
 
@@ -76,6 +76,6 @@ fn put_body(put: &mut Put, out: &mut [u8], body: &Body<&[u8]>) -> bool
         Body::Empty => put.bytes(out, &[]),
         Body::Number(number) => put.u32(out, *number),
         Body::Message { mtype, text } => put.i64(out, *mtype) && put.bytes(out, text),
-        Body::Record(record) => put.bytes(out, record.as_slice()),
+        Body::Record(bytes) => put.bytes(out, bytes),
     }
 }

@@ -2,9 +2,10 @@
 
 use ipc_base::{Cred, Errno, Field, GetFlags, Id, MsgFlags};
 use ipc_wire::{
-    Body, Call, Frame, Record, Reply, Request, RequestKind, read_frame, read_request,
+    Body, Call, Frame, Reply, Request, RequestKind, push_fields, read_frame, read_request,
     reply_len, request_len, write_reply, write_request,
 };
+use std::test::Fail;
 
 #[test]
 fn hello_is_read(rt: HostRuntime) {
@@ -108,20 +109,32 @@ fn a_message_is_written(rt: HostRuntime) {
 }
 
 #[test]
-fn a_record_is_written(rt: HostRuntime) {
-    let record = Record::new(&[Field::I32(-2), Field::U32(0x0102), Field::U64(0x0304)]);
+fn a_record_is_written(rt: HostRuntime) -> Result<(), Fail> {
+    let mut body = Vec::with_capacity(rt.alloc(), 21)?;
+    push_fields(
+        &mut body,
+        &[
+            Field::I32(-2),
+            Field::U32(0x0102),
+            Field::U64(0x0304),
+            Field::U8(7),
+            Field::U16(0x0809),
+            Field::I16(-3),
+        ],
+    );
     let reply = Reply {
         serial: 5,
         errno: None,
-        body: Body::Record(record),
+        body: Body::Record(body.as_slice()),
     };
-    let mut out = [0xff; 27];
+    let mut out = [0xff; 32];
     assert!(rt; write_reply(&reply, &mut out));
     let bytes = [
-        0, 0, 0, 0x16, 0, 0, 0, 5, 0, 0, 0xff, 0xff, 0xff, 0xfe, 0, 0, 1, 2, 0, 0, 0, 0, 0, 0, 3,
-        4, 0xff,
+        0, 0, 0, 0x1b, 0, 0, 0, 5, 0, 0, 0xff, 0xff, 0xff, 0xfe, 0, 0, 1, 2, 0, 0, 0, 0, 0, 0, 3,
+        4, 7, 8, 9, 0xff, 0xfd, 0xff,
     ];
     assert_eq!(rt; out, bytes);
+    Ok(())
 }
 
 #[test]
