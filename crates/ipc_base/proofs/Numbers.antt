@@ -10,10 +10,12 @@ use Rattle.std.proofs.lemmas.List.{get_or-drop, get_or-take, get_or_past}
 use Rattle.std.proofs.lemmas.List.Elements.{All-get_or}
 use Rattle.std.proofs.lemmas.Nat.{be_bytes_2, be_bytes_4, be_bytes_8}
 use Rattle.std.proofs.lemmas.Nat.{from_be_bytes-to_be_bytes_2, from_be_bytes-to_be_bytes_4, from_be_bytes-to_be_bytes_8}
+use Rattle.ipc_base.specs.declared.field.Field.{Field}
+use Rattle.ipc_base.specs.declared.field.Field.TheVariants as fields
 use Rattle.ipc_base.specs.declared.field.Size.{Size}
 use Rattle.ipc_base.specs.declared.field.Size.TheVariants.{One, Two, Four, Eight}
 use Rattle.ipc_base.specs.Numbers.{width_of, len_of, most_of, Kind, Unsigned, Signed, Number, size_of, number_of, number_bytes, IsInRange}
-use Rattle.ipc_base.specs.Numbers.{Values, total, values_of, values_bytes, AreInRange}
+use Rattle.ipc_base.specs.Numbers.{Values, total, values_of, values_bytes, AreInRange, field_bytes}
 
 -- ---- bytes
 
@@ -214,3 +216,14 @@ values_back (k ∷ ks) bytes are enough =
 pub values_range : (ks : List Kind) (bytes : List ℕ) → AreBytes bytes → AreInRange ks (values_of ks bytes)
 values_range [] bytes are = tt
 values_range (k ∷ ks) bytes are = (number_range k bytes are, values_range ks (drop (size_of k) bytes) (bytes-drop (size_of k) bytes are))
+
+-- ---- a number that knows its kind
+
+pub field-short : (f : Field) → length (field_bytes f) ≤ 8
+field-short (fields.U8 n) = omega arith
+field-short (fields.U16 n) = omega arith
+field-short (fields.U32 n) = omega arith
+field-short (fields.U64 n) = omega arith
+field-short (fields.I16 n) = omega arith
+field-short (fields.I32 n) = omega arith
+field-short (fields.I64 n) = omega arith

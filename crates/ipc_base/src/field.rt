@@ -2,9 +2,11 @@
 
 ghost use Rattle.std.specs.Prelude.{◌≡◌, ◌≢◌, ◌<◌, ◌++◌, ℕ, List, IfSome, IfNone};
 ghost use Rattle.std.specs.Int.{to_be_bytes};
-ghost use Rattle.ipc_base.specs.Numbers.{fields_bytes, FitFields, most_of, width_of};
+ghost use Rattle.ipc_base.specs.Numbers.{field_bytes, fields_bytes, FitFields, most_of, width_of};
 
 use crate::cursor::Cursor;
+use crate::put::Put;
+use std::marker::Model;
 
 /// How many bytes a number has.
 #[derive(Clone, Copy)]
@@ -25,6 +27,50 @@ pub enum Field {
     I16(i16),
     I32(i32),
     I64(i64),
+}
+
+/// The most bytes of a field.
+const FIELD: usize = 8;
+
+/// The bytes of a field. A contract sees it as these bytes.
+#[derive(Drop)]
+pub struct FieldBytes {
+    bytes: [u8; FIELD],
+    len: usize,
+}
+
+impl Model for FieldBytes {
+    ghost use Rattle.std.specs.Prelude.{◌≤◌, ℕ, List, take};
+
+    ghost Value = { List ℕ };
+
+    ghost view = { λ f. take f.len f.bytes };
+
+    ghost invariant = { λ f. f.len ≤ 8 };
+}
+
+impl FieldBytes {
+    /// The bytes.
+    pub fn as_slice(&self) -> &[u8]
+        ensures { result.now ≡ self.now }
+    {
+        &self.bytes[..self.len]
+    }
+}
+
+impl Field {
+    /// The bytes of the number in its field.
+    pub fn to_bytes(self) -> FieldBytes
+        ensures { result ≡ field_bytes self }
+    {
+        let mut bytes = [0; FIELD];
+        let mut put = Put::new(0);
+        put.field(&mut bytes, self);
+        FieldBytes {
+            bytes,
+            len: put.at(),
+        }
+    }
 }
 
 /// The numbers of these sizes at the front of the bytes, and the bytes that are left. `None` if there are too few.

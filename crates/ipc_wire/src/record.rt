@@ -22,15 +22,7 @@ fn push_field(body: &mut Vec<u8>, field: Field)
     ensures bytes { body.new.items ≡ body.old.items ++ field_bytes field }
     ensures room { vec_capacity body.old ≤ vec_capacity body.new }
 {
-    match field {
-        Field::U8(number) => body.extend_from_slice(&number.to_be_bytes()).unwrap(),
-        Field::U16(number) => body.extend_from_slice(&number.to_be_bytes()).unwrap(),
-        Field::U32(number) => body.extend_from_slice(&number.to_be_bytes()).unwrap(),
-        Field::U64(number) => body.extend_from_slice(&number.to_be_bytes()).unwrap(),
-        Field::I16(number) => body.extend_from_slice(&number.to_be_bytes()).unwrap(),
-        Field::I32(number) => body.extend_from_slice(&number.to_be_bytes()).unwrap(),
-        Field::I64(number) => body.extend_from_slice(&number.to_be_bytes()).unwrap(),
-    }
+    body.extend_from_slice(field.to_bytes().as_slice()).unwrap();
 }
 
 /// The most bytes of a request's fields.
