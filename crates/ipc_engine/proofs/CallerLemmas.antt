@@ -4,11 +4,18 @@ use Rattle.std.specs.Prelude.{All}
 use Rattle.ipc_base.specs.declared.limits.Limits.{Limits}
 use Rattle.ipc_wire.specs.Request.{PlainKind, Hello, Calls}
 use Rattle.ipc_engine.specs.Event.{PlainEvent, PlainOutcome}
-use Rattle.ipc_state.specs.Sound.{IsSound, FitsBody}
+use Rattle.ipc_state.specs.Sound.{FitsBody}
+use Rattle.ipc_engine.specs.Sound.{IsSound}
 use Rattle.ipc_state.specs.State.{State}
 use Rattle.ipc_engine.specs.Step.{step, run, asked}
 use Rattle.sysv_calls.proofs.CallerLemmas.{attempt-keeps}
+use Rattle.ipc_state.specs.State.{start}
+use Rattle.ipc_state.proofs.CallerLemmas.{start-sound as start-parts}
 use Rattle.ipc_engine.proofs.Soundness as soundness
+
+-- nothing has happened yet
+pub start-sound : (limits : Limits) → IsSound limits start
+start-sound limits = record { parts = start-parts limits }
 
 -- a sound state stays sound
 pub step-sound : (limits : Limits) (s : State) (e : PlainEvent) → IsSound limits s → IsSound limits (step limits s e).state

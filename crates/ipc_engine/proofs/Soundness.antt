@@ -6,7 +6,8 @@ use Rattle.ipc_base.specs.declared.limits.Limits.{Limits}
 use Rattle.ipc_base.specs.declared.identity.Cred.{Cred}
 use Rattle.ipc_base.proofs.CallerLemmas.{choice}
 use Rattle.ipc_wire.specs.Request.{PlainKind, Hello, Calls}
-use Rattle.ipc_state.specs.Sound.{IsSound, FitsBody}
+use Rattle.ipc_state.specs.Sound.{HasSoundParts, FitsBody}
+use Rattle.ipc_engine.specs.Sound.{IsSound}
 use Rattle.ipc_state.specs.State.{State, at_moment, has_all_processes}
 use Rattle.ipc_state.proofs.CallerLemmas.{EndsSound, begin-sound, exit-sound, restart-sound, with_process-sound}
 use Rattle.sysv_calls.proofs.CallerLemmas.{attempt-sound}
@@ -14,20 +15,23 @@ use Rattle.ipc_engine.specs.Event.{PlainEvent, Connect, Call, Tick, Exit, Restar
 use Rattle.ipc_engine.specs.Step.{Step, step, connect, asked}
 
 module _ (limits : Limits) where
-  connect-sound : (s : State) (cred : Cred) (serial : ℕ) → IsSound limits s → IsSound limits (connect limits s cred serial).state
-  connect-sound s cred serial h =
-      choice (λ (t : Step). IsSound limits t.state) (has_all_processes limits s) _ _ (λ _. h) (λ room. with_process-sound limits s cred room h)
+  connect-parts : (s : State) (cred : Cred) (serial : ℕ) → HasSoundParts limits s → HasSoundParts limits (connect limits s cred serial).state
+  connect-parts s cred serial h =
+      choice (λ (t : Step). HasSoundParts limits t.state) (has_all_processes limits s) _ _ (λ _. h) (λ room. with_process-sound limits s cred room h)
 
-  asked-sound : (s : State) (pid : ℕ) (kind : PlainKind) → IsSound limits s → EndsSound limits (asked limits s pid kind)
+  asked-sound : (s : State) (pid : ℕ) (kind : PlainKind) → HasSoundParts limits s → EndsSound limits (asked limits s pid kind)
   asked-sound s pid (Hello cred) h = record { state = h; body = omega arith }
   asked-sound s pid (Calls call) h = attempt-sound limits s pid call h
 
+  step-parts : (s : State) (e : PlainEvent) → HasSoundParts limits s → HasSoundParts limits (step limits s e).state
+  step-parts s (Connect cred serial moment) h = connect-parts (at_moment s moment) cred serial (begin-sound limits s moment h)
+  step-parts s (Call pid request moment) h = (asked-sound (at_moment s moment) pid request.kind (begin-sound limits s moment h)).state
+  step-parts s (Tick moment) h = begin-sound limits s moment h
+  step-parts s (Exit pid moment) h = exit-sound limits (at_moment s moment) pid (begin-sound limits s moment h)
+  step-parts s Restart h = restart-sound limits s h
+
   pub step-sound : (s : State) (e : PlainEvent) → IsSound limits s → IsSound limits (step limits s e).state
-  step-sound s (Connect cred serial moment) h = connect-sound (at_moment s moment) cred serial (begin-sound limits s moment h)
-  step-sound s (Call pid request moment) h = (asked-sound (at_moment s moment) pid request.kind (begin-sound limits s moment h)).state
-  step-sound s (Tick moment) h = begin-sound limits s moment h
-  step-sound s (Exit pid moment) h = exit-sound limits (at_moment s moment) pid (begin-sound limits s moment h)
-  step-sound s Restart h = restart-sound limits s h
+  step-sound s e h = record { parts = step-parts s e h.parts }
 
   -- the body of a reply fits
   abbrev Fits : PlainOutcome → Type 0
@@ -39,7 +43,7 @@ module _ (limits : Limits) where
       choice (λ (t : Step). All (λ (o : PlainOutcome). FitsBody limits o.body) t.outcomes) (has_all_processes limits (at_moment s moment)) _ _
       (λ _. All-cons Fits _ [] (omega arith) (All-nil Fits)) (λ _. All-cons Fits _ [] (omega arith) (All-nil Fits))
   step-fits s (Call pid request moment) h =
-      All-cons Fits _ [] (asked-sound (at_moment s moment) pid request.kind (begin-sound limits s moment h)).body (All-nil Fits)
+      All-cons Fits _ [] (asked-sound (at_moment s moment) pid request.kind (begin-sound limits s moment h.parts)).body (All-nil Fits)
   step-fits s (Tick moment) h = All-nil Fits
   step-fits s (Exit pid moment) h = All-nil Fits
   step-fits s Restart h = All-nil Fits

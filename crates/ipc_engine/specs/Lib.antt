@@ -2,4 +2,5 @@ pub mod Event
 pub mod Step
 pub mod View
 pub mod Engine
+pub mod Sound
 pub mod Listing

@@ -22,7 +22,8 @@ connect limits s cred serial =
     then record { state = s; outcomes = record { pid = 0; serial = serial; errno = Some ENFILE; body = Empty } ∷ [] }
     else record {
       state = with_process s cred;
-      outcomes = record { pid = s.next_pid; serial = serial; errno = None; body = Number s.next_pid } ∷ [];
+      outcomes =
+          record { pid = s.processes.next; serial = serial; errno = None; body = Number s.processes.next } ∷ [];
     }
 
 -- A request of a process. HELLO has no place there: the process has said it.

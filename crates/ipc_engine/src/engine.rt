@@ -21,11 +21,12 @@ ghost use Rattle.std.specs.Prelude.{
 ghost use Rattle.ipc_base.specs.Limits.{ArePassed};
 ghost use Rattle.ipc_wire.specs.Request.{plain_kind};
 ghost use Rattle.ipc_state.specs.Finish.{finish_of};
-ghost use Rattle.ipc_state.specs.Sound.{IsSound, FitsBody};
+ghost use Rattle.ipc_state.specs.Sound.{HasSoundParts, FitsBody};
 ghost use Rattle.ipc_state.specs.State.{State as PlainState, has_all_processes, is_process, start};
 ghost use Rattle.ipc_engine.specs.Engine.{kind_takes_memory, IsReadyFor, IsReadyForHello};
 ghost use Rattle.ipc_engine.specs.Step.{step as step_on, asked, connect as connect_step, replied, most_replies};
 ghost use Rattle.ipc_engine.specs.Listing.{rows_of};
+ghost use Rattle.ipc_engine.specs.Sound.{IsSound};
 ghost use Rattle.ipc_engine.specs.View.{plain_event, plain_outcome, step_of};
 
 use crate::event::{Event, Outcome};
@@ -53,7 +54,7 @@ impl Model for Engine {
     ghost use Rattle.std.specs.Prelude.{◌≤◌, map, vec_capacity};
     ghost use Rattle.ipc_base.specs.Limits.{ArePassed};
     ghost use Rattle.ipc_engine.specs.Engine.{Machine};
-    ghost use Rattle.ipc_state.specs.Sound.{IsSound};
+    ghost use Rattle.ipc_engine.specs.Sound.{IsSound};
     ghost use Rattle.ipc_engine.specs.Step.{most_replies};
     ghost use Rattle.ipc_engine.specs.View.{plain_outcome};
 
@@ -88,9 +89,8 @@ impl Engine {
         })
     }
 
-    /// A machine that has this state, and no replies. Refused for want of memory; a state whose parts do
-    /// not fit each other would be refused too, but today each state is sound. Kinds of objects that
-    /// refer to each other will need that refusal.
+    /// A machine that has this state, and no replies. Refused if the state is not sound, or for want of
+    /// memory.
     pub fn from_state(alloc: Global, state: State) -> Result<Engine, StateFault>
         ensures state { IfOk result (λ engine. engine.state ≡ state.state) }
         ensures limits { IfOk result (λ engine. engine.limits ≡ state.limits) }
@@ -98,17 +98,20 @@ impl Engine {
         ensures sound { IfOk result (λ engine. IsSound engine.limits engine.state) }
         ensures unsound { result ≡ Err StateFault.Unsound → ¬ IsSound state.limits state.state }
     {
-        // What it ensures says that the state is sound.
-        state.limits();
+        if !state.is_sound() {
+            return Err(StateFault::Unsound);
+        }
         let outcomes = Vec::with_capacity(alloc, MOST_REPLIES)?;
         Ok(Engine { state, outcomes })
     }
 
-    /// The state. What its readers tell is of the machine's state.
+    /// The state, which is sound. What its readers tell is of the machine's state.
     pub fn state(&self) -> &State
         ensures limits { result.now.limits ≡ self.now.limits }
         ensures state { result.now.state ≡ self.now.state }
         ensures room { result.now.room ≡ self.now.room }
+        ensures sound { IsSound self.now.limits self.now.state }
+        ensures passed { ArePassed self.now.limits }
     {
         &self.state
     }
@@ -262,6 +265,7 @@ fn connect(state: &mut State, cred: Cred, serial: u32) -> Outcome
 
 /// Takes the memory that a request of a process may need.
 fn reserve_kind(state: &mut State, kind: &RequestKind<'_>) -> Result<(), AllocError>
+    requires { HasSoundParts state.old.limits state.old.state }
     ensures state { state.new.state ≡ state.old.state }
     ensures limits { state.new.limits ≡ state.old.limits }
     ensures ok { OnOk result (IsReadyFor state.new.room (plain_kind kind.now)) }
@@ -277,6 +281,7 @@ fn reserve_kind(state: &mut State, kind: &RequestKind<'_>) -> Result<(), AllocEr
 
 /// How a request of a process ends, whose memory is reserved. It takes none.
 fn ask(state: &mut State, pid: Pid, kind: &RequestKind<'_>) -> Answer
+    requires sound { HasSoundParts state.old.limits state.old.state }
     requires room { IsReadyFor state.old.room (plain_kind kind.now) }
     requires process { is_process state.old.state pid.0 ≡ true }
     ensures finish { finish_of state.new.state result

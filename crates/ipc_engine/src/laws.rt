@@ -9,7 +9,8 @@ ghost use Rattle.ipc_wire.specs.Request.{PlainRequest};
 ghost use Rattle.ipc_state.specs.State.{State, start, is_process, at_moment, restart};
 ghost use Rattle.ipc_engine.specs.Event.{PlainEvent, Connect, Call, Tick, Exit, Restart, moment_of};
 ghost use Rattle.ipc_engine.specs.Step.{step, run, asked, most_replies};
-ghost use Rattle.ipc_state.specs.Sound.{IsSound, FitsBody};
+ghost use Rattle.ipc_state.specs.Sound.{FitsBody};
+ghost use Rattle.ipc_engine.specs.Sound.{IsSound};
 
 /// The state is sound before the first event, and after each event if it was before.
 pub fn step_keeps_soundness()
@@ -63,7 +64,7 @@ pub fn pid_is_below_next()
     ensures least { (limits : Limits) (s : State) (pid : ℕ)
         → IsSound limits s → is_process s pid ≡ true → 1 ≤ pid }
     ensures below { (limits : Limits) (s : State) (pid : ℕ)
-        → IsSound limits s → is_process s pid ≡ true → pid < s.next_pid }
+        → IsSound limits s → is_process s pid ≡ true → pid < s.processes.next }
 {}
 
 /// A HELLO that gets a process gets one that was not there, and every other stays.
@@ -96,7 +97,8 @@ pub fn restart_leaves_no_process()
 
 /// A restart leaves the objects and the numbers of those to come as they are.
 pub fn restart_keeps_objects()
-    ensures next_pid { (limits : Limits) (s : State) → (step limits s Restart).state.next_pid ≡ s.next_pid }
+    ensures next_pid { (limits : Limits) (s : State)
+        → (step limits s Restart).state.processes.next ≡ s.processes.next }
     ensures queues { (limits : Limits) (s : State) → (step limits s Restart).state.msg ≡ s.msg }
 {}
 

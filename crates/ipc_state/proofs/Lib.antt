@@ -1,4 +1,5 @@
-pub mod Places
-pub mod SoundObjects
 pub mod CallerLemmas
-pub mod Restoring
+pub mod Numbering
+mod Places
+mod Keying
+mod SoundQueues

@@ -2,7 +2,7 @@
 -- that a change takes no memory.
 use Rattle.std.specs.Prelude.{◌≡◌, ℕ, Bool, List, Option, Some, IfSome, nat_eq}
 use Rattle.ipc_base.specs.declared.limits.Limits.{Limits}
-use Rattle.ipc_base.specs.Table.{value_at}
+use Rattle.ipc_base.specs.Table.{value_at, with_value}
 use Rattle.ipc_state.specs.State.{State}
 
 -- whether there is room for one process more, and for one queue; for each queue, by identifier, of how
@@ -20,3 +20,7 @@ pub record Held : Type 0 where
 -- the queue at an identifier, if there is one, has room for a text of so many bytes
 abbrev pub HasTextRoom : List (ℕ × Option ℕ) → ℕ → ℕ → Type 0
 HasTextRoom texts id bytes = IfSome (value_at nat_eq texts id) (λ room. room ≡ Some bytes)
+
+-- with other room in the queue at an identifier
+abbrev pub with_text_room : Room → ℕ → Option ℕ → Room
+with_text_room room id r = record room { texts = with_value nat_eq room.texts id r }

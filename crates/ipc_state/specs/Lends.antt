@@ -1,18 +1,30 @@
--- What the objects of a kind are, once a `&mut` to one of them has ended.
+-- What the state and its tables are, once a `&mut` to something in them has ended.
 use Rattle.std.specs.Prelude.{◌≡◌, ℕ, Option, Some}
 use Rattle.std.specs.Borrow.{Fml, RattleType, MutBor, LendsSo}
-use Rattle.ipc_state.specs.declared.objects.Objects.{Objects as Tables}
-use Rattle.ipc_state.specs.contracts.objects.Objects.{the_row}
-use Rattle.ipc_state.specs.Objects.{Entry, entry_of, holding, with_entry}
-use Rattle.ipc_state.specs.Tables.{objects_of, has_place}
+use Rattle.ipc_state.specs.declared.keyed.Entry.{Entry}
+use Rattle.ipc_state.specs.declared.keyed.Keyed.{Keyed as KeyedTable}
+use Rattle.ipc_state.specs.declared.numbered.Numbered.{Numbered as Table}
+use Rattle.ipc_state.specs.contracts.numbered.Numbered as numbered
+use Rattle.ipc_state.specs.contracts.keyed.Keyed as keyed
+use Rattle.ipc_state.specs.Numbered.{entry_of, with_entry}
+use Rattle.ipc_state.specs.Keyed.{holding}
+use Rattle.ipc_state.specs.Tables.{numbered_of, keyed_of, has_place}
 
--- the identifier has this object now, and all else is as before
-pub record HasPut {T : Type 0} (old : Tables T) (id : ℕ) (x : T) (new : Tables T) : Type 0 where
-  pub objects : (e : Entry T) → entry_of (objects_of old) id ≡ Some e
-      → objects_of new ≡ with_entry (objects_of old) id (holding e x)
+-- what has the number is this now, and all else is as before
+pub record HasPut {T : Type 0} (old : Table T) (number : ℕ) (x : T) (new : Table T) : Type 0 where
+  pub numbered : numbered_of new ≡ with_entry (numbered_of old) number x
   pub place : has_place new ≡ has_place old
 
-module _ (T : RattleType) (o : MutBor (Tables T.Denot)) where
-  -- the identifier has the last value written through r, and at `None` nothing has changed
-  abbrev pub lends_object : ℕ → Option (MutBor T.Denot) → Fml
-  lends_object id r = LendsSo (the_row T) T o r (λ n x. HasPut o.now id x n) (λ n. n ≡ o.now)
+-- the identifier has this object now, under the same key, and all else is as before
+pub record HasPutObject {T : Type 0} (old : KeyedTable T) (id : ℕ) (x : T) (new : KeyedTable T) : Type 0 where
+  pub keyed : (e : Entry T) → entry_of (keyed_of old) id ≡ Some e
+      → keyed_of new ≡ with_entry (keyed_of old) id (holding e x)
+  pub place : has_place new.objects ≡ has_place old.objects
+
+module _ (T : RattleType) where
+  -- the number has the last value written through r, and at `None` nothing has changed
+  abbrev pub lends_numbered : MutBor (Table T.Denot) → ℕ → Option (MutBor T.Denot) → Fml
+  lends_numbered o number r = LendsSo (numbered.the_row T) T o r (λ n x. HasPut o.now number x n) (λ n. n ≡ o.now)
+
+  abbrev pub lends_object : MutBor (KeyedTable T.Denot) → ℕ → Option (MutBor T.Denot) → Fml
+  lends_object o id r = LendsSo (keyed.the_row T) T o r (λ n x. HasPutObject o.now id x n) (λ n. n ≡ o.now)

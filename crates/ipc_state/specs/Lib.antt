@@ -1,9 +1,12 @@
 pub mod Perm
-pub mod Objects
+pub mod Numbered
+pub mod Keyed
 pub mod State
 pub mod Sound
+pub mod Tests
 pub mod Held
 pub mod Tables
 pub mod Restored
 pub mod Lends
+pub mod LendsQueue
 pub mod Finish

@@ -1,56 +1,59 @@
 -- The state of the server between two events (sysvipc(7)): what it knows of processes and objects. All of it
 -- lasts; nothing in it tells how it is kept.
-use Rattle.std.specs.Prelude.{ℕ, ℤ, ◌+◌, Bool, ◌||◌, List, [], ◌∷◌, ◌++◌, length, max, nat_eq}
-use Rattle.std.specs.Prelude.{nat_le, nat_lt, Option}
+use Rattle.std.specs.Prelude.{ℕ, ℤ, Bool, max, Option, [], option_map}
 use Rattle.std.specs.Prelude.{is_some, unwrap_or}
 use Rattle.ipc_base.specs.declared.identity.Cred.{Cred}
 use Rattle.ipc_base.specs.declared.limits.Limits.{Limits}
 use Rattle.sysv_msg.specs.Queue.{Queue, new_queue}
-use Rattle.ipc_base.specs.Table.{value_at, without}
-use Rattle.ipc_state.specs.Objects.{Objects, Entry, no_objects, entry_of, with_entry, with_new, last_number}
+use Rattle.ipc_state.specs.declared.keyed.Entry.{Entry}
 use Rattle.ipc_state.specs.declared.perm.Perm.{Perm}
+use Rattle.ipc_state.specs.declared.processes.Process.{Process}
+use Rattle.ipc_state.specs.Numbered.{Numbered, none_yet, entry_of, is_full, with_entry, with_new, without_entry}
+use Rattle.ipc_state.specs.Keyed.{Keyed}
 
 pub record State : Type 0 where
   -- the greatest moment so far
   pub clock : ℕ
-  -- the number of the next process; none is given twice
-  pub next_pid : ℕ
   -- the connected processes, by pid
-  pub processes : List (ℕ × Cred)
+  pub processes : Numbered Process
   -- the message queues
-  pub msg : Objects Queue
+  pub msg : Keyed Queue
 
 -- nothing has happened yet
 abbrev pub start : State
-start = record { clock = 0; next_pid = 1; processes = []; msg = no_objects }
+start = record { clock = 0; processes = none_yet; msg = none_yet }
 
 -- the state as the moment comes
 abbrev pub at_moment : State → ℕ → State
 at_moment s moment = record s { clock = max s.clock moment }
 
+-- ---- processes
+
 -- whether a process has this number
 abbrev pub is_process : State → ℕ → Bool
-is_process s pid = is_some (value_at nat_eq s.processes pid)
+is_process s pid = is_some (entry_of s.processes pid)
 
 -- the user and the group of a process; those of nobody where no process has the number
 abbrev pub cred_of : State → ℕ → Cred
-cred_of s pid = unwrap_or (value_at nat_eq s.processes pid) (record { uid = 65534; gid = 65534 })
+cred_of s pid = unwrap_or (option_map (λ p. p.cred) (entry_of s.processes pid)) (record { uid = 65534; gid = 65534 })
 
 -- no process can be added: there are as many as the limit says, or no number is left
 abbrev pub has_all_processes : Limits → State → Bool
-has_all_processes limits s = nat_le limits.processes (length s.processes) || nat_lt last_number s.next_pid
+has_all_processes limits s = is_full limits.processes s.processes
 
 -- a process comes, under the next number
 abbrev pub with_process : State → Cred → State
-with_process s cred = record s { next_pid = s.next_pid + 1; processes = s.processes ++ (s.next_pid, cred) ∷ [] }
+with_process s cred = record s { processes = with_new s.processes (record { cred = cred }) }
 
 -- the process leaves
 abbrev pub exit : State → ℕ → State
-exit s pid = record s { processes = without nat_eq s.processes pid }
+exit s pid = record s { processes = without_entry s.processes pid }
 
 -- The server has stopped and begun anew: no process is left. The clock, the next numbers and all objects stay.
 abbrev pub restart : State → State
-restart s = record s { processes = [] }
+restart s = record s { processes = record { next = s.processes.next; entries = [] } }
+
+-- ---- message queues
 
 -- the queue that an identifier has
 abbrev pub queue_of : State → ℕ → Option (Entry Queue)

@@ -1,15 +1,15 @@
 //! The state between two events: processes, and the objects of each kind with their keys. See sysvipc(7).
 #![tactic(auto)]
 
-mod error;
-mod objects;
+mod keyed;
+mod numbered;
 mod perm;
 mod processes;
 mod queues;
 mod state;
 
-pub use error::RestoreError;
-pub use objects::{Entry, IPC_PRIVATE, LAST_NUMBER};
+pub use keyed::{Entry, IPC_PRIVATE};
+pub use numbered::{Item, LAST_NUMBER};
 pub use perm::Perm;
 pub use processes::Process;
-pub use state::State;
+pub use state::{Numbers, State};

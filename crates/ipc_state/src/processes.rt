@@ -1,56 +1,112 @@
-//! The connected processes, as a plain list.
+//! The connected processes.
 
-ghost use Rattle.std.specs.Prelude.{◌≡◌, ◌==◌, ◌&&◌, length, map, nat_eq, nat_le, nat_lt, position};
-ghost use Rattle.std.specs.List.{list_all};
-ghost use Rattle.ipc_base.specs.Table.{without};
-ghost use Rattle.ipc_state.specs.Tables.{process_row};
+ghost use Rattle.std.specs.Prelude.{◌≡◌, true, false, map, IsOk, OnOk, OnErr};
+ghost use Rattle.ipc_state.specs.Restored.{with_last_process};
+ghost use Rattle.ipc_state.specs.State.{
+  is_process,
+  cred_of,
+  has_all_processes,
+  with_process,
+  exit,
+  restart,
+};
+ghost use Rattle.ipc_state.specs.Tables.{item_row};
 
-use crate::objects::LAST_NUMBER;
+use crate::numbered::Item;
+use crate::state::State;
 use ipc_base::{Cred, Pid};
+use std::alloc::AllocError;
 
-/// A connected process: its number, and its user and group.
+/// What a connected process has: its user and group.
 #[derive(Clone, Copy, Debug, PartialEq, Eq)]
 pub struct Process {
-    pub pid: Pid,
     pub cred: Cred,
 }
 
-/// The place of a process.
-pub(crate) fn process_place(processes: &[Process], pid: Pid) -> Option<usize>
-    ensures { result ≡ position (λ p. p.pid.0 == pid.0) processes.now }
-{
-    processes.iter().position(|process| process.pid.0 == pid.0)
-}
-
-/// Takes a process out, if it is there.
-pub(crate) fn remove_process(processes: &mut Vec<Process>, pid: Pid)
-    ensures { map process_row processes.new.items ≡ without nat_eq (map process_row processes.old.items) pid.0 }
-{
-    if let Some(place) = process_place(processes, pid) {
-        processes.remove(place);
+impl State {
+    /// The number of the next process.
+    pub fn next_pid(&self) -> u32
+        ensures { result ≡ self.now.state.processes.next }
+    {
+        self.processes.next()
     }
-}
 
-/// Whether the number of each process is below this one.
-fn are_below(processes: &[Process], number: u32) -> bool
-    ensures { result ≡ list_all (λ p. nat_lt p.pid.0 number) processes.now }
-{
-    processes.iter().all(|process| process.pid.0 < number)
-}
+    /// The connected processes, by pid.
+    pub fn processes(&self) -> &[Item<Process>]
+        ensures { map item_row result.now ≡ self.now.state.processes.entries }
+    {
+        self.processes.items()
+    }
 
-/// Whether a number may be the next one: it is at most one past the last, and the processes are below it.
-pub(crate) fn may_be_next(processes: &[Process], number: u32) -> bool
-    ensures { result ≡ (nat_lt 0 number && nat_le number 2147483648
-        && list_all (λ p. nat_lt p.pid.0 number) processes.now) }
-{
-    0 < number && number <= LAST_NUMBER + 1 && are_below(processes, number)
-}
+    /// Whether a process has this number.
+    pub fn has_process(&self, pid: Pid) -> bool
+        ensures { result ≡ is_process self.now.state pid.0 }
+    {
+        self.processes.get(pid.0).is_some()
+    }
 
-/// Whether a process that was read may come at the end: its number is above the others and below the
-/// next, and there are fewer than `most`.
-pub(crate) fn may_end_with(processes: &[Process], most: u32, next: u32, pid: Pid) -> bool
-    ensures { result ≡ (nat_lt 0 pid.0 && nat_lt pid.0 next && nat_lt (length processes.now) most
-        && list_all (λ p. nat_lt p.pid.0 pid.0) processes.now) }
-{
-    0 < pid.0 && pid.0 < next && processes.len() < most as usize && are_below(processes, pid.0)
+    /// The user and the group of a connected process.
+    pub fn cred(&self, pid: Pid) -> Cred
+        requires { is_process self.now.state pid.0 ≡ true }
+        ensures { result ≡ cred_of self.now.state pid.0 }
+    {
+        self.processes.get(pid.0).unwrap().value.cred
+    }
+
+    /// Whether no process can be added: there are as many as the limit says, or no number is left.
+    pub fn has_all_processes(&self) -> bool
+        ensures { result ≡ has_all_processes self.now.limits self.now.state }
+    {
+        self.processes.is_full(self.limits.processes)
+    }
+
+    /// Takes the memory for one process more; never refused if it is there already. Refused, all is
+    /// as before.
+    pub fn reserve_process(&mut self) -> Result<(), AllocError>
+        ensures state { self.new.state ≡ self.old.state }
+        ensures limits { self.new.limits ≡ self.old.limits }
+        ensures ok { OnOk result (self.new.room.process ≡ true) }
+        ensures succeeds { self.old.room.process ≡ true → IsOk result }
+        ensures err { OnErr result (self.new ≡ self.old) }
+    {
+        self.processes.reserve()
+    }
+
+    /// Adds a process under the next number, which it gives. It takes no memory.
+    pub fn add_process(&mut self, cred: Cred) -> Pid
+        requires room { self.old.room.process ≡ true }
+        requires more { has_all_processes self.old.limits self.old.state ≡ false }
+        ensures state { self.new.state ≡ with_process self.old.state cred }
+        ensures pid { result.0 ≡ self.old.state.processes.next }
+        ensures limits { self.new.limits ≡ self.old.limits }
+    {
+        Pid(self.processes.add(Process { cred }))
+    }
+
+    /// Takes a process out, if it is there.
+    pub fn remove_process(&mut self, pid: Pid)
+        ensures state { self.new.state ≡ exit self.old.state pid.0 }
+        ensures limits { self.new.limits ≡ self.old.limits }
+    {
+        self.processes.remove(pid.0);
+    }
+
+    /// The server has stopped and begun anew: no process is left, and all else stays. It takes no memory.
+    pub fn restart(&mut self)
+        ensures state { self.new.state ≡ restart self.old.state }
+        ensures limits { self.new.limits ≡ self.old.limits }
+    {
+        self.processes.clear();
+    }
+
+    /// Adds a process that was read, at the end. Refused for want of memory, all is as before.
+    pub fn restore_process(&mut self, pid: Pid, process: Process) -> Result<(), AllocError>
+        ensures state { OnOk result (self.new.state ≡ with_last_process self.old.state pid.0 process) }
+        ensures limits { self.new.limits ≡ self.old.limits }
+        ensures err { OnErr result (self.new ≡ self.old) }
+    {
+        self.processes.reserve()?;
+        self.processes.push(pid.0, process);
+        Ok(())
+    }
 }

@@ -1,120 +1,158 @@
-//! What calls change in the message queue that an identifier has.
+//! The message queues.
 
 ghost use Rattle.std.specs.Prelude.{
   ◌≡◌,
-  ◌+◌,
-  ◌<◌,
-  ◌&&◌,
-  pos,
-  nat_le,
-  nat_lt,
-  int_lt,
-  length,
-  slice_get,
-  Some,
-  IsSome,
+  ◌↔◌,
+  true,
+  false,
+  nat_eq,
+  map,
+  option_map,
+  option_copied,
+  IsTrue,
   IsOk,
   OnOk,
   OnErr,
 };
-ghost use Rattle.sysv_msg.specs.Queue.{Queue, plain, byte_count, with_message, sent, taken};
-ghost use Rattle.ipc_state.specs.Objects.{Entry, holding, entry_of, with_entry};
-ghost use Rattle.ipc_state.specs.Held.{HasTextRoom};
-ghost use Rattle.ipc_state.specs.Sound.{HasNumbers};
-ghost use Rattle.ipc_state.specs.Tables.{queues_of, texts_of, has_place};
+ghost use Rattle.std.specs.Borrow.{sem};
+ghost use Rattle.std.specs.List.{list_all};
+ghost use Rattle.std.specs.Option.{option_copied_mut};
+ghost use Rattle.ipc_base.specs.Table.{value_at};
+ghost use Rattle.ipc_state.specs.Keyed.{keyed, entry_map, AreKeyed};
+ghost use Rattle.ipc_state.specs.LendsQueue.{lends_queue};
+ghost use Rattle.ipc_state.specs.Numbered.{is_full};
+ghost use Rattle.ipc_state.specs.Restored.{with_last_queue};
+ghost use Rattle.ipc_state.specs.Sound.{IsSoundQueue};
+ghost use Rattle.ipc_state.specs.State.{queue_of, with_new_queue};
+ghost use Rattle.ipc_state.specs.Tables.{queue_in, queue_row};
+ghost use Rattle.ipc_state.specs.Tests.{is_sound_message, is_sound_queue};
+ghost use Rattle.sysv_msg.specs.Queue.{plain};
 
-use crate::objects::Objects;
-use ipc_base::{Id, Limits, Moment, Pid};
+use crate::keyed::{Entry, Keyed};
+use crate::numbered::Item;
+use crate::perm::Perm;
+use crate::state::State;
+use ipc_base::{Id, Limits};
 use std::alloc::AllocError;
 use sysv_msg::{Message, MsgQueue};
 
-/// Takes the memory for one message of `len` bytes, if the queue is there.
-pub(crate) fn reserve_text(
-    queues: &mut Objects<MsgQueue>,
-    id: Id,
-    len: usize,
-) -> Result<(), AllocError>
-    ensures queues { queues_of queues.new ≡ queues_of queues.old }
-    ensures place { has_place queues.new ≡ has_place queues.old }
-    ensures ok { OnOk result (HasTextRoom (texts_of queues.new) id.0 len) }
-    ensures succeeds { HasTextRoom (texts_of queues.old) id.0 len → IsOk result }
-    ensures err { OnErr result (texts_of queues.new ≡ texts_of queues.old) }
-{
-    match queues.get_mut(id) {
-        Some(queue) => queue.reserve(len),
-        None => Ok(()),
+impl State {
+    /// The identifier of the next queue.
+    pub fn next_queue(&self) -> u32
+        ensures { result ≡ self.now.state.msg.next }
+    {
+        self.msg.objects.next()
+    }
+
+    /// The queues, by identifier.
+    pub fn queues(&self) -> &[Item<Entry<MsgQueue>>]
+        ensures { map queue_row result.now ≡ self.now.state.msg.entries }
+    {
+        self.msg.objects.items()
+    }
+
+    /// The identifier of the queue that a key names; IPC_PRIVATE names none.
+    pub fn queue_of_key(&self, key: i32) -> Option<Id>
+        ensures { option_map (λ id. id.0) result ≡ keyed self.now.state.msg key }
+    {
+        self.msg.of_key(key)
+    }
+
+    /// The queue that an identifier has, to be changed.
+    pub fn queue_mut(&mut self, id: Id) -> Option<&mut MsgQueue>
+        ensures* writes_back { sem 𝓛 (lends_queue self.entry id.0 result) }
+        ensures queue { option_map queue_in (option_copied_mut result)
+            ≡ option_map (λ e. e.object) (queue_of self.old.state id.0) }
+        ensures room { option_map (λ k. k.room) (option_copied_mut result)
+            ≡ value_at nat_eq self.old.room.texts id.0 }
+    {
+        self.msg.get_mut(id)
+    }
+
+    /// Whether no queue can be added: there are msgmni, or no identifier is left.
+    pub fn has_all_queues(&self) -> bool
+        ensures { result ≡ is_full self.now.limits.msgmni self.now.state.msg }
+    {
+        self.msg.objects.is_full(self.limits.msgmni)
+    }
+
+    /// Takes the memory for one queue more; never refused if it is there already. Refused, all is as
+    /// before.
+    pub fn reserve_queue(&mut self) -> Result<(), AllocError>
+        ensures state { self.new.state ≡ self.old.state }
+        ensures limits { self.new.limits ≡ self.old.limits }
+        ensures ok { OnOk result (self.new.room.queue ≡ true) }
+        ensures succeeds { self.old.room.queue ≡ true → IsOk result }
+        ensures err { OnErr result (self.new ≡ self.old) }
+    {
+        self.msg.objects.reserve()
+    }
+
+    /// Adds a queue without messages under the next identifier, which it gives. It takes no memory.
+    pub fn add_queue(&mut self, key: i32, perm: Perm) -> Id
+        requires room { self.old.room.queue ≡ true }
+        requires more { is_full self.old.limits.msgmni self.old.state.msg ≡ false }
+        ensures state { self.new.state ≡ with_new_queue self.old.limits self.old.state key perm }
+        ensures id { result.0 ≡ self.old.state.msg.next }
+        ensures limits { self.new.limits ≡ self.old.limits }
+    {
+        let object = MsgQueue::new(self.alloc, self.limits.msgmnb, self.clock);
+        Id(self.msg.objects.add(Entry { key, perm, object }))
+    }
+
+    /// Adds a queue that was read, at the end. Refused for want of memory, all is as before.
+    pub fn restore_queue(&mut self, id: Id, entry: Entry<MsgQueue>) -> Result<(), AllocError>
+        ensures state { OnOk result (self.new.state
+            ≡ with_last_queue self.old.state id.0 (entry_map queue_in entry)) }
+        ensures limits { self.new.limits ≡ self.old.limits }
+        ensures err { OnErr result (self.new ≡ self.old) }
+    {
+        self.msg.objects.reserve()?;
+        self.msg.objects.push(id.0, entry);
+        Ok(())
+    }
+
+    /// Whether the queues are sound.
+    pub(crate) fn are_queues_sound(&self) -> bool
+        ensures { IsTrue result
+            ↔ AreKeyed self.now.limits.msgmni (IsSoundQueue self.now.limits) self.now.state.msg }
+    {
+        self.msg.are_keyed(self.limits.msgmni)
+            && each_is_sound(self.msg.objects.items(), &self.limits)
     }
 }
 
-/// Sends a message to a queue that is there. It takes no memory.
-pub(crate) fn send(
-    queues: &mut Objects<MsgQueue>,
-    id: Id,
-    mtype: i64,
-    text: &[u8],
-    pid: Pid,
-    now: Moment,
-)
-    requires there { IsSome (entry_of (queues_of queues.old) id.0) }
-    requires room { HasTextRoom (texts_of queues.old) id.0 (length text.now) }
-    ensures { (e : Entry Queue) → entry_of (queues_of queues.old) id.0 ≡ Some e
-        → queues_of queues.new ≡ with_entry (queues_of queues.old) id.0
-        (holding e (sent e.object (record { mtype = mtype; text = text.now }) pid.0 now.0)) }
+/// Whether each of these queues is sound by itself.
+fn each_is_sound(queues: &[Item<Entry<MsgQueue>>], limits: &Limits) -> bool
+    ensures { result ≡ list_all (λ e. is_sound_queue limits.now e.value.object.queue) queues.now }
 {
-    let queue = queues.get_mut(id).unwrap();
-    queue.send(mtype, text, pid, now);
+    queues
+        .iter()
+        .all(|item| is_sound_queue(&item.value.object, limits))
 }
 
-/// Whether a message that was read may be the newest of a queue: its type is above 0, it has at most
-/// msgmax bytes, and with it neither the bytes nor the messages of the queue are more than msgmnb.
-pub(crate) fn may_end_with(queue: &MsgQueue, limits: &Limits, mtype: i64, len: usize) -> bool
-    requires { HasNumbers queue.now.queue }
-    ensures { result ≡ (int_lt (pos 0) mtype && nat_le len limits.now.msgmax
-        && nat_le (byte_count queue.now.queue.messages + len) limits.now.msgmnb
-        && nat_lt (length queue.now.queue.messages) limits.now.msgmnb) }
+/// Whether a queue is sound.
+fn is_sound_queue(queue: &MsgQueue, limits: &Limits) -> bool
+    ensures { result ≡ is_sound_queue limits.now queue.now.queue }
 {
-    0 < mtype
-        && len <= limits.msgmax as usize
-        && queue.stat().bytes + len as u128 <= u128::from(limits.msgmnb)
-        && queue.len() < limits.msgmnb as usize
+    let stat = queue.stat();
+    stat.bytes <= u128::from(limits.msgmnb)
+        && stat.qnum <= limits.msgmnb as usize
+        && stat.qbytes <= limits.msgmnb
+        && has_sound_messages(queue, limits)
 }
 
-/// Takes the memory for a message and adds it to a queue that is there, as its newest.
-pub(crate) fn restore(
-    queues: &mut Objects<MsgQueue>,
-    id: Id,
-    mtype: i64,
-    text: &[u8],
-) -> Result<(), AllocError>
-    requires { IsSome (entry_of (queues_of queues.old) id.0) }
-    ensures queues { (e : Entry Queue) → entry_of (queues_of queues.old) id.0 ≡ Some e
-        → OnOk result (queues_of queues.new ≡ with_entry (queues_of queues.old) id.0
-        (holding e (with_message e.object (record { mtype = mtype; text = text.now })))) }
-    ensures kept { OnErr result (queues_of queues.new ≡ queues_of queues.old) }
-    ensures place { OnErr result (has_place queues.new ≡ has_place queues.old) }
-    ensures texts { OnErr result (texts_of queues.new ≡ texts_of queues.old) }
+/// Whether each message of a queue has a type above 0 and a text of at most msgmax bytes.
+fn has_sound_messages(queue: &MsgQueue, limits: &Limits) -> bool
+    ensures { result ≡ list_all (is_sound_message limits.now) queue.now.queue.messages }
 {
-    let queue = queues.get_mut(id).unwrap();
-    queue.restore(mtype, text)
+    are_sound(queue.messages(), limits)
 }
 
-/// Takes the message at a place of a queue that is there.
-pub(crate) fn take(
-    queues: &mut Objects<MsgQueue>,
-    id: Id,
-    at: usize,
-    pid: Pid,
-    now: Moment,
-) -> Message
-    requires there { IsSome (entry_of (queues_of queues.old) id.0) }
-    requires within { (e : Entry Queue) → entry_of (queues_of queues.old) id.0 ≡ Some e
-        → at < length e.object.messages }
-    ensures queues { (e : Entry Queue) → entry_of (queues_of queues.old) id.0 ≡ Some e
-        → queues_of queues.new ≡ with_entry (queues_of queues.old) id.0
-        (holding e (taken e.object at pid.0 now.0)) }
-    ensures message { (e : Entry Queue) → entry_of (queues_of queues.old) id.0 ≡ Some e
-        → slice_get e.object.messages at ≡ Some (plain result) }
+fn are_sound(messages: &[Message], limits: &Limits) -> bool
+    ensures { result ≡ list_all (λ m. is_sound_message limits.now (plain m)) messages.now }
 {
-    let queue = queues.get_mut(id).unwrap();
-    queue.take(at, pid, now)
+    messages
+        .iter()
+        .all(|message| 0 < message.mtype && message.text.len() <= limits.msgmax as usize)
 }

@@ -14,9 +14,10 @@ use Rattle.ipc_wire.specs.Request.{PlainCall}
 use Rattle.ipc_wire.specs.Request as requests
 use Rattle.ipc_wire.specs.declared.reply.Body.TheVariants.{Empty, Number, Message}
 use Rattle.sysv_msg.specs.Queue.{Queue, PlainMessage, is_allowed, sent, taken}
-use Rattle.ipc_state.specs.Objects.{holding, last_number}
+use Rattle.ipc_state.specs.Numbered.{last_number}
+use Rattle.ipc_state.specs.Keyed.{holding}
 use Rattle.ipc_state.specs.Perm.{perm_of}
-use Rattle.ipc_state.specs.Sound.{IsSound, IsSoundQueue, FitsBody}
+use Rattle.ipc_state.specs.Sound.{HasSoundParts, IsSoundMessage, IsSoundQueue, FitsBody}
 use Rattle.ipc_state.specs.State.{State, cred_of, with_queue, with_new_queue}
 use Rattle.ipc_state.proofs.CallerLemmas.{EndsSound, Ends, after-refuse, after-orelse, by-if_some, answered, read, ended-sound, ended-keeps}
 use Rattle.ipc_state.proofs.CallerLemmas.{perm_of-mode, with_new_queue-sound, with_queue-sound, queue-sound, sent-sound, taken-sound}
@@ -45,7 +46,8 @@ module _ (limits : Limits) (s : State) where
       let new : Queue = sent e.object m pid s.clock in
       answered (with_queue s id (holding e new)) Empty (record {
         state = λ h. with_queue-sound limits s id e new is
-            (sent-sound limits e.object m pid s.clock fits (not_false (int_lt (pos 0) mtype) above) (ltb-false _ _ short) (queue-sound limits s id e is h)) h;
+            (sent-sound limits e.object m pid s.clock fits
+            (record { above = not_false (int_lt (pos 0) mtype) above; short = ltb-false _ _ short }) (queue-sound limits s id e is h)) h;
         body = λ _. omega arith;
         kept = refl;
       })))))
@@ -56,7 +58,7 @@ module _ (limits : Limits) (s : State) where
   message_at-fits q at inside good =
       let none : PlainMessage = record { mtype = pos 0; text = [] } in
       let short : length (message_at q at).text ≤ limits.msgmax =
-      rw unwrap_or-slice_get (All-get_or (λ (m : PlainMessage). length m.text ≤ limits.msgmax) q.messages at none inside good.texts) in
+      rw unwrap_or-slice_get (All-get_or (IsSoundMessage limits) q.messages at none inside good.messages).short in
       omega (arith, message-is_bounded limits (length (message_at q at).text) short)
 
   msgrcv-ends : (pid id size : ℕ) (mtype : ℤ) → Ends limits s (defined.msgrcv s pid id size mtype)
@@ -77,7 +79,7 @@ module _ (limits : Limits) (s : State) where
   call-ends pid (requests.Msgrcv id flags size mtype) = msgrcv-ends pid id size mtype
 
 -- from a sound state a call ends in one, and its body fits
-pub attempt-sound : (limits : Limits) (s : State) (pid : ℕ) (call : PlainCall) → IsSound limits s → EndsSound limits (attempt limits s pid call)
+pub attempt-sound : (limits : Limits) (s : State) (pid : ℕ) (call : PlainCall) → HasSoundParts limits s → EndsSound limits (attempt limits s pid call)
 attempt-sound limits s pid call = ended-sound limits s (call_of limits s pid call) (call-ends limits s pid call)
 
 -- a call leaves the processes as they are

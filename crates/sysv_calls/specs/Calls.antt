@@ -11,7 +11,8 @@ use Rattle.ipc_wire.specs.Request.{PlainCall}
 use Rattle.ipc_wire.specs.Request as requests
 use Rattle.ipc_wire.specs.declared.reply.Body.TheVariants.{Empty, Number, Message}
 use Rattle.sysv_msg.specs.Queue.{Queue, PlainMessage, pick, full, sent, taken}
-use Rattle.ipc_state.specs.Objects.{holding, keyed, is_full, last_number}
+use Rattle.ipc_state.specs.Numbered.{is_full, last_number}
+use Rattle.ipc_state.specs.Keyed.{holding, keyed}
 use Rattle.ipc_state.specs.Perm.{perm_of}
 use Rattle.ipc_state.specs.State.{State, cred_of, queue_of, with_queue, with_new_queue}
 use Rattle.ipc_state.specs.Finish.{Finish, Attempt, Done, ended, answer, refuse, if_some, ◌orelse◌, ◌>>◌}

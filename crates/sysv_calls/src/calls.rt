@@ -4,6 +4,7 @@ ghost use Rattle.std.specs.Prelude.{◌≡◌, true, false, length, IsOk, OnOk, 
 ghost use Rattle.ipc_wire.specs.Request.{plain_call};
 ghost use Rattle.ipc_state.specs.Held.{HasTextRoom};
 ghost use Rattle.ipc_state.specs.Finish.{finish_of, ended};
+ghost use Rattle.ipc_state.specs.Sound.{HasSoundParts};
 ghost use Rattle.ipc_state.specs.State.{is_process, cred_of};
 ghost use Rattle.sysv_calls.specs.Calls as defined;
 ghost use Rattle.sysv_calls.specs.Needs.{IsReserved, takes_memory};
@@ -21,6 +22,7 @@ pub type Answer = Result<Body<Vec<u8>>, Errno>;
 /// Takes the memory that the attempt of a call may need, which a read-only call never does; never
 /// refused if that memory is there already. Refused, all is as before.
 pub fn reserve(state: &mut State, call: &Call<'_>) -> Result<(), AllocError>
+    requires sound { HasSoundParts state.old.limits state.old.state }
     ensures state { state.new.state ≡ state.old.state }
     ensures limits { state.new.limits ≡ state.old.limits }
     ensures ok { OnOk result (IsReserved state.new.room (plain_call call.now)) }
@@ -31,12 +33,27 @@ pub fn reserve(state: &mut State, call: &Call<'_>) -> Result<(), AllocError>
     match needed_by(call) {
         Needs::Nothing => Ok(()),
         Needs::Place => state.reserve_queue(),
-        Needs::Text { id, len } => state.reserve_text(id, len),
+        Needs::Text { id, len } => reserve_text(state, id, len),
+    }
+}
+
+/// Takes the memory for one message of `len` bytes in a queue, if the queue is there.
+fn reserve_text(state: &mut State, id: Id, len: usize) -> Result<(), AllocError>
+    ensures state { state.new.state ≡ state.old.state }
+    ensures limits { state.new.limits ≡ state.old.limits }
+    ensures ok { OnOk result (HasTextRoom state.new.room.texts id.0 len) }
+    ensures succeeds { HasTextRoom state.old.room.texts id.0 len → IsOk result }
+    ensures err { OnErr result (state.new ≡ state.old) }
+{
+    match state.queue_mut(id) {
+        Some(queue) => queue.reserve(len),
+        None => Ok(()),
     }
 }
 
 /// The attempt of a call by a process, whose memory is reserved. It takes none.
 pub fn attempt(state: &mut State, pid: Pid, call: &Call<'_>) -> Answer
+    requires sound { HasSoundParts state.old.limits state.old.state }
     requires room { IsReserved state.old.room (plain_call call.now) }
     requires process { is_process state.old.state pid.0 ≡ true }
     ensures finish { finish_of state.new.state result
@@ -94,13 +111,14 @@ fn msgsnd(state: &mut State, pid: Pid, id: Id, mtype: i64, text: &[u8]) -> Answe
     if mtype <= 0 || text.len() > state.limits().msgmax as usize {
         return Err(Errno::EINVAL);
     }
-    let Some(entry) = state.queue(id) else {
+    let now = state.clock();
+    let Some(queue) = state.queue_mut(id) else {
         return Err(Errno::EINVAL);
     };
-    if !entry.object.fits(text.len()) {
+    if !queue.fits(text.len()) {
         return Err(Errno::EAGAIN);
     }
-    state.send(id, mtype, text, pid);
+    queue.send(mtype, text, pid, now);
     Ok(Body::Empty)
 }
 
@@ -113,17 +131,17 @@ fn msgrcv(state: &mut State, pid: Pid, id: Id, size: u32, mtype: i64) -> Answer
     if size > LAST_NUMBER {
         return Err(Errno::EINVAL);
     }
-    let Some(entry) = state.queue(id) else {
+    let now = state.clock();
+    let Some(queue) = state.queue_mut(id) else {
         return Err(Errno::EINVAL);
     };
-    let queue = &entry.object;
     let Some(at) = queue.select(mtype, false) else {
         return Err(Errno::ENOMSG);
     };
     if queue.message(at).text.len() > size as usize {
         return Err(Errno::E2BIG);
     }
-    let message = state.take(id, at, pid);
+    let message = queue.take(at, pid, now);
     Ok(Body::Message {
         mtype: message.mtype,
         text: message.text,

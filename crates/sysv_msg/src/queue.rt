@@ -1,7 +1,8 @@
 //! A message queue.
 
 ghost use Rattle.std.specs.Prelude.{◌≡◌, ◌+◌, ◌<◌, ◌≤◌, ◌↔◌, ◌++◌, ℕ, Bool, not, length, slice_get};
-ghost use Rattle.std.specs.Prelude.{IsTrue, IsOk, OnOk, OnErr, IfSome, vec_len, vec_capacity};
+ghost use Rattle.std.specs.Prelude.{IsTrue, IsOk, OnOk, OnErr, IfSome, vec_len, vec_capacity, map, All, FitsSigned};
+ghost use Rattle.std.specs.Int.{w64};
 
 use crate::message::Message;
 use crate::select::{first_of_least_type, first_of_type};
@@ -237,9 +238,10 @@ impl MsgQueue {
         message
     }
 
-    /// All its numbers.
+    /// All its numbers. The types of its messages are signed numbers of eight bytes.
     pub fn stat(&self) -> QueueStat
-        ensures { result ≡ stat_of self.now.queue }
+        ensures stat { result ≡ stat_of self.now.queue }
+        ensures types { All (λ m. FitsSigned w64 m.mtype) self.now.queue.messages }
     {
         QueueStat {
             qnum: self.messages.len(),
@@ -251,6 +253,13 @@ impl MsgQueue {
             lspid: self.lspid,
             lrpid: self.lrpid,
         }
+    }
+
+    /// The messages, the oldest first.
+    pub fn messages(&self) -> &[Message]
+        ensures { map plain result.now ≡ self.now.queue.messages }
+    {
+        &self.messages
     }
 
     /// How many messages there are.

@@ -10,7 +10,7 @@ use Rattle.ipc_engine.proofs.laws.connect_adds_one_process.Goals as goal
 
 pub returns-clause-fresh : goal.returns-clause-fresh
 returns-clause-fresh c limits s cred serial moment pid sound there =
-    let range = rising-found 1 s.processes s.next_pid pid sound.pids there in
+    let range = rising-found 1 s.processes.entries s.processes.next pid sound.parts.processes.numbers there in
     choice (λ (t : Step). All (λ o. o.pid ≢ pid) t.outcomes) (has_all_processes limits (at_moment s moment)) _ _
     (λ _. All-cons (λ (o : PlainOutcome). o.pid ≢ pid) _ [] (λ e. omega arith) (All-nil _))
     (λ _. All-cons (λ (o : PlainOutcome). o.pid ≢ pid) _ [] (λ e. omega arith) (All-nil _))
@@ -21,10 +21,10 @@ returns-clause-there c limits s cred serial moment =
     (has_all_processes limits (at_moment s moment)) _ _
     (λ _. All-cons (λ (o : PlainOutcome). o.errno ≡ None → is_process (at_moment s moment) o.pid ≡ true) _ [] (λ e. cc) (All-nil _))
     (λ _. All-cons (λ (o : PlainOutcome). o.errno ≡ None → is_process (with_process (at_moment s moment) cred) o.pid ≡ true) _ []
-    (λ e. is_some-push nat_eq nat_eq_equiv s.processes s.next_pid cred) (All-nil _))
+    (λ e. is_some-push nat_eq nat_eq_equiv s.processes.entries s.processes.next (record { cred = cred })) (All-nil _))
 
 pub returns-clause-others : goal.returns-clause-others
 returns-clause-others c limits s cred serial moment pid there =
     choice (λ (t : Step). is_process t.state pid ≡ true) (has_all_processes limits (at_moment s moment)) _ _
     (λ _. there)
-    (λ _. is_some-append nat_eq s.processes ((s.next_pid, cred) ∷ []) pid there)
+    (λ _. is_some-append nat_eq s.processes.entries ((s.processes.next, record { cred = cred }) ∷ []) pid there)

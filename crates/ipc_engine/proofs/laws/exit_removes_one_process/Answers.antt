@@ -4,7 +4,7 @@ use Rattle.ipc_base.proofs.CallerLemmas.{rising-gone, value_at-without}
 use Rattle.ipc_engine.proofs.laws.exit_removes_one_process.Goals as goal
 
 pub returns-clause-gone : goal.returns-clause-gone
-returns-clause-gone c limits s pid moment sound = rising-gone 1 s.processes s.next_pid pid sound.pids
+returns-clause-gone c limits s pid moment sound = rising-gone 1 s.processes.entries s.processes.next pid sound.parts.processes.numbers
 
 pub returns-clause-others : goal.returns-clause-others
-returns-clause-others c limits s pid other moment apart = ap is_some (value_at-without s.processes pid other apart)
+returns-clause-others c limits s pid other moment apart = ap is_some (value_at-without s.processes.entries pid other apart)

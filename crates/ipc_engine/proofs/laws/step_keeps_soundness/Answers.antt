@@ -1,4 +1,4 @@
-use Rattle.ipc_state.proofs.CallerLemmas.{start-sound}
+use Rattle.ipc_engine.proofs.CallerLemmas.{start-sound}
 use Rattle.ipc_engine.proofs.Soundness.{step-sound}
 use Rattle.ipc_engine.proofs.laws.step_keeps_soundness.Goals as goal
 

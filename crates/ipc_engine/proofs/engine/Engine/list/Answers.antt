@@ -11,5 +11,5 @@ pub returns : goal.returns
 returns c =
     let same : map (λ e. row_of (queue_row e)) c.queues.result.now ≡ rows_of c.args.self.now.state =
     sym (map-map row_of queue_row c.queues.result.now)
-    ∙ (ap (map row_of) c.queues.ensures.queues ∙ ap (λ (m : Machine). rows_of m.state) c.self.view_is) in
+    ∙ (ap (map row_of) c.queues.ensures ∙ ap (λ (m : Machine). rows_of m.state) c.self.view_is) in
     subst (λ (rows : List Row). IfOk c.list_queues.result (λ v. v.items ≡ rows)) same c.list_queues.ensures

@@ -2,8 +2,8 @@ use Rattle.std.proofs.Common.{◌≤◌, vec_capacity, sym, subst, rules}
 use Rattle.ipc_base.specs.declared.limits.Limits.{Limits}
 use Rattle.ipc_base.specs.Limits.{ArePassed}
 use Rattle.ipc_state.specs.State.{State}
-use Rattle.ipc_state.specs.Sound.{IsSound}
-use Rattle.ipc_state.proofs.CallerLemmas.{start-sound}
+use Rattle.ipc_engine.specs.Sound.{IsSound}
+use Rattle.ipc_engine.proofs.CallerLemmas.{start-sound}
 use Rattle.ipc_engine.specs.Step.{most_replies}
 use Rattle.ipc_engine.proofs.engine.Engine.new.Goals as goal
 

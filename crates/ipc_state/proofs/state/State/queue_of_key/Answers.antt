@@ -5,14 +5,14 @@ use Rattle.std.specs.Int.{w32, cast_signed as to_z, cast_unsigned as of_z}
 use Rattle.std.proofs.lemmas.Int.{to_z-of_z}
 use Rattle.ipc_base.specs.Table.{value_at}
 use Rattle.ipc_state.specs.Held.{Held}
-use Rattle.ipc_state.specs.Objects.{keyed}
-use Rattle.ipc_state.specs.Tables.{objects_of, queue_in}
-use Rattle.ipc_state.proofs.SoundObjects.{keys-map}
+use Rattle.ipc_state.specs.Keyed.{keyed}
+use Rattle.ipc_state.specs.Tables.{keyed_of, queue_in}
+use Rattle.ipc_state.proofs.Places.{keys-map}
 use Rattle.ipc_state.proofs.state.State.queue_of_key.Goals as goal
 
 pub returns : goal.returns
 returns c =
-    let o = objects_of c.self.inside.msg in
+    let o = keyed_of c.self.inside.msg in
     let key = c.args.key in
     let e : to_z w32 (of_z w32 key) ≡ key = to_z-of_z w32 key c.ranges.key in
     c.of_key.ensures
