@@ -8,9 +8,9 @@ use Rattle.ipc_base.specs.declared.limits.Limits.{Limits}
 use Rattle.ipc_base.specs.Limits.{ArePassed}
 use Rattle.ipc_base.specs.Objects.{Fit, PlainObjects}
 use Rattle.ipc_base.proofs.CallerLemmas.{passed-bounds}
-use Rattle.ipc_state.specs.Sound.{IsSound}
+use Rattle.ipc_engine.specs.Sound.{IsSound}
 use Rattle.ipc_state.specs.State.{State, start}
-use Rattle.ipc_state.proofs.CallerLemmas.{start-sound}
+use Rattle.ipc_engine.proofs.CallerLemmas.{start-sound}
 use Rattle.ipc_image.specs.Saved.{saved, StandForState}
 use Rattle.ipc_image.specs.Sizes.{entries, area_of}
 use Rattle.ipc_image.proofs.Bounds.{bounds}
@@ -25,7 +25,7 @@ use Rattle.ipc_base.proofs.CallerLemmas.{number32_known}
 use Rattle.ipc_image.proofs.EventRecords.{Got, GotLong, connect_only, call_only, text_only, length_text, begun, text_cut}
 use Rattle.ipc_image.proofs.Numbers.{spelled}
 use Rattle.ipc_image.proofs.Reading as reading
-use Rattle.ipc_image.proofs.SavedOnce.{saved_once}
+use Rattle.ipc_image.proofs.WholeState.{saved_once}
 
 -- a superblock begins as one
 pub superblock-begins : (sectors : ℕ) (limits : Limits) (sector : List ℕ) → IsSuperblock sectors limits sector → IsFormatted sector

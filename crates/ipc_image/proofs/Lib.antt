@@ -2,14 +2,13 @@
 mod Bounds
 mod Numbers
 mod Reading
-mod FieldLists
 mod RestoredParts
-mod RestoredQueues
-mod Restored
+mod ReadLists
+mod ReadQueues
+mod WholeState
 mod EventRecords
 pub mod CallerLemmas
 mod Windows
 mod SavedLists
 mod SavedObjects
-mod SavedOnce
 mod Marks

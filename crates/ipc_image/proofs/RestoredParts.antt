@@ -1,23 +1,21 @@
 -- What the numbers of a part make of it, and that the parts of saved objects are told apart.
-use Rattle.std.proofs.Common.{◌≡◌, ℕ, ℤ, List, [], ◌∷◌, ◌++◌, length, get_or, take, drop, refl, sym, ◌∙◌, ap, subst}
+use Rattle.std.proofs.Common.{◌≡◌, ◌<◌, ◌^◌, ℕ, ℤ, List, [], ◌∷◌, ◌++◌, length, get_or, take, drop, refl, sym, ◌∙◌, ap, subst}
 use Rattle.std.specs.Prelude.{FitsSigned}
 use Rattle.std.specs.Int.{w32, w64, cast_signed, cast_unsigned}
 use Rattle.std.proofs.lemmas.Int.{to_z-of_z}
 use Rattle.std.proofs.lemmas.List.{append_assoc, take_at, drop_at}
-use Rattle.ipc_base.specs.declared.identity.Cred.{Cred}
+use Rattle.ipc_state.specs.declared.processes.Process.{Process}
 use Rattle.sysv_msg.specs.Queue.{Queue, PlainMessage}
-use Rattle.ipc_state.specs.Objects.{Entry}
-use Rattle.ipc_image.specs.Fields.{fields_bytes, FitFields}
-use Rattle.ipc_image.specs.Relations.Parts.{FitsMessage, FitsProcess, FitsQueue}
-use Rattle.ipc_state.specs.declared.error.RestoreError.{RestoreError}
-use Rattle.ipc_state.specs.declared.error.RestoreError.TheVariants.{Unsound, NoMemory}
-use Rattle.ipc_image.specs.declared.restoring.ImageError.TheVariants.{Damaged}
-use Rattle.ipc_image.specs.Relations.Restored.{image_error}
-use Rattle.ipc_state.specs.Restored.{with_numbers}
-use Rattle.ipc_state.specs.State.{State, start}
+use Rattle.ipc_state.specs.declared.keyed.Entry.{Entry}
+use Rattle.ipc_base.specs.Numbers.{fields_bytes, FitFields}
+use Rattle.ipc_state.specs.State.{State}
+use Rattle.ipc_image.specs.Saved.{FitsMessage, FitsProcess, FitsQueue}
+use Rattle.ipc_base.specs.declared.field.Size.TheVariants.{Four}
+use Rattle.ipc_image.specs.Saved.{count_bytes, processes_bytes}
+use Rattle.std.specs.List.{flat_map}
 use Rattle.ipc_image.specs.Saved.{clock_sizes, clock_numbers, process_sizes, process_numbers, process_bytes, queue_sizes, queue_numbers}
 use Rattle.ipc_image.specs.Saved.{message_sizes, message_numbers, message_bytes}
-use Rattle.ipc_image.proofs.FieldLists.{fields_one, listed, numbers_are}
+use Rattle.ipc_base.proofs.CallerLemmas.{fields_one, listed, numbers_are}
 
 -- the queue that has these numbers, this key and these messages
 abbrev pub entry_from : List ℕ → ℤ → List PlainMessage → Entry Queue
@@ -72,15 +70,19 @@ message_one m k more others fit also same =
     (one ∙ ap (λ (l : List ℕ). record { mtype = k.mtype; text = l }) text, after)
 
 -- two processes
-pub process_one : (p q : ℕ × Cred) (more others : List ℕ) → FitsProcess p → FitsProcess q
+pub process_one : (p q : ℕ × Process) (more others : List ℕ) → FitsProcess p → FitsProcess q
     → process_bytes p ++ more ≡ process_bytes q ++ others → (p ≡ q) × (more ≡ others)
 process_one p q more others fit also same =
     let first = fields_one process_sizes (process_numbers p) (process_numbers q) more others fit also same in
-    let pid : p.0 ≡ q.0 = ap (λ (ns : List ℕ). get_or ns 0 0) first.0 in
-    let uid : p.1.uid ≡ q.1.uid = ap (λ (ns : List ℕ). get_or ns 1 0) first.0 in
-    let gid : p.1.gid ≡ q.1.gid = ap (λ (ns : List ℕ). get_or ns 2 0) first.0 in
-    let one : p ≡ (q.0, p.1) = ap (λ (n : ℕ). (n, p.1)) pid in
-    (one ∙ ap (λ (n : ℕ). (q.0, record { uid = n; gid = p.1.gid })) uid ∙ ap (λ (n : ℕ). (q.0, record { uid = q.1.uid; gid = n })) gid, first.1)
+    let made : List ℕ → ℕ × Process = λ ns. (get_or ns 0 0, record { cred = record { uid = get_or ns 1 0; gid = get_or ns 2 0 } }) in
+    (ap made first.0, first.1)
+
+-- the count of processes, and what follows it
+pub counted : (n : ℕ) (bytes : List ℕ) (ps : List (ℕ × Process)) → n < 2 ^ 32 → length ps < 2 ^ 32 → count_bytes n ++ bytes ≡ processes_bytes ps
+    → (n ≡ length ps) × (bytes ≡ flat_map process_bytes ps)
+counted n bytes ps few also same =
+    let both = fields_one (Four ∷ []) (n ∷ []) (length ps ∷ []) bytes (flat_map process_bytes ps) (few, tt) (also, tt) same in
+    (ap (λ (ns : List ℕ). get_or ns 0 0) both.0, both.1)
 
 -- two queues before their messages
 pub queue_one : (e f : Entry Queue) (more others : List ℕ) → FitsQueue e → FitsQueue f
@@ -98,16 +100,23 @@ same_queue e f key numbers messages =
     ∙ ap (λ (ns : List ℕ). entry_from ns f.key e.object.messages) numbers
     ∙ ap (λ (ms : List PlainMessage). entry_from (queue_numbers f) f.key ms) messages
 
--- only a part that would make the state unsound is damage
-pub unsound_of : (e : RestoreError) → Damaged ≡ image_error e → e ≡ Unsound
-unsound_of Unsound is = refl
-unsound_of NoMemory is = cc
+-- a state with its clock and its next numbers alone
+abbrev pub emptied : State → State
+emptied s =
+    record {
+      clock = s.clock;
+      processes = record { next = s.processes.next; entries = [] };
+      msg = record { next = s.msg.next; entries = [] };
+    }
 
 -- states with the same clock's object have the same clock and next numbers
-pub clock_one : (s t : State) → FitFields clock_sizes (clock_numbers t) → FitFields clock_sizes (clock_numbers s)
-    → fields_bytes clock_sizes (clock_numbers s) ≡ fields_bytes clock_sizes (clock_numbers t)
-    → with_numbers start s.clock s.next_pid s.msg.next ≡ with_numbers start t.clock t.next_pid t.msg.next
+pub clock_one : (s t : State) → FitFields clock_sizes (clock_numbers s) → FitFields clock_sizes (clock_numbers t)
+    → fields_bytes clock_sizes (clock_numbers s) ≡ fields_bytes clock_sizes (clock_numbers t) → emptied s ≡ emptied t
 clock_one s t fit also same =
-    let first = fields_one clock_sizes (clock_numbers s) (clock_numbers t) [] [] also fit (ap (λ (l : List ℕ). l ++ []) same) in
-    let f : List ℕ → State = λ ns. with_numbers start (get_or ns 0 0) (get_or ns 1 0) (get_or ns 2 0) in
-    ap f first.0
+    let first = fields_one clock_sizes (clock_numbers s) (clock_numbers t) [] [] fit also (ap (λ (l : List ℕ). l ++ []) same) in
+    let made : List ℕ → State = λ ns. record {
+      clock = get_or ns 0 0;
+      processes = record { next = get_or ns 1 0; entries = [] };
+      msg = record { next = get_or ns 2 0; entries = [] };
+    } in
+    ap made first.0

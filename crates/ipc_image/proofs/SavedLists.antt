@@ -9,8 +9,9 @@ use Rattle.std.proofs.lemmas.Option.{get_or_from_slice_get, slice_get_within}
 use Rattle.std.specs.List.{flat_map, slice_get}
 use Rattle.sysv_msg.specs.Queue.{Queue, PlainMessage}
 use Rattle.ipc_state.specs.Sound.{HasNumbers}
-use Rattle.ipc_state.specs.Tables.{process_row}
+use Rattle.ipc_state.specs.declared.numbered.Item.{Item}
 use Rattle.ipc_state.specs.declared.processes.Process.{Process}
+use Rattle.ipc_state.specs.Tables.{item_row}
 use Rattle.ipc_image.specs.Saved.{count_bytes, process_bytes, processes_bytes}
 
 -- no text is longer than all of a queue
@@ -21,11 +22,11 @@ text-short q at m is numbers =
     omega (arith, part, ap (λ (n : PlainMessage). length n.text) same, numbers.bytes)
 
 -- processes as they are kept
-pub processes-kept : (processes : List Process)
-    → count_bytes (length processes) ++ flat_map (λ p. process_bytes (process_row p)) processes ≡ processes_bytes (map process_row processes)
+pub processes-kept : (processes : List (Item Process))
+    → count_bytes (length processes) ++ flat_map (λ p. process_bytes (item_row p)) processes ≡ processes_bytes (map item_row processes)
 processes-kept processes =
-    ap (λ (n : ℕ). count_bytes n ++ flat_map (λ p. process_bytes (process_row p)) processes) (sym (length-map processes process_row))
-    ∙ ap (λ (l : List ℕ). count_bytes (length (map process_row processes)) ++ l) (sym (flat_map-map process_bytes process_row processes))
+    ap (λ (n : ℕ). count_bytes n ++ flat_map (λ p. process_bytes (item_row p)) processes) (sym (length-map processes item_row))
+    ∙ ap (λ (l : List ℕ). count_bytes (length (map item_row processes)) ++ l) (sym (flat_map-map process_bytes item_row processes))
 
 -- ---- each of a list, one after another
 

@@ -3,36 +3,38 @@ use Rattle.std.proofs.Common.{◌≡◌, ℕ, zero, suc, ◌+◌, ◌*◌, ◌^�
 use Rattle.std.specs.Prelude.{All, sum_by, option_map}
 use Rattle.std.proofs.lemmas.List.{length-map, length-append}
 use Rattle.std.proofs.lemmas.List.Concat.{flat_map-cons}
-use Rattle.std.proofs.lemmas.List.Elements.{All-cons, All-map, All-nil, All-weaker}
+use Rattle.std.proofs.lemmas.List.Elements.{All-cons, All-head, All-tail, All-map, All-nil, All-weaker}
 use Rattle.std.proofs.lemmas.List.Sums.{sum_by-cons, sum_by-le, sum_by_from}
 use Rattle.std.proofs.lemmas.Nat.{mul-le}
 use Rattle.std.proofs.lemmas.Option.{slice_get_read, slice_get-map}
 use Rattle.std.specs.List.{flat_map, slice_get}
-use Rattle.ipc_base.specs.declared.identity.Cred.{Cred}
+use Rattle.ipc_state.specs.declared.processes.Process.{Process}
 use Rattle.ipc_base.specs.declared.limits.Limits.{Limits}
 use Rattle.ipc_base.specs.Limits.{ArePassed}
 use Rattle.ipc_base.specs.Objects.{PlainObjects, AreObjects, object_sectors, Fit}
 use Rattle.ipc_base.specs.Table.{keys_of, IsRising}
 use Rattle.ipc_base.proofs.CallerLemmas.{passed-bounds, rising-weaker, rising-lower}
 use Rattle.sysv_msg.specs.Queue.{Queue, PlainMessage, Kept, byte_count}
-use Rattle.ipc_state.specs.declared.objects.Entry.{Entry as Row}
-use Rattle.ipc_state.specs.Objects.{Entry}
-use Rattle.ipc_state.specs.Sound.{IsSound, IsSoundQueue}
+use Rattle.ipc_state.specs.declared.numbered.Item.{Item}
+use Rattle.ipc_state.specs.declared.keyed.Entry.{Entry}
+use Rattle.ipc_state.specs.Sound.{IsSoundQueue, HasNumbers}
+use Rattle.ipc_state.proofs.CallerLemmas.{queue-numbers}
+use Rattle.ipc_engine.specs.Sound.{IsSound}
 use Rattle.ipc_state.specs.State.{State, start}
 use Rattle.ipc_state.specs.Tables.{queue_row}
-use Rattle.ipc_image.specs.Fields.{fields_bytes}
+use Rattle.ipc_base.specs.Numbers.{fields_bytes}
 use Rattle.ipc_image.specs.Saved.{clock_sizes, clock_numbers, count_bytes, process_bytes, processes_bytes, message_bytes, queue_bytes, queue_number, saved}
 use Rattle.ipc_image.specs.Sizes.{sectors, process_sectors, area_of}
 
 -- ---- how many bytes each has
 
-length-processes : (processes : List (ℕ × Cred)) → length (flat_map process_bytes processes) ≡ 16 * length processes
+length-processes : (processes : List (ℕ × Process)) → length (flat_map process_bytes processes) ≡ 16 * length processes
 length-processes [] = refl
 length-processes (p ∷ processes) =
     ap length (flat_map-cons process_bytes p processes) ∙ length-append (process_bytes p) (flat_map process_bytes processes)
     ∙ omega (arith, length-processes processes)
 
-pub processes-long : (processes : List (ℕ × Cred)) → length (processes_bytes processes) ≡ 4 + 16 * length processes
+pub processes-long : (processes : List (ℕ × Process)) → length (processes_bytes processes) ≡ 4 + 16 * length processes
 processes-long processes = omega (arith, length-append (count_bytes (length processes)) (flat_map process_bytes processes), length-processes processes)
 
 pub length-messages : (messages : List PlainMessage) → length (flat_map message_bytes messages) ≡ 12 * length messages + byte_count messages
@@ -58,7 +60,7 @@ module _ (s : State) where
   unfolding saved
   saved-clock = refl
 
-  pub saved-processes : slice_get (saved s) 1 ≡ Some (1, processes_bytes s.processes)
+  pub saved-processes : slice_get (saved s) 1 ≡ Some (1, processes_bytes s.processes.entries)
   unfolding saved
   saved-processes = refl
 
@@ -80,14 +82,14 @@ module _ (s : State) where
   saved-number (suc (suc (suc (suc i)))) few = absurd (omega arith)
 
   -- a queue as it is kept
-  pub entry-kept : (j : ℕ) (rows : List (Row Kept)) (e : Row Kept) → map queue_row rows ≡ s.msg.entries → j < length rows
+  pub entry-kept : (j : ℕ) (rows : List (Item (Entry Kept))) (e : Item (Entry Kept)) → map queue_row rows ≡ s.msg.entries → j < length rows
       → e ≡ get_or rows j e → slice_get s.msg.entries j ≡ Some (queue_row e)
   entry-kept j rows e are within is =
       let row : slice_get rows j ≡ Some e = slice_get_read rows (length rows) j e refl within is in
       ap (λ (l : List (ℕ × Entry Queue)). slice_get l j) (sym are) ∙ slice_get-map queue_row rows j ∙ ap (option_map queue_row) row
 
   -- its object
-  pub saved-queue : (i j : ℕ) (e : Row Kept) → i ≡ 4 + j → slice_get s.msg.entries j ≡ Some (queue_row e)
+  pub saved-queue : (i j : ℕ) (e : Item (Entry Kept)) → i ≡ 4 + j → slice_get s.msg.entries j ≡ Some (queue_row e)
       → slice_get (saved s) i ≡ Some (queue_object (queue_row e))
   unfolding saved
   saved-queue i j e place found =
@@ -95,13 +97,13 @@ module _ (s : State) where
       ap (slice_get (saved s)) deep ∙ slice_get-map queue_object s.msg.entries j ∙ ap (option_map queue_object) found
 
   -- what holds of the four and of each queue holds of all
-  each-saved : (P : ℕ × List ℕ → Type 0) → P (0, fields_bytes clock_sizes (clock_numbers s)) → P (1, processes_bytes s.processes)
+  each-saved : (P : ℕ × List ℕ → Type 0) → P (0, fields_bytes clock_sizes (clock_numbers s)) → P (1, processes_bytes s.processes.entries)
       → P (2, count_bytes 0) → P (3, count_bytes 0) → All (λ e. P (queue_object e)) s.msg.entries → All P (saved s)
   unfolding saved
   each-saved P clock processes waiting adjustments each =
       let queues : List (ℕ × List ℕ) = map queue_object s.msg.entries in
       let two : List (ℕ × List ℕ) = (2, count_bytes 0) ∷ (3, count_bytes 0) ∷ queues in
-      All-cons P _ ((1, processes_bytes s.processes) ∷ two) clock
+      All-cons P _ ((1, processes_bytes s.processes.entries) ∷ two) clock
       (All-cons P _ two processes
       (All-cons P _ ((3, count_bytes 0) ∷ queues) waiting
       (All-cons P _ queues adjustments (All-map P queue_object s.msg.entries each))))
@@ -119,17 +121,30 @@ queue-numbers-rise low high (e ∷ es) rising =
     )
 
 module _ (limits : Limits) (s : State) (passed : ArePassed limits) (sound : IsSound limits s) where
+  -- each number of a queue that is kept fits in a field of four bytes
+  pub rows-numbers : (rows : List (Item (Entry Kept))) → map queue_row rows ≡ s.msg.entries → All (λ e. HasNumbers e.value.object.queue) rows
+  rows-numbers rows are = by_rows rows (subst (All (λ (e : ℕ × Entry Queue). IsSoundQueue limits e.1.object)) (sym are) sound.parts.msg.each)
+    where
+      by_rows : (es : List (Item (Entry Kept))) → All (λ (e : ℕ × Entry Queue). IsSoundQueue limits e.1.object) (map queue_row es)
+          → All (λ e. HasNumbers e.value.object.queue) es
+      by_rows [] each = All-nil _
+      by_rows (e ∷ es) each =
+          let P : ℕ × Entry Queue → Type 0 = λ (f : ℕ × Entry Queue). IsSoundQueue limits f.1.object in
+          All-cons (λ (f : Item (Entry Kept)). HasNumbers f.value.object.queue) e es
+          (queue-numbers limits e.value.object.queue passed (All-head P (queue_row e) (map queue_row es) each))
+          (by_rows es (All-tail P (queue_row e) (map queue_row es) each))
+
   queues-short : All (λ e. length (queue_bytes e.1) ≤ 64 + 13 * limits.msgmnb) s.msg.entries
   queues-short =
       All-weaker (λ (e : ℕ × Entry Queue). IsSoundQueue limits e.1.object) (λ e. length (queue_bytes e.1) ≤ 64 + 13 * limits.msgmnb)
-      (λ e good. omega (arith, queue-long e.1, good.count, good.bytes)) s.msg.entries sound.msg.each
+      (λ e good. omega (arith, queue-long e.1, good.count, good.bytes)) s.msg.entries sound.parts.msg.each
 
   numbers-rise : IsRising 0 (keys_of (saved s)) (2 ^ 64)
   unfolding saved
   numbers-rise =
-      let queues = queue-numbers-rise 1 s.msg.next s.msg.entries sound.msg.ids in
+      let queues = queue-numbers-rise 1 s.msg.next s.msg.entries sound.parts.msg.numbered.numbers in
       let rest = rising-lower 4 (2 ^ 32 + 1) (keys_of (map queue_object s.msg.entries)) (2 ^ 64) (omega arith)
-      (rising-weaker (2 ^ 32 + 1) (keys_of (map queue_object s.msg.entries)) (2 ^ 32 + s.msg.next) (2 ^ 64) (omega (arith, sound.msg.next)) queues) in
+      (rising-weaker (2 ^ 32 + 1) (keys_of (map queue_object s.msg.entries)) (2 ^ 32 + s.msg.next) (2 ^ 64) (omega (arith, sound.parts.msg.numbered.next)) queues) in
       (omega arith, (omega arith, (omega arith, (omega arith, rest))))
 
   pub saved-are : AreObjects (saved s)
@@ -139,13 +154,13 @@ module _ (limits : Limits) (s : State) (passed : ArePassed limits) (sound : IsSo
       let Few-bytes : ℕ × List ℕ → Type 0 = λ o. length o.1 < 2 ^ 64 in
       record {
         numbers = numbers-rise;
-        some = each-saved s Some-bytes (omega arith) (omega (arith, processes-long s.processes)) (omega arith) (omega arith)
+        some = each-saved s Some-bytes (omega arith) (omega (arith, processes-long s.processes.entries)) (omega arith) (omega arith)
             (All-weaker (λ (e : ℕ × Entry Queue). length (queue_bytes e.1) ≤ 64 + 13 * limits.msgmnb) (λ e. Some-bytes (queue_object e))
             (λ e short. omega (arith, queue-long e.1)) s.msg.entries queues-short);
-        lengths = each-saved s Few-bytes (omega arith) (omega (arith, processes-long s.processes, sound.processes, b.processes.1)) (omega arith) (omega arith)
+        lengths = each-saved s Few-bytes (omega arith) (omega (arith, processes-long s.processes.entries, sound.parts.processes.count, b.processes.1)) (omega arith) (omega arith)
             (All-weaker (λ (e : ℕ × Entry Queue). length (queue_bytes e.1) ≤ 64 + 13 * limits.msgmnb) (λ e. Few-bytes (queue_object e))
             (λ e short. omega (arith, short, b.msgmnb.1)) s.msg.entries queues-short);
-        count = omega (arith, saved-count s, sound.msg.count, b.msgmni);
+        count = omega (arith, saved-count s, sound.parts.msg.numbered.count, b.msgmni);
       }
 
   -- ---- they fit
@@ -161,15 +176,15 @@ module _ (limits : Limits) (s : State) (passed : ArePassed limits) (sound : IsSo
       (All-weaker (λ (e : ℕ × Entry Queue). length (queue_bytes e.1) ≤ 64 + 13 * limits.msgmnb) (λ e. of (queue_object e) ≤ most)
       (λ e short. omega (arith, short)) s.msg.entries queues-short) in
       let all : sum_by of queues ≤ limits.msgmni * most =
-      let few : length queues ≤ limits.msgmni = omega (arith, sound.msg.count, length-map s.msg.entries queue_object) in
+      let few : length queues ≤ limits.msgmni = omega (arith, sound.parts.msg.numbered.count, length-map s.msg.entries queue_object) in
       omega (arith, sum_by-le of most queues each, mul-le (length queues) most limits.msgmni most few (omega arith)) in
-      let processes : 16 * length s.processes ≤ limits.processes * (16 + 16 * limits.descriptors) =
-      omega (arith, mul-le (length s.processes) 16 limits.processes (16 + 16 * limits.descriptors) sound.processes (omega arith)) in
-      let first : ℕ = sectors 32 + sectors (length (processes_bytes s.processes)) + sectors 4 + sectors 4 in
-      omega (arith, sum_by_from of first queues, processes-long s.processes)
+      let processes : 16 * length s.processes.entries ≤ limits.processes * (16 + 16 * limits.descriptors) =
+      omega (arith, mul-le (length s.processes.entries) 16 limits.processes (16 + 16 * limits.descriptors) sound.parts.processes.count (omega arith)) in
+      let first : ℕ = sectors 32 + sectors (length (processes_bytes s.processes.entries)) + sectors 4 + sectors 4 in
+      omega (arith, sum_by_from of first queues, processes-long s.processes.entries)
 
   pub saved-fit : Fit (area_of limits) (saved s)
-  saved-fit = omega (arith, object-sectors, saved-count s, sound.msg.count)
+  saved-fit = omega (arith, object-sectors, saved-count s, sound.parts.msg.numbered.count)
 
 -- ---- the state to which nothing has happened
 

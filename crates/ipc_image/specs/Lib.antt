@@ -1,5 +1,4 @@
 -- How large a device must be, what its superblock says, and how events stand on it.
-pub mod Fields
 pub mod Saved
 pub mod Sizes
 pub mod Superblock

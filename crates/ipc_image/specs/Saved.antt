@@ -5,16 +5,16 @@ use Rattle.std.specs.Prelude.{◌≡◌, ◌+◌, ◌<◌, ◌^◌, ℕ, List, [
 use Rattle.std.specs.Prelude.{length, map, All, FitsSigned}
 use Rattle.std.specs.Int.{w32, w64, cast_unsigned}
 use Rattle.std.specs.List.{flat_map}
-use Rattle.ipc_base.specs.declared.identity.Cred.{Cred}
 use Rattle.ipc_base.specs.declared.limits.Limits.{Limits}
 use Rattle.ipc_base.specs.Objects.{PlainObjects}
 use Rattle.sysv_msg.specs.Queue.{Queue, PlainMessage}
-use Rattle.ipc_state.specs.Objects.{Entry}
-use Rattle.ipc_state.specs.Sound.{IsSound}
+use Rattle.ipc_state.specs.declared.keyed.Entry.{Entry}
+use Rattle.ipc_state.specs.declared.processes.Process.{Process}
+use Rattle.ipc_engine.specs.Sound.{IsSound}
 use Rattle.ipc_state.specs.State.{State}
-use Rattle.ipc_image.specs.declared.fields.Size.{Size}
-use Rattle.ipc_image.specs.declared.fields.Size.TheVariants.{Four, Eight}
-use Rattle.ipc_image.specs.Fields.{fields_bytes, FitFields}
+use Rattle.ipc_base.specs.declared.field.Size.{Size}
+use Rattle.ipc_base.specs.declared.field.Size.TheVariants.{Four, Eight}
+use Rattle.ipc_base.specs.Numbers.{fields_bytes, FitFields}
 
 -- ---- the four that every state has
 
@@ -23,7 +23,7 @@ abbrev pub clock_sizes : List Size
 clock_sizes = Eight ∷ Four ∷ Four ∷ Four ∷ Four ∷ Four ∷ Four ∷ []
 
 abbrev pub clock_numbers : State → List ℕ
-clock_numbers s = s.clock ∷ s.next_pid ∷ s.msg.next ∷ 1 ∷ 1 ∷ 1 ∷ 1 ∷ []
+clock_numbers s = s.clock ∷ s.processes.next ∷ s.msg.next ∷ 1 ∷ 1 ∷ 1 ∷ 1 ∷ []
 
 abbrev pub count_bytes : ℕ → List ℕ
 count_bytes n = fields_bytes (Four ∷ []) (n ∷ [])
@@ -32,14 +32,14 @@ count_bytes n = fields_bytes (Four ∷ []) (n ∷ [])
 abbrev pub process_sizes : List Size
 process_sizes = Four ∷ Four ∷ Four ∷ Four ∷ []
 
-abbrev pub process_numbers : ℕ × Cred → List ℕ
-process_numbers p = p.0 ∷ p.1.uid ∷ p.1.gid ∷ 0 ∷ []
+abbrev pub process_numbers : ℕ × Process → List ℕ
+process_numbers p = p.0 ∷ p.1.cred.uid ∷ p.1.cred.gid ∷ 0 ∷ []
 
-abbrev pub process_bytes : ℕ × Cred → List ℕ
+abbrev pub process_bytes : ℕ × Process → List ℕ
 process_bytes p = fields_bytes process_sizes (process_numbers p)
 
 -- how many processes there are, and each of them, by pid
-abbrev pub processes_bytes : List (ℕ × Cred) → List ℕ
+abbrev pub processes_bytes : List (ℕ × Process) → List ℕ
 processes_bytes processes = count_bytes (length processes) ++ flat_map process_bytes processes
 
 -- ---- message queues
@@ -83,22 +83,33 @@ queue_object e = (queue_number e.0, queue_bytes e.1)
 -- the objects: the clock, the processes, the waiting calls, the adjustments, and the queues by identifier
 unfoldable pub saved : State → PlainObjects
 saved s =
-    (0, fields_bytes clock_sizes (clock_numbers s)) ∷ (1, processes_bytes s.processes)
+    (0, fields_bytes clock_sizes (clock_numbers s)) ∷ (1, processes_bytes s.processes.entries)
     ∷ (2, count_bytes 0) ∷ (3, count_bytes 0) ∷ map queue_object s.msg.entries
 
--- each number of a message has its place, and so has each of a queue
-pub record HasPlaces (e : Entry Queue) : Type 0 where
-  pub key : FitsSigned w32 e.key
-  pub numbers : FitFields queue_sizes (queue_numbers e)
-  pub types : All (λ m. FitsSigned w64 m.mtype) e.object.messages
-  pub messages : All (λ m. FitFields message_sizes (message_numbers m)) e.object.messages
+-- ---- each number has its place
 
--- each number of the state has its place
+abbrev pub FitsProcess : ℕ × Process → Type 0
+FitsProcess p = FitFields process_sizes (process_numbers p)
+
+abbrev pub FitsMessage : PlainMessage → Type 0
+FitsMessage m = FitsSigned w64 m.mtype × FitFields message_sizes (message_numbers m)
+
+-- of a queue before its messages
+abbrev pub FitsQueue : Entry Queue → Type 0
+FitsQueue e = FitsSigned w32 e.key × FitFields queue_sizes (queue_numbers e)
+
+-- of a queue with its identifier and its messages
+pub record HasPlaces (e : ℕ × Entry Queue) : Type 0 where
+  pub id : e.0 < 2 ^ 32
+  pub numbers : FitsQueue e.1
+  pub messages : All FitsMessage e.1.object.messages
+
+-- of the state
 pub record HasAllPlaces (s : State) : Type 0 where
   pub clock : FitFields clock_sizes (clock_numbers s)
-  pub count : length s.processes < 2 ^ 32
-  pub processes : All (λ p. FitFields process_sizes (process_numbers p)) s.processes
-  pub queues : All (λ e. (e.0 < 2 ^ 32) × HasPlaces e.1) s.msg.entries
+  pub count : length s.processes.entries < 2 ^ 32
+  pub processes : All FitsProcess s.processes.entries
+  pub queues : All HasPlaces s.msg.entries
 
 -- the objects stand for a sound state
 pub record StandForState (limits : Limits) (s : State) (objects : PlainObjects) : Type 0 where

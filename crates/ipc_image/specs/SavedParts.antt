@@ -1,25 +1,15 @@
--- A number as it is put into its field, what is known of numbers once they are read, and marks.
+-- What is known of numbers once they are read, and marks.
 use Rattle.std.specs.Prelude.{◌≡◌, ℕ, ◌-◌, ◌<◌, ◌^◌, List, length, take, Some, slice_get}
-use Rattle.std.specs.Int.{w32, w64, to_be_bytes}
 use Rattle.std.specs.List.{flat_map}
 use Rattle.sysv_msg.specs.declared.queue.QueueStat.{QueueStat}
 use Rattle.ipc_base.specs.declared.objects.Mark.{Mark}
 use Rattle.sysv_msg.specs.Queue.{Kept, Queue, PlainMessage}
-use Rattle.ipc_state.specs.Objects.{Entry}
+use Rattle.ipc_state.specs.declared.keyed.Entry.{Entry}
 use Rattle.ipc_state.specs.State.{State}
 use Rattle.ipc_state.specs.declared.perm.Perm.{Perm}
-use Rattle.ipc_state.specs.declared.objects.Entry.{Entry as Row}
-use Rattle.ipc_state.specs.Tables.{queue_entry}
-use Rattle.ipc_image.specs.declared.saved_parts.Field.{Field}
-use Rattle.ipc_image.specs.declared.saved_parts.Field.TheVariants.{Four, Eight}
+use Rattle.ipc_state.specs.declared.numbered.Item.{Item}
+use Rattle.ipc_state.specs.Tables.{queue_row}
 use Rattle.ipc_image.specs.Saved.{message_bytes, HasPlaces}
-
-abbrev pub field_bytes : Field → List ℕ
-field_bytes (Four n) = to_be_bytes w32 n
-field_bytes (Eight n) = to_be_bytes w64 n
-
-abbrev pub all_bytes : List Field → List ℕ
-all_bytes fields = flat_map field_bytes fields
 
 -- each number of a kind has its place
 abbrev pub IsWidePerm : Perm → Type 0
@@ -32,8 +22,8 @@ IsWideStat s =
     × (s.lspid.0 < 2 ^ 32) × (s.lrpid.0 < 2 ^ 32)
 
 -- the identifier of a queue that is kept has its place, and so has each of its numbers
-abbrev pub IsWideQueue : Row Kept → Type 0
-IsWideQueue e = (e.id.0 < 2 ^ 32) × HasPlaces (queue_entry e)
+abbrev pub IsWideQueue : Item (Entry Kept) → Type 0
+IsWideQueue e = HasPlaces (queue_row e)
 
 -- the bytes of the first messages
 abbrev pub first_bytes : ℕ → List PlainMessage → List ℕ

@@ -5,7 +5,7 @@ ghost use Rattle.ipc_base.specs.Limits.{ArePassed};
 ghost use Rattle.ipc_base.specs.Objects.{Fit, PlainObjects};
 ghost use Rattle.ipc_base.specs.declared.limits.Limits.{Limits};
 ghost use Rattle.ipc_engine.specs.Event.{PlainEvent};
-ghost use Rattle.ipc_state.specs.Sound.{IsSound};
+ghost use Rattle.ipc_engine.specs.Sound.{IsSound};
 ghost use Rattle.ipc_state.specs.State.{State};
 ghost use Rattle.ipc_image.specs.Records.{record_bytes, HasRecord, BeginsWith};
 ghost use Rattle.ipc_image.specs.Saved.{saved, StandForState};

@@ -3,7 +3,6 @@
 #![tactic(auto)]
 
 mod fault;
-mod fields;
 mod laws;
 mod parts;
 mod places;
@@ -23,7 +22,7 @@ pub use laws::{
 };
 pub use places::{JOURNAL, JOURNAL_COUNT, OBJECTS, ROOT, SUPERBLOCK};
 pub use records::{read_event, record_len, write_event};
-pub use restoring::{ImageError, engine_of};
+pub use restoring::engine_of;
 pub use sizes::{area, need};
 pub use state_objects::{StartObjects, StateObjects, objects_of, start_objects};
 pub use superblock::{read_superblock, write_superblock};

@@ -3,32 +3,23 @@
 ghost use Rattle.std.specs.Prelude.{◌≡◌, ◌≢◌, ◌<◌, ◌^◌, ◌++◌, ◌∷◌, [], ℕ, List};
 ghost use Rattle.std.specs.Prelude.{length, IfSome, IfNone, FitsSigned};
 ghost use Rattle.std.specs.Int.{w32, w64};
-ghost use Rattle.ipc_base.specs.declared.identity.Cred.{Cred as PlainCred};
 ghost use Rattle.sysv_msg.specs.Queue.{Queue, PlainMessage};
-ghost use Rattle.ipc_state.specs.Objects.{Entry};
+ghost use Rattle.ipc_state.specs.declared.keyed.Entry.{Entry};
+ghost use Rattle.ipc_state.specs.declared.processes.Process.{Process as PlainProcess};
 ghost use Rattle.ipc_state.specs.State.{State as PlainState};
-ghost use Rattle.ipc_image.specs.Fields.{fields_bytes, FitFields};
+ghost use Rattle.ipc_base.specs.Numbers.{fields_bytes, FitFields};
 ghost use Rattle.ipc_image.specs.Saved.{clock_sizes, clock_numbers, count_bytes, process_sizes, process_numbers};
 ghost use Rattle.ipc_image.specs.Saved.{process_bytes, queue_sizes, queue_numbers, message_bytes};
-ghost use Rattle.ipc_image.specs.Relations.Parts.{FitsMessage, FitsProcess, FitsQueue, IsClockOf};
-ghost use Rattle.ipc_image.specs.Relations.Parts.{read_message, read_entry};
+ghost use Rattle.ipc_image.specs.Saved.{FitsMessage, FitsProcess, FitsQueue};
+ghost use Rattle.ipc_image.specs.Relations.Parts.{read_message, read_entry, IsClockOf};
 
-use crate::fields::{Size, take_fields};
-use ipc_base::{Cred, Moment, Pid};
-use ipc_state::Perm;
+use ipc_base::{Cred, Moment, Pid, Size, take_fields};
+use ipc_state::{Numbers, Perm, Process};
 use sysv_msg::QueueNumbers;
 
 const FOUR: Size = Size::Four;
 
 const EIGHT: Size = Size::Eight;
-
-/// The clock, the next pid, and the next identifier of a queue.
-#[derive(Clone, Copy)]
-pub(crate) struct Clock {
-    pub(crate) clock: Moment,
-    pub(crate) next_pid: u32,
-    pub(crate) next_queue: u32,
-}
 
 /// What stands of a queue before its messages, and how many these are.
 #[derive(Clone, Copy)]
@@ -40,7 +31,7 @@ pub(crate) struct QueueHead {
 }
 
 /// The clock's object. The next numbers of kinds that are still to come are 1.
-pub(crate) fn read_clock(bytes: &[u8]) -> Option<Clock>
+pub(crate) fn read_clock(bytes: &[u8]) -> Option<Numbers>
     ensures some { IfSome result (λ found. IsClockOf found bytes.now) }
     ensures none { IfNone result ((s : PlainState) → FitFields clock_sizes (clock_numbers s)
         → bytes.now ≢ fields_bytes clock_sizes (clock_numbers s)) }
@@ -50,7 +41,7 @@ pub(crate) fn read_clock(bytes: &[u8]) -> Option<Clock>
     if !rest.is_empty() || numbers[3..] != [1; 4] {
         return None;
     }
-    Some(Clock {
+    Some(Numbers {
         clock: Moment(numbers[0]),
         next_pid: numbers[1] as u32,
         next_queue: numbers[2] as u32,
@@ -67,10 +58,10 @@ pub(crate) fn take_count(bytes: &[u8]) -> Option<(u32, &[u8])>
 }
 
 /// A process at the front, which has no descriptor, and the bytes that are left.
-pub(crate) fn take_process(bytes: &[u8]) -> Option<(Pid, Cred, &[u8])>
+pub(crate) fn take_process(bytes: &[u8]) -> Option<(Pid, Process, &[u8])>
     ensures some { IfSome result (λ found. FitsProcess (found.0.0, found.1)
         × (bytes.now ≡ process_bytes (found.0.0, found.1) ++ found.2.now)) }
-    ensures none { IfNone result ((p : ℕ × PlainCred) (rest : List ℕ) → FitsProcess p
+    ensures none { IfNone result ((p : ℕ × PlainProcess) (rest : List ℕ) → FitsProcess p
         → bytes.now ≢ process_bytes p ++ rest) }
 {
     let (numbers, rest) = take_fields(bytes, &[FOUR, FOUR, FOUR, FOUR])?;
@@ -81,7 +72,7 @@ pub(crate) fn take_process(bytes: &[u8]) -> Option<(Pid, Cred, &[u8])>
         uid: numbers[1] as u32,
         gid: numbers[2] as u32,
     };
-    Some((Pid(numbers[0] as u32), cred, rest))
+    Some((Pid(numbers[0] as u32), Process { cred }, rest))
 }
 
 /// What stands of a queue before its messages, at the front, and the bytes that are left.

@@ -4,8 +4,8 @@ ghost use Rattle.std.specs.Prelude.{◌≡◌, ◌<◌, ◌^◌, [], ◌∷◌, 
 ghost use Rattle.std.specs.List.{flat_map};
 ghost use Rattle.sysv_msg.specs.Queue.{plain};
 ghost use Rattle.ipc_state.specs.Sound.{HasNumbers};
-ghost use Rattle.ipc_state.specs.Tables.{process_row, queue_entry};
-ghost use Rattle.ipc_image.specs.Fields.{fields_bytes};
+ghost use Rattle.ipc_state.specs.Tables.{item_row, queue_entry};
+ghost use Rattle.ipc_base.specs.Numbers.{fields_bytes, field_bytes, record_bytes};
 ghost use Rattle.ipc_image.specs.Saved.{
   clock_sizes,
   queue_sizes,
@@ -18,12 +18,12 @@ ghost use Rattle.ipc_image.specs.Saved.{
   message_bytes,
   queue_bytes,
 };
-ghost use Rattle.ipc_image.specs.SavedParts.{field_bytes, all_bytes, first_bytes, IsMarkIn};
+ghost use Rattle.ipc_image.specs.SavedParts.{first_bytes, IsMarkIn};
 ghost use Rattle.ipc_image.specs.Window.{Shown, passed};
 
 use crate::window::Window;
-use ipc_base::{Mark, Moment};
-use ipc_state::{Entry, Process};
+use ipc_base::{Field, Mark, Moment};
+use ipc_state::{Entry, Item, Process};
 use sysv_msg::{Message, MsgQueue};
 
 /// The bytes of a message before its text.
@@ -32,16 +32,9 @@ const MESSAGE_NUMBERS: u64 = 12;
 /// The mark of nothing.
 pub(crate) const START: Mark = Mark { parts: 0, bytes: 0 };
 
-/// A number in a field of four bytes or of eight.
-#[derive(Clone, Copy)]
-pub(crate) enum Field {
-    Four(u32),
-    Eight(u64),
-}
-
 /// Numbers in their fields, side by side.
 pub(crate) fn put_fields(window: &mut Window, fields: &[Field])
-    ensures { window.new ≡ passed (all_bytes fields.now) window.old }
+    ensures { window.new ≡ passed (record_bytes fields.now) window.old }
 {
     for field in fields {
         put_field(window, *field);
@@ -52,8 +45,13 @@ fn put_field(window: &mut Window, field: Field)
     ensures { window.new ≡ passed (field_bytes field) window.old }
 {
     match field {
-        Field::Four(number) => window.put(&number.to_be_bytes()),
-        Field::Eight(number) => window.put(&number.to_be_bytes()),
+        Field::U8(number) => window.put(&number.to_be_bytes()),
+        Field::U16(number) => window.put(&number.to_be_bytes()),
+        Field::U32(number) => window.put(&number.to_be_bytes()),
+        Field::U64(number) => window.put(&number.to_be_bytes()),
+        Field::I16(number) => window.put(&number.to_be_bytes()),
+        Field::I32(number) => window.put(&number.to_be_bytes()),
+        Field::I64(number) => window.put(&number.to_be_bytes()),
     }
 }
 
@@ -65,13 +63,13 @@ pub(crate) fn put_clock(window: &mut Window, clock: Moment, next_pid: u32, next_
     put_fields(
         window,
         &[
-            Field::Eight(clock.0),
-            Field::Four(next_pid),
-            Field::Four(next_queue),
-            Field::Four(1),
-            Field::Four(1),
-            Field::Four(1),
-            Field::Four(1),
+            Field::U64(clock.0),
+            Field::U32(next_pid),
+            Field::U32(next_queue),
+            Field::U32(1),
+            Field::U32(1),
+            Field::U32(1),
+            Field::U32(1),
         ],
     );
 }
@@ -80,13 +78,13 @@ pub(crate) fn put_clock(window: &mut Window, clock: Moment, next_pid: u32, next_
 pub(crate) fn put_count(window: &mut Window, count: u32)
     ensures { window.new ≡ passed (count_bytes count) window.old }
 {
-    put_fields(window, &[Field::Four(count)]);
+    put_fields(window, &[Field::U32(count)]);
 }
 
 /// How many processes there are, and each of them.
-pub(crate) fn put_processes(window: &mut Window, processes: &[Process])
+pub(crate) fn put_processes(window: &mut Window, processes: &[Item<Process>])
     requires { length processes.now < 2 ^ 32 }
-    ensures { window.new ≡ passed (processes_bytes (map process_row processes.now)) window.old }
+    ensures { window.new ≡ passed (processes_bytes (map item_row processes.now)) window.old }
 {
     put_count(window, processes.len() as u32);
     for process in processes {
@@ -94,16 +92,16 @@ pub(crate) fn put_processes(window: &mut Window, processes: &[Process])
     }
 }
 
-fn put_process(window: &mut Window, process: &Process)
-    ensures { window.new ≡ passed (process_bytes (process_row process.now)) window.old }
+fn put_process(window: &mut Window, process: &Item<Process>)
+    ensures { window.new ≡ passed (process_bytes (item_row process.now)) window.old }
 {
     put_fields(
         window,
         &[
-            Field::Four(process.pid.0),
-            Field::Four(process.cred.uid),
-            Field::Four(process.cred.gid),
-            Field::Four(0),
+            Field::U32(process.number),
+            Field::U32(process.value.cred.uid),
+            Field::U32(process.value.cred.gid),
+            Field::U32(0),
         ],
     );
 }
@@ -151,7 +149,7 @@ fn pass_over(window: &mut Window, queue: &MsgQueue, mark: &mut Mark)
     }
 }
 
-// The messages behind the first ones, as many as are seen.
+// The messages after the first ones, as many as are seen.
 fn put_messages(window: &mut Window, queue: &MsgQueue, first: usize)
     requires { HasNumbers queue.now.queue }
     ensures { (begun : Shown) → window.old ≡ passed (first_bytes first queue.now.queue.messages) begun
@@ -176,19 +174,19 @@ fn put_queue_numbers(window: &mut Window, entry: &Entry<MsgQueue>)
     put_fields(
         window,
         &[
-            Field::Four(entry.key.cast_unsigned()),
-            Field::Four(perm.uid),
-            Field::Four(perm.gid),
-            Field::Four(perm.cuid),
-            Field::Four(perm.cgid),
-            Field::Four(perm.mode),
-            Field::Eight(stat.stime.0),
-            Field::Eight(stat.rtime.0),
-            Field::Eight(stat.ctime.0),
-            Field::Four(stat.lspid.0),
-            Field::Four(stat.lrpid.0),
-            Field::Four(stat.qbytes),
-            Field::Four(stat.qnum as u32),
+            Field::U32(entry.key.cast_unsigned()),
+            Field::U32(perm.uid),
+            Field::U32(perm.gid),
+            Field::U32(perm.cuid),
+            Field::U32(perm.cgid),
+            Field::U32(perm.mode),
+            Field::U64(stat.stime.0),
+            Field::U64(stat.rtime.0),
+            Field::U64(stat.ctime.0),
+            Field::U32(stat.lspid.0),
+            Field::U32(stat.lrpid.0),
+            Field::U32(stat.qbytes),
+            Field::U32(stat.qnum as u32),
         ],
     );
 }
@@ -209,8 +207,8 @@ fn put_message_numbers(window: &mut Window, message: &Message)
     put_fields(
         window,
         &[
-            Field::Eight(message.mtype.cast_unsigned()),
-            Field::Four(message.text.len() as u32),
+            Field::U64(message.mtype.cast_unsigned()),
+            Field::U32(message.text.len() as u32),
         ],
     );
 }

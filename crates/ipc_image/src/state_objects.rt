@@ -7,7 +7,8 @@ ghost use Rattle.ipc_base.specs.Objects.{Fit};
 ghost use Rattle.ipc_state.specs.State.{State as PlainState, start};
 ghost use Rattle.ipc_image.specs.Saved.{saved, queue_bytes, queue_number, StandForState};
 ghost use Rattle.ipc_state.specs.Sound.{HasNumbers};
-ghost use Rattle.ipc_state.specs.Tables.{queue_entry};
+ghost use Rattle.ipc_state.specs.Tables.{queue_entry, queue_row};
+ghost use Rattle.ipc_engine.specs.Sound.{IsSound};
 ghost use Rattle.ipc_image.specs.SavedParts.{IsMarkOf};
 ghost use Rattle.ipc_image.specs.Sizes.{area_of};
 ghost use Rattle.ipc_image.specs.Window.{passed};
@@ -17,7 +18,7 @@ use crate::widths::read_state;
 use crate::window::Window;
 use ipc_base::{Mark, Moment, Objects};
 use ipc_engine::Engine;
-use ipc_state::{Entry, State};
+use ipc_state::{Entry, Item, State};
 use std::marker::Model;
 use sysv_msg::MsgQueue;
 
@@ -36,7 +37,7 @@ pub struct StateObjects<'a> {
 
 impl<'a> Model for StateObjects<'a> {
     ghost use Rattle.ipc_base.specs.Limits.{ArePassed};
-    ghost use Rattle.ipc_state.specs.Sound.{IsSound};
+    ghost use Rattle.ipc_engine.specs.Sound.{IsSound};
     ghost use Rattle.ipc_state.specs.State.{State as PlainState};
 
     ghost Value = { PlainState };
@@ -55,8 +56,6 @@ pub fn objects_of<'a>(engine: &'a Engine) -> StateObjects<'a>
     ensures fit { Fit (area_of engine.now.limits) (saved engine.now.state) }
 {
     let state = engine.state();
-    // What these two ensure says that the state is sound, and that each number has its place.
-    state.limits();
     read_state(state);
     StateObjects { state }
 }
@@ -76,7 +75,7 @@ impl<'a> Objects for StateObjects<'a> {
         if i < ALWAYS {
             return u64::from(i);
         }
-        QUEUES + u64::from(queue_at(self.state, i).id.0)
+        QUEUES + u64::from(queue_at(self.state, i).number)
     }
 
     fn changed(&self, i: u32) -> bool {
@@ -88,7 +87,7 @@ impl<'a> Objects for StateObjects<'a> {
             0 => 32,
             1 => 4 + 16 * self.state.processes().len() as u64,
             2 | 3 => 4,
-            _ => queue_len(queue_at(self.state, i)),
+            _ => queue_len(&queue_at(self.state, i).value),
         }
     }
 
@@ -104,33 +103,34 @@ impl<'a> Objects for StateObjects<'a> {
 }
 
 // The queue whose object is the i-th.
-fn queue_at<'a>(state: &'a State, i: u32) -> &'a Entry<MsgQueue>
+fn queue_at<'a>(state: &'a State, i: u32) -> &'a Item<Entry<MsgQueue>>
+    requires passed { ArePassed state.now.limits }
+    requires sound { IsSound state.now.limits state.now.state }
     requires queue { 4 ≤ i }
     requires object { i < length (saved state.now.state) }
     ensures object { slice_get (saved state.now.state) i
-        ≡ Some (queue_number result.now.id.0, queue_bytes (queue_entry result.now)) }
-    ensures entry { slice_get state.now.state.msg.entries (i - 4)
-        ≡ Some (result.now.id.0, queue_entry result.now) }
-    ensures numbers { HasNumbers result.now.object.queue }
+        ≡ Some (queue_number result.now.number, queue_bytes (queue_entry result.now.value)) }
+    ensures entry { slice_get state.now.state.msg.entries (i - 4) ≡ Some (queue_row result.now) }
+    ensures numbers { HasNumbers result.now.value.object.queue }
 {
     &state.queues()[(i - ALWAYS) as usize]
 }
 
 // The i-th object passes the window.
 fn put_object(window: &mut Window, state: &State, i: u32, mark: &mut Mark)
+    requires passed { ArePassed state.now.limits }
+    requires sound { IsSound state.now.limits state.now.state }
     requires object { i < length (saved state.now.state) }
     requires mark { IsMarkOf state.now.state i mark.old }
     ensures passed { option_map (λ o. passed o.1 window.old) (slice_get (saved state.now.state) i)
         ≡ Some window.new }
     ensures mark { IsMarkOf state.now.state i mark.new }
 {
-    // What it ensures bounds the number of processes.
-    state.limits();
     match i {
         0 => put_clock(window, state.clock(), state.next_pid(), state.next_queue()),
         1 => put_processes(window, state.processes()),
         2 | 3 => put_count(window, 0),
-        _ => put_queue(window, queue_at(state, i), mark),
+        _ => put_queue(window, &queue_at(state, i).value, mark),
     }
 }
 

@@ -1,32 +1,25 @@
 //! That each number of a state has its place in a field. The type of a number says how large it is
 //! at most, and says so once the number is read; so each is read here, and nothing else is done.
+//! Messages are not read: a queue says of them what is needed.
 
-ghost use Rattle.std.specs.Prelude.{All, FitsSigned};
-ghost use Rattle.std.specs.Int.{w32, w64};
-ghost use Rattle.sysv_msg.specs.Queue.{Queue};
+ghost use Rattle.std.specs.Prelude.{All};
+ghost use Rattle.ipc_base.specs.Limits.{ArePassed};
+ghost use Rattle.ipc_base.specs.Numbers.{FitFields};
 ghost use Rattle.ipc_state.specs.Sound.{HasNumbers};
-ghost use Rattle.ipc_state.specs.Tables.{process_row, queue_entry};
-ghost use Rattle.ipc_image.specs.Fields.{FitFields};
-ghost use Rattle.ipc_image.specs.Saved.{
-  clock_sizes,
-  clock_numbers,
-  process_sizes,
-  process_numbers,
-  queue_sizes,
-  queue_numbers,
-  HasAllPlaces,
-};
+ghost use Rattle.ipc_state.specs.Tables.{item_row};
+ghost use Rattle.ipc_engine.specs.Sound.{IsSound};
+ghost use Rattle.ipc_image.specs.Saved.{clock_sizes, clock_numbers, FitsProcess, HasAllPlaces};
 ghost use Rattle.ipc_image.specs.SavedParts.{IsWidePerm, IsWideStat, IsWideQueue};
 
-use ipc_state::{Entry, Perm, Process, State};
-use sysv_msg::{Message, MsgQueue, QueueStat};
+use ipc_state::{Entry, Item, Perm, Process, State};
+use sysv_msg::{MsgQueue, QueueStat};
 
 /// Reads each number of a state.
 pub(crate) fn read_state(state: &State)
+    requires passed { ArePassed state.now.limits }
+    requires sound { IsSound state.now.limits state.now.state }
     ensures { HasAllPlaces state.now.state }
 {
-    // What it ensures bounds the number of processes.
-    state.limits();
     read_clock(state);
     read_processes(state.processes());
     read_queues(state.queues());
@@ -40,24 +33,24 @@ fn read_clock(state: &State)
     let _next_queue = state.next_queue();
 }
 
-fn read_processes(processes: &[Process])
-    ensures { All (λ p. FitFields process_sizes (process_numbers (process_row p))) processes.now }
+fn read_processes(processes: &[Item<Process>])
+    ensures { All (λ p. FitsProcess (item_row p)) processes.now }
 {
     for process in processes {
         read_process(process);
     }
 }
 
-fn read_process(process: &Process)
-    ensures { FitFields process_sizes (process_numbers (process_row process.now)) }
+fn read_process(process: &Item<Process>)
+    ensures { FitsProcess (item_row process.now) }
 {
-    let _pid = process.pid.0;
-    let _uid = process.cred.uid;
-    let _gid = process.cred.gid;
+    let _pid = process.number;
+    let _uid = process.value.cred.uid;
+    let _gid = process.value.cred.gid;
 }
 
-fn read_queues(queues: &[Entry<MsgQueue>])
-    requires { All (λ e. HasNumbers e.object.queue) queues.now }
+fn read_queues(queues: &[Item<Entry<MsgQueue>>])
+    requires { All (λ e. HasNumbers e.value.object.queue) queues.now }
     ensures { All IsWideQueue queues.now }
 {
     for entry in queues {
@@ -65,20 +58,12 @@ fn read_queues(queues: &[Entry<MsgQueue>])
     }
 }
 
-fn read_queue(entry: &Entry<MsgQueue>)
-    requires { HasNumbers entry.now.object.queue }
-    ensures { IsWideQueue entry.now }
+fn read_queue(queue: &Item<Entry<MsgQueue>>)
+    requires { HasNumbers queue.now.value.object.queue }
+    ensures { IsWideQueue queue.now }
 {
-    let _id = entry.id.0;
-    read_queue_numbers(entry);
-    read_messages(&entry.object);
-}
-
-fn read_queue_numbers(entry: &Entry<MsgQueue>)
-    requires { HasNumbers entry.now.object.queue }
-    ensures key { FitsSigned w32 entry.now.key }
-    ensures numbers { FitFields queue_sizes (queue_numbers (queue_entry entry.now)) }
-{
+    let _id = queue.number;
+    let entry = &queue.value;
     let _key = entry.key;
     read_perm(entry.perm);
     read_stat(entry.object.stat());
@@ -91,17 +76,3 @@ fn read_perm(perm: Perm)
 fn read_stat(stat: QueueStat)
     ensures { IsWideStat stat }
 {}
-
-fn read_messages(queue: &MsgQueue)
-    ensures { All (λ m. FitsSigned w64 m.mtype) queue.now.queue.messages }
-{
-    for at in 0..queue.len() {
-        read_message(queue.message(at));
-    }
-}
-
-fn read_message(message: &Message)
-    ensures { FitsSigned w64 message.now.mtype }
-{
-    let _mtype = message.mtype;
-}

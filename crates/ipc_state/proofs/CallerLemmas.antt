@@ -24,7 +24,6 @@ use Rattle.ipc_state.specs.Finish.{Finish, Attempt, Done, ended, answer, refuse,
 use Rattle.ipc_state.proofs.Numbering.{none_yet-numbered, with_new-numbered, without_entry-numbered, cleared-numbered}
 use Rattle.ipc_state.proofs.Keying as keying
 use Rattle.ipc_state.proofs.SoundQueues as queues
-
 pub use Rattle.ipc_state.proofs.Numbering.{neither}
 pub use Rattle.ipc_state.proofs.SoundQueues.{queue-numbers, sent-sound, taken-sound}
 

@@ -34,9 +34,13 @@ room_in k = k.room
 abbrev pub queues_of : KeyedTable Kept → Keyed Queue
 queues_of o = numbered_map (entry_map queue_in) (keyed_of o)
 
--- a queue with its identifier, its key and who may use it
+-- a queue with its key and who may use it
+abbrev pub queue_entry : Entry Kept → Entry Queue
+queue_entry e = entry_map queue_in e
+
+-- and with its identifier
 abbrev pub queue_row : Item (Entry Kept) → ℕ × Entry Queue
-queue_row e = (e.number, entry_map queue_in e.value)
+queue_row e = (e.number, queue_entry e.value)
 
 -- the room in each queue
 abbrev pub texts_of : KeyedTable Kept → List (ℕ × Option ℕ)

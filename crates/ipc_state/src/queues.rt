@@ -152,7 +152,5 @@ fn has_sound_messages(queue: &MsgQueue, limits: &Limits) -> bool
 fn are_sound(messages: &[Message], limits: &Limits) -> bool
     ensures { result ≡ list_all (λ m. is_sound_message limits.now (plain m)) messages.now }
 {
-    messages
-        .iter()
-        .all(|message| 0 < message.mtype && message.text.len() <= limits.msgmax as usize)
+    messages.iter().all(|message| 0 < message.mtype && message.text.len() <= limits.msgmax as usize)
 }

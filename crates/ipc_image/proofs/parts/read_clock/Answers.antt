@@ -1,7 +1,7 @@
 -- Too few bytes for the numbers.
 use Rattle.std.proofs.Common.{sym, ◌∙◌, []}
 use Rattle.std.proofs.lemmas.List.{append-nil}
-use Rattle.ipc_image.specs.Fields.{fields_bytes}
+use Rattle.ipc_base.specs.Numbers.{fields_bytes}
 use Rattle.ipc_image.specs.Saved.{clock_sizes, clock_numbers}
 use Rattle.ipc_image.proofs.parts.read_clock.Goals as goal
 

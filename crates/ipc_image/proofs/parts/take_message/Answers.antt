@@ -1,9 +1,9 @@
 -- Too few bytes for the numbers, or for the text.
 use Rattle.std.proofs.Common.{◌≡◌, ℕ, List, length, ◌++◌, sym, ◌∙◌, ap, arith, get_or}
 use Rattle.std.proofs.lemmas.List.{append_assoc, length-append}
-use Rattle.ipc_image.specs.Fields.{fields_bytes}
+use Rattle.ipc_base.specs.Numbers.{fields_bytes}
 use Rattle.ipc_image.specs.Saved.{message_sizes, message_numbers}
-use Rattle.ipc_image.proofs.FieldLists.{fields_one}
+use Rattle.ipc_base.proofs.CallerLemmas.{fields_one}
 use Rattle.ipc_image.proofs.parts.take_message.Goals as goal
 
 pub returns-in_err-numbers-clause-none : goal.returns-in_err-numbers-clause-none

@@ -3,9 +3,9 @@ use Rattle.std.proofs.Common.{◌≡◌, ℕ, ℤ, List, get_or, sym, ◌∙◌,
 use Rattle.std.specs.Prelude.{FitsSigned}
 use Rattle.std.specs.Int.{w32, cast_signed, cast_unsigned}
 use Rattle.std.proofs.lemmas.Int.{of_z-to_z, to_z-of_z}
-use Rattle.ipc_image.specs.Fields.{FitFields}
+use Rattle.ipc_base.specs.Numbers.{FitFields}
 use Rattle.ipc_image.specs.Saved.{queue_sizes, queue_numbers}
-use Rattle.ipc_image.proofs.FieldLists.{listed, numbers_are}
+use Rattle.ipc_base.proofs.CallerLemmas.{listed, numbers_are}
 use Rattle.ipc_image.proofs.RestoredParts.{queue_found}
 use Rattle.ipc_image.proofs.parts.take_queue.Goals as goal
 

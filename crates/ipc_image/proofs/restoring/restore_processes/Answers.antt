@@ -1,51 +1,67 @@
 -- Process after process, as many as were counted, and nothing after them.
-use Rattle.std.proofs.Common.{◌≡◌, ℕ, length, refl, sym, subst, ap, ◌∙◌, arith}
-use Rattle.std.specs.Prelude.{Err}
-use Rattle.ipc_base.specs.declared.limits.Limits.{Limits}
-use Rattle.ipc_state.specs.Restored.{with_row}
-use Rattle.ipc_state.specs.Sound.{IsSound}
-use Rattle.ipc_image.proofs.RestoredQueues.{ProcessesSoFar, processes-start, processes-next, processes-done, processes-whole, stuck-process, empty}
+use Rattle.std.proofs.Common.{◌≡◌, ◌++◌, [], ◌∷◌, ℕ, List, length, refl, sym, ap, ◌∙◌, arith}
+use Rattle.std.proofs.lemmas.List.{append_assoc, append-nil}
+use Rattle.ipc_state.specs.declared.processes.Process.{Process}
+use Rattle.ipc_state.specs.Restored.{with_last_process}
+use Rattle.ipc_state.specs.State.{State}
+use Rattle.ipc_image.specs.Relations.Restored.{with_processes}
+use Rattle.ipc_image.specs.Saved.{count_bytes, process_bytes, FitsProcess}
+use Rattle.ipc_image.proofs.ReadLists.{none-read, one-read, whole-read, stuck, all-read, empty}
+use Rattle.ipc_image.proofs.RestoredParts.{process_one, counted}
 use Rattle.ipc_image.proofs.restoring.restore_processes.Goals as goal
 
+-- none, and one more
+none_more : (s : State) → s ≡ with_processes s []
+none_more s = ap (λ (l : List (ℕ × Process)). record s { processes = record { next = s.processes.next; entries = l } }) (sym (append-nil s.processes.entries))
+
+one_more : (s t : State) (ps : List (ℕ × Process)) (pid : ℕ) (p : Process) → t ≡ with_processes s ps
+    → with_last_process t pid p ≡ with_processes s (ps ++ (pid, p) ∷ [])
+one_more s t ps pid p is =
+    ap (λ (u : State). with_last_process u pid p) is
+    ∙ ap (λ (l : List (ℕ × Process)). record s { processes = record { next = s.processes.next; entries = l } })
+    (append_assoc s.processes.entries ps ((pid, p) ∷ []))
+
 pub loop-init : goal.loop-init
-loop-init c = (processes-start c.args.state.now.state c.in-Some.rest.now c.requires, refl)
+loop-init c = record { items = []; so_far = none-read process_bytes FitsProcess c.in-Some.rest.now; added = none_more c.args.state.now.state; limits = refl }
 
-pub returns-in_err-left-clause-damaged : goal.returns-in_err-left-clause-damaged
-returns-in_err-left-clause-damaged c is s sound all from same =
-    let why = rw is at c.from_residual.ensures in
-    stuck-process c.args.bytes.now c.in-Some.rest.now c.in-Some.count (omega arith) c.in-Some.ensures.some s.processes all.count same
-    c.args.state.now.state c.loop.state.state c.loop.counter c.loop.left.now c.loop.invariant.0 all.processes
-    c.args.state.now.limits s sound refl from (omega (arith, c.loop-test.true))
-    (λ p rest fits good. c.in_err-left.ensures.damaged (ap (λ e. Err e) (sym why.1)) p rest fits
-    (subst (λ (l : Limits). IsSound l (with_row c.loop.state.state p.0 p.1)) (sym c.loop.invariant.1) good))
-
-pub returns-in_err-left-clause-limits : goal.returns-in_err-left-clause-limits
-returns-in_err-left-clause-limits c = c.in_err-left.ensures.limits ∙ c.loop.invariant.1
+pub returns-in_default-take_process-clause-damaged : goal.returns-in_default-take_process-clause-damaged
+returns-in_default-take_process-clause-damaged c is ps few fit same =
+    let count = counted c.in-Some.count c.in-Some.rest.now ps (omega arith) few (sym c.in-Some.ensures.some ∙ same) in
+    absurd (stuck process_bytes FitsProcess process_one c.loop.invariant.items c.loop.counter c.in-Some.rest.now c.loop.left.now c.loop.invariant.so_far ps fit count.1
+    (omega (arith, c.loop-test.true, count.0)) c.in_default-take_process.ensures.none)
 
 pub loop-preserved : goal.loop-preserved
-loop-preserved c = (
-  processes-next c.args.state.now.state c.loop.state.state c.restore_process.new.state.state c.loop.counter c.in-Some.rest.now c.loop.left.now
-      c.in_ok-left.left.now c.loop.invariant.0 c.in_ok-left.ensures.ok,
-  c.in_ok-left.ensures.limits ∙ c.loop.invariant.1,
-)
+loop-preserved c =
+    let some = c.in-Some-take_process.ensures.some in
+    record {
+      items = c.loop.invariant.items ++ (c.in-Some-take_process.pid.0, c.in-Some-take_process.process) ∷ [];
+      so_far = one-read process_bytes FitsProcess process_one c.loop.invariant.items c.loop.counter c.in-Some.rest.now c.loop.left.now
+          c.loop.invariant.so_far c.in-Some-take_process.rest.now (c.in-Some-take_process.pid.0, c.in-Some-take_process.process) some.0 some.1;
+      added = c.in_ok-restore_process.ensures.state
+          ∙ one_more c.args.state.now.state c.loop.state.state c.loop.invariant.items _ c.in-Some-take_process.process c.loop.invariant.added;
+      limits = c.in_ok-restore_process.ensures.limits ∙ c.loop.invariant.limits;
+    }
 
 pub returns-then-not-is_empty-clause-damaged : goal.returns-then-not-is_empty-clause-damaged
-returns-then-not-is_empty-clause-damaged c is s sound all from same =
+returns-then-not-is_empty-clause-damaged c is ps few fit same =
+    let count = counted c.in-Some.count c.in-Some.rest.now ps (omega arith) few (sym c.in-Some.ensures.some ∙ same) in
     let done : c.loop.counter ≡ c.in-Some.count = omega (arith, c.loop-test.false, c.loop.auto.counter-end) in
-    let none = processes-whole c.args.bytes.now c.in-Some.rest.now c.in-Some.count (omega arith) c.in-Some.ensures.some s.processes all.count same
-    c.args.state.now.state c.loop.state.state c.loop.counter c.loop.left.now c.loop.invariant.0 all.processes done in
+    let none = whole-read process_bytes FitsProcess process_one c.loop.invariant.items c.loop.counter c.in-Some.rest.now c.loop.left.now c.loop.invariant.so_far ps fit count.1
+    (sym count.0 ∙ sym done) in
     search (arith, c.if-not-is_empty.ensures, ap length none)
-
-pub returns-then-not-is_empty-clause-limits : goal.returns-then-not-is_empty-clause-limits
-returns-then-not-is_empty-clause-limits c = c.loop.invariant.1
 
 pub returns-clause-ok : goal.returns-clause-ok
 returns-clause-ok c =
     let done : c.loop.counter ≡ c.in-Some.count = omega (arith, c.loop-test.false, c.loop.auto.counter-end) in
-    processes-done c.args.state.now.state c.loop.state.state c.in-Some.count c.args.bytes.now c.in-Some.rest.now c.loop.left.now (omega arith)
-    c.in-Some.ensures.some
-    (subst (λ (n : ℕ). ProcessesSoFar c.args.state.now.state n c.in-Some.rest.now c.loop.state.state c.loop.left.now) done c.loop.invariant.0)
-    (empty c.loop.left.now (search (arith, c.if-not-is_empty.ensures)))
-
-pub returns-clause-limits : goal.returns-clause-limits
-returns-clause-limits c = c.loop.invariant.1
+    let so_far = c.loop.invariant.so_far in
+    let items = c.loop.invariant.items in
+    let none = empty c.loop.left.now (search (arith, c.if-not-is_empty.ensures)) in
+    record {
+      processes = items;
+      count = omega (arith, so_far.long, done);
+      fit = so_far.fit;
+      read = c.in-Some.ensures.some
+          ∙ ap (λ (n : ℕ). count_bytes n ++ c.in-Some.rest.now) (sym done ∙ sym so_far.long)
+          ∙ ap (λ (l : List ℕ). count_bytes (length items) ++ l) (all-read process_bytes FitsProcess items c.loop.counter c.in-Some.rest.now c.loop.left.now so_far none);
+      added = c.loop.invariant.added;
+    }

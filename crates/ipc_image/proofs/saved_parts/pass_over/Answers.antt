@@ -1,8 +1,7 @@
 use Rattle.std.proofs.Common.{◌∙◌, ◌+◌, ap, List, arith}
 use Rattle.sysv_msg.specs.Queue.{plain, PlainMessage}
 use Rattle.ipc_image.specs.Saved.{message_bytes}
-use Rattle.ipc_image.specs.SavedParts.{first_bytes}
-use Rattle.ipc_image.specs.Window.{Shown, passed}
+use Rattle.ipc_image.specs.Window.{passed}
 use Rattle.ipc_image.proofs.Marks.{first-next, first-fit}
 use Rattle.ipc_image.proofs.Windows.{passed-next}
 use Rattle.ipc_image.proofs.saved_parts.pass_over.Goals as goal

@@ -1,5 +1,5 @@
 use Rattle.std.proofs.Common.{◌∙◌, ap}
-use Rattle.ipc_image.specs.SavedParts.{field_bytes}
+use Rattle.ipc_base.specs.Numbers.{field_bytes}
 use Rattle.ipc_image.specs.Window.{passed}
 use Rattle.ipc_image.proofs.Windows.{passed-more}
 use Rattle.ipc_image.proofs.saved_parts.put_fields.Goals as goal

@@ -1,6 +1,6 @@
 use Rattle.std.proofs.Common.{◌∙◌, ap, List, ℕ}
 use Rattle.sysv_msg.specs.Queue.{plain}
-use Rattle.ipc_image.specs.Fields.{fields_bytes}
+use Rattle.ipc_base.specs.Numbers.{fields_bytes}
 use Rattle.ipc_image.specs.Saved.{message_sizes, message_numbers}
 use Rattle.ipc_image.specs.Window.{passed}
 use Rattle.ipc_image.proofs.Windows.{passed-both}

@@ -1,8 +1,8 @@
-use Rattle.std.proofs.Common.{◌≡◌, ◌∙◌, ap, sym, List, ℕ}
+use Rattle.std.proofs.Common.{◌≡◌, ◌∙◌, ap, sym, List}
 use Rattle.std.specs.List.{flat_map}
 use Rattle.sysv_msg.specs.Queue.{PlainMessage}
 use Rattle.ipc_state.specs.Tables.{queue_entry}
-use Rattle.ipc_image.specs.Fields.{fields_bytes}
+use Rattle.ipc_base.specs.Numbers.{fields_bytes}
 use Rattle.ipc_image.specs.Saved.{queue_sizes, queue_numbers, message_bytes}
 use Rattle.ipc_image.specs.SavedParts.{first_bytes}
 use Rattle.ipc_image.specs.Window.{Shown, passed}

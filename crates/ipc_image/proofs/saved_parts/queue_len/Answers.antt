@@ -9,6 +9,6 @@ returns c =
     omega (
       arith,
       queue-long (queue_entry c.args.entry.now),
-      ap (λ (s : QueueStat). s.qnum) c.stat-stat.ensures,
-      ap (λ (s : QueueStat). s.bytes) c.stat-stat.ensures,
+      ap (λ (s : QueueStat). s.qnum) c.stat-stat.ensures.stat,
+      ap (λ (s : QueueStat). s.bytes) c.stat-stat.ensures.stat,
     )

@@ -1,7 +1,7 @@
 use Rattle.std.proofs.Common.{◌≡◌, ℕ, List, [], ◌∷◌, Some, ap, sym, arith, ◌∙◌}
 use Rattle.std.specs.Prelude.{option_map}
 use Rattle.ipc_state.specs.State.{State}
-use Rattle.ipc_image.specs.Fields.{fields_bytes}
+use Rattle.ipc_base.specs.Numbers.{fields_bytes}
 use Rattle.ipc_image.specs.Saved.{clock_sizes, clock_numbers, processes_bytes}
 use Rattle.ipc_image.specs.Window.{Shown, passed}
 use Rattle.ipc_image.proofs.SavedObjects.{saved-clock, saved-processes, saved-none}

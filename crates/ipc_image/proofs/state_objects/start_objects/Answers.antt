@@ -1,5 +1,5 @@
 use Rattle.ipc_state.specs.State.{start}
-use Rattle.ipc_state.proofs.CallerLemmas.{start-sound}
+use Rattle.ipc_engine.proofs.CallerLemmas.{start-sound}
 use Rattle.ipc_image.proofs.SavedObjects.{saved-fit}
 use Rattle.ipc_image.proofs.state_objects.start_objects.Goals as goal
 

@@ -1,4 +1,4 @@
-use Rattle.std.proofs.Common.{◌≡◌, ℕ, ℤ, [], true, false, Option, Some, None, pos, length, refl, sym, subst, ap, ◌∙◌, rules}
+use Rattle.std.proofs.Common.{◌≡◌, ℕ, ℤ, [], true, false, Option, Some, None, pos, length, refl, sym, ap, ◌∙◌, rules}
 use Rattle.std.specs.Prelude.{nat_lt, unwrap_or, slice_get}
 use Rattle.std.specs.Int.{w64, cast_signed as to_z, cast_unsigned as of_z}
 use Rattle.std.proofs.lemmas.Int.{to_z-of_z}

@@ -1,4 +1,3 @@
-use Rattle.std.proofs.Common.{◌≡◌}
 use Rattle.std.proofs.lemmas.Result.{on_ok_weaker, on_err_weaker}
 use Rattle.ipc_state.proofs.CallerLemmas.{lent, same-state, left-limits, same-held, left-room}
 use Rattle.sysv_calls.proofs.calls.reserve_text.Goals as goal

@@ -2,7 +2,7 @@ use Rattle.std.proofs.Common.{◌≡◌, ℕ, List, Some, ap, sym, arith, ◌∙
 use Rattle.std.specs.List.{slice_get}
 use Rattle.std.specs.Prelude.{option_map}
 use Rattle.ipc_state.specs.State.{start}
-use Rattle.ipc_image.specs.Fields.{fields_bytes}
+use Rattle.ipc_base.specs.Numbers.{fields_bytes}
 use Rattle.ipc_image.specs.Saved.{clock_sizes, clock_numbers, count_bytes, saved}
 use Rattle.ipc_image.specs.Window.{Shown, at_place, passed}
 use Rattle.ipc_image.proofs.SavedObjects.{saved-clock, start-other}

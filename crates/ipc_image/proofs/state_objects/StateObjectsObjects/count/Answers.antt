@@ -8,7 +8,7 @@ pub returns-clause-count : goal.returns-clause-count
 returns-clause-count c =
     let rows = c.queues.result.now in
     rw (← c.self.view_is)
-    (omega (arith, saved-count c.self.inside.state.now.state, length-map rows queue_row, ap length c.queues.ensures.queues))
+    (omega (arith, saved-count c.self.inside.state.now.state, length-map rows queue_row, ap length c.queues.ensures))
 
 pub returns-clause-objects : goal.returns-clause-objects
 returns-clause-objects c =

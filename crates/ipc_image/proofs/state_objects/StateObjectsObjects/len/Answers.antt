@@ -1,7 +1,7 @@
 use Rattle.std.proofs.Common.{ℕ, List, length, Some, ap, arith, ◌∙◌}
 use Rattle.std.specs.Prelude.{option_map}
 use Rattle.std.proofs.lemmas.List.{length-map}
-use Rattle.ipc_state.specs.Tables.{process_row}
+use Rattle.ipc_state.specs.Tables.{item_row}
 use Rattle.ipc_image.proofs.SavedObjects.{saved-clock, saved-processes, saved-none, processes-long}
 use Rattle.ipc_image.proofs.state_objects.StateObjectsObjects.len.Goals as goal
 
@@ -16,7 +16,7 @@ returns-in-1 c =
     let s = c.self.inside.state.now.state in
     rw (c.in-1.is, ← c.self.view_is)
     (ap (option_map long) (saved-processes s)
-    ∙ ap Some (omega (arith, processes-long s.processes, length-map c.processes.result.now process_row, ap length c.processes.ensures)))
+    ∙ ap Some (omega (arith, processes-long s.processes.entries, length-map c.processes.result.now item_row, ap length c.processes.ensures)))
 
 pub returns-in-2 : goal.returns-in-2
 returns-in-2 c = ap (option_map long) (saved-none c.args.self.now c.args.i (omega arith) (omega arith))

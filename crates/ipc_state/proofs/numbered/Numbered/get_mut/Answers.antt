@@ -13,10 +13,14 @@ returns-in_err-place g c =
     let nowhere : place_of o n ≡ None = sym c.place.ensures ∙ c.in_err-place.was in
     let none : entry_of (numbered_of o) n ≡ None = value_nowhere item_row nat_eq n o.items.items nowhere in
     rw c.from_residual.ensures (
-      (refl, λ w. record {
-        numbered = ap (λ (es : List (ℕ × _)). record { next = o.next; entries = es }) (sym (with-none (numbered_of o).entries n w none));
-        place = refl;
-      }, refl),
+      (
+        refl,
+        λ w. record {
+          numbered = ap (λ (es : List (ℕ × _)). record { next = o.next; entries = es }) (sym (with-none (numbered_of o).entries n w none));
+          place = refl;
+        },
+        refl,
+      ),
       record { writes_back = tt; value = sym none },
     )
 

@@ -29,8 +29,8 @@ returns-then-from-least g c =
     let below : c.item-item.result.number < c.loop-item.least = omega (arith, c.if-from-least.true, c.from.ensures) in (
       λ no. cc,
       λ all. absurd (rise-stuck (λ (e : Item _). e.number) xs c.loop-item.item-index c.item-item.result c.loop-item-test.true c.loop-item.least
-      c.args.self.now.next c.loop-item.invariant (subst (λ (k : ℕ). k < c.loop-item.least) n below)
-      (subst (λ (ns : List ℕ). IsRising 1 ns c.args.self.now.next) (item-numbers es ∙ ap (map _) (sym c.deref-item-items.ensures.value)) all)),
+          c.args.self.now.next c.loop-item.invariant (subst (λ (k : ℕ). k < c.loop-item.least) n below)
+          (subst (λ (ns : List ℕ). IsRising 1 ns c.args.self.now.next) (item-numbers es ∙ ap (map _) (sym c.deref-item-items.ensures.value)) all)),
     )
 
 pub returns : goal.returns

@@ -1,0 +1,55 @@
+-- Things read one after another, as many as were counted: what was read so far, and what a reader that stops has shown.
+use Rattle.std.proofs.Common.{◌≡◌, ◌≢◌, ◌<◌, ◌+◌, ℕ, List, [], ◌∷◌, ◌++◌, length, refl, sym, ap, subst, ◌∙◌, arith}
+use Rattle.std.specs.Prelude.{All}
+use Rattle.std.specs.List.{flat_map}
+use Rattle.std.proofs.lemmas.List.{append-nil, length-append}
+use Rattle.std.proofs.lemmas.List.Elements.{All-nil, All-push, All-head, All-tail}
+use Rattle.ipc_base.proofs.CallerLemmas.{spelled-next, spelled-same, spelled-more}
+
+pub empty : (l : List ℕ) → length l ≡ 0 → l ≡ []
+empty [] is = refl
+empty (x ∷ xs) is = absurd (omega (arith, is))
+
+module _ {X : Type 0} (bytes_of : X → List ℕ) (P : X → Type 0) where
+  -- these were read, so many, and these bytes are left
+  pub record AreRead (items : List X) (count : ℕ) (bytes left : List ℕ) : Type 0 where
+    pub fit : All P items
+    pub long : length items ≡ count
+    pub read : bytes ≡ flat_map bytes_of items ++ left
+
+  pub none-read : (bytes : List ℕ) → AreRead [] 0 bytes bytes
+  none-read bytes = record { fit = All-nil P; long = refl; read = refl }
+
+  -- nothing is left
+  pub all-read : (items : List X) (count : ℕ) (bytes left : List ℕ) → AreRead items count bytes left → left ≡ [] → bytes ≡ flat_map bytes_of items
+  all-read items count bytes left so_far none =
+      so_far.read ∙ ap (λ (l : List ℕ). flat_map bytes_of items ++ l) none ∙ append-nil (flat_map bytes_of items)
+
+  module _ (one : (x y : X) (more others : List ℕ) → P x → P y → bytes_of x ++ more ≡ bytes_of y ++ others → (x ≡ y) × (more ≡ others))
+      (items : List X) (count : ℕ) (bytes left : List ℕ) (so_far : AreRead items count bytes left) where
+    -- one more
+    pub one-read : (rest : List ℕ) (x : X) → P x → left ≡ bytes_of x ++ rest → AreRead (items ++ x ∷ []) (count + 1) bytes rest
+    one-read rest x fits is =
+        record {
+          fit = All-push P items x so_far.fit fits;
+          long = omega (arith, length-append items (x ∷ []), so_far.long);
+          read = spelled-more bytes_of P one items x bytes left rest so_far.read is;
+        }
+
+    module _ (xs : List X) (fit : All P xs) (is : bytes ≡ flat_map bytes_of xs) where
+      same : flat_map bytes_of items ++ left ≡ flat_map bytes_of xs ++ []
+      same = sym so_far.read ∙ is ∙ sym (append-nil (flat_map bytes_of xs))
+
+      -- where there are no more, nothing is left
+      pub whole-read : length xs ≡ count → left ≡ []
+      whole-read long = (spelled-same bytes_of P one items xs left [] so_far.fit fit (so_far.long ∙ sym long) same).1
+
+      -- where there are more, the next one stands next
+      pub stuck : count < length xs → ((x : X) (rest : List ℕ) → P x → left ≢ bytes_of x ++ rest) → ⊥
+      stuck less never =
+          let next = spelled-next bytes_of P one items xs left [] so_far.fit fit (omega (arith, less, so_far.long)) same in
+          never next.0 (flat_map bytes_of next.1 ++ []) (middle items next.0 next.1 (subst (All P) next.2 fit)) next.3
+        where
+          middle : (ys : List X) (x : X) (more : List X) → All P (ys ++ x ∷ more) → P x
+          middle [] x more h = All-head P x more h
+          middle (y ∷ ys) x more h = middle ys x more (All-tail P y (ys ++ x ∷ more) h)

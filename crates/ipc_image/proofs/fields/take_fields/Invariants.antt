@@ -1,7 +1,0 @@
-use Rattle.std.proofs.Common.{◌≡◌, length, take}
-use Rattle.ipc_image.proofs.FieldLists.{Taken}
-use Rattle.ipc_image.proofs.fields.take_fields.Given as goal
-
--- as many were taken as turns
-abbrev pub invariant-loop-i : goal.invariant-loop-i
-invariant-loop-i g l = Taken (take l.i l.sizes) (take l.i l.numbers) l.bytes l.left × (length l.numbers ≡ g.row.N)
