@@ -11,3 +11,4 @@ pub mod Receiving
 pub mod Changes
 pub mod Committing
 pub mod Coming
+pub mod Lasting

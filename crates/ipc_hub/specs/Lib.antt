@@ -1,3 +1,4 @@
 pub mod Clients
+pub mod Lives
 pub mod View
 pub mod Relations

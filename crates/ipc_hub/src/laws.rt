@@ -7,13 +7,18 @@ ghost use Rattle.ipc_hub.specs.Clients.{Client, Clients, client_at, take_in, arr
 ghost use Rattle.ipc_disk.specs.Medium.{IsHonest};
 ghost use Rattle.ipc_engine.specs.Event.{PlainEvent};
 ghost use Rattle.ipc_store.specs.Histories.{History, Keeps, Takes, OpensOn, Survives};
+ghost use Rattle.ipc_store.specs.Lives.{StandsAfter};
 ghost use Rattle.ipc_store.specs.View.{StoreView};
+ghost use Rattle.ipc_hub.specs.Lives.{Life, Lives, HasHistory};
 ghost use Rattle.ipc_hub.specs.View.{StoredHub};
 ghost use Rattle.ipc_hub.specs.Relations.Lives.{HubCalls};
 ghost use Rattle.ipc_hub.specs.Relations.Matches.{AreFrames};
 
 use ipc_disk::SectorDisk;
-use ipc_store::a_crash_takes_nothing_acknowledged;
+use ipc_store::{
+    a_crash_takes_nothing_acknowledged, a_stop_leaves_what_was_acknowledged,
+    an_open_finds_what_stands_there, an_open_finds_what_was_acknowledged,
+};
 
 /// Bytes of a connection that are taken in in two pieces are taken in at once, with the same requests refused
 /// for memory.
@@ -47,4 +52,19 @@ pub fn a_crash_takes_no_answer_back<D: SectorDisk>()
         (before.found ++ now.events ++ others) }
 {
     a_crash_takes_nothing_acknowledged::<D>();
+}
+
+/// Over any number of lives on a disk, each of which may end at any moment of any call, and any
+/// number of opens that are stopped at any moment before one succeeds: the machine has one history.
+/// It has what was there before, and of each life some of the accepted events, from the first on.
+/// All that were confirmed are among them, and so is the event of each frame that a client could
+/// see, in any life. Each open gives the state after the history so far, and a restart.
+pub fn no_answer_is_taken_back<D: SectorDisk>()
+    ensures { (limits : Limits) (found : List PlainEvent) (disk : D) (lives : List Life) (opened : StoreView D)
+        → StandsAfter limits found (D.medium disk) → Lives D.medium limits disk lives opened
+        → HasHistory (D.medium opened.disk) limits found lives opened }
+{
+    a_stop_leaves_what_was_acknowledged::<D>();
+    an_open_finds_what_stands_there::<D>();
+    an_open_finds_what_was_acknowledged::<D>();
 }

@@ -11,5 +11,6 @@ mod Opened
 mod Openings
 mod Superblocks
 mod Surviving
+mod Leaving
 mod Replaying
 mod Formatting

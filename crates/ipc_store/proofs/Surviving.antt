@@ -34,7 +34,7 @@ gone medium first next before all keeps (More _ last _ events others calls takes
     }
 
 -- a store that was opened on an image which stands for the state after these events, or for one that a restart makes the same
-reopens : {D : Type 0} (medium : Medium) (store : StoreView D) (image : Image) (limits : Limits) (t : State) (events : List PlainEvent)
+pub reopens : {D : Type 0} (medium : Medium) (store : StoreView D) (image : Image) (limits : Limits) (t : State) (events : List PlainEvent)
     → length image < 2 ^ 32 → StandsFor limits t image → restart t ≡ restart (state_after limits events) → OpensOn image medium store
     → Keeps medium store (reopened events)
 reopens medium store image limits t events fits stands same opens =

@@ -1,6 +1,6 @@
 //! What follows from the definitions alone, and from what the calls on a store promise.
 
-ghost use Rattle.std.specs.Prelude.{◌≡◌, ◌<◌, ◌+◌, ◌^◌, ◌++◌, List, length};
+ghost use Rattle.std.specs.Prelude.{◌≡◌, ◌<◌, ◌+◌, ◌^◌, ◌++◌, List, [], length};
 ghost use Rattle.ipc_base.specs.declared.limits.Limits.{Limits};
 ghost use Rattle.ipc_disk.specs.Medium.{Image, IsHonest};
 ghost use Rattle.ipc_state.specs.State.{State};
@@ -8,6 +8,7 @@ ghost use Rattle.ipc_engine.specs.Event.{PlainEvent};
 ghost use Rattle.ipc_store.specs.Batch.{batch_bytes, AreBatch};
 ghost use Rattle.ipc_store.specs.Histories.{
   History,
+  acknowledged,
   accepted,
   state_after,
   reopened,
@@ -18,6 +19,7 @@ ghost use Rattle.ipc_store.specs.Histories.{
   Survives,
 };
 ghost use Rattle.ipc_store.specs.Image.{StandsFor};
+ghost use Rattle.ipc_store.specs.Lives.{IsLeft, StoppedOpens, StandsAfter, Rests, Found};
 ghost use Rattle.ipc_store.specs.View.{StoreView};
 ghost use Rattle.ipc_store.specs.Relations.Matches.{OpensTo};
 
@@ -58,5 +60,34 @@ pub fn an_open_that_stops_changes_nothing<D: SectorDisk>()
         → StandsFor limits (state_after limits events) image)
         → OpensTo (D.medium disk) (D.medium left).contents
         → OpensOn (D.medium left).contents (D.medium opened.disk) opened
+        → Keeps (D.medium opened.disk) opened (reopened events) }
+{}
+
+/// A call that is stopped at any moment of it leaves what was acknowledged before, and some of the
+/// other events, from the first on.
+pub fn a_stop_leaves_what_was_acknowledged<D: SectorDisk>()
+    ensures { (last next : StoreView D) (before : History) (events : List PlainEvent) (left : D)
+        → Keeps (D.medium last.disk) last before → Takes D.medium last events next
+        → IsLeft (D.medium last.disk) (D.medium next.disk) (D.medium left)
+        → Rests last.machine.limits (acknowledged before) (before.waiting ++ events) (D.medium left) }
+{}
+
+/// On a disk that such a stop has left, after any number of opens that were stopped too, an open
+/// finds what was acknowledged, and some of the other events, from the first on.
+pub fn an_open_finds_what_was_acknowledged<D: SectorDisk>()
+    ensures { (limits : Limits) (acked others : List PlainEvent) (left disk : D) (opened : StoreView D)
+        → Rests limits acked others (D.medium left) → StoppedOpens D.medium left disk
+        → OpensOn (D.medium disk).contents (D.medium opened.disk) opened
+        → Found limits acked others (D.medium opened.disk) opened }
+{}
+
+/// A disk that stands for the state after some events is such a disk: an open finds these events,
+/// and they are the history of its store.
+pub fn an_open_finds_what_stands_there<D: SectorDisk>()
+    ensures rests { (limits : Limits) (events : List PlainEvent) (disk : D)
+        → StandsAfter limits events (D.medium disk) → Rests limits events [] (D.medium disk) }
+    ensures keeps { (limits : Limits) (events : List PlainEvent) (disk : D) (opened : StoreView D)
+        → StandsAfter limits events (D.medium disk)
+        → OpensOn (D.medium disk).contents (D.medium opened.disk) opened
         → Keeps (D.medium opened.disk) opened (reopened events) }
 {}
