@@ -1,27 +1,27 @@
 -- Lives of the server: what each leaves, and the history that the machine has after all of them.
-use Rattle.std.proofs.Common.{◌≡◌, ℕ, ◌+◌, ◌-◌, ◌<◌, ◌≤◌, List, [], ◌∷◌, ◌++◌, length, drop, Option, Some, None, inl, inr, refl, sym, ap, subst, ◌∙◌, arith}
+use Rattle.std.proofs.Common.{◌≡◌, ℕ, ◌≤◌, List, [], ◌∷◌, ◌++◌, length, drop, Option, Some, None, inl, inr, refl, sym, ap, subst, ◌∙◌, arith}
 use Rattle.std.proofs.Common.{append-nil, append_assoc}
-use Rattle.std.specs.Prelude.{All, nat_le, nat_eq, option_map, unwrap_or}
+use Rattle.std.specs.Prelude.{All, nat_le, option_map, unwrap_or}
 use Rattle.std.proofs.lemmas.List.{length-append, length-drop, append_cancel_left}
 use Rattle.std.proofs.lemmas.List.Elements.{All-nil, All-cons, All-append, All-head, All-tail, All-weaker}
 use Rattle.std.proofs.lemmas.Bool.Decides.{nat_tests}
 use Rattle.ipc_base.specs.declared.limits.Limits.{Limits}
 use Rattle.ipc_base.proofs.CallerLemmas.{test_cases, paired-at, paired-none}
 use Rattle.ipc_disk.specs.Medium.{Image, Medium}
-use Rattle.ipc_state.specs.State.{State, restart}
-use Rattle.ipc_engine.specs.Event.{PlainEvent, Restart}
+use Rattle.ipc_state.specs.State.{restart}
+use Rattle.ipc_engine.specs.Event.{PlainEvent}
 use Rattle.ipc_store.specs.Histories.{History, acknowledged, accepted, state_after, reopened, Keeps, Takes, OpensOn}
-use Rattle.ipc_store.specs.Lives.{IsLeft, StoppedOpens, StandsAfter, Rests, Found}
+use Rattle.ipc_store.specs.Lives.{IsLeft, StoppedOpens, Rests, Found}
 use Rattle.ipc_store.specs.View.{StoreView}
 use Rattle.ipc_store.proofs.CallerLemmas.{Takes-none}
-use Rattle.ipc_hub.specs.Clients.{Frame, Client, Clients, all_bytes, client_at, confirmed_bytes, fail, no_clients, shown}
-use Rattle.ipc_hub.specs.Lives.{HubCall, Shows, Serving, Life, life_of, Lives, IsHistory, HasHistory}
+use Rattle.ipc_hub.specs.Clients.{Frame, Client, Clients, all_bytes, confirmed_bytes}
+use Rattle.ipc_hub.specs.Lives.{HubCall, Shows, Serving, Life, life_of, Lives, HasHistory}
 use Rattle.ipc_hub.specs.Lives.HubCall.{Serves, Still, Fails}
 use Rattle.ipc_hub.specs.Lives.Serving.{New, Call, Look}
 use Rattle.ipc_hub.specs.Lives.Lives.{First, Next}
 use Rattle.ipc_hub.specs.Lives.IsHistory.{None as no_life, More as life_more}
 use Rattle.ipc_hub.specs.View.{ConnectionView, HubView, StoredHub, connection_of, output_of}
-use Rattle.ipc_hub.specs.Relations.Matches.{AreFrames, ClientMatches, HubMatches, IsFrame, StoredMatches}
+use Rattle.ipc_hub.specs.Relations.Matches.{AreFrames, ClientMatches, HubMatches}
 use Rattle.ipc_hub.proofs.Changes.{has-bytes}
 use Rattle.ipc_hub.proofs.Deliveries.{IsOf}
 

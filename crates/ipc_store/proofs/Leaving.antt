@@ -4,7 +4,7 @@ use Rattle.ipc_base.specs.declared.limits.Limits.{Limits}
 use Rattle.ipc_disk.specs.Medium.{Image, Medium, IsHonest}
 use Rattle.ipc_state.specs.State.{State, restart}
 use Rattle.ipc_engine.specs.Event.{PlainEvent}
-use Rattle.ipc_store.specs.Histories.{History, acknowledged, state_after, reopened, Keeps, Takes, OpensOn, StandsForPrefix}
+use Rattle.ipc_store.specs.Histories.{History, acknowledged, state_after, Keeps, Takes, OpensOn, StandsForPrefix}
 use Rattle.ipc_store.specs.Image.{StandsFor}
 use Rattle.ipc_store.specs.Lives.{IsLeft, StoppedOpens, StandsAfter, ReopensTo, Rests, Found}
 use Rattle.ipc_store.specs.Lives.StoppedOpens.{None, More}
