@@ -9,6 +9,7 @@ use Rattle.ipc_store.specs.Lives.StoppedOpens.{None as no_open}
 use Rattle.ipc_store.specs.View.{StoreView}
 use Rattle.ipc_hub.specs.Clients.{Clients, no_clients, tick}
 use Rattle.ipc_hub.specs.Lives.{Life, Lives, Serving, life_of}
+use Rattle.ipc_hub.specs.Lives.ClientCall.{Ticks as to_tick, Stays as to_stay}
 use Rattle.ipc_hub.specs.Lives.HubCall.{Serves as call_serves, Still}
 use Rattle.ipc_hub.specs.Lives.Lives.{First, Next}
 use Rattle.ipc_hub.specs.Lives.Serving.{New, Call}
@@ -34,11 +35,11 @@ module _ {D : Type 0} (medium : D → Medium) (limits : Limits) (disk left : D) 
       let now : Clients = tick limits clients moment in
       let came = serves limits clients matches in
       let begun : Serving medium limits opened new clients [] = New new same matches in
-      let timed : Serving medium limits opened ticked now [] = Call new ticked clients now [] begun (call_serves now came) in
+      let timed : Serving medium limits opened ticked now [] = Call new ticked clients now [] begun (call_serves now (to_tick moment) came) in
       let lasts : Serving medium limits opened last now [] =
       Call ticked last now now [] timed
-      (call_serves now (record { matches = still limits now came.matches; events = []; adds = sym (append-nil now.events); takes = takes })) in (
+      (call_serves now to_stay (record { matches = still limits now came.matches; events = []; adds = sym (append-nil now.events); takes = takes })) in (
         life_of opened last now [],
         Next [] opened store last last now now [] left left (First disk opened no_open opens) lasts
-            (Still now refl refl (λ confirmed m. m)) (is-left honest is) no_open again,
+            (Still now to_stay refl refl (λ confirmed m. m)) (is-left honest is) no_open again,
       )

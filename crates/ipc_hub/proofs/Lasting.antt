@@ -3,13 +3,13 @@ use Rattle.std.proofs.Common.{◌≡◌, ℕ, ◌≤◌, List, [], ◌∷◌, �
 use Rattle.std.proofs.Common.{append-nil, append_assoc}
 use Rattle.std.specs.Prelude.{All, nat_le, option_map, unwrap_or}
 use Rattle.std.proofs.lemmas.List.{length-append, length-drop, append_cancel_left}
-use Rattle.std.proofs.lemmas.List.Elements.{All-nil, All-cons, All-append, All-head, All-tail, All-weaker}
+use Rattle.std.proofs.lemmas.List.Elements.{All-nil, All-cons, All-append, All-head, All-tail, All-take, All-weaker}
 use Rattle.std.proofs.lemmas.Bool.Decides.{nat_tests}
 use Rattle.ipc_base.specs.declared.limits.Limits.{Limits}
-use Rattle.ipc_base.proofs.CallerLemmas.{test_cases, paired-at, paired-none}
+use Rattle.ipc_base.proofs.CallerLemmas.{each-at, test_cases, paired-at, paired-none}
 use Rattle.ipc_disk.specs.Medium.{Image, Medium}
-use Rattle.ipc_state.specs.State.{restart}
-use Rattle.ipc_engine.specs.Event.{PlainEvent}
+use Rattle.ipc_state.specs.State.{State, restart}
+use Rattle.ipc_engine.specs.Event.{PlainEvent, Restart}
 use Rattle.ipc_store.specs.Histories.{History, acknowledged, accepted, state_after, reopened, Keeps, Takes, OpensOn}
 use Rattle.ipc_store.specs.Lives.{IsLeft, StoppedOpens, Rests, Found}
 use Rattle.ipc_store.specs.View.{StoreView}
@@ -24,6 +24,10 @@ use Rattle.ipc_hub.specs.View.{ConnectionView, HubView, StoredHub, connection_of
 use Rattle.ipc_hub.specs.Relations.Matches.{AreFrames, ClientMatches, HubMatches}
 use Rattle.ipc_hub.proofs.Changes.{has-bytes}
 use Rattle.ipc_hub.proofs.Deliveries.{IsOf}
+use Rattle.ipc_hub.proofs.Replying.{IsTold, Says, answer-more, told-call, told-fail}
+use Rattle.ipc_hub.specs.Replies.{IsAnswer}
+use Rattle.std.proofs.Math.Seq.{take-append_seam}
+use Rattle.std.specs.Prelude.{take}
 
 -- ---- frames that are shown
 
@@ -96,6 +100,21 @@ shows-confirmed limits confirmed v h conn frames m s = by_value (connection_of v
         shown-confirmed confirmed (length h.events) w s.client frames s.others
         (subst (ClientMatches confirmed (length h.events) w) same partner.1.1) s.first output
 
+-- frames that an output shows are answers, as all of the client are
+first-say : (limits : Limits) (base : State) (h : Clients) (frames : List Frame) (conn : ℕ) (v : HubView) → IsTold limits base h
+    → Shows v h conn frames → All (IsAnswer limits base h.events) frames
+first-say limits base h frames conn v told s =
+    let says : All (IsAnswer limits base h.events) s.client.frames =
+    each-at (Says limits base h.events) h.clients conn s.client told.each s.found in
+    let split : take (length frames) s.client.frames ≡ frames = ap (take (length frames)) (sym s.first) ∙ take-append_seam frames s.others in
+    subst (All (IsAnswer limits base h.events)) split (All-take (IsAnswer limits base h.events) (length frames) s.client.frames says)
+
+-- two facts of each frame make a third
+both-hold : (P Q R : Frame → Type 0) → ((f : Frame) → P f → Q f → R f) → (fs : List Frame) → All P fs → All Q fs → All R fs
+both-hold P Q R does [] ps qs = All-nil R
+both-hold P Q R does (f ∷ fs) ps qs =
+    All-cons R f fs (does f (All-head P f fs ps) (All-head Q f fs qs)) (both-hold P Q R does fs (All-tail P f fs ps) (All-tail Q f fs qs))
+
 -- ---- a life
 
 -- A hub after some calls of a life: its store has a history, which begins with what was found; the events of the clients
@@ -111,14 +130,16 @@ record Lived {D : Type 0} (medium : D → Medium) (limits : Limits) (kept : List
   matches : HubMatches limits confirmed v.hub h
   within : confirmed ≤ v.store.confirmed
   lasts : All (IsWithin v.store.confirmed) seen
+  told : IsTold limits (state_after limits kept) h
+  answers : All (IsAnswer limits (state_after limits kept) h.events) seen
 
 module _ {D : Type 0} (medium : D → Medium) (law : (d : D) (image : Image) → (medium d).images_since (medium d).moment image → (medium d).images_now image)
     (limits : Limits) where
   -- the events that a call accepts, which its store takes
   took : (old new : StoredHub D) (h next : Clients) → HubCall medium limits old h new next
       → (events : List PlainEvent) × Takes medium old.store events new.store × (next.events ≡ h.events ++ events)
-  took old new h _ (Serves next comes) = (comes.events, comes.takes, comes.adds)
-  took old new h _ (Still next same store matches) = (
+  took old new h _ (Serves next call comes) = (comes.events, comes.takes, comes.adds)
+  took old new h _ (Still next call same store matches) = (
     [],
     subst (λ (s : StoreView D). Takes medium old.store [] s) (sym store) (Takes-none medium law old.store),
     same ∙ sym (append-nil h.events),
@@ -142,9 +163,16 @@ module _ {D : Type 0} (medium : D → Medium) (law : (d : D) (image : Image) →
   shown-after : (old new : StoredHub D) (h next : Clients) (confirmed : ℕ) → HubMatches limits confirmed old.hub h → confirmed ≤ old.store.confirmed
       → old.store.confirmed ≤ new.store.confirmed → HubCall medium limits old h new next
       → (now : ℕ) × HubMatches limits now new.hub next × (now ≤ new.store.confirmed)
-  shown-after old new h _ confirmed m within more (Serves next comes) = (new.store.confirmed, comes.matches.hub, omega arith)
-  shown-after old new h _ confirmed m within more (Still next same store matches) = (confirmed, matches confirmed m, omega (arith, within, more))
+  shown-after old new h _ confirmed m within more (Serves next call comes) = (new.store.confirmed, comes.matches.hub, omega arith)
+  shown-after old new h _ confirmed m within more (Still next call same store matches) = (confirmed, matches confirmed m, omega (arith, within, more))
   shown-after old new h _ confirmed m within more (Fails takes matches) = (old.store.confirmed, matches, more)
+
+  -- the frames are answers after a call as before
+  told-after : (base : State) (old new : StoredHub D) (h next : Clients) → IsTold limits base h → HubCall medium limits old h new next
+      → IsTold limits base next
+  told-after base old new h _ told (Serves next call comes) = told-call limits base h next told call
+  told-after base old new h _ told (Still next call same store matches) = told-call limits base h next told call
+  told-after base old new h _ told (Fails takes matches) = told-fail limits base h old.store.confirmed told
 
   -- one call more
   lived-call : (kept : List PlainEvent) (old new : StoredHub D) (h next : Clients) (seen : List Frame) → Lived medium limits kept old h seen
@@ -172,13 +200,18 @@ module _ {D : Type 0} (medium : D → Medium) (law : (d : D) (image : Image) →
         matches = shown.1;
         within = shown.2;
         lasts = All-weaker (IsWithin old.store.confirmed) (IsWithin new.store.confirmed) (λ f is. omega (arith, is, more)) seen so_far.lasts;
+        told = told-after (state_after limits kept) old new h next so_far.told call;
+        answers = subst (λ (es : List PlainEvent). All (IsAnswer limits (state_after limits kept) es) seen) (sym t.2)
+            (All-weaker (IsAnswer limits (state_after limits kept) h.events) (IsAnswer limits (state_after limits kept) (h.events ++ t.0))
+            (answer-more limits (state_after limits kept) h.events t.0) seen so_far.answers);
       }
 
   -- all calls of a life
   lived : (kept : List PlainEvent) (opened : StoreView D) (last : StoredHub D) (now : Clients) (seen : List Frame)
-      → Keeps (medium opened.disk) opened (reopened kept) → opened.machine.limits ≡ limits → Serving medium limits opened last now seen
+      → Keeps (medium opened.disk) opened (reopened kept) → opened.machine.limits ≡ limits
+      → opened.machine.state ≡ restart (state_after limits kept) → Serving medium limits opened last now seen
       → Lived medium limits kept last now seen
-  lived kept opened hub _ _ keeps under (New _ store matches) = record {
+  lived kept opened hub _ _ keeps under state (New _ store matches) = record {
     history = reopened kept;
     keeps = subst (λ (s : StoreView D). Keeps (medium s.disk) s (reopened kept)) (sym store) keeps;
     found = refl;
@@ -188,11 +221,13 @@ module _ {D : Type 0} (medium : D → Medium) (law : (d : D) (image : Image) →
     matches = matches.hub;
     within = omega arith;
     lasts = All-nil (IsWithin hub.store.confirmed);
+    told = record { state = state; each = tt };
+    answers = All-nil (IsAnswer limits (state_after limits kept) (Restart ∷ []));
   }
-  lived kept opened next then seen keeps under (Call last _ now _ _ serving call) =
-      lived-call kept last next now then seen (lived kept opened last now seen keeps under serving) call
-  lived kept opened last now _ keeps under (Look _ _ seen frames conn serving shows) =
-      let so_far = lived kept opened last now seen keeps under serving in
+  lived kept opened next then seen keeps under state (Call last _ now _ _ serving call) =
+      lived-call kept last next now then seen (lived kept opened last now seen keeps under state serving) call
+  lived kept opened last now _ keeps under state (Look _ _ seen frames conn serving shows) =
+      let so_far = lived kept opened last now seen keeps under state serving in
       record {
         history = so_far.history;
         keeps = so_far.keeps;
@@ -206,6 +241,9 @@ module _ {D : Type 0} (medium : D → Medium) (law : (d : D) (image : Image) →
             (All-weaker (IsWithin so_far.confirmed) (IsWithin last.store.confirmed) (λ f is. omega (arith, is, so_far.within)) frames
             (shows-confirmed limits so_far.confirmed last.hub now conn frames so_far.matches shows))
             so_far.lasts;
+        told = so_far.told;
+        answers = All-append (IsAnswer limits (state_after limits kept) now.events) frames seen
+            (first-say limits (state_after limits kept) now frames conn last.hub so_far.told shows) so_far.answers;
       }
 
 -- ---- lives
@@ -237,7 +275,7 @@ module _ {D : Type 0} (medium : D → Medium) (law : (d : D) (image : Image) →
       → StoppedOpens medium left from → OpensOn (medium from).contents (medium store.disk) store
       → HasHistory (medium store.disk) limits found (life_of opened last then seen ∷ lives) store
   one-more found lives opened store last next now then seen left from has serving call is_left opens on =
-      let l = lived medium law limits has.history opened last now seen has.keeps has.under serving in
+      let l = lived medium law limits has.history opened last now seen has.keeps has.under has.state serving in
       let h : History = l.history in
       let t = took medium law limits last next now then call in
       let rests = leaves last.store next.store h t.0 left l.keeps t.1 is_left in
@@ -252,7 +290,13 @@ module _ {D : Type 0} (medium : D → Medium) (law : (d : D) (image : Image) →
             (append_assoc h.confirmed f.kept f.lost ∙ ap (λ (es : List PlainEvent). h.confirmed ++ es) f.prefix
             ∙ sym (append_assoc h.confirmed h.waiting t.0) ∙ ap (λ (es : List PlainEvent). es ++ t.0) l.events ∙ sym t.2)
             most
-            (All-weaker (IsWithin last.store.confirmed) (IsWithin (length kept)) (λ f is. omega (arith, is, most)) seen l.lasts);
+            (both-hold (IsWithin last.store.confirmed) (IsAnswer limits (state_after limits has.history) now.events)
+            (λ f. (f.mark ≤ length kept) × IsAnswer limits (state_after limits has.history) then.events f)
+            (λ f is says. (
+              omega (arith, is, most),
+              subst (λ (es : List PlainEvent). IsAnswer limits (state_after limits has.history) es f) (sym t.2)
+                  (answer-more limits (state_after limits has.history) now.events t.0 f says),
+            )) seen l.lasts l.answers);
         under = f.under ∙ l.under;
         state = f.state ∙ ap (λ (k : Limits). restart (state_after k (acknowledged h ++ f.kept))) l.under
             ∙ ap (λ (es : List PlainEvent). restart (state_after limits es)) all;

@@ -1,6 +1,6 @@
 -- What clients may count on, over any number of lives of the server. A life is an open of the device, and calls on a hub
 -- over it. The last of these may be stopped at any moment of it, and so may opens before the one that succeeds.
-use Rattle.std.specs.Prelude.{◌≡◌, ◌≤◌, ℕ, List, [], ◌∷◌, ◌++◌, length, drop, Some, All}
+use Rattle.std.specs.Prelude.{◌≡◌, ◌≤◌, ℕ, Bool, List, [], ◌∷◌, ◌++◌, length, drop, Some, All}
 use Rattle.ipc_base.specs.declared.limits.Limits.{Limits}
 use Rattle.ipc_disk.specs.Medium.{Medium}
 use Rattle.ipc_state.specs.State.{State, restart}
@@ -8,18 +8,33 @@ use Rattle.ipc_engine.specs.Event.{PlainEvent, Restart}
 use Rattle.ipc_store.specs.Histories.{Keeps, OpensOn, Takes, reopened, state_after}
 use Rattle.ipc_store.specs.Lives.{IsLeft, StoppedOpens}
 use Rattle.ipc_store.specs.View.{StoreView}
-use Rattle.ipc_hub.specs.Clients.{Frame, Client, Clients, all_bytes, client_at, fail, no_clients}
+use Rattle.ipc_hub.specs.Clients.{Frame, Client, Clients, all_bytes, client_at, no_clients}
+use Rattle.ipc_hub.specs.Clients.{connect, consume, fail, feed, hangup, tick}
+use Rattle.ipc_hub.specs.Replies.{IsAnswer}
 use Rattle.ipc_hub.specs.View.{HubView, StoredHub, output_of}
 use Rattle.ipc_hub.specs.Relations.Matches.{HubMatches, StoredMatches, Comes}
 
 -- ---- what happens
 
+-- what a call makes of the clients, by the definitions
+pub data ClientCall (limits : Limits) (h : Clients) : Clients → Type 0 where
+  Connects : (conn : ℕ) → ClientCall limits h (connect h conn)
+  Consumes : (conn count : ℕ) → ClientCall limits h (consume h conn count)
+  Ticks : (moment : ℕ) → ClientCall limits h (tick limits h moment)
+  Feeds : (conn : ℕ) (bytes : List ℕ) (moment : ℕ) (refused : List Bool)
+      → ClientCall limits h (feed limits h conn bytes moment refused)
+  HangsUp : (conn moment : ℕ) → ClientCall limits h (hangup limits h conn moment)
+  -- a release, a save, or none
+  Stays : ClientCall limits h h
+
 -- A call on a hub, and what it makes of the clients. It serves them; or it is about connections alone, and leaves the
--- store as it is; or what waited could not be made to last. Each clause of a call on a hub gives one of these.
+-- store as it is; or what waited could not be made to last, before the call did anything else. Each clause of a call on
+-- a hub gives one of these.
 pub data HubCall {D : Type 0} (medium : D → Medium) (limits : Limits) (old : StoredHub D) (h : Clients) (new : StoredHub D)
     : Clients → Type 0 where
-  Serves : (next : Clients) → Comes medium limits old new h next → HubCall medium limits old h new next
-  Still : (next : Clients) → next.events ≡ h.events → new.store ≡ old.store
+  Serves : (next : Clients) → ClientCall limits h next → Comes medium limits old new h next
+      → HubCall medium limits old h new next
+  Still : (next : Clients) → ClientCall limits h next → next.events ≡ h.events → new.store ≡ old.store
       → ((confirmed : ℕ) → HubMatches limits confirmed old.hub h → HubMatches limits confirmed new.hub next)
       → HubCall medium limits old h new next
   Fails : Takes medium old.store [] new.store
@@ -81,13 +96,14 @@ pub data Lives {D : Type 0} (medium : D → Medium) (limits : Limits) (disk : D)
 
 -- The machine's history over lives: what was there before them, and then of each life some of the events that it
 -- accepted, from the first on. All that were confirmed are among them, and so is the event of each frame that was in an
--- output: a mark counts the events of the life up to the frame's own. The open of each life gave the state after the
--- history so far, and a restart.
+-- output: the frame is a reply of it, or says that a request was no event or that the connection has ended. The open of
+-- each life gave the state after the history so far, and a restart.
 pub data IsHistory (limits : Limits) (found : List PlainEvent) : List Life → List PlainEvent → Type 0 where
   None : IsHistory limits found [] found
   More : (lives : List Life) (life : Life) (history kept lost : List PlainEvent)
       → IsHistory limits found lives history → life.opened ≡ restart (state_after limits history)
-      → kept ++ lost ≡ life.accepted → life.confirmed ≤ length kept → All (λ f. f.mark ≤ length kept) life.seen
+      → kept ++ lost ≡ life.accepted → life.confirmed ≤ length kept
+      → All (λ f. (f.mark ≤ length kept) × IsAnswer limits (state_after limits history) life.accepted f) life.seen
       → IsHistory limits found (life ∷ lives) (history ++ kept)
 
 -- The store that is opened after these lives has such a history: its machine is in the state after it, and a restart.

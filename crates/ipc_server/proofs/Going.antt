@@ -10,13 +10,14 @@ use Rattle.ipc_store.specs.Histories.{Takes}
 use Rattle.ipc_store.proofs.CallerLemmas.{Takes-none, Takes-both}
 use Rattle.ipc_hub.specs.declared.fault.ConnectError.{ConnectError}
 use Rattle.ipc_hub.specs.Clients.{Client, Clients, client_at, consume, tick}
-use Rattle.ipc_hub.specs.Lives.{HubCall}
+use Rattle.ipc_hub.specs.Lives.{ClientCall, HubCall}
+use Rattle.ipc_hub.specs.Lives.ClientCall.{Connects as to_connect, Consumes as to_consume, Ticks as to_tick, Feeds as to_feed, HangsUp as to_hang_up, Stays as to_stay}
 use Rattle.ipc_hub.specs.Lives.HubCall.{Serves as call_serves}
 use Rattle.ipc_hub.specs.View.{StoredHub, output_of}
 use Rattle.ipc_hub.specs.Relations.Faults.{Halts}
 use Rattle.ipc_hub.specs.Relations.Matches.{Comes, HubMatches, Serves, Simulates, StoredMatches}
 use Rattle.ipc_server.specs.Acts.{Act, IsAt, IsShown, after, after_one}
-use Rattle.ipc_server.specs.Acts.Act.{Connects, Ticks, Releases, Consumes}
+use Rattle.ipc_server.specs.Acts.Act.{Connects, Ticks, Feeds, HangsUp, Releases, Consumes}
 use Rattle.ipc_server.specs.Fault.{of_commit_error}
 use Rattle.ipc_server.specs.Goes.{Steps, Makes, Goes, GoesRound, Sends, Breaks, BreaksOff}
 use Rattle.ipc_server.specs.Goes.Steps.{None as no_step, More as one_step}
@@ -56,6 +57,15 @@ pub sends-one : {D : Type 0} (old new : StoredHub D) (conn count : ℕ) → coun
 sends-one old new conn count within does store = one_send old new conn count no_send within does store
 
 -- ---- calls, one after another
+
+-- each is one of the definitions
+client-call : (limits : Limits) (h : Clients) (act : Act) → ClientCall limits h (after_one limits h act)
+client-call limits h (Connects conn) = to_connect conn
+client-call limits h (Ticks moment) = to_tick moment
+client-call limits h (Feeds conn bytes moment refused) = to_feed conn bytes moment refused
+client-call limits h (HangsUp conn moment) = to_hang_up conn moment
+client-call limits h Releases = to_stay
+client-call limits h (Consumes conn count) = to_consume conn count
 
 module _ {D : Type 0} (medium : D → Medium) (moment : ℕ) (limits : Limits) where
   pub steps-both : (old mid : StoredHub D) (h : Clients) (acts : List Act) (new : StoredHub D) (others : List Act) → Steps medium moment limits old h mid acts
@@ -102,7 +112,7 @@ module _ {D : Type 0} (medium : D → Medium) where
     pub makes-one : (limits : Limits) (old new : StoredHub D) (h : Clients) (act : Act) → IsAt moment act → IsShown old.hub act
         → Comes medium limits old new h (after_one limits h act) → Makes medium moment limits old new h (act ∷ [])
     makes-one limits old new h act is shown comes = record {
-      steps = steps-one medium moment limits old new h act is shown (call_serves (after_one limits h act) comes);
+      steps = steps-one medium moment limits old new h act is shown (call_serves (after_one limits h act) (client-call limits h act) comes);
       comes = comes;
     }
 

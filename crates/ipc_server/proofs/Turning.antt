@@ -53,7 +53,7 @@ module _ {D : Type 0} (medium : D → Medium) (limits : Limits) (opened : StoreV
         after limits now (Consumes conn count ∷ []),
         Go moment moment last next now seen (Consumes conn count ∷ []) so_far.1 (omega arith)
             (one_step last next [] (Consumes conn count) no_step tt within
-            (Still (consume now conn count) (consume-events now conn count) store (λ confirmed m. does limits confirmed now m))),
+            (Still (consume now conn count) (to_consume conn count) (consume-events now conn count) store (λ confirmed m. does limits confirmed now m))),
       )
 
   -- one turn more

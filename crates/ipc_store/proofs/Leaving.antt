@@ -1,17 +1,28 @@
 -- What a stop leaves, what opens that are stopped make of it, and what an open finds.
-use Rattle.std.proofs.Common.{◌≡◌, inl, inr, ⊎_elim, ◌<◌, ◌^◌, List, [], ◌++◌, length, refl, sym, ap, subst, ◌∙◌, append-nil}
+use Rattle.std.proofs.Common.{◌≡◌, inl, inr, ⊎_elim, ◌<◌, ◌^◌, List, [], ◌∷◌, ◌++◌, length, refl, sym, ap, subst, ◌∙◌, append-nil}
 use Rattle.ipc_base.specs.declared.limits.Limits.{Limits}
 use Rattle.ipc_disk.specs.Medium.{Image, Medium, IsHonest}
-use Rattle.ipc_state.specs.State.{State, restart}
-use Rattle.ipc_engine.specs.Event.{PlainEvent}
-use Rattle.ipc_store.specs.Histories.{History, acknowledged, state_after, Keeps, Takes, OpensOn, StandsForPrefix}
+use Rattle.ipc_state.specs.State.{State, start, restart}
+use Rattle.ipc_engine.specs.Event.{PlainEvent, Restart}
+use Rattle.ipc_engine.proofs.CallerLemmas.{run-parts}
+use Rattle.ipc_store.specs.Histories.{History, acknowledged, state_after, reopened, Keeps, Takes, OpensOn, StandsForPrefix}
 use Rattle.ipc_store.specs.Image.{StandsFor}
 use Rattle.ipc_store.specs.Lives.{IsLeft, StoppedOpens, StandsAfter, ReopensTo, Rests, Found}
 use Rattle.ipc_store.specs.Lives.StoppedOpens.{None, More}
 use Rattle.ipc_store.specs.View.{StoreView}
-use Rattle.ipc_store.specs.Relations.Matches.{StandsForEither, OpensTo}
+use Rattle.ipc_store.specs.Relations.Matches.{StoreMatches, StandsForEither, OpensTo}
 use Rattle.ipc_store.proofs.CallerLemmas.{StandsFor-one}
-use Rattle.ipc_store.proofs.Surviving.{reopens}
+
+-- a store that was opened on an image which stands for the state after these events, or for one that a restart makes the same
+pub reopens : {D : Type 0} (medium : Medium) (store : StoreView D) (image : Image) (limits : Limits) (t : State) (events : List PlainEvent)
+    → length image < 2 ^ 32 → StandsFor limits t image → restart t ≡ restart (state_after limits events) → OpensOn image medium store
+    → Keeps medium store (reopened events)
+reopens medium store image limits t events fits stands same opens =
+    let one = StandsFor-one store.machine.limits limits opens.found.0 t image fits opens.found.1 stands in
+    let after : restart opens.found.0 ≡ state_after store.machine.limits (events ++ Restart ∷ []) =
+    ap restart one.1 ∙ same ∙ ap (λ (l : Limits). restart (state_after l events)) (sym one.0)
+    ∙ sym (run-parts store.machine.limits start events (Restart ∷ [])) in
+    record { stands = inl (subst (λ (s : State). StoreMatches medium store s []) after opens.found.2); count = opens.confirmed }
 
 -- what stands for the state after some events is opened after them
 reopens-prefix : (limits : Limits) (acked others : List PlainEvent) (image : Image) → StandsForPrefix limits acked others image

@@ -1,6 +1,5 @@
 use Rattle.std.proofs.Common.{◌<◌, ◌^◌, length, arith, refl}
-use Rattle.ipc_store.proofs.Leaving.{rests-standing}
-use Rattle.ipc_store.proofs.Surviving.{reopens}
+use Rattle.ipc_store.proofs.Leaving.{rests-standing, reopens}
 use Rattle.ipc_store.specs.Histories.{state_after}
 use Rattle.ipc_store.proofs.laws.an_open_finds_what_stands_there.Goals as goal
 
