@@ -1,5 +1,5 @@
 -- Each frame of a client is an answer, whatever calls of the definitions came.
-use Rattle.std.proofs.Common.{◌≡◌, ℕ, ◌+◌, ◌-◌, Bool, List, [], ◌∷◌, ◌++◌, length, Option, Some, None, inl, inr, refl, sym, ap, ◌∙◌, subst, append_assoc}
+use Rattle.std.proofs.Common.{◌≡◌, ℕ, ◌+◌, ◌-◌, Bool, List, [], ◌∷◌, ◌++◌, length, Option, Some, None, inl, inr, refl, sym, ap, ◌∙◌, append_assoc}
 use Rattle.std.specs.Prelude.{All, nat_eq, nat_le, ◌==◌, ◌&&◌, drop}
 use Rattle.std.proofs.lemmas.List.Elements.{All-nil, All-cons, All-append, All-head, All-tail, All-weaker}
 use Rattle.ipc_base.specs.declared.errno.Errno.{Errno}
@@ -17,8 +17,8 @@ use Rattle.ipc_engine.specs.Event.{PlainEvent, PlainOutcome, Exit, Tick}
 use Rattle.ipc_engine.specs.Step.{step, run}
 use Rattle.ipc_engine.specs.View.{reply_of}
 use Rattle.ipc_engine.proofs.CallerLemmas.{run-parts}
-use Rattle.ipc_hub.specs.Clients.{Frame, Client, Clients, accept, accepted, break_off, client_at, connect, confirmed_frames, consume, consumed_from, cut_off}
-use Rattle.ipc_hub.specs.Clients.{deliver, deliver_all, delivered, event_of, fail, feed, first_of, greeted, hangup, is_for, last_reply, leave, on_ending, on_request}
+use Rattle.ipc_hub.specs.Clients.{Frame, Client, Clients, accept, accepted, break_off, client_at, confirmed_frames, consume, consumed_from, cut_off}
+use Rattle.ipc_hub.specs.Clients.{deliver, deliver_all, delivered, event_of, fail, first_of, greeted, is_for, last_reply, leave, on_ending, on_request}
 use Rattle.ipc_hub.specs.Clients.{on_requests, over, process_at, refusal, refuse, serve, start_client, take_in, tick, unless_ended, welcomed, with_client, with_frame}
 use Rattle.ipc_hub.specs.Lives.{ClientCall}
 use Rattle.ipc_hub.specs.Lives.ClientCall.{Connects as to_connect, Consumes as to_consume, Ticks as to_tick, Feeds as to_feed, HangsUp as to_hang_up, Stays as to_stay}

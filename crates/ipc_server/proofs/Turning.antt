@@ -8,6 +8,7 @@ use Rattle.ipc_store.specs.declared.fault.CommitError.TheVariants as commit
 use Rattle.ipc_store.specs.View.{StoreView}
 use Rattle.ipc_hub.specs.Clients.{Clients, Frame, consume, fail}
 use Rattle.ipc_hub.specs.Lives.{Serving}
+use Rattle.ipc_hub.specs.Lives.ClientCall.{Consumes as to_consume}
 use Rattle.ipc_hub.specs.Lives.HubCall.{Still, Fails as call_fails}
 use Rattle.ipc_hub.specs.Lives.Serving.{New as serving_new, Call, Look as serving_look}
 use Rattle.ipc_hub.specs.View.{StoredHub}
