@@ -6,8 +6,8 @@ mod stops;
 
 use crate::lives::one_life;
 use calls::{
-    SMALL_DEVICE, answers, connects, consumes, consumes_all, hangs_up, is_ended, is_fed, releases, sees, served,
-    takes, ticks,
+    SMALL_DEVICE, answers, connects, consumes, consumes_all, hangs_up, is_ended, is_fed, releases,
+    sees, served, takes, ticks,
 };
 use ipc_base::{Limits, Moment};
 use ipc_disk::MemoryDisk;

@@ -41,6 +41,7 @@ pub fn one_life(
         × HasHistory (memory_medium store.disk) limits.now [] (life ∷ []) store) }
 {
     no_answer_is_taken_back::<MemoryDisk>();
+    disks_in_memory_are_honest();
     let Ok(mut disk) = MemoryDisk::new(alloc, sectors) else {
         return None;
     };
