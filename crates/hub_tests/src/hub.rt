@@ -4,11 +4,12 @@ mod calls;
 mod lasting;
 mod stops;
 
+use crate::lives::one_life;
 use calls::{
-    answers, connects, consumes, consumes_all, hangs_up, is_ended, is_fed, releases, sees, served,
-    takes, ticks,
+    SMALL_DEVICE, answers, connects, consumes, consumes_all, hangs_up, is_ended, is_fed, releases,
+    sees, served, takes, ticks,
 };
-use ipc_base::Moment;
+use ipc_base::{Limits, Moment};
 use ipc_disk::MemoryDisk;
 use ipc_hub::{ConnectError, Connection, Hub, ServeError};
 use std::alloc::{AllocError, Global};
@@ -62,6 +63,14 @@ fn is_free_again(rt: &impl Abort, hub: &mut Hub<MemoryDisk>) {
     connects(rt, hub, 7, Ok(()));
     sees(rt, hub, 7, &[]);
     is_ended(rt, hub, 7, false);
+}
+
+// The law over lives is of use: a life comes to its end, and its device opens again.
+#[test]
+fn a_life_in_memory(rt: HostRuntime) -> Result<(), Fail> {
+    let opened = one_life(rt.alloc(), &Limits::small(), SMALL_DEVICE, Moment(7));
+    assert!(rt; opened.is_some(), "it opens again");
+    Ok(())
 }
 
 #[test]

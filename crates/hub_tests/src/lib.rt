@@ -3,3 +3,4 @@
 
 #[cfg(test)]
 mod hub;
+pub mod lives;

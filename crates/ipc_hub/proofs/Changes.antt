@@ -165,7 +165,7 @@ consumed-kept limits v n within k =
       );
     }
 
-has-bytes : (f : Frame) → IsFrame f.bytes → 0 < length f.bytes
+pub has-bytes : (f : Frame) → IsFrame f.bytes → 0 < length f.bytes
 has-bytes f is = omega (arith, ap length is.1.0, length-reply_bytes is.0)
 
 -- what the client of a connection is after that

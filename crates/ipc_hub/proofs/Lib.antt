@@ -11,3 +11,5 @@ pub mod Receiving
 pub mod Changes
 pub mod Committing
 pub mod Coming
+pub mod Replying
+pub mod Lasting

@@ -4,6 +4,5 @@ pub mod Lends
 pub mod Delivery
 pub mod Matches
 pub mod Faults
-pub mod Lives
 pub mod Invariant
 pub mod Requests

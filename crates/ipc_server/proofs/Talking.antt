@@ -3,15 +3,13 @@ use Rattle.std.proofs.Common.{◌≡◌, ℕ, List, [], ◌∷◌, ◌++◌, Opt
 use Rattle.std.specs.Io.KnownBytes.{Appends, Consumes, Keeps, prepend_known}
 use Rattle.std.proofs.lemmas.List.{map-append, take-append-drop}
 use Rattle.std.proofs.lemmas.Grind.{flat_map-append}
-use Rattle.std.proofs.lemmas.List.Elements.{All-map}
-use Rattle.std.specs.Prelude.{All}
 use Rattle.ipc_disk.specs.Medium.{Image, Medium}
 use Rattle.ipc_hub.specs.View.{StoredHub}
 use Rattle.ipc_hub.specs.Relations.Matches.{ServesFeed}
-use Rattle.ipc_server.specs.Acts.{IsAt, Piece, after, all_of, feeds}
+use Rattle.ipc_server.specs.Acts.{Piece, after, all_of, feeds}
 use Rattle.ipc_server.specs.Acts.Act.{Feeds}
 use Rattle.ipc_server.specs.Goes.{Goes, Hears, Tells}
-use Rattle.ipc_server.proofs.Going.{after-both, comes-both, comes-none}
+use Rattle.ipc_server.proofs.Going.{makes-both, makes-none, makes-one}
 
 -- ---- known bytes
 
@@ -85,26 +83,23 @@ tells-one known all shown left count appends rest =
 pub feeds-both : (conn moment : ℕ) (pieces others : List Piece) → feeds conn moment (pieces ++ others) ≡ feeds conn moment pieces ++ feeds conn moment others
 feeds-both conn moment pieces others = map-append (λ p. Feeds conn p.bytes moment p.refused) pieces others
 
-feeds-at : (conn moment : ℕ) (pieces : List Piece) → All (IsAt moment) (feeds conn moment pieces)
-feeds-at conn moment pieces = All-map (IsAt moment) (λ (p : Piece). Feeds conn p.bytes moment p.refused) pieces (λ k d lt. refl)
-
 pub all-both : (pieces others : List Piece) → all_of (pieces ++ others) ≡ all_of pieces ++ all_of others
 all-both pieces others = flat_map-append (λ p. p.bytes) pieces others
 
 module _ {D : Type 0} (medium : D → Medium) (conn moment : ℕ) where
   pub hears-goes : (old new : StoredHub D) (there left : Option (List ℕ)) → Hears medium conn moment old new there left → Goes medium moment old new
   hears-goes old new there left hears limits h m =
-      let a = hears limits h m in (feeds conn moment a.0, feeds-at conn moment a.0, a.1)
+      let a = hears limits h m in (feeds conn moment a.0, a.1)
 
   pub hears-both : (old mid new : StoredHub D) (there some left : Option (List ℕ)) → Hears medium conn moment old mid there some
       → Hears medium conn moment mid new some left → Hears medium conn moment old new there left
   hears-both old mid new there some left one two limits h m =
       let a = one limits h m in
       let now = after limits h (feeds conn moment a.0) in
-      let b = two limits now a.1.matches in (
+      let b = two limits now a.1.comes.matches in (
         a.0 ++ b.0,
-        rw (feeds-both conn moment a.0 b.0, after-both limits h (feeds conn moment a.0) (feeds conn moment b.0))
-            (comes-both medium limits old mid new h now (after limits now (feeds conn moment b.0)) a.1 b.1),
+        rw (feeds-both conn moment a.0 b.0)
+            (makes-both medium moment limits old mid new h (feeds conn moment a.0) (feeds conn moment b.0) a.1 b.1),
         rw (all-both a.0 b.0) (consumes-both there some left (all_of a.0) (all_of b.0) a.2 b.2),
       )
 
@@ -121,10 +116,10 @@ module _ {D : Type 0} (medium : D → Medium) (conn moment : ℕ) where
       let a = serves limits h m in
       let piece : Piece = record { bytes = take count bytes; refused = a.0 } in (
         piece ∷ [],
-        a.1,
+        makes-one medium moment limits old new h (Feeds conn (take count bytes) moment a.0) refl tt a.1,
         rw (append-nil (take count bytes)) (piece-consumes bytes count known),
       )
 
   pub hears-none : (law : (d : D) (image : Image) → (medium d).images_since (medium d).moment image → (medium d).images_now image)
       (hub : StoredHub D) (known : Option (List ℕ)) → Hears medium conn moment hub hub known known
-  hears-none law hub known limits h m = ([], comes-none medium law limits hub h m, consumes-none known)
+  hears-none law hub known limits h m = ([], makes-none medium law moment limits hub h m, consumes-none known)

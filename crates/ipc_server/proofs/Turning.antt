@@ -1,52 +1,99 @@
--- Turns as calls on the hub, and the events that one turn accepts.
-use Rattle.std.proofs.Common.{ℕ, List, [], ◌∷◌, ◌++◌, inl, inr, subst, append-nil}
+-- Turns as calls on the hub.
+use Rattle.std.proofs.Common.{◌≤◌, ℕ, List, [], ◌∷◌, inl, inr, sym, subst, arith}
 use Rattle.ipc_base.specs.declared.limits.Limits.{Limits}
 use Rattle.ipc_disk.specs.Counts.{Counts}
-use Rattle.ipc_disk.specs.Medium.{Image, Medium}
-use Rattle.ipc_engine.specs.Event.{PlainEvent}
+use Rattle.ipc_disk.specs.Medium.{Medium}
 use Rattle.ipc_store.specs.declared.fault.CommitError.{CommitError}
 use Rattle.ipc_store.specs.declared.fault.CommitError.TheVariants as commit
-use Rattle.ipc_store.specs.Histories.{Takes}
-use Rattle.ipc_store.proofs.CallerLemmas.{Takes-none, Takes-both}
-use Rattle.ipc_hub.specs.Clients.{Clients}
+use Rattle.ipc_store.specs.View.{StoreView}
+use Rattle.ipc_hub.specs.Clients.{Clients, Frame, consume, fail}
+use Rattle.ipc_hub.specs.Lives.{Serving}
+use Rattle.ipc_hub.specs.Lives.ClientCall.{Consumes as to_consume}
+use Rattle.ipc_hub.specs.Lives.HubCall.{Still, Fails as call_fails}
+use Rattle.ipc_hub.specs.Lives.Serving.{New as serving_new, Call, Look as serving_look}
 use Rattle.ipc_hub.specs.View.{StoredHub}
-use Rattle.ipc_hub.specs.Relations.Faults.{Halts}
-use Rattle.ipc_hub.specs.Relations.Lives.{HubCalls}
-use Rattle.ipc_hub.specs.Relations.Lives.HubCalls.{None as no_call, More as more_calls}
+use Rattle.ipc_hub.specs.Relations.Faults.{Fails, Halts}
 use Rattle.ipc_hub.specs.Relations.Matches.{StoredMatches}
-use Rattle.ipc_server.specs.Acts.Act.{Ticks}
-use Rattle.ipc_server.specs.Turns.{Turns, Turned, AreAccepted}
-use Rattle.ipc_server.specs.Turns.Turns.{None, More}
+use Rattle.ipc_server.specs.Acts.{Act, after, after_one}
+use Rattle.ipc_server.specs.Acts.Act.{Ticks, Consumes}
+use Rattle.ipc_server.specs.Goes.{Breaks, GoesRound, Sends, Steps}
+use Rattle.ipc_server.specs.Goes.Sends.{None as no_send, More as one_send}
+use Rattle.ipc_server.specs.Goes.Steps.{None as no_step, More as one_step}
+use Rattle.ipc_server.specs.Turns.{Turns}
+use Rattle.ipc_server.specs.Turns.Turns.{New, Go, Break, Look}
+use Rattle.ipc_server.proofs.Going.{after-both, consume-events}
 
-module _ {D : Type 0} (medium : D → Medium) where
-  pub called : (limits : Limits) (first last : StoredHub D) (h now : Clients) → Turns medium limits first h last now → HubCalls medium first h last now
-  called limits first last h now (None hub k) = no_call first h
-  called limits first next h then (More _ last _ _ now acts before comes) =
-      more_calls first last next h now then comes.events (called limits first last h now before) comes.adds comes.takes
+module _ {D : Type 0} (medium : D → Medium) (limits : Limits) (opened : StoreView D) where
+  -- the calls of a turn are calls on the hub
+  serving-steps : (moment : ℕ) (first : StoredHub D) (h : Clients) (seen : List Frame) (next : StoredHub D) (acts : List Act)
+      → Serving medium limits opened first h seen → Steps medium moment limits first h next acts
+      → Serving medium limits opened next (after limits h acts) seen
+  serving-steps moment first h seen _ _ serving no_step = serving
+  serving-steps moment first h seen next _ serving (one_step last _ acts act before is shown call) =
+      rw (after-both limits h acts (act ∷ []))
+      (Call last next (after limits h acts) (after_one limits (after limits h acts) act) seen
+      (serving-steps moment first h seen last acts serving before) call)
 
-  pub matched : (limits : Limits) (first last : StoredHub D) (h now : Clients) → StoredMatches limits first h → Turns medium limits first h last now
-      → StoredMatches limits last now
-  matched limits first last h now m (None hub k) = m
-  matched limits first next h then m (More _ last _ _ now acts before comes) = comes.matches
+  -- so are those of all turns
+  pub serving : (moment : ℕ) (last : StoredHub D) (now : Clients) (seen : List Frame) → Turns medium limits opened moment last now seen
+      → Serving medium limits opened last now seen
+  serving _ hub _ _ (New _ store matches) = serving_new hub store matches
+  serving moment next _ seen (Go before _ last _ now _ acts turns later steps) =
+      serving-steps moment last now seen next acts (serving before last now seen turns) steps
+  serving moment next then seen (Break _ last _ now _ _ turns call) = Call last next now then seen (serving moment last now seen turns) call
+  serving moment last now _ (Look _ _ _ seen frames conn turns shows) =
+      serving_look last now seen frames conn (serving moment last now seen turns) shows
 
-  module _ (counts : D → Counts)
-      (law : (d : D) (image : Image) → (medium d).images_since (medium d).moment image → (medium d).images_now image) where
-    -- a call that was refused accepted nothing
-    halted : (old new : StoredHub D) (error : CommitError) → Halts medium counts old new error → Takes medium old.store [] new.store
-    halted old new commit.Device halts = halts.0.takes
-    halted old new commit.Stopped (inl same) = rw same.1 (Takes-none medium law old.store)
-    halted old new commit.Stopped (inr fails) = fails.0.takes
+  -- clients were sent something after a turn was broken off
+  sent-on : (moment : ℕ) (first : StoredHub D) (h : Clients) (seen : List Frame) (next : StoredHub D) → Turns medium limits opened moment first h seen
+      → Sends first next → (then : Clients) × Turns medium limits opened moment next then seen
+  sent-on moment first h seen _ turns no_send = (h, turns)
+  sent-on moment first h seen next turns (one_send last _ conn count before within does store) =
+      let so_far = sent-on moment first h seen last turns before in
+      let now : Clients = so_far.0 in (
+        after limits now (Consumes conn count ∷ []),
+        Go moment moment last next now seen (Consumes conn count ∷ []) so_far.1 (omega arith)
+            (one_step last next [] (Consumes conn count) no_step tt within
+            (Still (consume now conn count) (to_consume conn count) (consume-events now conn count) store (λ confirmed m. does limits confirmed now m))),
+      )
 
-    pub taken : (moment : ℕ) (limits : Limits) (old new : StoredHub D) (h : Clients) → StoredMatches limits old h → Turned medium counts moment old new
-        → (events : List PlainEvent) × AreAccepted limits h events × Takes medium old.store events new.store
-    taken moment limits old new h m (inl goes) = let a = goes limits h m in (a.2.events, (Ticks moment ∷ a.0, a.2.adds), a.2.takes)
-    taken moment limits old new h m (inr broken) =
-        let b = broken.1 limits h m in
-        let both : Takes medium old.store (b.comes.events ++ []) b.halted.store =
-        Takes-both medium old.store b.before.store b.halted.store b.comes.events [] b.comes.takes (halted b.before b.halted broken.0 b.halts) in
-        let all : Takes medium old.store b.comes.events b.halted.store =
-        subst (λ (es : List PlainEvent). Takes medium old.store es b.halted.store) (append-nil b.comes.events) both in (
-          b.comes.events,
-          (b.acts, b.comes.adds),
-          rw b.sends.store all,
+  -- one turn more
+  pub turned : (before moment : ℕ) (last next : StoredHub D) (now : Clients) (seen : List Frame) → StoredMatches limits last now
+      → Turns medium limits opened before last now seen → before ≤ moment → GoesRound medium moment last next
+      → (then : Clients) × StoredMatches limits next then × Turns medium limits opened moment next then seen
+  turned before moment last next now seen m turns later goes =
+      let a = goes limits now m in (
+        after limits now (Ticks moment ∷ a.0),
+        a.1.comes.matches,
+        Go before moment last next now seen (Ticks moment ∷ a.0) turns later a.1.steps,
+      )
+
+  module _ (counts : D → Counts) where
+    -- the call that broke off a turn
+    broke-off : (moment : ℕ) (last next : StoredHub D) (now : Clients) (seen : List Frame) (error : CommitError) → StoredMatches limits last now
+        → Turns medium limits opened moment last now seen → Halts medium counts last next error
+        → (then : Clients) × Turns medium limits opened moment next then seen
+    broke-off moment last next now seen commit.Device m turns halts = failed halts.0
+      where
+        failed : Fails medium last next → (then : Clients) × Turns medium limits opened moment next then seen
+        failed fails = (
+          fail last.store.confirmed now,
+          Break moment last next now (fail last.store.confirmed now) seen turns (call_fails fails.takes (fails.matches limits now m)),
         )
+    broke-off moment last next now seen commit.Stopped m turns (inl same) =
+        (now, subst (λ (v : StoredHub D). Turns medium limits opened moment v now seen) (sym same.1) turns)
+    broke-off moment last next now seen commit.Stopped m turns (inr fails) = (
+      fail last.store.confirmed now,
+      Break moment last next now (fail last.store.confirmed now) seen turns (call_fails fails.0.takes (fails.0.matches limits now m)),
+    )
+
+    -- a turn that was broken off
+    pub broken : (before moment : ℕ) (last next : StoredHub D) (now : Clients) (seen : List Frame) (error : CommitError) → StoredMatches limits last now
+        → Turns medium limits opened before last now seen → before ≤ moment → Breaks medium counts moment last next error
+        → (then : Clients) × Turns medium limits opened moment next then seen
+    broken before moment last next now seen error m turns later breaks =
+        let b = breaks limits now m in
+        let mid : Clients = after limits now b.acts in
+        let gone = Go before moment last b.before now seen b.acts turns later b.makes.steps in
+        let halted = broke-off moment b.before b.halted mid seen error b.makes.comes.matches gone b.halts in
+        sent-on moment b.halted halted.0 seen next halted.1 b.sends

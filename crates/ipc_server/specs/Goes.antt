@@ -1,47 +1,63 @@
 -- What a server's steps come to, whatever connections of the definitions its hub matches.
-use Rattle.std.specs.Prelude.{◌≡◌, ◌⊎◌, ℕ, List, ◌∷◌, ◌++◌, Option, All}
+use Rattle.std.specs.Prelude.{◌≡◌, ◌≤◌, ◌⊎◌, ℕ, List, [], ◌∷◌, ◌++◌, length, Option}
 use Rattle.std.specs.Io.KnownBytes.{Appends, Consumes}
 use Rattle.ipc_base.specs.declared.limits.Limits.{Limits}
 use Rattle.ipc_disk.specs.Counts.{Counts}
 use Rattle.ipc_disk.specs.Medium.{Medium}
 use Rattle.ipc_store.specs.declared.fault.CommitError.{CommitError}
 use Rattle.ipc_store.specs.declared.fault.CommitError.TheVariants as commit
-use Rattle.ipc_hub.specs.Clients.{Clients}
-use Rattle.ipc_hub.specs.View.{StoredHub, HasStopped}
+use Rattle.ipc_hub.specs.Clients.{Clients, consume}
+use Rattle.ipc_hub.specs.Lives.{HubCall}
+use Rattle.ipc_hub.specs.View.{StoredHub, HasStopped, output_of}
 use Rattle.ipc_hub.specs.Relations.Matches.{Comes, Simulates, StoredMatches}
 use Rattle.ipc_hub.specs.Relations.Faults.{Halts}
 use Rattle.ipc_server.specs.declared.fault.ServeFault.{ServeFault}
 use Rattle.ipc_server.specs.declared.fault.ServeFault.TheVariants.{Device, Socket, Stopped}
-use Rattle.ipc_server.specs.Acts.{Act, IsAt, IsConsuming, Piece, after, all_of, feeds}
+use Rattle.ipc_server.specs.Acts.{Act, IsAt, IsShown, Piece, after, after_one, all_of, feeds}
 use Rattle.ipc_server.specs.Acts.Act.{Ticks}
 
--- Some calls were made at one moment, one after another. The hub matches what they come to, and its store has taken
--- the events that they accept.
+-- Calls on a hub at one moment, one after another, and what they make of the clients: each is a call of the hub, to
+-- which no other comes in between.
+pub data Steps {D : Type 0} (medium : D → Medium) (moment : ℕ) (limits : Limits) (old : StoredHub D) (h : Clients)
+    : StoredHub D → List Act → Type 0 where
+  None : Steps medium moment limits old h old []
+  More : (last next : StoredHub D) (acts : List Act) (act : Act) → Steps medium moment limits old h last acts
+      → IsAt moment act → IsShown last.hub act
+      → HubCall medium limits last (after limits h acts) next (after_one limits (after limits h acts) act)
+      → Steps medium moment limits old h next (acts ++ act ∷ [])
+
+-- These calls were made, and the hub goes on: it matches what they come to, and its store has taken the events that they
+-- accept.
+pub record Makes {D : Type 0} (medium : D → Medium) (moment : ℕ) (limits : Limits) (old new : StoredHub D) (h : Clients)
+    (acts : List Act) : Type 0 where
+  pub steps : Steps medium moment limits old h new acts
+  pub comes : Comes medium limits old new h (after limits h acts)
+
+-- Some calls were made at one moment.
 abbrev pub Goes : {D : Type 0} → (D → Medium) → ℕ → StoredHub D → StoredHub D → Type 0
 Goes medium moment old new =
     (limits : Limits) (h : Clients) → StoredMatches limits old h
-    → (acts : List Act) × All (IsAt moment) acts × Comes medium limits old new h (after limits h acts)
+    → (acts : List Act) × Makes medium moment limits old new h acts
 
 -- Time passed first, up to this moment, and the other calls were made at it.
 abbrev pub GoesRound : {D : Type 0} → (D → Medium) → ℕ → StoredHub D → StoredHub D → Type 0
 GoesRound medium moment old new =
     (limits : Limits) (h : Clients) → StoredMatches limits old h
-    → (acts : List Act) × All (IsAt moment) acts × Comes medium limits old new h (after limits h (Ticks moment ∷ acts))
+    → (acts : List Act) × Makes medium moment limits old new h (Ticks moment ∷ acts)
 
 -- Pieces of one client were fed at one moment, and they are what was there of its bytes and is no more.
 abbrev pub Hears : {D : Type 0} → (D → Medium) → ℕ → ℕ → StoredHub D → StoredHub D → Option (List ℕ) → Option (List ℕ)
     → Type 0
 Hears medium conn moment old new there left =
     (limits : Limits) (h : Clients) → StoredMatches limits old h
-    → (pieces : List Piece) × Comes medium limits old new h (after limits h (feeds conn moment pieces))
+    → (pieces : List Piece) × Makes medium moment limits old new h (feeds conn moment pieces)
     × Consumes there left (all_of pieces)
 
--- Clients were sent what they may see, and nothing else was done.
-pub record Sends {D : Type 0} (old new : StoredHub D) : Type 0 where
-  pub store : new.store ≡ old.store
-  pub acts : List Act
-  pub consuming : All IsConsuming acts
-  pub does : Simulates old.hub new.hub (λ limits h. after limits h acts)
+-- Clients were sent what they may see, one after another, and nothing else was done.
+pub data Sends {D : Type 0} (old : StoredHub D) : StoredHub D → Type 0 where
+  None : Sends old old
+  More : (last next : StoredHub D) (conn count : ℕ) → Sends old last → count ≤ length (output_of last.hub conn)
+      → Simulates last.hub next.hub (λ _ h. consume h conn count) → next.store ≡ last.store → Sends old next
 
 -- A socket was written the first bytes that its client could see, and these alone; the client can see the others still.
 abbrev pub Tells : Option (List ℕ) → Option (List ℕ) → List ℕ → List ℕ → Type 0
@@ -51,9 +67,8 @@ Tells written now shown left = (sent : List ℕ) × (shown ≡ sent ++ left) × 
 pub record BreaksAt {D : Type 0} (medium : D → Medium) (counts : D → Counts) (moment : ℕ) (limits : Limits)
     (old new : StoredHub D) (h : Clients) (error : CommitError) : Type 0 where
   pub acts : List Act
-  pub moments : All (IsAt moment) acts
   pub before : StoredHub D
-  pub comes : Comes medium limits old before h (after limits h acts)
+  pub makes : Makes medium moment limits old before h acts
   pub halted : StoredHub D
   pub halts : Halts medium counts before halted error
   pub sends : Sends halted new

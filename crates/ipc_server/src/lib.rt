@@ -9,7 +9,7 @@ mod rounds;
 mod server;
 
 pub use fault::{ServeFault, ServerError};
-pub use laws::a_crash_takes_nothing_back_that_was_sent;
+pub use laws::turns_are_calls_on_a_hub;
 pub use server::{Server, Unserved};
 
 #[cfg(test)]

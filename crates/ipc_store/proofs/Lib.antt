@@ -10,6 +10,6 @@ mod Lives
 mod Opened
 mod Openings
 mod Superblocks
-mod Surviving
+mod Leaving
 mod Replaying
 mod Formatting

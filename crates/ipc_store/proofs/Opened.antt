@@ -107,6 +107,12 @@ used-is image epoch used older current not_newer some =
     ⊎_elim (λ lt. absurd (omega (arith, some, older lt))) (λ le. current (omega (arith, le, not_newer)))
     (cases_lt (header_epoch journal_range image) epoch)
 
+pub current-is : (image : Image) (epoch used : ℕ) → (header_epoch journal_range image < epoch → used ≡ 0)
+    → header_epoch journal_range image ≤ epoch → 0 < used → header_epoch journal_range image ≡ epoch
+current-is image epoch used older not_newer some =
+    ⊎_elim (λ lt. absurd (omega (arith, some, older lt))) (λ le. omega (arith, le, not_newer))
+    (cases_lt (header_epoch journal_range image) epoch)
+
 module _ (limits : Limits) (epoch : ℕ) (base : State) (image : Image) (fits : length image < 2 ^ 32) (has : HasBase limits epoch base image) where
   -- a header that is no header of this journal
   pub header-damaged : (sector : ℕ) → sector ≡ 3 → HasNoHeader epoch image → IsDamaged image × IsFirstFault image sector

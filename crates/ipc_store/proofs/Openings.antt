@@ -10,9 +10,9 @@ use Rattle.ipc_checkpoint.specs.declared.checkpoint.Checkpoint.{Checkpoint}
 use Rattle.ipc_checkpoint.specs.Checkpoint.{epoch_in}
 use Rattle.ipc_disk.specs.declared.range.Range.{Range}
 use Rattle.ipc_journal.specs.declared.journal.Journal.{Journal}
-use Rattle.ipc_journal.specs.Journal.{header_used}
+use Rattle.ipc_journal.specs.Journal.{header_epoch, header_used}
 use Rattle.ipc_disk.specs.Standing.{sector_at, sectors_for}
-use Rattle.ipc_journal.specs.View.{range_of, used_of, Fits}
+use Rattle.ipc_journal.specs.View.{range_of, epoch_of, used_of, Fits}
 use Rattle.ipc_state.specs.State.{State, restart}
 use Rattle.ipc_engine.specs.Engine.{Machine}
 use Rattle.ipc_engine.specs.Event.{Restart}
@@ -97,11 +97,17 @@ full_journal journal records are full =
 -- the image is at the end of its epochs, if the store over it is and its journal has no room for a restart
 pub at_end : {D : Type 0} (medium : Medium) (store : StoreView D) (base : State) (image : Image) → StoreMatches medium store base []
     → medium.contents ≡ image → IsAtLastEpoch store → used_of store.journal + 1 ≡ (range_of store.journal).count
-    → (0 < used_of store.journal → used_of store.journal ≡ header_used journal_range image) → IsAtEnd image
-at_end medium store base image matches same last full used =
+    → (0 < used_of store.journal → used_of store.journal ≡ header_used journal_range image)
+    → (0 < used_of store.journal → header_epoch journal_range image ≡ epoch_of store.journal) → IsAtEnd image
+at_end medium store base image matches same last full used current =
     let at = matches.device in
     let count : used_of store.journal + 1 ≡ journal_range.count = full ∙ ap (λ (r : Range). r.count) at.range in
     record {
+      limits = store.machine.limits;
+      state = base;
+      stands = subst (StandsFor store.machine.limits base) same
+          (stands_now medium store base [] matches medium.contents at.honest.reads);
+      current = current (omega (arith, count)) ∙ at.epoch ∙ last;
       epoch = subst (λ (i : Image). epoch_in (sector_at i 1) ≡ last_epoch) same
           (root-epoch medium store base [] matches ∙ last);
       used = ap (λ (n : ℕ). n + 1) (sym (used (omega (arith, count)))) ∙ count;

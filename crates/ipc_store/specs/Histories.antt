@@ -2,7 +2,7 @@
 -- in three parts: those that the last open found on the device, those that were confirmed since
 -- then, the restart first, and those that wait for a commit. A crash leaves all of the first two
 -- parts, and of the third some, from the first on. An open adds a restart to what was left.
-use Rattle.std.specs.Prelude.{◌≡◌, ◌⊎◌, ℕ, ◌≤◌, List, [], ◌∷◌, ◌++◌, length}
+use Rattle.std.specs.Prelude.{◌≡◌, ◌⊎◌, List, [], ◌∷◌, ◌++◌, length}
 use Rattle.ipc_base.specs.declared.limits.Limits.{Limits}
 use Rattle.ipc_disk.specs.Medium.{Image, Medium, IsHonest}
 use Rattle.ipc_disk.specs.Since.{EachImageSince}
@@ -81,24 +81,8 @@ abbrev pub Takes : {D : Type 0} → (D → Medium) → StoreView D → List Plai
 Takes medium old events new =
     (before : History) → Keeps (medium old.disk) old before → Moves medium old new before events
 
--- a list of calls, one after another, and all the events that they accepted
-pub data Calls {D : Type 0} (medium : D → Medium) : StoreView D → List PlainEvent → StoreView D → Type 0 where
-  None : (store : StoreView D) → Calls medium store [] store
-  More : (first last next : StoreView D) (events others : List PlainEvent) → Calls medium first events last
-      → Takes medium last others next → Calls medium first (events ++ others) next
-
 -- What an open gives on a disk that reads so: a store that goes on from the state for which the
 -- image stands, after a restart.
 pub record OpensOn {D : Type 0} (image : Image) (medium : Medium) (store : StoreView D) : Type 0 where
   pub found : (s : State) × StandsFor store.machine.limits s image × StoreMatches medium store (restart s) []
   pub confirmed : store.confirmed ≡ 1
-
--- What a crash left of these events is some of them, from the first on, and at least so many. The
--- store that was opened on it has them as its history, and a restart.
-pub record Survives {D : Type 0} (medium : Medium) (store : StoreView D) (least : ℕ)
-    (events : List PlainEvent) : Type 0 where
-  pub kept : List PlainEvent
-  pub lost : List PlainEvent
-  pub prefix : kept ++ lost ≡ events
-  pub holds : least ≤ length kept
-  pub goes_on : Keeps medium store (reopened kept)

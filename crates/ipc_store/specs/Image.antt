@@ -104,9 +104,14 @@ pub record IsDamaged (image : Image) : Type 0 where
 abbrev pub epoch_at : Image → ℕ
 epoch_at image = epoch_in (sector_at image 1)
 
--- The device stands for a state, at the last epoch, and its journal has no room for one batch more.
+-- The device stands for a state, its objects and its journal are of the last epoch, and the journal has no room for one
+-- batch more.
 pub record IsAtEnd (image : Image) : Type 0 where
+  pub limits : Limits
+  pub state : State
+  pub stands : StandsFor limits state image
   pub epoch : epoch_at image ≡ last_epoch
+  pub current : header_epoch journal_range image ≡ last_epoch
   pub used : header_used journal_range image + 1 ≡ journal_range.count
 
 -- the header of the journal is of a later epoch than this, or is of this one and counts sectors past the end

@@ -2,5 +2,6 @@
 pub mod Batch
 pub mod Image
 pub mod Histories
+pub mod Lives
 pub mod View
 pub mod Relations

@@ -1,25 +1,15 @@
 //! What follows from the definitions alone, and from what the calls on a store promise.
 
-ghost use Rattle.std.specs.Prelude.{◌≡◌, ◌<◌, ◌+◌, ◌^◌, ◌++◌, List, length};
+ghost use Rattle.std.specs.Prelude.{◌≡◌, ◌<◌, ◌^◌, ◌++◌, List, [], length};
 ghost use Rattle.ipc_base.specs.declared.limits.Limits.{Limits};
-ghost use Rattle.ipc_disk.specs.Medium.{Image, IsHonest};
+ghost use Rattle.ipc_disk.specs.Medium.{Image};
 ghost use Rattle.ipc_state.specs.State.{State};
 ghost use Rattle.ipc_engine.specs.Event.{PlainEvent};
 ghost use Rattle.ipc_store.specs.Batch.{batch_bytes, AreBatch};
-ghost use Rattle.ipc_store.specs.Histories.{
-  History,
-  accepted,
-  state_after,
-  reopened,
-  Keeps,
-  Takes,
-  Calls,
-  OpensOn,
-  Survives,
-};
+ghost use Rattle.ipc_store.specs.Histories.{History, acknowledged, reopened, Keeps, Takes, OpensOn};
 ghost use Rattle.ipc_store.specs.Image.{StandsFor};
+ghost use Rattle.ipc_store.specs.Lives.{IsLeft, StoppedOpens, StandsAfter, Rests, Found};
 ghost use Rattle.ipc_store.specs.View.{StoreView};
-ghost use Rattle.ipc_store.specs.Relations.Matches.{OpensTo};
 
 use ipc_disk::SectorDisk;
 
@@ -35,28 +25,31 @@ pub fn an_image_stands_for_one_state()
         → StandsFor limits s image → StandsFor others t image → (limits ≡ others) × (s ≡ t) }
 {}
 
-/// Over any list of calls on a store, and a crash at any moment of one more: opening what it leaves
-/// gives a store in the state after the accepted events, from the first of all on, up to some one
-/// of them, and a restart. All that were found at the last open are among them, and all that were
-/// confirmed since. That store has a history again, so the same holds of the calls on it.
-pub fn a_crash_takes_nothing_acknowledged<D: SectorDisk>()
-    ensures { (first last next opened : StoreView D) (before : History) (events others : List PlainEvent) (disk : D)
-        → Keeps (D.medium first.disk) first before → Calls D.medium first events last
-        → Takes D.medium last others next
-        → (D.medium next.disk).images_since (D.medium last.disk).moment (D.medium disk).contents
-        → IsHonest (D.medium disk) → OpensOn (D.medium disk).contents (D.medium opened.disk) opened
-        → Survives (D.medium opened.disk) opened (length before.found + last.confirmed)
-        ((accepted before ++ events) ++ others) }
+/// A call that is stopped at any moment of it leaves what was acknowledged before, and some of the
+/// other events, from the first on.
+pub fn a_stop_leaves_what_was_acknowledged<D: SectorDisk>()
+    ensures { (last next : StoreView D) (before : History) (events : List PlainEvent) (left : D)
+        → Keeps (D.medium last.disk) last before → Takes D.medium last events next
+        → IsLeft (D.medium last.disk) (D.medium next.disk) (D.medium left)
+        → Rests last.machine.limits (acknowledged before) (before.waiting ++ events) (D.medium left) }
 {}
 
-/// A crash at any moment of an open: opening what it leaves gives the state that the first open
-/// would have given.
-pub fn an_open_that_stops_changes_nothing<D: SectorDisk>()
-    ensures { (disk left : D) (opened : StoreView D) (limits : Limits) (events : List PlainEvent)
-        → IsHonest (D.medium disk) → IsHonest (D.medium left)
-        → ((image : Image) → (D.medium disk).images_now image
-        → StandsFor limits (state_after limits events) image)
-        → OpensTo (D.medium disk) (D.medium left).contents
-        → OpensOn (D.medium left).contents (D.medium opened.disk) opened
+/// On a disk that such a stop has left, after any number of opens that were stopped too, an open
+/// finds what was acknowledged, and some of the other events, from the first on.
+pub fn an_open_finds_what_was_acknowledged<D: SectorDisk>()
+    ensures { (limits : Limits) (acked others : List PlainEvent) (left disk : D) (opened : StoreView D)
+        → Rests limits acked others (D.medium left) → StoppedOpens D.medium left disk
+        → OpensOn (D.medium disk).contents (D.medium opened.disk) opened
+        → Found limits acked others (D.medium opened.disk) opened }
+{}
+
+/// A disk that stands for the state after some events is such a disk: an open finds these events,
+/// and they are the history of its store.
+pub fn an_open_finds_what_stands_there<D: SectorDisk>()
+    ensures rests { (limits : Limits) (events : List PlainEvent) (disk : D)
+        → StandsAfter limits events (D.medium disk) → Rests limits events [] (D.medium disk) }
+    ensures keeps { (limits : Limits) (events : List PlainEvent) (disk : D) (opened : StoreView D)
+        → StandsAfter limits events (D.medium disk)
+        → OpensOn (D.medium disk).contents (D.medium opened.disk) opened
         → Keeps (D.medium opened.disk) opened (reopened events) }
 {}

@@ -14,8 +14,8 @@ mod store;
 
 pub use fault::{CommitError, FormatError, OpenError, StepError};
 pub use laws::{
-    a_batch_is_of_one_list, a_crash_takes_nothing_acknowledged, an_image_stands_for_one_state,
-    an_open_that_stops_changes_nothing,
+    a_batch_is_of_one_list, a_stop_leaves_what_was_acknowledged, an_image_stands_for_one_state,
+    an_open_finds_what_stands_there, an_open_finds_what_was_acknowledged,
 };
 pub use opening::Unopened;
 pub use store::Store;

@@ -8,7 +8,7 @@ ghost use Rattle.ipc_checkpoint.specs.View.{epoch_of as saved_epoch, layout_of a
 ghost use Rattle.ipc_disk.specs.Counts.{counted, with_failure};
 ghost use Rattle.ipc_disk.specs.Medium.{IsHonest, IsDurable, Stays};
 ghost use Rattle.ipc_disk.specs.Range.{IsWithin};
-ghost use Rattle.ipc_journal.specs.Journal.{header_used};
+ghost use Rattle.ipc_journal.specs.Journal.{header_epoch, header_used};
 ghost use Rattle.ipc_journal.specs.Matches.{JournalMatches};
 ghost use Rattle.ipc_journal.specs.View.{range_of, epoch_of, used_of};
 ghost use Rattle.ipc_state.specs.State.{State};
@@ -123,6 +123,8 @@ fn load_journal<D: SectorDisk>(
         × LeadTo engine.old.limits engine.old.state batches engine.new.state) }
     ensures used { IfOk result (λ journal. IsHonest (D.medium disk.old) → 0 < used_of journal
         → used_of journal ≡ header_used journal_range (D.medium disk.old).contents) }
+    ensures current { IfOk result (λ journal. IsHonest (D.medium disk.old) → 0 < used_of journal
+        → header_epoch journal_range (D.medium disk.old).contents ≡ epoch_of journal) }
     ensures room { length room.new ≡ most_bytes }
     // Refusals.
     ensures damaged { (sector : ℕ) → IsErrOf result (OpenError.Damaged sector) → IsHonest (D.medium disk.old)
@@ -156,6 +158,8 @@ pub(crate) fn load<D: SectorDisk>(
         → DeviceMatches (D.medium disk.new) found.2.limits found.0 found.1 found.2.state) }
     ensures used { IfOk result (λ found. IsHonest (D.medium disk.old) → 0 < used_of found.1
         → used_of found.1 ≡ header_used journal_range (D.medium disk.old).contents) }
+    ensures current { IfOk result (λ found. IsHonest (D.medium disk.old) → 0 < used_of found.1
+        → header_epoch journal_range (D.medium disk.old).contents ≡ epoch_of found.1) }
     ensures room { length room.new ≡ most_bytes }
     // Refusals.
     ensures not_formatted { IsErrOf result OpenError.NotFormatted → IsHonest (D.medium disk.old)

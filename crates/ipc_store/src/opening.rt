@@ -6,8 +6,8 @@ ghost use Rattle.ipc_base.specs.declared.limits.Limits.{Limits};
 ghost use Rattle.ipc_disk.specs.Counts.{counted};
 ghost use Rattle.ipc_disk.specs.Medium.{IsHonest, Stays};
 ghost use Rattle.ipc_disk.specs.Since.{EachImageSince};
-ghost use Rattle.ipc_journal.specs.Journal.{header_used};
-ghost use Rattle.ipc_journal.specs.View.{range_of, used_of};
+ghost use Rattle.ipc_journal.specs.Journal.{header_epoch, header_used};
+ghost use Rattle.ipc_journal.specs.View.{range_of, epoch_of, used_of};
 ghost use Rattle.ipc_state.specs.State.{State, restart};
 ghost use Rattle.ipc_store.specs.Batch.{most_bytes};
 ghost use Rattle.ipc_store.specs.Image.{
@@ -146,6 +146,8 @@ fn read_device<D: SectorDisk>(
         → DeviceMatches (D.medium disk.new) found.2.limits found.0 found.1 found.2.state) }
     ensures used { IfOk result (λ found. IsHonest (D.medium disk.old) → 0 < used_of found.1
         → used_of found.1 ≡ header_used journal_range (D.medium disk.old).contents) }
+    ensures current { IfOk result (λ found. IsHonest (D.medium disk.old) → 0 < used_of found.1
+        → header_epoch journal_range (D.medium disk.old).contents ≡ epoch_of found.1) }
     ensures batch { IfOk result (λ found. found.3 ≡ record { records = []; count = 0 }) }
     ensures not_formatted { result ≡ Err OpenError.NotFormatted → IsHonest (D.medium disk.old)
         → IsNotFormatted (D.medium disk.old).contents }

@@ -1,13 +1,17 @@
 //! The device of a run, in memory or in a file.
 
-ghost use Rattle.std.specs.Prelude.{◌≡◌, ◌⊎◌, ℕ, Ok, Err, IfOk, IfErr};
+ghost use Rattle.std.specs.Prelude.{◌≡◌, ◌⊎◌, ℕ, List, [], Ok, Err, IfOk, IfErr};
+ghost use Rattle.ipc_base.specs.declared.limits.Limits.{Limits};
 ghost use Rattle.ipc_base.specs.Limits.{ArePassed};
 ghost use Rattle.ipc_disk.specs.Medium.{IsHonest};
+ghost use Rattle.ipc_disk.specs.Memory.{memory_medium};
+ghost use Rattle.ipc_engine.specs.Event.{PlainEvent};
 ghost use Rattle.ipc_image.specs.Sizes.{need_of};
 ghost use Rattle.ipc_state.specs.State.{start};
-ghost use Rattle.ipc_store.specs.Histories.{OpensOn};
+ghost use Rattle.ipc_store.specs.Histories.{Keeps, OpensOn, reopened};
 ghost use Rattle.ipc_store.specs.Image.{IsNotFormatted, HasVersion, IsDamaged};
 ghost use Rattle.ipc_store.specs.Image.{IsFirstFault, IsAtEnd};
+ghost use Rattle.ipc_store.specs.Lives.{StandsAfter};
 ghost use Rattle.ipc_script.specs.declared.fault.ScriptFault.TheVariants.{NotFormatted};
 ghost use Rattle.ipc_script.specs.declared.fault.ScriptFault.TheVariants.{Version, Damaged};
 ghost use Rattle.ipc_store.specs.declared.fault.OpenError.{OpenError};
@@ -21,7 +25,7 @@ use ipc_base::Limits;
 use ipc_disk::{FileDisk, MemoryDisk, SectorDisk};
 use ipc_image::need;
 use ipc_script::ScriptFault;
-use ipc_store::Store;
+use ipc_store::{Store, an_open_finds_what_stands_there};
 use std::alloc::Global;
 use std::fs::File;
 use std::io::IsTerminal;
@@ -34,6 +38,8 @@ pub fn new_store(alloc: Global, limits: &Limits) -> Result<Store<MemoryDisk>, Fa
     ensures limits { IfOk result (λ store. store.machine.limits ≡ limits.now) }
     ensures state { IfOk result (λ store. store.machine.state ≡ start) }
     ensures confirmed { IfOk result (λ store. store.confirmed ≡ 1) }
+    // No event was there before: its history begins with the restart.
+    ensures history { IfOk result (λ store. Keeps (memory_medium store.disk) store (reopened [])) }
     ensures named { IfErr result (λ fault. (error : OpenError) × (fault ≡ of_open_error error)) }
 {
     let Ok(mut memory) = MemoryDisk::new(alloc, need(limits)) else {
@@ -48,6 +54,10 @@ pub fn open_store<D: SectorDisk + Drop>(alloc: Global, disk: D) -> Result<Store<
     ensures ok { IfOk result (λ store. IsHonest (D.medium disk)
         → OpensOn (D.medium disk).contents (D.medium store.disk) store) }
     ensures confirmed { IfOk result (λ store. store.confirmed ≡ 1) }
+    // If the disk stands for the state after some events, they are the history, and then the restart.
+    ensures history { IfOk result (λ store. (limits : Limits) (events : List PlainEvent)
+        → StandsAfter limits events (D.medium disk)
+        → Keeps (D.medium store.disk) store (reopened events)) }
     ensures named { IfErr result (λ fault. (error : OpenError) × (fault ≡ of_open_error error)) }
     ensures not_formatted { IfErr result (λ fault. fault ≡ Run NotFormatted → IsHonest (D.medium disk)
         → IsNotFormatted (D.medium disk).contents) }
@@ -58,6 +68,7 @@ pub fn open_store<D: SectorDisk + Drop>(alloc: Global, disk: D) -> Result<Store<
         → (IsDamaged (D.medium disk).contents × IsFirstFault (D.medium disk).contents sector)
         ⊎ (IsAtEnd (D.medium disk).contents × (sector ≡ 1))) }
 {
+    an_open_finds_what_stands_there::<D>();
     match Store::open(alloc, disk) {
         Ok(store) => Ok(store),
         Err(unopened) => Err(Fault::from(unopened.error)),

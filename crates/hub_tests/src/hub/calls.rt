@@ -10,7 +10,7 @@ use std::process::Abort;
 use std::test::Fail;
 
 /// How many sectors a device needs under small limits.
-const SMALL_DEVICE: u32 = 448;
+pub(crate) const SMALL_DEVICE: u32 = 448;
 
 /// A new device under small limits.
 pub(crate) fn device(alloc: Global) -> Result<MemoryDisk, Fail> {

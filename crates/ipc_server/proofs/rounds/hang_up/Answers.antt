@@ -17,7 +17,7 @@ returns-in-Err-Stopped-clause-breaks g c =
 
 pub returns-in-Ok-clause-goes : goal.returns-in-Ok-clause-goes
 returns-in-Ok-clause-goes g c =
-    goes-one g.D.SectorDisk.medium c.args.moment.0 c.args.hub.now c.hangup.new.self (HangsUp c.args.conn c.args.moment.0) refl c.in-Ok.ensures.ok
+    goes-one g.D.SectorDisk.medium c.args.moment.0 c.args.hub.now c.hangup.new.self (HangsUp c.args.conn c.args.moment.0) refl tt c.in-Ok.ensures.ok
 
 pub returns-in-Err-Unknown-clause-goes : goal.returns-in-Err-Unknown-clause-goes
 returns-in-Err-Unknown-clause-goes g c =

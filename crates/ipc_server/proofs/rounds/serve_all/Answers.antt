@@ -1,5 +1,5 @@
 use Rattle.std.proofs.lemmas.Result.{err_from_is_err_and}
-use Rattle.ipc_server.proofs.Going.{goes-both, goes-released, goes-sent, breaks-at, breaks-later}
+use Rattle.ipc_server.proofs.Going.{goes-both, goes-released, goes-sent, breaks-at, breaks-later, sends-store}
 use Rattle.ipc_server.proofs.rounds.serve_all.Goals as goal
 
 pub returns-in_err-take_in_all-clause-breaks : goal.returns-in_err-take_in_all-clause-breaks
@@ -45,4 +45,4 @@ returns-clause-goes g c =
     (goes-both med c.args.moment.0 _ _ _ c.in_ok-part_with_gone.ensures.goes (goes-both med c.args.moment.0 _ _ _ later last)))
 
 pub returns-clause-settled : goal.returns-clause-settled
-returns-clause-settled g c = rw c.put_out_all-2.ensures.store c.in_ok-release-2.ensures.waiting
+returns-clause-settled g c = rw (sends-store c.release-2.new.self c.put_out_all-2.new.hub c.put_out_all-2.ensures) c.in_ok-release-2.ensures.waiting

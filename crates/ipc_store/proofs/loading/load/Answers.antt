@@ -6,8 +6,8 @@ use Rattle.ipc_checkpoint.specs.View.{epoch_of as saved_epoch}
 use Rattle.ipc_checkpoint.proofs.CallerLemmas.{CheckpointMatches-stays}
 use Rattle.ipc_disk.specs.Counts.{counted}
 use Rattle.ipc_disk.specs.Medium.{Image, Medium, IsHonest, IsDurable, Stays}
-use Rattle.ipc_journal.specs.Journal.{header_used}
-use Rattle.ipc_journal.specs.View.{used_of}
+use Rattle.ipc_journal.specs.Journal.{header_epoch, header_used}
+use Rattle.ipc_journal.specs.View.{epoch_of, used_of}
 use Rattle.ipc_store.specs.declared.fault.OpenError.TheVariants as errors
 use Rattle.ipc_store.specs.Image.{journal_range, IsDevice, HasBase, IsDamaged, IsFirstFault}
 use Rattle.ipc_store.proofs.Faults.{err-same, passed_on}
@@ -157,6 +157,12 @@ returns-clause-used g c = λ honest some.
     let s03 = reads-base g (goal.at.returns-clause-used g c).In_ok-checkpoint honest in
     subst (λ (i : Image). used_of c.in_ok-journal.journal ≡ header_used journal_range i) (s03.contents honest)
     (c.in_ok-journal.ensures.used (s03.time.honest.0 honest) some)
+
+pub returns-clause-current : goal.returns-clause-current
+returns-clause-current g c = λ honest some.
+    let s03 = reads-base g (goal.at.returns-clause-current g c).In_ok-checkpoint honest in
+    subst (λ (i : Image). header_epoch journal_range i ≡ epoch_of c.in_ok-journal.journal) (s03.contents honest)
+    (c.in_ok-journal.ensures.current (s03.time.honest.0 honest) some)
 
 pub returns-clause-on_disk : goal.returns-clause-on_disk
 returns-clause-on_disk g c =

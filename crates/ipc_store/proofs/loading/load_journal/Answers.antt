@@ -5,7 +5,7 @@ use Rattle.ipc_disk.specs.declared.range.Range.{Range}
 use Rattle.ipc_disk.specs.Medium.{Image, Medium, IsHonest}
 use Rattle.ipc_checkpoint.specs.View.{epoch_of as saved_epoch}
 use Rattle.ipc_journal.specs.Journal.{Holds}
-use Rattle.ipc_journal.specs.View.{epoch_of}
+use Rattle.ipc_journal.specs.View.{epoch_of, used_of}
 use Rattle.ipc_journal.proofs.CallerLemmas.{JournalMatches-stays}
 use Rattle.ipc_store.specs.declared.fault.OpenError.TheVariants as errors
 use Rattle.ipc_store.specs.Batch.{batch_bytes}
@@ -13,7 +13,7 @@ use Rattle.ipc_store.specs.Image.{journal_range, HasNoHeader}
 use Rattle.ipc_store.specs.View.{of_journal_error}
 use Rattle.ipc_store.specs.Relations.Replay.{IsOpened, Replays, IsGoodUpTo}
 use Rattle.ipc_store.proofs.Faults.{passed_on, journal-fault}
-use Rattle.ipc_store.proofs.Opened.{header-damaged, is_opened, batch-damaged, holds}
+use Rattle.ipc_store.proofs.Opened.{header-damaged, is_opened, batch-damaged, holds, current-is}
 use Rattle.ipc_store.proofs.loading.load_journal.Given.{Over}
 use Rattle.ipc_store.proofs.loading.load_journal.Goals as goal
 use Rattle.ipc_store.proofs.loading.load_journal.Goals.{In_ok-journal}
@@ -87,3 +87,9 @@ returns-clause-leads g c = λ honest durable.
           (λ now left. subst (Holds journal_range c.epoch.result batches) (sym (durable now left)) stands)),
       found.1.leads,
     )
+
+pub returns-clause-current : goal.returns-clause-current
+returns-clause-current g c = λ honest some.
+    current-is (g.D.SectorDisk.medium c.args.disk.now).contents c.epoch.result (used_of c.in_ok-journal.journal)
+    (c.in_ok-journal.ensures.older honest) (c.in_ok-journal.ensures.not_newer honest) some
+    ∙ sym c.in_ok-journal.ensures.epoch

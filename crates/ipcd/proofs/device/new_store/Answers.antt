@@ -1,4 +1,4 @@
-use Rattle.std.proofs.Common.{Err, ◌≡◌, ◌<◌, ◌^◌, ◌∙◌, ℕ, ap, length, arith}
+use Rattle.std.proofs.Common.{Err, [], ◌≡◌, ◌<◌, ◌^◌, ◌∙◌, ℕ, ap, length, arith}
 use Rattle.ipc_base.specs.declared.limits.Limits.{Limits}
 use Rattle.ipc_disk.specs.declared.memory.MemoryDisk.{MemoryDisk}
 use Rattle.ipc_disk.specs.Medium.{Medium, IsHonest, Image}
@@ -56,3 +56,11 @@ returns-in_err-format-clause-named c =
       opening.Device,
       refused c.in_err-format.field-0.0 _ _ (λ need is. (c.in_err-format.ensures.small need).0 (ap (λ e. Err e) is)) (omega (arith, size)),
     )
+
+pub returns-clause-history : goal.returns-clause-history
+returns-clause-history c =
+    let disk = c.format.new.disk in
+    let honest : IsHonest (memory_medium disk) = c.format.ensures.honest.0 c.in-Ok.ensures.honest in
+    IfOk-weaker c.open_store.result _ _
+    (λ store keeps. keeps c.args.limits.now [] (record { honest = honest; stands = c.in_ok-format.ensures.ok c.in-Ok.ensures.honest }))
+    c.open_store.ensures.history

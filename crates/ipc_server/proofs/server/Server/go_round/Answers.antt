@@ -28,7 +28,7 @@ begun g c =
     let med = g.D.SectorDisk.medium in
     let moment = c.args.moment.0 in
     rw c.self-2.view_is (goes-both med moment c.args.self.now c.tick.new.self c.admit-self-inside.new.self
-    (goes-one med moment c.args.self.now c.tick.new.self (Ticks moment) refl (rw c.self.view_is at c.in_ok-tick.ensures.ok))
+    (goes-one med moment c.args.self.now c.tick.new.self (Ticks moment) refl tt (rw c.self.view_is at c.in_ok-tick.ensures.ok))
     (c.admit-self-inside.ensures moment))
 
 pub returns-clause-breaks : goal.returns-clause-breaks

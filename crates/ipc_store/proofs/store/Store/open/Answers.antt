@@ -2,7 +2,7 @@
 use Rattle.std.proofs.Common.{◌≡◌, ◌<◌, inl, inr, ⊎_elim, [], Err, sym, ap, subst, ◌∙◌, arith}
 use Rattle.ipc_checkpoint.specs.View.{epoch_of}
 use Rattle.ipc_disk.specs.Medium.{IsHonest}
-use Rattle.ipc_journal.specs.View.{used_of}
+use Rattle.ipc_journal.specs.View.{used_of, epoch_of as journal_epoch}
 use Rattle.std.specs.Prelude.{⊤, Result}
 use Rattle.ipc_store.specs.declared.fault.OpenError.{OpenError}
 use Rattle.ipc_store.specs.declared.fault.OpenError.TheVariants as errors
@@ -34,6 +34,8 @@ ended g c honest is =
     (ap (λ v. (m v.disk).contents) over ∙ stays.contents honest) old.0 old.1
     (λ some. ap (λ v. used_of v.journal) over
     ∙ c.in-Ok.ensures.used honest (subst (λ v. 0 < used_of v.journal) over some))
+    (λ some. c.in-Ok.ensures.current honest (subst (λ v. 0 < used_of v.journal) over some)
+    ∙ sym (ap (λ v. journal_epoch v.journal) over))
 
 pub returns-in-Err-clause-any_moment : goal.returns-in-Err-clause-any_moment
 returns-in-Err-clause-any_moment g c = λ honest. (tt, only_read _ _ (c.read_device.ensures.reads honest) (g.met.D.SectorDisk.only_now c.args.disk))

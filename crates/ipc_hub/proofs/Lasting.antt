@@ -1,0 +1,321 @@
+-- Lives of the server: what each leaves, and the history that the machine has after all of them.
+use Rattle.std.proofs.Common.{◌≡◌, ℕ, ◌≤◌, List, [], ◌∷◌, ◌++◌, length, drop, Option, Some, None, inl, inr, refl, sym, ap, subst, ◌∙◌, arith}
+use Rattle.std.proofs.Common.{append-nil, append_assoc}
+use Rattle.std.specs.Prelude.{All, nat_le, option_map, unwrap_or}
+use Rattle.std.proofs.lemmas.List.{length-append, length-drop, append_cancel_left}
+use Rattle.std.proofs.lemmas.List.Elements.{All-nil, All-cons, All-append, All-head, All-tail, All-take, All-weaker}
+use Rattle.std.proofs.lemmas.Bool.Decides.{nat_tests}
+use Rattle.ipc_base.specs.declared.limits.Limits.{Limits}
+use Rattle.ipc_base.proofs.CallerLemmas.{each-at, test_cases, paired-at, paired-none}
+use Rattle.ipc_disk.specs.Medium.{Image, Medium}
+use Rattle.ipc_state.specs.State.{State, restart}
+use Rattle.ipc_engine.specs.Event.{PlainEvent, Restart}
+use Rattle.ipc_store.specs.Histories.{History, acknowledged, accepted, state_after, reopened, Keeps, Takes, OpensOn}
+use Rattle.ipc_store.specs.Lives.{IsLeft, StoppedOpens, Rests, Found}
+use Rattle.ipc_store.specs.View.{StoreView}
+use Rattle.ipc_store.proofs.CallerLemmas.{Takes-none}
+use Rattle.ipc_hub.specs.Clients.{Frame, Client, Clients, all_bytes, confirmed_bytes}
+use Rattle.ipc_hub.specs.Lives.{HubCall, Shows, Serving, Life, life_of, Lives, HasHistory}
+use Rattle.ipc_hub.specs.Lives.HubCall.{Serves, Still, Fails}
+use Rattle.ipc_hub.specs.Lives.Serving.{New, Call, Look}
+use Rattle.ipc_hub.specs.Lives.Lives.{First, Next}
+use Rattle.ipc_hub.specs.Lives.IsHistory.{None as no_life, More as life_more}
+use Rattle.ipc_hub.specs.View.{ConnectionView, HubView, StoredHub, connection_of, output_of}
+use Rattle.ipc_hub.specs.Relations.Matches.{AreFrames, ClientMatches, HubMatches}
+use Rattle.ipc_hub.proofs.Changes.{has-bytes}
+use Rattle.ipc_hub.proofs.Deliveries.{IsOf}
+use Rattle.ipc_hub.proofs.Replying.{IsTold, Says, answer-more, told-call, told-fail}
+use Rattle.ipc_hub.specs.Replies.{IsAnswer}
+use Rattle.std.proofs.Math.Seq.{take-append_seam}
+use Rattle.std.specs.Prelude.{take}
+
+-- ---- frames that are shown
+
+-- the event of a frame is one of so many
+abbrev pub IsWithin : ℕ → Frame → Type 0
+IsWithin n f = f.mark ≤ n
+
+-- frames whose bytes are no more than those that are confirmed are of confirmed events
+few-confirmed : (confirmed accepted : ℕ) (frames others : List Frame) → AreFrames accepted (frames ++ others)
+    → length (all_bytes frames) ≤ length (confirmed_bytes confirmed (frames ++ others)) → All (IsWithin confirmed) frames
+few-confirmed confirmed accepted [] others are few = All-nil (IsWithin confirmed)
+few-confirmed confirmed accepted (f ∷ fs) others are few =
+    elim (test_cases (nat_le f.mark confirmed)) [
+      | inl t ↦
+          let few' : length (f.bytes ++ all_bytes fs) ≤ length (f.bytes ++ confirmed_bytes confirmed (fs ++ others)) = rw t at few in
+          let within : f.mark ≤ confirmed = grind (arith, nat_tests, t) in
+          All-cons (IsWithin confirmed) f fs within
+          (few-confirmed confirmed accepted fs others (All-tail (IsOf accepted) f (fs ++ others) are)
+          (omega (
+            arith,
+            few',
+            length-append f.bytes (all_bytes fs),
+            length-append f.bytes (confirmed_bytes confirmed (fs ++ others)),
+          )))
+      | inr t ↦
+          let few' : length (f.bytes ++ all_bytes fs) ≤ 0 = rw t at few in
+          absurd (omega (
+            arith,
+            few',
+            length-append f.bytes (all_bytes fs),
+            has-bytes f (All-head (IsOf accepted) f (fs ++ others) are).1,
+          ))
+    ]
+
+-- the bytes that a client may see, when its connection shows those of these frames
+shown-confirmed : (confirmed accepted : ℕ) (v : ConnectionView) (c : Client) (frames others : List Frame) → ClientMatches confirmed accepted v c
+    → frames ++ others ≡ c.frames → v.outbox.visible ≡ drop c.consumed (all_bytes frames) → All (IsWithin confirmed) frames
+shown-confirmed confirmed accepted v c frames others m first output =
+    let shown_length : length (drop c.consumed (all_bytes frames)) ≡ length (drop c.consumed (confirmed_bytes confirmed c.frames)) =
+    ap (λ (bytes : List ℕ). length bytes) (sym output ∙ m.visible) in
+    let few : length (all_bytes frames) ≤ length (confirmed_bytes confirmed c.frames) =
+    omega (
+      arith,
+      shown_length,
+      m.seen,
+      length-drop c.consumed (all_bytes frames),
+      length-drop c.consumed (confirmed_bytes confirmed c.frames),
+    ) in
+    few-confirmed confirmed accepted frames others (subst (AreFrames accepted) (sym first) m.frames)
+    (subst (λ (fs : List Frame). length (all_bytes frames) ≤ length (confirmed_bytes confirmed fs)) (sym first) few)
+
+-- frames that an output shows are of confirmed events
+shows-confirmed : (limits : Limits) (confirmed : ℕ) (v : HubView) (h : Clients) (conn : ℕ) (frames : List Frame) → HubMatches limits confirmed v h
+    → Shows v h conn frames → All (IsWithin confirmed) frames
+shows-confirmed limits confirmed v h conn frames m s = by_value (connection_of v conn) refl
+  where
+    some_same : (c d : Client) → Some c ≡ Some d → c ≡ d
+    some_same c d is = cc
+
+    by_value : (r : Option ConnectionView) → connection_of v conn ≡ r → All (IsWithin confirmed) frames
+    by_value None none =
+        let nobody = paired-none (ClientMatches confirmed (length h.events)) v.connections h.clients conn m.clients none in
+        absurd (let never : Some s.client ≡ None = sym s.found ∙ nobody in cc)
+    by_value (Some w) is =
+        let partner = paired-at (ClientMatches confirmed (length h.events)) v.connections h.clients conn w m.clients is in
+        let same : partner.0 ≡ s.client = some_same partner.0 s.client (sym partner.1.0 ∙ s.found) in
+        let seen : output_of v conn ≡ w.outbox.visible =
+        ap (λ (r : Option ConnectionView). unwrap_or (option_map (λ (c : ConnectionView). c.outbox.visible) r) []) is in
+        let output : w.outbox.visible ≡ drop s.client.consumed (all_bytes frames) = sym seen ∙ s.output in
+        shown-confirmed confirmed (length h.events) w s.client frames s.others
+        (subst (ClientMatches confirmed (length h.events) w) same partner.1.1) s.first output
+
+-- frames that an output shows are answers, as all of the client are
+first-say : (limits : Limits) (base : State) (h : Clients) (frames : List Frame) (conn : ℕ) (v : HubView) → IsTold limits base h
+    → Shows v h conn frames → All (IsAnswer limits base h.events) frames
+first-say limits base h frames conn v told s =
+    let says : All (IsAnswer limits base h.events) s.client.frames =
+    each-at (Says limits base h.events) h.clients conn s.client told.each s.found in
+    let split : take (length frames) s.client.frames ≡ frames = ap (take (length frames)) (sym s.first) ∙ take-append_seam frames s.others in
+    subst (All (IsAnswer limits base h.events)) split (All-take (IsAnswer limits base h.events) (length frames) s.client.frames says)
+
+-- two facts of each frame make a third
+both-hold : (P Q R : Frame → Type 0) → ((f : Frame) → P f → Q f → R f) → (fs : List Frame) → All P fs → All Q fs → All R fs
+both-hold P Q R does [] ps qs = All-nil R
+both-hold P Q R does (f ∷ fs) ps qs =
+    All-cons R f fs (does f (All-head P f fs ps) (All-head Q f fs qs)) (both-hold P Q R does fs (All-tail P f fs ps) (All-tail Q f fs qs))
+
+-- ---- a life
+
+-- A hub after some calls of a life: its store has a history, which begins with what was found; the events of the clients
+-- are those since then; and the frames that were in an output are of events that are confirmed.
+record Lived {D : Type 0} (medium : D → Medium) (limits : Limits) (kept : List PlainEvent) (v : StoredHub D) (h : Clients) (seen : List Frame)
+    : Type 0 where
+  history : History
+  keeps : Keeps (medium v.store.disk) v.store history
+  found : history.found ≡ kept
+  events : history.confirmed ++ history.waiting ≡ h.events
+  under : v.store.machine.limits ≡ limits
+  confirmed : ℕ
+  matches : HubMatches limits confirmed v.hub h
+  within : confirmed ≤ v.store.confirmed
+  lasts : All (IsWithin v.store.confirmed) seen
+  told : IsTold limits (state_after limits kept) h
+  answers : All (IsAnswer limits (state_after limits kept) h.events) seen
+
+module _ {D : Type 0} (medium : D → Medium) (law : (d : D) (image : Image) → (medium d).images_since (medium d).moment image → (medium d).images_now image)
+    (limits : Limits) where
+  -- the events that a call accepts, which its store takes
+  took : (old new : StoredHub D) (h next : Clients) → HubCall medium limits old h new next
+      → (events : List PlainEvent) × Takes medium old.store events new.store × (next.events ≡ h.events ++ events)
+  took old new h _ (Serves next call comes) = (comes.events, comes.takes, comes.adds)
+  took old new h _ (Still next call same store matches) = (
+    [],
+    subst (λ (s : StoreView D). Takes medium old.store [] s) (sym store) (Takes-none medium law old.store),
+    same ∙ sym (append-nil h.events),
+  )
+  took old new h _ (Fails takes matches) = ([], takes, sym (append-nil h.events))
+
+  -- what is confirmed stays so
+  stays : (old new : StoreView D) (h : History) (events : List PlainEvent) → Keeps (medium old.disk) old h → Takes medium old events new
+      → old.confirmed ≤ new.confirmed
+  stays old new h events keeps takes =
+      let moves = takes h keeps in
+      omega (
+        arith,
+        keeps.count,
+        moves.keeps.count,
+        ap (λ (es : List PlainEvent). length es) moves.follows.confirms,
+        length-append h.confirmed moves.follows.more,
+      )
+
+  -- the hub matches after a call as it did before
+  shown-after : (old new : StoredHub D) (h next : Clients) (confirmed : ℕ) → HubMatches limits confirmed old.hub h → confirmed ≤ old.store.confirmed
+      → old.store.confirmed ≤ new.store.confirmed → HubCall medium limits old h new next
+      → (now : ℕ) × HubMatches limits now new.hub next × (now ≤ new.store.confirmed)
+  shown-after old new h _ confirmed m within more (Serves next call comes) = (new.store.confirmed, comes.matches.hub, omega arith)
+  shown-after old new h _ confirmed m within more (Still next call same store matches) = (confirmed, matches confirmed m, omega (arith, within, more))
+  shown-after old new h _ confirmed m within more (Fails takes matches) = (old.store.confirmed, matches, more)
+
+  -- the frames are answers after a call as before
+  told-after : (base : State) (old new : StoredHub D) (h next : Clients) → IsTold limits base h → HubCall medium limits old h new next
+      → IsTold limits base next
+  told-after base old new h _ told (Serves next call comes) = told-call limits base h next told call
+  told-after base old new h _ told (Still next call same store matches) = told-call limits base h next told call
+  told-after base old new h _ told (Fails takes matches) = told-fail limits base h old.store.confirmed told
+
+  -- one call more
+  lived-call : (kept : List PlainEvent) (old new : StoredHub D) (h next : Clients) (seen : List Frame) → Lived medium limits kept old h seen
+      → HubCall medium limits old h new next → Lived medium limits kept new next seen
+  lived-call kept old new h next seen so_far call =
+      let t = took old new h next call in
+      let moves = t.1 so_far.history so_far.keeps in
+      let more = stays old.store new.store so_far.history t.0 so_far.keeps t.1 in
+      let shown = shown-after old new h next so_far.confirmed so_far.matches so_far.within more call in
+      let before : History = so_far.history in
+      let follows = moves.follows in
+      record {
+        history = moves.after;
+        keeps = moves.keeps;
+        found = follows.found ∙ so_far.found;
+        events =
+            append_cancel_left before.found (moves.after.confirmed ++ moves.after.waiting) (next.events)
+            (ap (λ (es : List PlainEvent). es ++ (moves.after.confirmed ++ moves.after.waiting)) (sym follows.found)
+            ∙ sym (append_assoc moves.after.found moves.after.confirmed moves.after.waiting) ∙ follows.accepts
+            ∙ ap (λ (es : List PlainEvent). es ++ t.0)
+            (append_assoc before.found before.confirmed before.waiting ∙ ap (λ (es : List PlainEvent). before.found ++ es) so_far.events)
+            ∙ append_assoc before.found h.events t.0 ∙ ap (λ (es : List PlainEvent). before.found ++ es) (sym t.2));
+        under = moves.limits ∙ so_far.under;
+        confirmed = shown.0;
+        matches = shown.1;
+        within = shown.2;
+        lasts = All-weaker (IsWithin old.store.confirmed) (IsWithin new.store.confirmed) (λ f is. omega (arith, is, more)) seen so_far.lasts;
+        told = told-after (state_after limits kept) old new h next so_far.told call;
+        answers = subst (λ (es : List PlainEvent). All (IsAnswer limits (state_after limits kept) es) seen) (sym t.2)
+            (All-weaker (IsAnswer limits (state_after limits kept) h.events) (IsAnswer limits (state_after limits kept) (h.events ++ t.0))
+            (answer-more limits (state_after limits kept) h.events t.0) seen so_far.answers);
+      }
+
+  -- all calls of a life
+  lived : (kept : List PlainEvent) (opened : StoreView D) (last : StoredHub D) (now : Clients) (seen : List Frame)
+      → Keeps (medium opened.disk) opened (reopened kept) → opened.machine.limits ≡ limits
+      → opened.machine.state ≡ restart (state_after limits kept) → Serving medium limits opened last now seen
+      → Lived medium limits kept last now seen
+  lived kept opened hub _ _ keeps under state (New _ store matches) = record {
+    history = reopened kept;
+    keeps = subst (λ (s : StoreView D). Keeps (medium s.disk) s (reopened kept)) (sym store) keeps;
+    found = refl;
+    events = refl;
+    under = ap (λ (s : StoreView D). s.machine.limits) store ∙ under;
+    confirmed = hub.store.confirmed;
+    matches = matches.hub;
+    within = omega arith;
+    lasts = All-nil (IsWithin hub.store.confirmed);
+    told = record { state = state; each = tt };
+    answers = All-nil (IsAnswer limits (state_after limits kept) (Restart ∷ []));
+  }
+  lived kept opened next then seen keeps under state (Call last _ now _ _ serving call) =
+      lived-call kept last next now then seen (lived kept opened last now seen keeps under state serving) call
+  lived kept opened last now _ keeps under state (Look _ _ seen frames conn serving shows) =
+      let so_far = lived kept opened last now seen keeps under state serving in
+      record {
+        history = so_far.history;
+        keeps = so_far.keeps;
+        found = so_far.found;
+        events = so_far.events;
+        under = so_far.under;
+        confirmed = so_far.confirmed;
+        matches = so_far.matches;
+        within = so_far.within;
+        lasts = All-append (IsWithin last.store.confirmed) frames seen
+            (All-weaker (IsWithin so_far.confirmed) (IsWithin last.store.confirmed) (λ f is. omega (arith, is, so_far.within)) frames
+            (shows-confirmed limits so_far.confirmed last.hub now conn frames so_far.matches shows))
+            so_far.lasts;
+        told = so_far.told;
+        answers = All-append (IsAnswer limits (state_after limits kept) now.events) frames seen
+            (first-say limits (state_after limits kept) now frames conn last.hub so_far.told shows) so_far.answers;
+      }
+
+-- ---- lives
+
+-- what a call that is stopped leaves
+abbrev pub Leaves : {D : Type 0} → (D → Medium) → Type 0
+Leaves {D} medium =
+    (last next : StoreView D) (before : History) (events : List PlainEvent) (left : D) → Keeps (medium last.disk) last before
+    → Takes medium last events next → IsLeft (medium last.disk) (medium next.disk) (medium left)
+    → Rests last.machine.limits (acknowledged before) (before.waiting ++ events) (medium left)
+
+-- what an open finds there
+abbrev pub Finds : {D : Type 0} → (D → Medium) → Type 0
+Finds {D} medium =
+    (limits : Limits) (acked others : List PlainEvent) (left disk : D) (opened : StoreView D) → Rests limits acked others (medium left)
+    → StoppedOpens medium left disk → OpensOn (medium disk).contents (medium opened.disk) opened
+    → Found limits acked others (medium opened.disk) opened
+
+nothing-kept : (kept lost : List PlainEvent) → kept ++ lost ≡ [] → kept ≡ []
+nothing-kept [] lost is = refl
+nothing-kept (e ∷ es) lost is = cc
+
+module _ {D : Type 0} (medium : D → Medium) (law : (d : D) (image : Image) → (medium d).images_since (medium d).moment image → (medium d).images_now image)
+    (limits : Limits) (leaves : Leaves medium) (finds : Finds medium) where
+  -- the history after one life more
+  one-more : (found : List PlainEvent) (lives : List Life) (opened store : StoreView D) (last next : StoredHub D) (now then : Clients)
+      (seen : List Frame) (left from : D) → HasHistory (medium opened.disk) limits found lives opened → Serving medium limits opened last now seen
+      → HubCall medium limits last now next then → IsLeft (medium last.store.disk) (medium next.store.disk) (medium left)
+      → StoppedOpens medium left from → OpensOn (medium from).contents (medium store.disk) store
+      → HasHistory (medium store.disk) limits found (life_of opened last then seen ∷ lives) store
+  one-more found lives opened store last next now then seen left from has serving call is_left opens on =
+      let l = lived medium law limits has.history opened last now seen has.keeps has.under has.state serving in
+      let h : History = l.history in
+      let t = took medium law limits last next now then call in
+      let rests = leaves last.store next.store h t.0 left l.keeps t.1 is_left in
+      let f = finds last.store.machine.limits (acknowledged h) (h.waiting ++ t.0) left from store rests opens on in
+      let kept : List PlainEvent = h.confirmed ++ f.kept in
+      let all : acknowledged h ++ f.kept ≡ has.history ++ kept =
+      append_assoc h.found h.confirmed f.kept ∙ ap (λ (es : List PlainEvent). es ++ kept) l.found in
+      let most : last.store.confirmed ≤ length kept = omega (arith, l.keeps.count, length-append h.confirmed f.kept) in
+      record {
+        history = has.history ++ kept;
+        is = life_more lives (life_of opened last then seen) has.history kept f.lost has.is has.state
+            (append_assoc h.confirmed f.kept f.lost ∙ ap (λ (es : List PlainEvent). h.confirmed ++ es) f.prefix
+            ∙ sym (append_assoc h.confirmed h.waiting t.0) ∙ ap (λ (es : List PlainEvent). es ++ t.0) l.events ∙ sym t.2)
+            most
+            (both-hold (IsWithin last.store.confirmed) (IsAnswer limits (state_after limits has.history) now.events)
+            (λ f. (f.mark ≤ length kept) × IsAnswer limits (state_after limits has.history) then.events f)
+            (λ f is says. (
+              omega (arith, is, most),
+              subst (λ (es : List PlainEvent). IsAnswer limits (state_after limits has.history) es f) (sym t.2)
+                  (answer-more limits (state_after limits has.history) now.events t.0 f says),
+            )) seen l.lasts l.answers);
+        under = f.under ∙ l.under;
+        state = f.state ∙ ap (λ (k : Limits). restart (state_after k (acknowledged h ++ f.kept))) l.under
+            ∙ ap (λ (es : List PlainEvent). restart (state_after limits es)) all;
+        keeps = subst (λ (es : List PlainEvent). Keeps (medium store.disk) store (reopened es)) all f.keeps;
+      }
+
+  -- the history after all of them
+  pub has-history : (found : List PlainEvent) (disk : D) (lives : List Life) (opened : StoreView D) → Rests limits found [] (medium disk)
+      → Lives medium limits disk lives opened → HasHistory (medium opened.disk) limits found lives opened
+  has-history found disk _ store rests (First from _ opens on) =
+      let f = finds limits found [] disk from store rests opens on in
+      let all : found ++ f.kept ≡ found =
+      ap (λ (es : List PlainEvent). found ++ es) (nothing-kept f.kept f.lost f.prefix) ∙ append-nil found in
+      record {
+        history = found;
+        is = no_life;
+        under = f.under;
+        state = f.state ∙ ap (λ (es : List PlainEvent). restart (state_after limits es)) all;
+        keeps = subst (λ (es : List PlainEvent). Keeps (medium store.disk) store (reopened es)) all f.keeps;
+      }
+  has-history found disk _ store rests (Next lives opened _ last next now then seen left from before serving call is_left opens on) =
+      one-more found lives opened store last next now then seen left from (has-history found disk lives opened rests before) serving call is_left opens on

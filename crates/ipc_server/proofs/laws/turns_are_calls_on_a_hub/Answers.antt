@@ -1,0 +1,13 @@
+use Rattle.ipc_server.proofs.Turning.{serving, turned, broken}
+use Rattle.ipc_server.proofs.laws.turns_are_calls_on_a_hub.Goals as goal
+
+pub returns-clause-calls : goal.returns-clause-calls
+returns-clause-calls g c = λ limits opened moment last now seen turns. serving g.D.SectorDisk.medium limits opened moment last now seen turns
+
+pub returns-clause-turn : goal.returns-clause-turn
+returns-clause-turn g c = λ limits opened before moment last next now seen turns matches later goes.
+    turned g.D.SectorDisk.medium limits opened before moment last next now seen matches turns later goes
+
+pub returns-clause-broken : goal.returns-clause-broken
+returns-clause-broken g c = λ limits opened before moment last next now seen error turns matches later breaks.
+    broken g.D.SectorDisk.medium limits opened g.D.SectorDisk.counts before moment last next now seen error matches turns later breaks
