@@ -10,6 +10,7 @@ is shown if it fails.
 
 from __future__ import annotations
 
+import hashlib
 import os
 import re
 import select
@@ -66,6 +67,7 @@ class Build:
         # All that rt has said, and what it has said of a crate and at its end.
         self.text = ""
         self.said: dict[str, str] = {}
+        self.run: subprocess.Popen[bytes] | None = None
 
     def share(self, names: set[str]) -> int:
         return sum(self.shares.get(name, 100) for name in names)
@@ -111,50 +113,77 @@ class Build:
         failed = [line.partition(":")[0] for line in ends if ": failed" in line]
         return "".join(f"{name}\n{self.said.get(name)}" for name in failed) or self.text
 
+    def begin(self, *words: str) -> subprocess.Popen[bytes]:
+        """Runs rt on the program's crate, in a session of its own: it is stopped with all that it began."""
+        self.run = subprocess.Popen(
+            ["rt", *words],
+            cwd=ROOT / "crates" / PROGRAM,
+            stdin=subprocess.DEVNULL,
+            stdout=subprocess.PIPE,
+            stderr=subprocess.STDOUT,
+            start_new_session=True,
+        )
+        return self.run
 
-def begin(*words: str) -> subprocess.Popen[bytes]:
-    """Runs rt on the program's crate. A session of its own is ended with all that it has begun."""
-    return subprocess.Popen(
-        ["rt", *words],
-        cwd=ROOT / "crates" / PROGRAM,
-        stdin=subprocess.DEVNULL,
-        stdout=subprocess.PIPE,
-        stderr=subprocess.STDOUT,
-        start_new_session=True,
-    )
+    def stop(self) -> None:
+        if self.run is not None and self.run.poll() is None:
+            os.killpg(self.run.pid, signal.SIGTERM)
 
-
-def main() -> None:
-    build = Build()
-    print(
-        f"proving and building {PROGRAM} and the crates below it, {build.at_once} at once: {build.left()} if\n"
-        f"nothing is proved yet and nothing else runs ({minutes(build.share(set(build.below)))} of one processor). It may\n"
-        "be stopped: crates that are proved stay proved, and the next run goes on after them.",
-        flush=True,
-    )
-    if shutil.which("rt") is None:
-        sys.exit("there is no rt on the path: README.md says which toolchain it is of")
-    run = begin("all", "check", "--jobs", str(build.at_once))
-    try:
+    def prove(self) -> None:
+        """Proves all crates, the program's too, and says how far it is."""
+        whole = minutes(self.share(set(self.below)))
+        print(
+            f"proving and building {PROGRAM} and the crates below it, {self.at_once} at once: {self.left()} if\n"
+            f"nothing is proved yet and nothing else runs ({whole} of one processor). It may be\n"
+            "stopped: crates that are proved stay proved, and the next run goes on after them.",
+            flush=True,
+        )
+        run = self.begin("all", "check", "--jobs", str(self.at_once))
         text = ""
         while more := os.read(run.stdout.fileno(), 1 << 16).decode(errors="replace"):
             text += more
             # What rt says of a crate comes at once.
             if not select.select([run.stdout], [], [], 0.2)[0]:
-                build.take(text)
+                self.take(text)
                 text = ""
-        build.take(text)
+        self.take(text)
         if run.wait():
-            sys.exit(build.wrong())
-        run = begin("run", "--", "replay", "--small")
+            sys.exit(self.wrong())
+
+    def make(self) -> None:
+        """Builds the program. A crate that is not proved yet would be proved here, without a word."""
+        run = self.begin("run", "--", "replay", "--small")
         said, _ = run.communicate()
         if run.returncode:
             sys.exit(said.decode(errors="replace"))
+
+
+def sources(crates: set[str]) -> str:
+    """A checksum of all that the crates are made of, and of the toolchain's name."""
+    whole = hashlib.sha256(subprocess.run(["rt", "version"], check=True, capture_output=True).stdout)
+    parts = [ROOT / "crates" / name / part for name in crates for part in ("src", "specs", "proofs")]
+    files = [file for part in parts for file in part.rglob("*") if file.is_file()]
+    for file in [ROOT / "crates.txt", *sorted(files)]:
+        whole.update(f"{file.relative_to(ROOT)} {file.stat().st_size} ".encode() + file.read_bytes())
+    return whole.hexdigest()
+
+
+def main() -> None:
+    if shutil.which("rt") is None:
+        sys.exit("there is no rt on the path: README.md says of which toolchain it is")
+    build = Build()
+    # What the program was made of last. To look at each crate takes rt half a minute.
+    made = ROOT / "crates" / PROGRAM / "out" / "sources.sum"
+    checksum = sources(set(build.below))
+    try:
+        if not made.is_file() or made.read_text() != checksum:
+            build.prove()
+        build.make()
+        made.write_text(checksum)
     except KeyboardInterrupt:
         sys.exit("stopped")
     finally:
-        if run.poll() is None:
-            os.killpg(run.pid, signal.SIGTERM)
+        build.stop()
 
 
 if __name__ == "__main__":
