@@ -1,13 +1,15 @@
-# ipcd: the commands of this repository. They need the Rattle toolchain's `rt` on the path, `edits` awk, `runs` awk and
-# Python, `serves` Python, `bench` awk, `bench-serve` Python and a C compiler, and `memory` awk and a C compiler: without
-# that one it says so and refuses nothing.
+# ipcd: the commands of this repository. They need the Rattle toolchain's `rt` on the path and Python, `runs`, `edits`
+# and `bench` also awk, `bench-serve` a C compiler, and `memory` awk and a C compiler: without that one it says so and
+# refuses nothing. `runs` renders the manual page if there is a man.
 
-.PHONY: help run test edits imports runs serves memory program bench bench-serve
+.PHONY: help run test edits imports runs serves memory program install bench bench-serve
 
 help:
-	@echo "make run    proves and builds what is needed, some minutes the first time, and runs examples/device.sh: a"
-	@echo "            message outlives the program. It may be stopped: crates that are proved stay proved, and the"
-	@echo "            next run goes on after them"
+	@echo "make run    proves and builds what is needed, which takes half an hour or more the first time, and says how"
+	@echo "            far it is; then it runs examples/device.sh: a message outlives the program. It may be stopped:"
+	@echo "            crates that are proved stay proved, and the next run goes on after them"
+	@echo "make install  puts the program, which 'make program' has built, its manual page and its unit for systemd below"
+	@echo "            PREFIX, which is /usr/local if it is not given, in the folder DESTDIR"
 	@echo "make test   what 'make imports' runs; the gate: every proof, the wrong bodies that stand for a promise, the tests,"
 	@echo "            the program; and then what 'make runs', 'make serves' and 'make memory' run, on what the gate has"
 	@echo "            built. It takes 40 to 100 minutes on four cores"
@@ -26,23 +28,22 @@ help:
 run: program
 	@sh examples/device.sh crates/ipcd/out/ipcd
 
-# The crates below the program, lowest first: those that crates.txt names before it. A crate that is proved, and of which
-# nothing has changed, takes a moment. What rt says of a crate is shown if the crate fails.
-BELOW := $(shell sed -n -e '/^ipcd:/q' -e 's/^\([a-z_]*\):.*/\1/p' crates.txt)
-CRATES := $(words $(BELOW) ipcd)
-
+# The crates that the program stands on, and it: no tests, no edits. tools/shares.txt says about how long each takes.
 program:
-	@echo "proving and building ipcd and the crates below it: some minutes the first time."
-	@echo "It may be stopped: crates that are proved stay proved, and the next run goes on after them."
-	@number=0; for crate in $(BELOW); do \
-		number=$$((number + 1)); \
-		echo "proving $$crate ($$number of $(CRATES))"; \
-		(cd crates/$$crate && rt lib > out.log 2>&1) || { cat crates/$$crate/out.log; exit 1; }; \
-		rm -f crates/$$crate/out.log; \
-	done
-	@echo "proving and building ipcd ($(CRATES) of $(CRATES))"
-	@cd crates/ipcd && rt run -- replay --small < /dev/null > out.log 2>&1 || { cat out.log; exit 1; }
-	@rm -f crates/ipcd/out.log
+	@python3 tools/build.py
+
+# It builds nothing, so that it may be run by another user than the one who builds.
+PREFIX = /usr/local
+UNITS = $(PREFIX)/lib/systemd/system
+BUILT = crates/ipcd/out/ipcd
+
+install:
+	@[ -x $(BUILT) ] || { echo "there is no $(BUILT): 'make program' comes first" >&2; exit 1; }
+	install -d "$(DESTDIR)$(PREFIX)/bin" "$(DESTDIR)$(PREFIX)/share/man/man8" "$(DESTDIR)$(UNITS)"
+	install -m 0755 $(BUILT) "$(DESTDIR)$(PREFIX)/bin/ipcd"
+	install -m 0644 docs/ipcd.8 "$(DESTDIR)$(PREFIX)/share/man/man8/ipcd.8"
+	install -m 0644 contrib/ipcd.service "$(DESTDIR)$(UNITS)/ipcd.service"
+	sed -i "s|/usr/local/bin/|$(PREFIX)/bin/|" "$(DESTDIR)$(UNITS)/ipcd.service"
 
 # The engine's tests take a step again that was refused for memory, and look for the replies that it would have had.
 MACHINE_TESTS = crates/machine_tests/out/machine_tests_tests
@@ -62,12 +63,13 @@ imports:
 
 RUNS = sh tests/runs.sh crates/ipcd/out/ipcd && python3 tests/terminal.py crates/ipcd/out/ipcd && \
 	python3 tests/words.py crates/ipcd/out/ipcd && python3 tests/scripts.py crates/ipcd/out/ipcd && \
-	python3 tests/device.py crates/ipcd/out/ipcd
+	python3 tests/install.py crates/ipcd/out/ipcd && python3 tests/device.py crates/ipcd/out/ipcd
 
 runs: program
 	@$(RUNS)
 
-SERVES = python3 tests/serve.py crates/ipcd/out/ipcd && sh examples/serve.sh crates/ipcd/out/ipcd
+SERVES = python3 tests/serve.py crates/ipcd/out/ipcd && python3 tests/operations.py crates/ipcd/out/ipcd && \
+	python3 tests/session.py crates/ipcd/out/ipcd && sh examples/serve.sh crates/ipcd/out/ipcd
 
 serves: program
 	@$(SERVES)

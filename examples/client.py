@@ -1,12 +1,11 @@
-"""A client of ipcd, made of Python's standard library alone. After
+"""A client of ipcd, made of Python's standard library alone. A first session, in the folder of this
+file, is
 
     $ ipcd format device
     formatted 45830 sectors
     $ ipcd serve device socket &
     serving device, 45830 sectors, on socket, standard limits
-
-a first session, in the folder of this file, is
-
+    $ python3
     >>> from client import Connection, IPC_CREAT
     >>> with Connection("socket") as connection:
     ...     connection.hello(uid=1000, gid=100)
@@ -16,24 +15,30 @@ a first session, in the folder of this file, is
     ...
     1
     (5, b'hi')
+    >>> exit()
+    $ kill $!; wait $!; rm device socket
 
 A refused call raises OSError with the error number of the manual page: BlockingIOError for EAGAIN,
 FileNotFoundError for ENOENT, and so on. If the connection ends it is a ConnectionError.
 
 A client that need not wait for each reply sends some requests ahead, and then receives the replies,
-which come in the same order. Some hundred are safe; a client that sends on and on and receives
-nothing is not served any further, and waits for ever.
+which come in the same order.
 
     for text in texts:
         connection.send(msgsnd_request(queue, 5, text))
     for text in texts:
         serial, errno, body = connection.receive()
+
+The server takes no more of the requests of a client whose replies nobody reads. So `send` reads while
+it cannot write: it keeps the replies that come in the client's memory, until they are received. A
+client that does neither this nor count the bytes of its replies may wait for ever.
 """
 
 from __future__ import annotations
 
 import errno
 import os
+import select
 import socket
 import struct
 
@@ -66,15 +71,17 @@ class Connection:
     """A connection to a server. It is a process once it has said hello, until it is closed."""
 
     def __init__(self, path: str, timeout: float | None = None) -> None:
-        """Connects to a socket. A reply that takes over `timeout` seconds raises TimeoutError."""
+        """Connects to a socket. A wait of over `timeout` seconds raises TimeoutError."""
         self._socket = socket.socket(socket.AF_UNIX, socket.SOCK_STREAM)
         try:
             self._socket.connect(path)
         except OSError:
             self._socket.close()
             raise
-        self._socket.settimeout(timeout)
-        self._stream = self._socket.makefile("rb")
+        self._socket.setblocking(False)
+        self._timeout = None if timeout is None else 1000 * timeout
+        self._ready = select.poll()
+        self._read = bytearray()
         self._serial = 0
 
     def __enter__(self) -> Connection:
@@ -85,7 +92,6 @@ class Connection:
 
     def close(self) -> None:
         """Ends the process. Replies that were not received are lost."""
-        self._stream.close()
         self._socket.close()
 
     def hello(self, uid: int, gid: int) -> int:
@@ -118,20 +124,47 @@ class Connection:
     def send(self, request: bytes) -> int:
         """Sends a request, and answers its serial. Its reply is one of the next to be received."""
         self._serial = self._serial % 0xFFFFFFFF + 1
-        self._socket.sendall(struct.pack(">II", 4 + len(request), self._serial) + request)
+        self._write(struct.pack(">II", 4 + len(request), self._serial) + request)
         return self._serial
 
     def receive(self) -> tuple[int, int, bytes]:
         """The next reply: its serial, its error number, which is 0 for success, and its body."""
-        (length,) = struct.unpack(">I", self._read(4))
-        serial, error = struct.unpack(">IH", self._read(6))
-        return serial, error, self._read(length - 6)
+        (length,) = struct.unpack(">I", self._take(4))
+        serial, error = struct.unpack(">IH", self._take(6))
+        return serial, error, self._take(length - 6)
 
-    def _read(self, size: int) -> bytes:
-        data = self._stream.read(size)
-        if len(data) < size:
-            raise ConnectionResetError(errno.ECONNRESET, "the server has ended the connection")
+    def _write(self, data: bytes) -> None:
+        """Writes all of this, and reads while the socket takes no more."""
+        rest = memoryview(data)
+        while rest:
+            try:
+                rest = rest[self._socket.send(rest) :]
+            except BlockingIOError:
+                if self._wait(select.POLLIN | select.POLLOUT) & select.POLLIN:
+                    self._fill()
+
+    def _take(self, size: int) -> bytes:
+        """The next so many bytes that the server has sent."""
+        while len(self._read) < size:
+            self._wait(select.POLLIN)
+            self._fill()
+        data = bytes(self._read[:size])
+        del self._read[:size]
         return data
+
+    def _fill(self) -> None:
+        """Reads what has come."""
+        data = self._socket.recv(65536)
+        if not data:
+            raise ConnectionResetError(errno.ECONNRESET, "the server has ended the connection")
+        self._read += data
+
+    def _wait(self, events: int) -> int:
+        """Waits for one of these events of the socket, and answers those that have come."""
+        self._ready.register(self._socket, events)
+        for _, came in self._ready.poll(self._timeout):
+            return came
+        raise TimeoutError("the server does not answer")
 
 
 def _number(body: bytes) -> int:

@@ -242,6 +242,62 @@ def faults_of_the_stream() -> None:
         until(lambda: server.descriptors() == before, "connections stay open")
 
 
+# ---- requests that are sent ahead
+
+LONG = b"x" * 8192
+
+
+def sends_ahead(pairs: int) -> None:
+    """Pairs of a send and a receive of 8192 bytes, of which no reply is received before the last."""
+    with process() as client:
+        queue = client.msgget(pairs, IPC_CREAT | 0o600)
+        for _ in range(pairs):
+            client.send(msgsnd_request(queue, 1, LONG))
+            client.send(msgrcv_request(queue, len(LONG)))
+        for number in range(2, 2 + pairs):
+            check(client.receive() == (2 * number - 1, 0, b""), f"send {number} is refused")
+            answer = (2 * number, 0, struct.pack(">q", 1) + LONG)
+            check(client.receive() == answer, f"receive {number} has another reply")
+
+
+def counts_bytes(client: Client, requests: list[tuple[bytes, int]]) -> int:
+    """Sends requests, each with the most bytes of its reply, and reads nothing while it writes. Before a
+    request the replies that may be unread have 4096 bytes at most. Answers how many were unread."""
+    unread: list[int] = []
+    most = 0
+    client._socket.settimeout(TIMEOUT)
+    for request, longest in requests:
+        while sum(unread) > 4096:
+            client.receive()
+            del unread[0]
+        client._socket.sendall(frame(7, request))
+        unread.append(longest)
+        most = max(most, len(unread))
+    client._socket.setblocking(False)
+    for _ in unread:
+        client.receive()
+    return most
+
+
+def requests_ahead() -> None:
+    """The example's client may send any number ahead. One that does not read meanwhile may send if the
+    replies which it has not read are 4096 bytes at most, whatever room its socket has."""
+    with serving():
+        for pairs in (1, 31, 200):
+            sends_ahead(pairs)
+        with process() as client:
+            client._socket.setsockopt(socket.SOL_SOCKET, socket.SO_SNDBUF, 1)
+            queue = client.msgget(1234, IPC_CREAT | 0o600)
+            # A full queue's EAGAIN has as many bytes as a success.
+            sends = [(msgsnd_request(queue, 1, LONG), 10)] * 2000
+            most = counts_bytes(client, sends)
+            check(most == 410, f"{most} replies of 10 bytes were unread, and not 410")
+            drain(client, queue)
+            pairs = [(msgsnd_request(queue, 1, LONG), 10), (msgrcv_request(queue, 8192), 8210)] * 300
+            most = counts_bytes(client, pairs)
+            check(most == 2, f"{most} replies were unread, and not 2")
+
+
 # ---- many connections
 
 
@@ -608,6 +664,7 @@ TESTS = [
     exchanges,
     unfinished_requests,
     faults_of_the_stream,
+    requests_ahead,
     as_many_processes_as_may_be,
     more_clients_than_descriptors,
     many_connections,

@@ -125,23 +125,23 @@ class Client(Connection):
         return self._socket.fileno()
 
     def send_bytes(self, data: bytes) -> None:
-        self._socket.sendall(data)
+        self._write(data)
 
     def send_no_more(self) -> None:
         self._socket.shutdown(socket.SHUT_WR)
 
     def is_answered(self, frames: bytes) -> None:
         """The next bytes that come are these frames."""
-        read = self._read(len(frames))
+        read = self._take(len(frames))
         check(read == frames, f"{read.hex()} comes, and not {frames.hex()}")
 
     def is_ended(self) -> None:
         """The server has ended the connection, and sends no more."""
         try:
-            more = self._stream.read(1)
+            self._take(1)
         except ConnectionResetError:
             return
-        check(more == b"", "more comes after the last frame")
+        check(False, "more comes after the last frame")
 
 
 def process() -> Client:

@@ -11,6 +11,7 @@ from __future__ import annotations
 
 import os
 import pty
+import re
 import resource
 import signal
 import stat
@@ -37,6 +38,12 @@ REFUSED = [
 ]
 
 HELPED = ["run", "dump", "serve"]
+
+# Words that print something and do nothing else.
+TOLD = [("--help",), ("--version",), ("help",), ("serve", "--help"), ("help", "format")]
+
+# What a umask may take from a new file: nothing, as is usual, and of the owner too.
+UMASKS = [0, 0o022, 0o277, 0o777]
 
 # Words that are taken, and what is said of what they ask for. There is no folder `missing`.
 FAILS = [
@@ -81,6 +88,56 @@ def helps() -> None:
         check((status, errors) == (0, b""), f"{command} --help: status {status}, {errors!r}")
         usage = f"\nUsage: ipcd {command} "
         check(usage in output.decode(), f"{command} --help: {output!r} is printed")
+
+
+def version() -> None:
+    """The version is that of the program, and then that of the devices which it makes."""
+    printed = run("--version")[1].decode()
+    ends((0, b"formatted 448 sectors\n", b""), "format", "queues", "--small")
+    (number,) = struct.unpack_from(">I", Path("queues").read_bytes(), 8)
+    os.remove("queues")
+    wanted = rf"ipcd \d+\.\d+\.\d+, devices of version {number}\n"
+    check(re.fullmatch(wanted, printed) is not None, f"--version: {printed!r} is printed")
+
+
+def closed() -> None:
+    os.close(1)
+
+
+def no_room() -> None:
+    os.dup2(os.open("/dev/full", os.O_WRONLY), 1)
+
+
+def nobody_reads() -> None:
+    reader, writer = os.pipe()
+    os.close(reader)
+    os.dup2(writer, 1)
+
+
+def outputs() -> None:
+    """An output that is full, closed, or a pipe that nobody reads."""
+    for words in TOLD:
+        for spoil in (no_room, closed, nobody_reads):
+            status, _, errors = run(*words, preexec_fn=spoil)
+            check((status, errors) == (1, b"ipcd: output fault\n"), f"{words}: {status}, {errors!r}")
+    # The status of other words stands if what is wrong with them cannot be said.
+    with open("/dev/full", "wb") as full:
+        ends((2, b"", b""), "run", stderr=full)
+
+
+def modes() -> None:
+    """A new device is its owner's alone, whatever the umask. A file that is there keeps its mode."""
+    said = b"formatted 448 sectors\n"
+    for umask in UMASKS:
+        ends((0, said, b""), "format", "queues", "--small", umask=umask)
+        mode = stat.S_IMODE(os.stat("queues").st_mode)
+        check(mode == 0o600, f"with umask {umask:03o} the mode is {mode:03o}")
+        for kept in (0o644, 0o660, 0o600):
+            os.chmod("queues", kept)
+            ends((0, said, b""), "format", "queues", "--small", umask=umask)
+            mode = stat.S_IMODE(os.stat("queues").st_mode)
+            check(mode == kept, f"a mode of {kept:03o} is then {mode:03o}")
+        os.remove("queues")
 
 
 def failures() -> None:
@@ -133,10 +190,23 @@ def twelve_turns() -> None:
 
 
 def main() -> None:
-    for test in (refusals, helps, failures, the_greatest_number, names_with_spaces, twelve_turns):
+    tests = (
+        refusals,
+        helps,
+        version,
+        outputs,
+        modes,
+        failures,
+        the_greatest_number,
+        names_with_spaces,
+        twelve_turns,
+    )
+    for test in tests:
         test()
-    # The last five: one with a terminal, three for a file of two words, and one with turns.
-    print(f"words: {len(REFUSED) + len(HELPED) + len(FAILS) + 5} command lines")
+    # The last seven: the version and a device, one with a terminal, three for a file of two words, and
+    # one with turns.
+    count = len(REFUSED) + len(HELPED) + len(FAILS) + 3 * len(TOLD) + 1 + 4 * len(UMASKS) + 7
+    print(f"words: {count} command lines")
 
 
 if __name__ == "__main__":

@@ -11,9 +11,9 @@ use crate::progress::Silent;
 use crate::run::Run;
 use crate::{DiskFault, Progress, SectorDisk};
 use std::alloc::Global;
-use std::fs::{File, OpenOptions};
+use std::fs::{File, OpenOptions, Permissions};
 use std::io;
-use std::os::unix::fs::FileExt;
+use std::os::unix::fs::{FileExt, OpenOptionsExt, PermissionsExt};
 use std::path::AsPath;
 use std::rt::Files;
 
@@ -77,22 +77,43 @@ fn count_fault(done: io::Result<()>, failures: &mut u64) -> Result<(), DiskFault
     Ok(())
 }
 
-// Opens a plain file, and locks it.
-fn open_locked<R: Files<File = File>, P: AsPath>(
-    rt: &R,
-    path: P,
-    create: bool,
-) -> io::Result<File> {
+// The mode of a new file: its messages are its owner's alone, and so is its lock, for which reading
+// would suffice.
+const OWNERS: u32 = 0o600;
+
+// Opens a plain file that is there, and locks it.
+fn open_locked<R: Files<File = File>, P: AsPath>(rt: &R, path: P) -> io::Result<File> {
+    let file = OpenOptions::new().read(true).write(true).open(rt, path)?;
+    lock(&file)?;
+    Ok(file)
+}
+
+// As `open_locked`, or makes the file if it is not there.
+fn create_locked<R: Files<File = File>, P: AsPath>(rt: &R, path: P) -> io::Result<File> {
+    let path = path.path_text();
+    match open_locked(rt, path) {
+        Err(error) if error.kind() == io::ErrorKind::NotFound => {}
+        opened => return opened,
+    }
     let file = OpenOptions::new()
         .read(true)
         .write(true)
-        .create(create)
+        .create(true)
+        .mode(OWNERS)
         .open(rt, path)?;
+    lock(&file)?;
+    // A umask may have taken bits of the owner's. A file system without modes refuses this call.
+    let _set = file.set_permissions(Permissions::from_mode(OWNERS));
+    Ok(file)
+}
+
+// Locks a file, if it is a plain one.
+fn lock(file: &File) -> io::Result<()> {
     if !file.metadata()?.is_file() {
         return Err(io::ErrorKind::InvalidInput.into());
     }
     file.try_lock()?;
-    Ok(file)
+    Ok(())
 }
 
 // Writes zeros from one place of a file to another, up to a multiple of 4096 each time. A hole
@@ -127,8 +148,9 @@ impl FileDisk {
     ghost use Rattle.ipc_disk.specs.File.{file_size, file_medium, file_counts};
     ghost use Rattle.ipc_disk.specs.File.{waiting_range, waiting_values, has_failed_sync};
 
-    /// A disk of so many sectors, in a new file or in one that is there. A longer file is cut, a
-    /// shorter one keeps its bytes and gets zeros behind them. Then the file is synced. `DiskFault`
+    /// A disk of so many sectors, in a new file or in one that is there. A new file has mode 0600. One
+    /// that is there keeps its mode; a longer one is cut, a shorter one keeps its bytes and gets zeros
+    /// behind them. Then the file is synced. `DiskFault`
     /// if the system refuses a call or memory, if it is no plain file, or if another has locked it;
     /// a file that is locked stays as it is.
     pub fn create<R: Files<File = File> + AllocGlobal, P: AsPath>(
@@ -160,7 +182,7 @@ impl FileDisk {
         ensures nothing_waits { IfOk result (λ disk. waiting_values disk ≡ []) }
         ensures sure { IfOk result (λ disk. ¬ IsTrue (has_failed_sync disk)) }
     {
-        let Ok(file) = open_locked(rt, path, true) else {
+        let Ok(file) = create_locked(rt, path) else {
             return Err(DiskFault);
         };
         if resize(&file, offset(sectors), progress).is_err() {
@@ -180,7 +202,7 @@ impl FileDisk {
         ensures nothing_waits { IfOk result (λ disk. waiting_values disk ≡ []) }
         ensures sure { IfOk result (λ disk. ¬ IsTrue (has_failed_sync disk)) }
     {
-        let Ok(file) = open_locked(rt, path, false) else {
+        let Ok(file) = open_locked(rt, path) else {
             return Err(DiskFault);
         };
         let Ok(metadata) = file.metadata() else {

@@ -16,6 +16,7 @@ use mio::net::{UnixListener, UnixStream};
 use mio::{Events, Interest, Poll, Token};
 use slab::Slab;
 use std::alloc::Global;
+use std::io::ErrorKind;
 use std::marker::Model;
 use std::net::Net;
 use std::time::Duration;
@@ -41,6 +42,9 @@ pub struct Server<D: SectorDisk> {
     listener: UnixListener,
     poll: Poll,
     events: Events,
+    /// Connections may wait: the listening socket has told so, and no accept has said since that it
+    /// would block.
+    told: bool,
     /// More connections may have come than one turn takes.
     crowded: bool,
 }
@@ -100,6 +104,7 @@ impl<D: SectorDisk> Server<D> {
                 listener,
                 poll,
                 events,
+                told: false,
                 crowded: false,
             }),
             Err(error) => Err(Unserved {
@@ -158,7 +163,9 @@ impl<D: SectorDisk> Server<D> {
         for event in &self.events {
             let Token(key) = event.token();
             if event.is_readable() || event.is_read_closed() || event.is_error() {
-                if let Some(client) = self.clients.get_mut(key) {
+                if event.token() == LISTENER {
+                    self.told = true;
+                } else if let Some(client) = self.clients.get_mut(key) {
                     client.wake();
                 }
             }
@@ -191,15 +198,23 @@ impl<D: SectorDisk> Server<D> {
         false
     }
 
-    // Takes the connections that have come. Answers whether there may be more.
+    // Takes the connections that have come. Answers whether these were as many as a turn takes, so that
+    // there may be more. If an accept fails otherwise than that it would block, as without a
+    // descriptor, connections may wait still, and the system does not tell of them again.
     fn admit(&mut self) -> bool
         ensures { (moment : ℕ) → Goes D.medium moment self.old self.new }
     {
+        if !self.told {
+            return false;
+        }
         for _ in 0..MOST_ACCEPTS {
-            let Ok((socket, _)) = self.listener.accept() else {
-                return false;
-            };
-            self.take_client(socket);
+            match self.listener.accept() {
+                Ok((socket, _)) => self.take_client(socket),
+                Err(error) => {
+                    self.told = error.kind() != ErrorKind::WouldBlock;
+                    return false;
+                }
+            }
         }
         true
     }

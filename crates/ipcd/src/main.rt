@@ -9,7 +9,7 @@ mod serve;
 
 use device::{format_file, new_store, open_file};
 use ending::{Fault, exit_of};
-use ipc_command::{Request, limits_of, request_of};
+use ipc_command::{Refusal, Request, limits_of, request_of};
 use ipc_disk::SectorDisk;
 use ipc_script::{ScriptFault, dump, run_script};
 use ipc_store::Store;
@@ -27,20 +27,29 @@ fn main(rt: HostRuntime) -> io::Result<ExitCode> {
     // closed a device would get its place, and lines would be written over it: these files take it.
     let _streams = [null(&rt), null(&rt), null(&rt)];
     let status = match request_of(&rt) {
-        Ok(request) => {
-            let outcome = answer(&rt, &rt.stderr(), &request);
-            if let Err(fault) = outcome {
-                // The status stands also if standard error is closed.
-                let _said = eprintln!(&rt; "{fault}");
-            }
-            exit_of(&outcome)
-        }
-        Err(refusal) => {
-            refusal.print(&rt)?;
-            refusal.status()
-        }
+        Ok(request) => say(&rt, &answer(&rt, &rt.stderr(), &request)),
+        Err(refusal) => refuse(&rt, &refusal),
     };
     Ok(ExitCode::from(status))
+}
+
+/// Says what went wrong, if anything did, and gives the exit status.
+fn say(rt: &impl Eprint, outcome: &Result<(), Fault>) -> u8 {
+    if let Err(fault) = outcome {
+        // The status stands also if standard error is closed.
+        let _said = eprintln!(rt; "{fault}");
+    }
+    exit_of(outcome)
+}
+
+/// Says why the command line asks for nothing, and gives the exit status. Only help and the
+/// version, whose status is 0, go to standard output.
+fn refuse(rt: &(impl Print + Eprint), refusal: &Refusal) -> u8 {
+    let status = refusal.status();
+    if refusal.print(rt).is_err() && status == 0 {
+        return say(rt, &Err(Fault::Run(ScriptFault::Output)));
+    }
+    status
 }
 
 // A file that holds nothing and takes nothing.

@@ -1,11 +1,14 @@
 use Rattle.ipc_server.proofs.Going.{goes-none, goes-both}
 use Rattle.ipc_server.proofs.server.Server.admit.Goals as goal
 
+pub returns-then-not-self : goal.returns-then-not-self
+returns-then-not-self g c = λ moment. goes-none g.D.SectorDisk.medium g.met.D.SectorDisk.only_now moment c.args.self.now
+
 pub loop-init : goal.loop-init
 loop-init g c = λ moment. goes-none g.D.SectorDisk.medium g.met.D.SectorDisk.only_now moment c.args.self.now
 
-pub returns-in_default : goal.returns-in_default
-returns-in_default g c = c.loop.invariant
+pub returns-in-Err : goal.returns-in-Err
+returns-in-Err g c = λ moment. rw c.self-in-loop.view_is (c.loop.invariant moment)
 
 pub loop-preserved : goal.loop-preserved
 loop-preserved g c = λ moment.

@@ -1,0 +1,94 @@
+"""What `make install` puts where, and the manual page.
+
+    python3 tests/install.py PROGRAM
+
+It installs into a temporary folder, with the prefix of a distribution's packager and with the usual
+one. It needs make, and man to render the page: without man it says so and refuses nothing. It takes
+a moment.
+"""
+
+from __future__ import annotations
+
+import os
+import shutil
+import stat
+import subprocess
+import sys
+import tempfile
+from pathlib import Path
+
+PROGRAM = os.path.abspath(sys.argv[1])
+ROOT = Path(__file__).resolve().parent.parent
+PAGE = "share/man/man8/ipcd.8"
+UNIT = "lib/systemd/system/ipcd.service"
+FILES = {"bin/ipcd": 0o755, PAGE: 0o644, UNIT: 0o644}
+
+
+def check(holds: bool, text: str) -> None:
+    if not holds:
+        sys.exit(f"install: {text}")
+
+
+def make(*words: str, status: int = 0) -> None:
+    """Runs make apart from the one that runs this."""
+    apart = {name: text for name, text in os.environ.items() if not name.startswith(("MAKE", "MFLAGS"))}
+    line = ["make", "-C", str(ROOT), "install", *words]
+    ended = subprocess.run(line, capture_output=True, text=True, env=apart, timeout=60, umask=0o077)
+    check(ended.returncode == status, f"{words}: {ended}")
+
+
+def installed(prefix: str) -> Path:
+    """Installs below this prefix in a new folder, whatever the umask, and gives the prefix's folder."""
+    folder = Path(tempfile.mkdtemp(dir="."))
+    make(f"DESTDIR={folder.resolve()}", f"PREFIX={prefix}", f"BUILT={PROGRAM}")
+    top = folder / prefix.lstrip("/")
+    found = {str(it.relative_to(top)): it for it in folder.rglob("*") if it.is_file()}
+    check(set(found) == set(FILES), f"{prefix}: {sorted(found)} is there")
+    for name, mode in FILES.items():
+        check(stat.S_IMODE(found[name].stat().st_mode) == mode, f"{prefix}: the mode of {name}")
+    return top
+
+
+def program(top: Path) -> None:
+    ended = subprocess.run([top / "bin/ipcd", "--version"], capture_output=True, text=True, timeout=60)
+    check(ended.returncode == 0 and ended.stdout.startswith("ipcd "), f"the program: {ended}")
+
+
+def unit(top: Path, prefix: str) -> None:
+    """The unit starts the program that is installed, and else it is the one that OPERATIONS.md shows."""
+    text = (top / UNIT).read_text()
+    start = f"ExecStart={prefix}/bin/ipcd serve /var/lib/ipcd/device /run/ipcd/socket\n"
+    check(start in text, f"{prefix}: {text!r}")
+    shown = "".join(f"    {line}" if line.strip() else line for line in text.splitlines(True))
+    pages = (ROOT / "docs/OPERATIONS.md").read_text().replace("/usr/local/bin/", f"{prefix}/bin/")
+    check(shown in pages, f"{prefix}: OPERATIONS.md shows another unit")
+
+
+def page(top: Path) -> str:
+    """Renders the page, and gives what was done."""
+    if shutil.which("man") is None:
+        return "man is not here, so its page was not rendered"
+    line = ["man", "--warnings", "-l", str(top / PAGE)]
+    here = {**os.environ, "LC_ALL": "C.UTF-8", "MANWIDTH": "100", "PAGER": "cat", "MANPAGER": "cat"}
+    ended = subprocess.run(line, capture_output=True, text=True, env=here, timeout=60)
+    check((ended.returncode, ended.stderr) == (0, ""), f"the page: {ended.returncode}, {ended.stderr}")
+    words = ["ipcd - System V message queues", "--turns N", "damaged sector N", "too small, N sectors"]
+    for word in words:
+        check(word in ended.stdout, f"the page does not have: {word}")
+    return "its page is rendered without a warning"
+
+
+def main() -> None:
+    make(f"DESTDIR={os.getcwd()}/none", "BUILT=missing", status=2)
+    check(os.listdir() == [], "something is installed without a program")
+    for prefix in ("/usr", "/usr/local"):
+        top = installed(prefix)
+        program(top)
+        unit(top, prefix)
+    print(f"install: the program, its page and its unit, twice; {page(top)}")
+
+
+if __name__ == "__main__":
+    with tempfile.TemporaryDirectory() as folder:
+        os.chdir(folder)
+        main()

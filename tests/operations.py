@@ -1,0 +1,250 @@
+"""What docs/OPERATIONS.md and docs/PROTOCOL.md tell operators, on the built program.
+
+    python3 tests/operations.py PROGRAM
+
+The commands of the backup are those of the page, with other paths and without another owner. It
+takes some seconds.
+"""
+
+from __future__ import annotations
+
+import errno
+import os
+import resource
+import shutil
+import signal
+import socket
+import stat
+import subprocess
+import sys
+import tempfile
+import threading
+import time
+from pathlib import Path
+
+sys.dont_write_bytecode = True
+
+from server import (  # noqa: E402
+    PROGRAM,
+    TIMEOUT,
+    Client,
+    Server,
+    check,
+    listing,
+    printed,
+    process,
+    run,
+    serving,
+    until,
+)
+from client import IPC_CREAT, hello_request  # noqa: E402
+
+PAGE = Path(__file__).resolve().parent.parent / "docs" / "OPERATIONS.md"
+TEXTS = [b"first", b"second"]
+
+
+def send_texts() -> int:
+    """A queue with these messages, and its identifier, which is its key. No more is answered."""
+    with process() as client:
+        queue = client.msgget(1, IPC_CREAT | 0o600)
+        for text in TEXTS:
+            client.msgsnd(queue, 1, text)
+    return queue
+
+
+# ---- backup
+
+
+def commands() -> list[str]:
+    """The command that makes a backup, and the one that restores it."""
+    lines = [it.strip() for it in PAGE.read_text().splitlines() if it.startswith("    (flock ")]
+    check(len(lines) == 2, f"{lines} are the page's commands")
+    for old, new in (
+        ("-o ipcd -g ipcd ", ""),
+        ("/var/lib/ipcd/device", "device"),
+        ("/var/backups/ipcd", "copy"),
+    ):
+        lines = [line.replace(old, new) for line in lines]
+    return lines
+
+
+def shell(line: str) -> int:
+    """The status of a shell's command, under a umask that takes nothing."""
+    words = ["sh", "-c", line]
+    return subprocess.run(words, stderr=subprocess.DEVNULL, umask=0, timeout=TIMEOUT).returncode
+
+
+def backups() -> None:
+    if shutil.which("flock") is None:
+        print("operations: flock is not here, so no backup was made")
+        return
+    save, restore = commands()
+    printed("format", "device", "--small")
+    with serving(limits="small"):
+        queue = send_texts()
+        for line in (save, restore):
+            check(shell(line) != 0, f"{line} goes through though a server has the device")
+        check(not os.path.exists("copy"), "a copy is made of a device that is in use")
+    check(shell(save) == 0, "no copy is made")
+    check(stat.S_IMODE(os.stat("copy").st_mode) == 0o600, "others may read the copy")
+    kept = Path("copy").read_bytes()
+    check(kept == Path("device").read_bytes(), "the copy is another one")
+    check(shell(save.replace("9< device", "9< devise")) != 0, "a mistyped path is no fault")
+    check(sorted(os.listdir()) == ["copy", "device"], f"{os.listdir()} is there")
+    check(Path("copy").read_bytes() == kept, "the copy that was there is gone")
+    wanted = listing({queue: TEXTS})
+    check(printed("dump", "copy") == wanted, "the copy has other queues")
+    check(Path("copy").read_bytes() != kept, "a dump writes nothing")
+    printed("format", "device", "--small")
+    check(shell(restore) == 0, "the copy is not restored")
+    check(printed("dump", "device") == wanted, "the device has other queues")
+    os.remove("copy")
+
+
+# ---- a device file that goes away
+
+
+def names_of_open_files(server: Server) -> list[str]:
+    folder = f"/proc/{server.process.pid}/fd"
+    return [os.readlink(f"{folder}/{name}") for name in os.listdir(folder)]
+
+
+def removed_and_replaced() -> None:
+    """The server goes on with the file that it has opened."""
+    for replaced in (False, True):
+        printed("format", "device", "--small")
+        with serving(limits="small") as server:
+            if replaced:
+                printed("format", "other", "--small")
+                os.replace("other", "device")
+            else:
+                os.remove("device")
+            send_texts()
+            gone = f"{os.getcwd()}/device (deleted)"
+            check(gone in names_of_open_files(server), f"{names_of_open_files(server)} are open")
+        check(os.path.exists("device") == replaced, "the device is there again")
+        if replaced:
+            check(printed("dump", "device") == "", "the other device has queues")
+
+
+def cut() -> None:
+    """So it does if the file is cut. The next open finds no superblock, or one of more sectors."""
+    for length, said in ((0, "not formatted"), (4 * 512, "damaged sector 0")):
+        printed("format", "device", "--small")
+        with serving(limits="small"):
+            send_texts()
+            os.truncate("device", length)
+            send_texts()
+        ended = run("dump", "device")
+        check((ended.returncode, ended.stderr) == (1, f"ipcd: {said}\n"), f"{length}: {ended}")
+
+
+def a_limit_of_files() -> None:
+    """A write behind it ends the program by a signal."""
+    limit = (5 * 512, 5 * 512)
+    printed("format", "device", "--small")
+    server = Server(limits="small", prepare=lambda: resource.setrlimit(resource.RLIMIT_FSIZE, limit))
+    try:
+        server.ends(-signal.SIGXFSZ)
+    finally:
+        server.process.kill()
+    os.remove("device")
+    limited = subprocess.run(
+        ["sh", "-c", 'ulimit -f 4; exec "$0" format device --small', PROGRAM],
+        capture_output=True,
+        timeout=TIMEOUT,
+    )
+    ended = (limited.returncode, limited.stdout, limited.stderr)
+    check(ended == (-signal.SIGXFSZ, b"", b""), f"{limited}")
+
+
+# ---- clients
+
+
+def without_a_server() -> None:
+    """There is no socket, and then one that a server has left."""
+    for wanted in (errno.ENOENT, errno.ECONNREFUSED):
+        with socket.socket(socket.AF_UNIX) as client:
+            check(client.connect_ex("socket") == wanted, f"connect is not {wanted}")
+        if wanted == errno.ENOENT:
+            printed("format", "device")
+            Server("--turns", "1").process.wait(TIMEOUT)
+    os.remove("socket")
+
+
+def right_after_a_close() -> None:
+    """HELLO is ENFILE, or it is not, and then it is welcome. Pids go on after a restart."""
+    printed("format", "device", "--small")
+    pids = []
+    for _ in range(2):
+        with serving(limits="small"), Client() as client:
+            others = [process() for _ in range(4)]
+
+            def is_welcome() -> bool:
+                client.send(hello_request(1000, 100))
+                _, error, body = client.receive()
+                check(error in (0, errno.ENFILE), f"HELLO is answered {error}")
+                pids.append(int.from_bytes(body, "big") if error == 0 else 0)
+                return error == 0
+
+            check(not is_welcome(), "a process too many")
+            others.pop().close()
+            until(is_welcome, "no place gets free")
+            for other in others:
+                other.close()
+    check([pid for pid in pids if pid] == [5, 10], f"{pids} are the pids")
+
+
+def clients_that_come_and_go() -> None:
+    """However many connect and close, a new client is answered."""
+    printed("format", "device")
+    over = threading.Event()
+
+    def comes_and_goes() -> None:
+        while not over.is_set():
+            with socket.socket(socket.AF_UNIX) as short:
+                short.connect("socket")
+
+    with serving():
+        threads = [threading.Thread(target=comes_and_goes, daemon=True) for _ in range(8)]
+        for thread in threads:
+            thread.start()
+        try:
+            end = time.monotonic() + 1
+            while time.monotonic() < end:
+                process().close()
+        finally:
+            over.set()
+            for thread in threads:
+                thread.join()
+
+
+TESTS = [
+    backups,
+    removed_and_replaced,
+    cut,
+    a_limit_of_files,
+    without_a_server,
+    right_after_a_close,
+    clients_that_come_and_go,
+]
+
+
+def hangs(*_: object) -> None:
+    raise AssertionError("it hangs")
+
+
+def main() -> None:
+    signal.signal(signal.SIGALRM, hangs)
+    signal.alarm(120)
+    with tempfile.TemporaryDirectory() as folder:
+        os.chdir(folder)
+        for test in TESTS:
+            test()
+            if os.path.exists("device"):
+                os.remove("device")
+    print(f"operations: {len(TESTS)} tests, each as it should be")
+
+
+if __name__ == "__main__":
+    main()
