@@ -13,8 +13,9 @@ use Rattle.ipc_wire.specs.Reply.{reply_bytes}
 use Rattle.ipc_wire.specs.Request.{PlainRequest, PlainKind, Hello, Calls}
 use Rattle.ipc_wire.specs.declared.reply.Body.TheVariants.{Empty, Number}
 use Rattle.ipc_wire.proofs.CallerLemmas.{length-reply_bytes}
-use Rattle.ipc_state.specs.Objects.{last_number}
-use Rattle.ipc_state.specs.Sound.{IsSound, FitsBody}
+use Rattle.ipc_state.specs.Numbered.{last_number}
+use Rattle.ipc_state.specs.Sound.{FitsBody}
+use Rattle.ipc_engine.specs.Sound.{IsSound}
 use Rattle.ipc_state.specs.State.{State, is_process, at_moment}
 use Rattle.ipc_engine.specs.Event.{PlainEvent, PlainOutcome, Connect, Call}
 use Rattle.ipc_engine.specs.Step.{Step, step, asked}
@@ -44,9 +45,9 @@ hello-answers : (limits : Limits) (s : State) (cred : Cred) (serial moment : ℕ
     → Answers limits s None (step limits s (Connect cred serial moment))
 hello-answers limits s cred serial moment passed sound =
     let none : PlainOutcome = record { pid = 0; serial = serial; errno = Some ENFILE; body = Empty } in
-    let new : PlainOutcome = record { pid = s.next_pid; serial = serial; errno = None; body = Number s.next_pid } in
-    let bounds = λ (pid : ℕ) (is : is_process s pid ≡ true). rising-found 1 s.processes s.next_pid pid sound.pids is in
-    choice (Answers limits s None) (nat_le limits.processes (length s.processes) || nat_lt last_number s.next_pid) _ _
+    let new : PlainOutcome = record { pid = s.processes.next; serial = serial; errno = None; body = Number s.processes.next } in
+    let bounds = λ (pid : ℕ) (is : is_process s pid ≡ true). rising-found 1 s.processes.entries s.processes.next pid sound.parts.processes.numbers is in
+    choice (Answers limits s None) (nat_le limits.processes (length s.processes.entries) || nat_lt last_number s.processes.next) _ _
     (λ _. record {
       o = none;
       one = refl;
@@ -62,10 +63,10 @@ hello-answers limits s cred serial moment passed sound =
       one = refl;
       short = fits-short limits new passed (omega arith);
       fits = fits-longest limits new (omega arith);
-      stay = λ pid is. is_some-append nat_eq s.processes ((s.next_pid, cred) ∷ []) pid is;
+      stay = λ pid is. is_some-append nat_eq s.processes.entries ((s.processes.next, record { cred = cred }) ∷ []) pid is;
       own = λ pid never. cc;
       fresh = λ _ pid is same. omega (arith, same, (bounds pid is).1);
-      there = λ _ _. is_some-push nat_eq nat_eq_equiv s.processes s.next_pid cred;
+      there = λ _ _. is_some-push nat_eq nat_eq_equiv s.processes.entries s.processes.next (record { cred = cred });
     })
 
 call-answers : (limits : Limits) (s : State) (pid : ℕ) (request : PlainRequest) (moment : ℕ) → ArePassed limits → IsSound limits s

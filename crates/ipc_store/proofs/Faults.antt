@@ -5,13 +5,13 @@ use Rattle.std.specs.Result.{IsErrAnd}
 use Rattle.std.proofs.lemmas.Result.{err_from_is_err_and}
 use Rattle.ipc_checkpoint.specs.declared.error.LoadError.{LoadError}
 use Rattle.ipc_checkpoint.specs.declared.error.LoadError.TheVariants as loads
-use Rattle.ipc_image.specs.declared.restoring.ImageError.{ImageError}
-use Rattle.ipc_image.specs.declared.restoring.ImageError.TheVariants as images
+use Rattle.ipc_engine.specs.declared.fault.StateFault.{StateFault}
+use Rattle.ipc_engine.specs.declared.fault.StateFault.TheVariants as states
 use Rattle.ipc_journal.specs.declared.error.JournalError.{JournalError}
 use Rattle.ipc_journal.specs.declared.error.JournalError.TheVariants as journals
 use Rattle.ipc_store.specs.declared.fault.OpenError.{OpenError}
 use Rattle.ipc_store.specs.declared.fault.OpenError.TheVariants as errors
-use Rattle.ipc_store.specs.View.{of_journal_error, of_load_error, of_image_error}
+use Rattle.ipc_store.specs.View.{of_journal_error, of_load_error, of_state_fault}
 
 pub err-same : {T : Type 0} (r : Result T OpenError) (a b : OpenError) → r ≡ Err a → r ≡ Err b → a ≡ b
 err-same r a b one other = cc
@@ -32,6 +32,6 @@ load-fault (loads.Damaged n) sector is = cc
 load-fault loads.NoMemory sector is = cc
 
 -- of the state that they are
-pub image-fault : (fault : ImageError) (sector : ℕ) → of_image_error fault ≡ errors.Damaged sector → (fault ≡ images.Damaged) × (sector ≡ 1)
-image-fault images.Damaged sector is = (cc, cc)
-image-fault images.NoMemory sector is = absurd cc
+pub image-fault : (fault : StateFault) (sector : ℕ) → of_state_fault fault ≡ errors.Damaged sector → (fault ≡ states.Unsound) × (sector ≡ 1)
+image-fault states.Unsound sector is = (cc, cc)
+image-fault states.NoMemory sector is = absurd cc

@@ -7,8 +7,8 @@ use Rattle.ipc_checkpoint.specs.declared.checkpoint.Checkpoint.{Checkpoint}
 use Rattle.ipc_checkpoint.specs.declared.error.LoadError.{LoadError}
 use Rattle.ipc_checkpoint.specs.declared.error.LoadError.TheVariants as load
 use Rattle.ipc_checkpoint.specs.View.{epoch_of}
-use Rattle.ipc_image.specs.declared.restoring.ImageError.{ImageError}
-use Rattle.ipc_image.specs.declared.restoring.ImageError.TheVariants as image
+use Rattle.ipc_engine.specs.declared.fault.StateFault.{StateFault}
+use Rattle.ipc_engine.specs.declared.fault.StateFault.TheVariants as state
 use Rattle.ipc_journal.specs.declared.journal.Journal.{Journal}
 use Rattle.ipc_journal.specs.View.{Fits, used_of}
 use Rattle.ipc_journal.specs.declared.error.JournalError.{JournalError}
@@ -96,9 +96,9 @@ of_load_error (load.Damaged sector) = Damaged sector
 of_load_error load.NoMemory = NoMemory
 
 -- the fault of an open whose objects are no state: the root's
-abbrev pub of_image_error : ImageError → OpenError
-of_image_error image.Damaged = Damaged 1
-of_image_error image.NoMemory = NoMemory
+abbrev pub of_state_fault : StateFault → OpenError
+of_state_fault state.Unsound = Damaged 1
+of_state_fault state.NoMemory = NoMemory
 
 -- the fault of an open that meets this fault of the journal
 abbrev pub of_journal_error : JournalError → OpenError

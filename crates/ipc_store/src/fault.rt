@@ -3,12 +3,13 @@
 ghost use Rattle.std.specs.Prelude.{◌≡◌};
 ghost use Rattle.ipc_store.specs.declared.fault.FormatError.TheVariants as format_errors;
 ghost use Rattle.ipc_store.specs.declared.fault.OpenError.TheVariants as open_errors;
-ghost use Rattle.ipc_store.specs.View.{of_image_error, of_journal_error, of_load_error};
+ghost use Rattle.ipc_store.specs.View.{of_state_fault, of_journal_error, of_load_error};
 
 use ipc_base::BadLimits;
 use ipc_checkpoint::LoadError;
 use ipc_disk::DiskFault;
-use ipc_image::{ImageError, ROOT};
+use ipc_engine::StateFault;
+use ipc_image::ROOT;
 use ipc_journal::JournalError;
 use std::alloc::AllocError;
 use thiserror::Error;
@@ -122,13 +123,13 @@ impl From<LoadError> for OpenError {
     }
 }
 
-impl From<ImageError> for OpenError {
-    ghost from_gives = { λ error e. e ≡ of_image_error error };
+impl From<StateFault> for OpenError {
+    ghost from_gives = { λ error e. e ≡ of_state_fault error };
 
-    fn from(error: ImageError) -> Self {
+    fn from(error: StateFault) -> Self {
         match error {
-            ImageError::Damaged => OpenError::Damaged { sector: ROOT },
-            ImageError::NoMemory => OpenError::NoMemory,
+            StateFault::Unsound => OpenError::Damaged { sector: ROOT },
+            StateFault::NoMemory => OpenError::NoMemory,
         }
     }
 }

@@ -7,7 +7,7 @@ use Rattle.ipc_disk.specs.Medium.{Medium}
 use Rattle.ipc_wire.specs.Request.{PlainRequest}
 use Rattle.ipc_wire.specs.Stream.{PlainFrame, first, missing}
 use Rattle.ipc_wire.specs.Stream.PlainFrame.{More, Whole, Fault}
-use Rattle.ipc_state.specs.Sound.{IsSound}
+use Rattle.ipc_engine.specs.Sound.{IsSound}
 use Rattle.ipc_engine.specs.Engine.{takes_memory}
 use Rattle.ipc_engine.specs.Event.{PlainEvent, Exit}
 use Rattle.ipc_engine.specs.Step.{step}

@@ -1,14 +1,10 @@
-//! States rebuilt from numbers that were read: a whole one, and each part with which none is sound.
-
-ghost use Rattle.std.specs.Prelude.{IsSome};
-ghost use Rattle.ipc_state.specs.State.{queue_of};
+//! States rebuilt from what was read: sound ones go on, and of each part there is one with which none is sound.
 
 use super::{Answer, Ask, Line, small, talk};
 use ipc_base::{Cred, Id, Moment, Pid};
 use ipc_engine::{Engine, Row, StateFault};
-use ipc_state::{Perm, RestoreError, State};
+use ipc_state::{Entry, Numbers, Perm, Process, State};
 use std::alloc::{AllocError, Global};
-use std::process::Abort;
 use std::test::Fail;
 use sysv_msg::{MsgQueue, QueueNumbers, QueueStat};
 
@@ -34,84 +30,72 @@ const NUMBERS: QueueNumbers = QueueNumbers {
     lrpid: Pid(1),
 };
 
-fn add_process(state: &mut State, pid: u32) -> Result<(), RestoreError> {
-    match state.restore_process(Pid(pid), CRED) {
-        Err(RestoreError::NoMemory) => state.restore_process(Pid(pid), CRED),
-        result => result,
-    }
-}
-
-fn add_queue(
-    state: &mut State,
-    id: u32,
-    key: i32,
-    perm: Perm,
-    numbers: QueueNumbers,
-) -> Result<(), RestoreError> {
-    match state.restore_queue(Id(id), key, perm, numbers) {
-        Err(RestoreError::NoMemory) => state.restore_queue(Id(id), key, perm, numbers),
-        result => result,
-    }
-}
-
-/// A message in the queue 1.
-fn add_message(
-    rt: &impl Abort,
-    state: &mut State,
-    mtype: i64,
-    text: &[u8],
-) -> Result<(), RestoreError> {
-    assert!(rt; state.queue(Id(1)).is_some());
-    match state.restore_message(Id(1), mtype, text) {
-        Err(RestoreError::NoMemory) => {
-            assert!(rt; state.queue(Id(1)).is_some());
-            state.restore_message(Id(1), mtype, text)
-        }
-        result => result,
-    }
-}
+/// A message: its type and its text.
+type Sent = (i64, &'static [u8]);
 
 /// A part of a state.
 #[derive(Clone, Copy)]
 enum Part {
     /// The next process and the next queue.
-    Numbers(u32, u32),
+    Next(u32, u32),
     Process(u32),
-    Queue(u32, i32, Perm, QueueNumbers),
-    /// Of the queue 1.
-    Message(i64, &'static [u8]),
+    Queue(u32, i32, Perm, QueueNumbers, &'static [Sent]),
 }
 
-fn add(rt: &impl Abort, state: &mut State, part: Part) -> Result<(), RestoreError> {
+fn queue_with(alloc: Global, numbers: QueueNumbers, sent: &[Sent]) -> Result<MsgQueue, AllocError> {
+    let mut queue = MsgQueue::restored(alloc, numbers);
+    for (mtype, text) in sent {
+        queue.restore(*mtype, text)?;
+    }
+    Ok(queue)
+}
+
+fn add(alloc: Global, state: &mut State, part: Part) -> Result<(), AllocError> {
     match part {
-        Part::Numbers(pid, queue) => state.restore_numbers(Moment(9), pid, queue),
-        Part::Process(pid) => add_process(state, pid),
-        Part::Queue(id, key, perm, numbers) => add_queue(state, id, key, perm, numbers),
-        Part::Message(mtype, text) => add_message(rt, state, mtype, text),
+        Part::Next(next_pid, next_queue) => {
+            state.restore_numbers(Numbers {
+                clock: Moment(9),
+                next_pid,
+                next_queue,
+            });
+            Ok(())
+        }
+        Part::Process(pid) => state.restore_process(Pid(pid), Process { cred: CRED }),
+        Part::Queue(id, key, perm, numbers, sent) => {
+            let object = queue_with(alloc, numbers, sent)?;
+            state.restore_queue(Id(id), Entry { key, perm, object })
+        }
+    }
+}
+
+fn state_of(alloc: Global, parts: &[Part]) -> Result<State, AllocError> {
+    let mut state = State::new(alloc, small());
+    for part in parts {
+        add(alloc, &mut state, *part)?;
+    }
+    Ok(state)
+}
+
+fn begin(alloc: Global, parts: &[Part]) -> Result<Engine, StateFault> {
+    let state = state_of(alloc, parts)?;
+    Engine::from_state(alloc, state)
+}
+
+/// The machine that has these parts. What was refused for memory is tried once more.
+fn engine_of(alloc: Global, parts: &[Part]) -> Result<Engine, StateFault> {
+    match begin(alloc, parts) {
+        Err(StateFault::NoMemory) => begin(alloc, parts),
+        made => made,
     }
 }
 
 /// Two processes, and a queue with one message.
-const SMALL: [Part; 5] = [
-    Part::Numbers(4, 2),
+const SMALL: [Part; 4] = [
+    Part::Next(4, 2),
     Part::Process(1),
     Part::Process(3),
-    Part::Queue(1, 1234, PERM, NUMBERS),
-    Part::Message(5, b"hi"),
+    Part::Queue(1, 1234, PERM, NUMBERS, &[(5, b"hi")]),
 ];
-
-fn add_all(rt: &impl Abort, state: &mut State, parts: &[Part]) -> Result<(), RestoreError> {
-    for part in parts {
-        add(rt, state, *part)?;
-    }
-    Ok(())
-}
-
-fn small_state(rt: &impl Abort, alloc: Global) -> Result<State, RestoreError> {
-    let mut state = State::new(alloc, small());
-    add_all(rt, &mut state, &SMALL)?;
-    Ok(state)
-}
 
 const STAT: QueueStat = QueueStat {
     qnum: 1,
@@ -132,7 +116,10 @@ fn has_the_processes(state: &State) -> bool {
     let [first, second] = state.processes() else {
         return false;
     };
-    first.pid == Pid(1) && first.cred == CRED && second.pid == Pid(3) && second.cred == CRED
+    first.number == 1
+        && first.value.cred == CRED
+        && second.number == 3
+        && second.value.cred == CRED
 }
 
 fn has_the_message(queue: &MsgQueue) -> bool {
@@ -144,10 +131,11 @@ fn has_the_message(queue: &MsgQueue) -> bool {
 }
 
 fn has_the_queue(state: &State) -> bool {
-    let [entry] = state.queues() else {
+    let [item] = state.queues() else {
         return false;
     };
-    entry.id == Id(1)
+    let entry = &item.value;
+    item.number == 1
         && entry.key == 1234
         && entry.perm == PERM
         && entry.object.stat() == STAT
@@ -156,10 +144,10 @@ fn has_the_queue(state: &State) -> bool {
 
 #[test]
 fn reads_what_was_added(rt: HostRuntime) -> Result<(), Fail> {
-    let state = small_state(&rt, rt.alloc()).ok().ok_or("no state")?;
-    assert_eq!(rt; numbers_of(&state), (Moment(9), 4, 2));
-    assert!(rt; has_the_processes(&state));
-    assert!(rt; has_the_queue(&state));
+    let engine = engine_of(rt.alloc(), &SMALL).ok().ok_or("no engine")?;
+    assert_eq!(rt; numbers_of(engine.state()), (Moment(9), 4, 2));
+    assert!(rt; has_the_processes(engine.state()));
+    assert!(rt; has_the_queue(engine.state()));
     Ok(())
 }
 
@@ -180,78 +168,100 @@ const LARGE: QueueNumbers = QueueNumbers {
     lrpid: Pid(1),
 };
 
-/// A part, and what an attempt to add it answers.
-type Step = (Part, Result<(), RestoreError>);
+/// States that are not sound. The limits are 4 processes, 2 queues, 64 bytes a message and 128 a queue.
+const NOT_SOUND: [&[Part]; 21] = [
+    &[Part::Next(0, 1)],
+    &[Part::Next(1, 0)],
+    &[Part::Next(2147483649, 1)],
+    &[Part::Next(1, 2147483649)],
+    &[Part::Next(4, 1), Part::Process(0)],
+    &[Part::Next(3, 1), Part::Process(3)],
+    &[Part::Next(4, 1), Part::Process(3), Part::Process(2)],
+    &[Part::Next(4, 1), Part::Process(3), Part::Process(3)],
+    &[
+        Part::Next(6, 1),
+        Part::Process(1),
+        Part::Process(2),
+        Part::Process(3),
+        Part::Process(4),
+        Part::Process(5),
+    ],
+    &[Part::Next(1, 2), Part::Queue(0, 5, PERM, NUMBERS, &[])],
+    &[Part::Next(1, 1), Part::Queue(1, 5, PERM, NUMBERS, &[])],
+    &[
+        Part::Next(1, 3),
+        Part::Queue(2, 5, PERM, NUMBERS, &[]),
+        Part::Queue(1, 6, PERM, NUMBERS, &[]),
+    ],
+    &[
+        Part::Next(1, 3),
+        Part::Queue(1, 5, PERM, NUMBERS, &[]),
+        Part::Queue(1, 6, PERM, NUMBERS, &[]),
+    ],
+    &[
+        Part::Next(1, 3),
+        Part::Queue(1, 5, PERM, NUMBERS, &[]),
+        Part::Queue(2, 5, PERM, NUMBERS, &[]),
+    ],
+    &[
+        Part::Next(1, 4),
+        Part::Queue(1, 5, PERM, NUMBERS, &[]),
+        Part::Queue(2, 6, PERM, NUMBERS, &[]),
+        Part::Queue(3, 7, PERM, NUMBERS, &[]),
+    ],
+    &[Part::Next(1, 2), Part::Queue(1, 5, WIDE, NUMBERS, &[])],
+    &[Part::Next(1, 2), Part::Queue(1, 5, PERM, LARGE, &[])],
+    &[Part::Next(1, 2), Part::Queue(1, 5, PERM, NUMBERS, &[(0, b"a")])],
+    &[Part::Next(1, 2), Part::Queue(1, 5, PERM, NUMBERS, &[(-1, b"a")])],
+    &[Part::Next(1, 2), Part::Queue(1, 5, PERM, NUMBERS, &[(1, &[7; 65])])],
+    &[
+        Part::Next(1, 2),
+        Part::Queue(1, 5, PERM, NUMBERS, &[(1, &[7; 64]), (1, &[7; 64]), (1, b"a")]),
+    ],
+];
 
-const UNSOUND: Result<(), RestoreError> = Err(RestoreError::Unsound);
+fn is_unsound(alloc: Global, parts: &[Part]) -> bool {
+    matches!(engine_of(alloc, parts), Err(StateFault::Unsound))
+}
 
-fn add_each(rt: &impl Abort, state: &mut State, steps: &[Step]) {
-    for (line, (part, wanted)) in steps.iter().enumerate() {
-        assert_eq!(rt; add(rt, state, *part), *wanted, "at line {line}");
+#[test]
+fn refuses_states_that_are_not_sound(rt: HostRuntime) {
+    for (line, parts) in NOT_SOUND.iter().enumerate() {
+        assert!(rt; is_unsound(rt.alloc(), parts), "at line {line}");
     }
 }
 
-/// Parts that are added to the small state one after the other. The limits are 4 processes, 2 queues, 64 bytes a
-/// message and 128 a queue.
-const PARTS: [Step; 27] = [
-    (Part::Numbers(0, 2), UNSOUND),
-    (Part::Numbers(3, 2), UNSOUND),
-    (Part::Numbers(4, 1), UNSOUND),
-    (Part::Numbers(2147483649, 2), UNSOUND),
-    (Part::Numbers(4, 2147483649), UNSOUND),
-    (Part::Process(0), UNSOUND),
-    (Part::Process(2), UNSOUND),
-    (Part::Process(3), UNSOUND),
-    (Part::Process(4), UNSOUND),
-    (Part::Queue(0, 5, PERM, NUMBERS), UNSOUND),
-    (Part::Queue(1, 5, PERM, NUMBERS), UNSOUND),
-    (Part::Queue(2, 5, PERM, NUMBERS), UNSOUND),
-    (Part::Numbers(2147483648, 2147483648), Ok(())),
-    (Part::Process(4), Ok(())),
-    (Part::Process(2147483647), Ok(())),
-    (Part::Numbers(2147483647, 3), UNSOUND),
-    (Part::Queue(2, 1234, PERM, NUMBERS), UNSOUND),
-    (Part::Queue(2, 5, WIDE, NUMBERS), UNSOUND),
-    (Part::Queue(2, 5, PERM, LARGE), UNSOUND),
-    (Part::Queue(2, 5, PERM, NUMBERS), Ok(())),
-    (Part::Queue(3, 6, PERM, NUMBERS), UNSOUND),
-    (Part::Message(0, b"a"), UNSOUND),
-    (Part::Message(-1, b"a"), UNSOUND),
-    (Part::Message(1, &[7; 65]), UNSOUND),
-    (Part::Message(1, &[7; 64]), Ok(())),
-    (Part::Message(1, &[7; 63]), UNSOUND),
-    (Part::Message(1, &[7; 62]), Ok(())),
+/// Sound states at the edge of what they may be: the last numbers, private keys twice, as many processes as the limit
+/// says, and a queue with as many bytes.
+const AT_THE_EDGE: [&[Part]; 4] = [
+    &[
+        Part::Next(2147483648, 2147483648),
+        Part::Process(2147483647),
+        Part::Queue(2147483647, 5, PERM, NUMBERS, &[]),
+    ],
+    &[
+        Part::Next(1, 3),
+        Part::Queue(1, 0, PERM, NUMBERS, &[]),
+        Part::Queue(2, 0, PERM, NUMBERS, &[]),
+    ],
+    &[
+        Part::Next(6, 1),
+        Part::Process(1),
+        Part::Process(2),
+        Part::Process(4),
+        Part::Process(5),
+    ],
+    &[
+        Part::Next(1, 2),
+        Part::Queue(1, 5, PERM, NUMBERS, &[(1, &[7; 64]), (9223372036854775807, &[7; 64])]),
+    ],
 ];
 
 #[test]
-fn refuses_each_part_that_is_not_sound(rt: HostRuntime) -> Result<(), Fail> {
-    let mut state = small_state(&rt, rt.alloc()).ok().ok_or("no state")?;
-    add_each(&rt, &mut state, &PARTS);
-    Ok(())
-}
-
-/// Parts of an empty state: a process too many, and a private key twice.
-const OTHERS: [Step; 8] = [
-    (Part::Numbers(6, 3), Ok(())),
-    (Part::Process(1), Ok(())),
-    (Part::Process(2), Ok(())),
-    (Part::Process(3), Ok(())),
-    (Part::Process(4), Ok(())),
-    (Part::Process(5), UNSOUND),
-    (Part::Queue(1, 0, PERM, NUMBERS), Ok(())),
-    (Part::Queue(2, 0, PERM, NUMBERS), Ok(())),
-];
-
-#[test]
-fn refuses_a_process_too_many_and_takes_private_keys_twice(rt: HostRuntime) -> Result<(), Fail> {
-    let mut state = State::new(rt.alloc(), small());
-    add_each(&rt, &mut state, &OTHERS);
-    Ok(())
-}
-
-fn small_engine(rt: &impl Abort, alloc: Global) -> Result<Engine, StateFault> {
-    let state = small_state(rt, alloc).ok().ok_or(StateFault::Unsound)?;
-    Engine::from_state(alloc, state)
+fn takes_states_at_the_edge(rt: HostRuntime) {
+    for (line, parts) in AT_THE_EDGE.iter().enumerate() {
+        assert!(rt; engine_of(rt.alloc(), parts).is_ok(), "at line {line}");
+    }
 }
 
 fn list(engine: &Engine, alloc: Global) -> Result<Vec<Row>, AllocError> {
@@ -263,10 +273,7 @@ fn list(engine: &Engine, alloc: Global) -> Result<Vec<Row>, AllocError> {
 
 #[test]
 fn goes_on_from_a_rebuilt_state(rt: HostRuntime) -> Result<(), Fail> {
-    let mut engine = match small_engine(&rt, rt.alloc()) {
-        Err(StateFault::NoMemory) => small_engine(&rt, rt.alloc()).ok().ok_or("no engine")?,
-        made => made.ok().ok_or("no engine")?,
-    };
+    let mut engine = engine_of(rt.alloc(), &SMALL).ok().ok_or("no engine")?;
     assert!(rt; engine.outcomes().is_empty());
     assert_eq!(rt; engine.state().next_pid(), 4);
     let row = Row::Msg {

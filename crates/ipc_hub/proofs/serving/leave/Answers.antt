@@ -21,7 +21,7 @@ returns-in-Some-clause-goes_on g c =
     (λ conn pid is.
     let apart : pid ≢ c.in-Some.pid.0 = λ e. c.requires.nobodys conn pid (search rules) is in
     ap (λ (s : State). is_process s pid) state
-    ∙ ap is_some (value_at-without c.args.store.now.machine.state.processes c.in-Some.pid.0 pid apart)
+    ∙ ap is_some (value_at-without c.args.store.now.machine.state.processes.entries c.in-Some.pid.0 pid apart)
     ∙ c.requires.hub.own.connected conn pid is)
 
 pub returns-in-Some-clause-leaves : goal.returns-in-Some-clause-leaves

@@ -9,7 +9,7 @@ use Rattle.ipc_disk.specs.Medium.{Image, IsHonest}
 use Rattle.ipc_image.specs.Saved.{StandForState}
 use Rattle.ipc_store.specs.declared.fault.OpenError.TheVariants as errors
 use Rattle.ipc_store.specs.Image.{layout_of, HasObjects, IsFirstFault}
-use Rattle.ipc_store.specs.View.{of_load_error, of_image_error}
+use Rattle.ipc_store.specs.View.{of_load_error, of_state_fault}
 use Rattle.ipc_store.proofs.Faults.{passed_on, load-fault, image-fault}
 use Rattle.ipc_store.proofs.loading.load_base.Given.{Over}
 use Rattle.ipc_store.proofs.loading.load_base.Goals as goal
@@ -40,7 +40,7 @@ returns-in_err-engine-clause-damaged g c = λ sector is honest device.
     let image : Image = (g.D.SectorDisk.medium c.args.disk.now).contents in
     let here = lies g (goal.at.returns-in_err-engine-clause-damaged g c).After-load honest in
     let fault = image-fault c.in_err-engine.field-0.0 sector
-    (passed_on c.from_residual-in_err-engine.result (of_image_error c.in_err-engine.field-0.0) (errors.Damaged sector)
+    (passed_on c.from_residual-in_err-engine.result (of_state_fault c.in_err-engine.field-0.0) (errors.Damaged sector)
     c.from_residual-in_err-engine.ensures.1 is) in
     let never = c.in_err-engine.ensures.damaged (ap Err fault.0) in
     let epoch : ℕ = epoch_of c.in_ok-checkpoint.checkpoint in
