@@ -49,9 +49,11 @@ def installed(prefix: str) -> Path:
     return top
 
 
-def program(top: Path) -> None:
+def program(top: Path) -> str:
+    """The name and the version of the program that is installed."""
     ended = subprocess.run([top / "bin/ipcd", "--version"], capture_output=True, text=True, timeout=60)
     check(ended.returncode == 0 and ended.stdout.startswith("ipcd "), f"the program: {ended}")
+    return ended.stdout.partition(",")[0]
 
 
 def unit(top: Path, prefix: str) -> None:
@@ -64,15 +66,18 @@ def unit(top: Path, prefix: str) -> None:
     check(shown in pages, f"{prefix}: OPERATIONS.md shows another unit")
 
 
-def page(top: Path) -> str:
-    """Renders the page, and gives what was done."""
-    if shutil.which("man") is None:
-        return "man is not here, so its page was not rendered"
-    line = ["man", "--warnings", "-l", str(top / PAGE)]
+def man(*words: str) -> subprocess.CompletedProcess[str]:
     here = {**os.environ, "LC_ALL": "C.UTF-8", "MANWIDTH": "100", "PAGER": "cat", "MANPAGER": "cat"}
-    ended = subprocess.run(line, capture_output=True, text=True, env=here, timeout=60)
+    return subprocess.run(["man", *words], capture_output=True, text=True, env=here, timeout=60)
+
+
+def page(top: Path, name: str) -> str:
+    """Renders the page, and gives what was done. Some systems have a man that renders nothing."""
+    if shutil.which("man") is None or not man("--version").stdout.startswith("man "):
+        return "man is not here, so its page was not rendered"
+    ended = man("--warnings", "-l", str(top / PAGE))
     check((ended.returncode, ended.stderr) == (0, ""), f"the page: {ended.returncode}, {ended.stderr}")
-    words = ["ipcd - System V message queues", "--turns N", "damaged sector N", "too small, N sectors"]
+    words = [name, "System V message queues", "--turns N", "damaged sector N", "too small, N sectors"]
     for word in words:
         check(word in ended.stdout, f"the page does not have: {word}")
     return "its page is rendered without a warning"
@@ -83,9 +88,9 @@ def main() -> None:
     check(os.listdir() == [], "something is installed without a program")
     for prefix in ("/usr", "/usr/local"):
         top = installed(prefix)
-        program(top)
+        name = program(top)
         unit(top, prefix)
-    print(f"install: the program, its page and its unit, twice; {page(top)}")
+    print(f"install: the program, its page and its unit, twice; {page(top, name)}")
 
 
 if __name__ == "__main__":

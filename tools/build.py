@@ -97,11 +97,13 @@ class Build:
             line += f", {self.left()} left"
         print(line, flush=True)
 
-
     def take(self, text: str) -> None:
         """Takes what rt prints: crates that have ended, each with what was said of it, or the end."""
         self.text += text
-        for block in re.split("^== ", text, flags=re.MULTILINE)[1:]:
+        first, *blocks = re.split("^== ", text, flags=re.MULTILINE)
+        if "waiting for another rt" in first:
+            print(first, end="", flush=True)
+        for block in blocks:
             name, _, said = block.partition("\n")
             self.said[name] = said
             if name in self.below:
@@ -128,6 +130,7 @@ class Build:
     def stop(self) -> None:
         if self.run is not None and self.run.poll() is None:
             os.killpg(self.run.pid, signal.SIGTERM)
+            self.run.wait()
 
     def prove(self) -> None:
         """Proves all crates, the program's too, and says how far it is."""
