@@ -13,7 +13,8 @@ use Rattle.ipc_wire.specs.Reply.{reply_bytes}
 use Rattle.ipc_wire.specs.Request.{PlainRequest, PlainKind, Hello, Calls}
 use Rattle.ipc_wire.specs.declared.reply.Body.TheVariants.{Empty, Number}
 use Rattle.ipc_wire.proofs.CallerLemmas.{length-reply_bytes}
-use Rattle.ipc_state.specs.Numbered.{last_number}
+use Rattle.ipc_state.specs.Numbered.{Numbered, entry_of, last_number}
+use Rattle.ipc_state.specs.declared.processes.Process.{Process}
 use Rattle.ipc_state.specs.Sound.{FitsBody}
 use Rattle.ipc_engine.specs.Sound.{IsSound}
 use Rattle.ipc_state.specs.State.{State, is_process, at_moment}
@@ -85,7 +86,7 @@ call-answers limits s pid request moment passed sound =
       one = refl;
       short = fits-short limits o passed fits;
       fits = fits-longest limits o fits;
-      stay = λ q is. ap (λ (ps : List (ℕ × Cred)). is_some (value_at nat_eq ps q)) (asked-keeps limits (at_moment s moment) pid request.kind) ∙ is;
+      stay = λ q is. ap (λ (ps : Numbered Process). is_some (entry_of ps q)) (asked-keeps limits (at_moment s moment) pid request.kind) ∙ is;
       own = λ q same. cc;
       fresh = λ never. cc;
       there = λ never. cc;
