@@ -17,7 +17,8 @@ use Rattle.std.specs.List.{flat_map}
 use Rattle.std.proofs.lemmas.Grind.{flat_map-append}
 use Rattle.std.proofs.lemmas.List.{append_assoc, append-nil}
 pub use Rattle.ipc_base.proofs.Puts.{puts_both, puts_room, puts_more, puts_next}
-pub use Rattle.ipc_base.proofs.Numbers.{AreBytes, bytes-all, bytes-take, bytes-drop, Found, Got, number_got, number_known, number_one, length-number, read_below}
+pub use Rattle.ipc_base.proofs.Numbers.{AreBytes, bytes-all, bytes-take, bytes-drop}
+pub use Rattle.ipc_base.proofs.Numbers.{Found, Got, number_got, number_known, number_one, length-number, read_below}
 pub use Rattle.ipc_base.proofs.Numbers.{number32_got, number32_known, number64_got, number64_known}
 pub use Rattle.ipc_base.proofs.Numbers.{length-values, values_again, values_back, values_range}
 pub use Rattle.ipc_base.proofs.FieldLists.{fields_one, listed, listed-drop, length-fit, numbers_are}

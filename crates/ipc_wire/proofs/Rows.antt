@@ -35,7 +35,8 @@ has_row (Calls (requests.Msgrcv id flags size mtype)) = record { row = refl; mad
 
 -- the requests of a row are taken apart into what made them
 abbrev Undoes : Row → Type 0
-Undoes row = (v : Values row.fields) (rest : List ℕ) → parts_of (row.make v (rest_of row.rest rest)) ≡ record { row = row; values = v; rest = rest_of row.rest rest }
+Undoes row = (v : Values row.fields) (rest : List ℕ)
+    → parts_of (row.make v (rest_of row.rest rest)) ≡ record { row = row; values = v; rest = rest_of row.rest rest }
 
 each_undoes : AllByRecursion Undoes rows
 each_undoes = search rules

@@ -24,8 +24,8 @@ request_bytes r = to_be_bytes w32 r.serial ++ opcode_of r.kind ∷ fields_of r.k
 unfoldable pub frame : PlainRequest → List ℕ
 frame r = to_be_bytes w32 (5 + length (fields_of r.kind)) ++ request_bytes r
 
--- the requests that have a frame: each number is in the range of its field, the rest is in whole units, and both are not
--- too long
+-- the requests that have a frame: each number is in the range of its field, the rest is in whole units, and both are
+-- not too long
 pub record HasFrame (r : PlainRequest) : Type 0 where
   pub serial : (1 ≤ r.serial) × (r.serial < 2 ^ 32)
   pub fields : AreInRange (parts_of r.kind).row.fields (parts_of r.kind).values
