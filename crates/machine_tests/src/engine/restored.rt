@@ -116,10 +116,7 @@ fn has_the_processes(state: &State) -> bool {
     let [first, second] = state.processes() else {
         return false;
     };
-    first.number == 1
-        && first.value.cred == CRED
-        && second.number == 3
-        && second.value.cred == CRED
+    first.number == 1 && first.value.cred == CRED && second.number == 3 && second.value.cred == CRED
 }
 
 fn has_the_message(queue: &MsgQueue) -> bool {
@@ -211,12 +208,27 @@ const NOT_SOUND: [&[Part]; 21] = [
     ],
     &[Part::Next(1, 2), Part::Queue(1, 5, WIDE, NUMBERS, &[])],
     &[Part::Next(1, 2), Part::Queue(1, 5, PERM, LARGE, &[])],
-    &[Part::Next(1, 2), Part::Queue(1, 5, PERM, NUMBERS, &[(0, b"a")])],
-    &[Part::Next(1, 2), Part::Queue(1, 5, PERM, NUMBERS, &[(-1, b"a")])],
-    &[Part::Next(1, 2), Part::Queue(1, 5, PERM, NUMBERS, &[(1, &[7; 65])])],
     &[
         Part::Next(1, 2),
-        Part::Queue(1, 5, PERM, NUMBERS, &[(1, &[7; 64]), (1, &[7; 64]), (1, b"a")]),
+        Part::Queue(1, 5, PERM, NUMBERS, &[(0, b"a")]),
+    ],
+    &[
+        Part::Next(1, 2),
+        Part::Queue(1, 5, PERM, NUMBERS, &[(-1, b"a")]),
+    ],
+    &[
+        Part::Next(1, 2),
+        Part::Queue(1, 5, PERM, NUMBERS, &[(1, &[7; 65])]),
+    ],
+    &[
+        Part::Next(1, 2),
+        Part::Queue(
+            1,
+            5,
+            PERM,
+            NUMBERS,
+            &[(1, &[7; 64]), (1, &[7; 64]), (1, b"a")],
+        ),
     ],
 ];
 
@@ -253,7 +265,13 @@ const AT_THE_EDGE: [&[Part]; 4] = [
     ],
     &[
         Part::Next(1, 2),
-        Part::Queue(1, 5, PERM, NUMBERS, &[(1, &[7; 64]), (9223372036854775807, &[7; 64])]),
+        Part::Queue(
+            1,
+            5,
+            PERM,
+            NUMBERS,
+            &[(1, &[7; 64]), (9223372036854775807, &[7; 64])],
+        ),
     ],
 ];
 
