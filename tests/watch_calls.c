@@ -1,4 +1,4 @@
-/* A library that writes down calls of the system, in their order, and can refuse one. It is loaded before a program's own:
+/* A library that writes down calls of the system in their order, and can refuse one, to be loaded before a program's own:
  *
  *     cc -shared -fPIC -o watch_calls.so watch_calls.c
  *     WATCH_LOG=log WATCH_FAIL="pwrite 3 5" LD_PRELOAD=./watch_calls.so PROGRAM
@@ -7,9 +7,9 @@
  * how long it may take), its place in the file or 0, its result or less the error number, and in hexadecimal as many of
  * the bytes that it moved as WATCH_BYTES says, or `-`.
  *
- * WATCH_FAIL names a call, which one of them, and an error number; with the number 0 it is a pwrite of half of its bytes. They
- * count from the start; if WATCH_TEXT is given from the recv on that has it, and if WATCH_PLACE is given from the first
- * pwrite on at this place of a file or after it. The programs of this repository have one thread.
+ * WATCH_FAIL names a call, which one of them, and an error number; with the number 0 it is a pwrite that takes half of its
+ * bytes. They count from the start; if WATCH_TEXT is given, from the recv on that has it, and if WATCH_PLACE is given,
+ * from the first pwrite on at this place of a file or after it. The programs of this repository have one thread.
  */
 #define _GNU_SOURCE
 #include <dlfcn.h>
@@ -115,7 +115,8 @@ int accept4(int file, struct sockaddr *restrict name, socklen_t *restrict size, 
 int epoll_wait(int file, struct epoll_event *events, int most, int longest)
 {
 	NEXT(epoll_wait);
-	return note("epoll_wait", file, longest, 0, is_refused("epoll_wait") ? REFUSE : next(file, events, most, longest), NULL);
+	int result = is_refused("epoll_wait") ? REFUSE : next(file, events, most, longest);
+	return note("epoll_wait", file, longest, 0, result, NULL);
 }
 
 ssize_t recv(int file, void *data, size_t size, int flags)
