@@ -42,6 +42,7 @@ from server import (  # noqa: E402
     process,
     run,
     serving,
+    until,
 )
 from client import IPC_CREAT, msgrcv_request, msgsnd_request  # noqa: E402
 from watch import OPEN, TURN, Call, build, calls, follows, order, watched  # noqa: E402
@@ -192,10 +193,7 @@ def replies_wait_for_both_syncs() -> None:
     goes out once an open after a failure of power would find the text."""
     printed("format", "device", "--small")
     image = Path("device").read_bytes()
-    with watched():
-        server = Server(limits="small")
-    try:
-        client = process()
+    with watched(), serving(limits="small"), process() as client:
         queue = client.msgget(1, IPC_CREAT | 0o600)
         sent = 0
         for turn in range(150):
@@ -208,10 +206,6 @@ def replies_wait_for_both_syncs() -> None:
             for _ in range(ahead):
                 client.send(msgrcv_request(queue, 64))
             check(all(client.receive()[1] == 0 for _ in range(ahead)), "a receive is refused")
-        client.close()
-        server.stop()
-    finally:
-        server.process.kill()
     them = calls()
     # The last turn may be broken off.
     ends = max(at for at, call in enumerate(them) if call.name == "epoll_wait")
@@ -231,15 +225,12 @@ def a_write_of_half() -> None:
     """The system takes half of a batch. The rest is written before the sync."""
     printed("format", "device")
     text = "half" * 2000
-    with watched("pwrite 1 0", text="halfhalf"):
-        server = Server()
-    with process() as client:
+    with watched("pwrite 1 0", text="halfhalf"), serving(), process() as client:
         queue = client.msgget(1, IPC_CREAT | 0o600)
         client.msgsnd(queue, 1, text.encode())
-        server.stop()
+        until(lambda: "BBSHS>" in order(calls()), "the calls of the commit are others")
     with serving(), process() as client:
         check(client.msgrcv(queue, 8192) == (1, text.encode()), "half of a text is lost")
-    check("BBSHS>" in order(calls()), f"the calls are {order(calls())}")
 
 
 # ---- a disk that fails

@@ -121,10 +121,7 @@ def waits() -> None:
     """While a client has more there is none: after requests of 82 kB, of which a turn takes 16 times 4096 bytes, and
     after 100 connections, of which it takes 64. There is one while a client has sent and does not read."""
     printed("format", "device")
-    with watched(most=0):
-        server = Server()
-    try:
-        client = process()
+    with watched(most=0), serving() as server, process() as client:
         queue = client.msgget(1, IPC_CREAT | 0o600)
         send = frame(7, msgsnd_request(queue, 1, b"x" * 8192))
         server.process.send_signal(signal.SIGSTOP)
@@ -150,10 +147,6 @@ def waits() -> None:
                 return all((wait.size, wait.result) == (LONGEST, 0) for wait in last)
 
         until(takes_no_more, "the server spins for one that does not read")
-        client.close()
-        server.stop()
-    finally:
-        server.process.kill()
     them = calls()
     waits_if_nothing_is_left(them)
     reads = [sum(call.name == "recv" and call.result == 4096 for call in turn) for turn in turns_of(them)]
@@ -187,19 +180,13 @@ def commits() -> None:
     one sector, and 445 two. A long one has a tick more for each further read of 4096 bytes."""
     printed("format", "device")
     texts = [b"x" * length for length in (0, 444, 445, 8192)]
-    with watched():
-        server = Server()
-    try:
-        with process() as client:
-            queue = client.msgget(1, IPC_CREAT | 0o600)
-            frames = []
-            for text in texts:
-                asked = msgsnd_request(queue, 1, text)
-                client.call(asked)
-                frames.append(frame(client._serial, asked)[4:])
-            server.stop()
-    finally:
-        server.process.kill()
+    with watched(), serving(), process() as client:
+        queue = client.msgget(1, IPC_CREAT | 0o600)
+        frames = []
+        for text in texts:
+            asked = msgsnd_request(queue, 1, text)
+            client.call(asked)
+            frames.append(frame(client._serial, asked)[4:])
     them = calls()
     ends = max(at for at, call in enumerate(them) if call.name == "epoll_wait")
     follows(f"{OPEN}(?:{TURN})*", them[:ends])
@@ -267,21 +254,15 @@ def queues_at_their_bounds() -> None:
     follows("SO+SRS[Pc]*", them)
     open_and_save(them, sectors)
     Path("device").write_bytes(image)
-    with watched(most=0):
-        server = Server()
-    try:
-        with process() as client:
-            for number, messages in BOUNDS.items():
-                client.send(msgsnd_request(number, 1, b"x"))
-                check(client.receive()[1] == errno.EAGAIN, f"queue {number} is not full")
-                check(client.msgrcv(number, 8192) == messages[0], f"queue {number} has another first message")
-                client.msgsnd(number, *messages[0])
-            # 17 sectors of the journal each, so that a save comes.
-            for number in (*range(1, 12), *range(1, 12)):
-                client.msgsnd(number, *client.msgrcv(number, 8192))
-            server.stop()
-    finally:
-        server.process.kill()
+    with watched(most=0), serving(), process() as client:
+        for number, messages in BOUNDS.items():
+            client.send(msgsnd_request(number, 1, b"x"))
+            check(client.receive()[1] == errno.EAGAIN, f"queue {number} is not full")
+            check(client.msgrcv(number, 8192) == messages[0], f"queue {number} has another first message")
+            client.msgsnd(number, *messages[0])
+        # 17 sectors of the journal each, so that a save comes.
+        for number in (*range(1, 12), *range(1, 12)):
+            client.msgsnd(number, *client.msgrcv(number, 8192))
     after = calls()
     served = after[[call.name for call in after].index("write") :]
     check("SRS" in order(served), "the server has not saved")

@@ -1,4 +1,4 @@
-/* A library that writes down calls of the system in their order, and can refuse one, to be loaded before a program's own:
+/* A library that writes down calls of the system in order, and can refuse one. It is loaded before a program's own:
  *
  *     cc -shared -fPIC -o watch_calls.so watch_calls.c
  *     WATCH_LOG=log WATCH_FAIL="pwrite 3 5" LD_PRELOAD=./watch_calls.so PROGRAM
@@ -7,9 +7,9 @@
  * how long it may take), its place in the file or 0, its result or less the error number, and in hexadecimal as many of
  * the bytes that it moved as WATCH_BYTES says, or `-`.
  *
- * WATCH_FAIL names a call, which one of them, and an error number; with the number 0 it is a pwrite that takes half of its
- * bytes. They count from the start; if WATCH_TEXT is given, from the recv on that has it, and if WATCH_PLACE is given,
- * from the first pwrite on at this place of a file or after it. The programs of this repository have one thread.
+ * WATCH_FAIL names a call, which one of them, and an error number; with the number 0 it is a pwrite that takes half of
+ * its bytes. They count from the start; if WATCH_TEXT is given, from the recv on that has it, and if WATCH_PLACE is
+ * given, from the first pwrite on at this place of a file or after it. The programs of this repository have one thread.
  */
 #define _GNU_SOURCE
 #include <dlfcn.h>
