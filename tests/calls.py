@@ -44,7 +44,7 @@ from server import (  # noqa: E402
     serving,
     until,
 )
-from client import IPC_CREAT, msgrcv_request, msgsnd_request  # noqa: E402
+from client import IPC_CREAT, hello_request, msgrcv_request, msgsnd_request  # noqa: E402
 from watch import OPEN, TURN, Call, build, calls, follows, order, watched  # noqa: E402
 
 FAULT = "ipcd: device fault\n"
@@ -348,6 +348,35 @@ def failing_saves() -> None:
         check(found in lists, f"with {name} {number} refused {found!r} is kept")
 
 
+# ---- sockets that fail
+
+
+def failing_waits() -> None:
+    """A wait that is interrupted is made again in the next turn. After one that is refused the server ends."""
+    for error, status, said in ((errno.EINTR, 0, ""), (errno.EINVAL, 1, "ipcd: socket fault\n")):
+        printed("format", "device", "--small")
+        with watched(f"epoll_wait 2 {error}"):
+            Server("--turns", "4", limits="small").ends(status, said)
+        waits = order(calls()).count("E")
+        check(waits == (2 if status else 4), f"after the errno {error} there are {waits} waits")
+
+
+def failing_sends() -> None:
+    """A reply that the system does not take is sent again, if it was interrupted or there was no room. Else the client
+    is parted with. Others are served."""
+    for error in (errno.EINTR, errno.EAGAIN, errno.ECONNRESET):
+        printed("format", "device", "--small")
+        with watched(f"send 1 {error}"), serving(limits="small"), Client() as client:
+            client.send(hello_request(1000, 100))
+            if error == errno.ECONNRESET:
+                client.is_ended()
+            else:
+                check(client.receive() == (1, 0, struct.pack(">I", 1)), "the reply is another one")
+            with process() as other:
+                other.msgget(1, IPC_CREAT | 0o600)
+        check(any(call.name == "send" and call.result == -error for call in calls()), "no send was refused")
+
+
 TESTS = [
     formats,
     formats_refused,
@@ -357,6 +386,8 @@ TESTS = [
     failing_commits,
     failing_ticks,
     failing_saves,
+    failing_waits,
+    failing_sends,
 ]
 
 
