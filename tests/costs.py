@@ -3,7 +3,7 @@
     python3 tests/costs.py PROGRAM
 
 Calls are counted by tests/watch_calls.c; without a C compiler it says so, and counts none. What is
-expected is in docs/OPERATIONS.md and docs/DEVICE.md. It takes ten seconds.
+expected is in docs/OPERATIONS.md and docs/DEVICE.md. It takes ten seconds, and more beside other work.
 """
 
 from __future__ import annotations
