@@ -153,17 +153,20 @@ def opens_refused() -> None:
 
 
 class Disk:
-    """The bytes of a device in a file, and what of them a sync has made last."""
+    """What of the bytes of a device in a file a sync has made last."""
 
     def __init__(self, image: bytes) -> None:
-        self.now, self.lasting = bytearray(image), bytearray(image)
+        self.lasting = bytearray(image)
+        self.waiting: list[Call] = []
 
     def does(self, call: Call) -> None:
-        if call.name == "pwrite":
-            self.now[call.place : call.place + call.result] = call.data
+        if call.name == "pwrite" and call.result > 0:
             check(len(call.data) == call.result, "the log has not all bytes")
+            self.waiting.append(call)
         if call.name == "fdatasync" and call.result == 0:
-            self.lasting[:] = self.now
+            for write in self.waiting:
+                self.lasting[write.place : write.place + write.result] = write.data
+            self.waiting.clear()
 
     def keeps(self, text: bytes) -> bool:
         """Whether an open after a failure of power would find it."""
@@ -263,10 +266,24 @@ COMMITS = [
 ]
 
 
+def keeps_one_of(wanted: list[str], fresh: bytes, name: str) -> None:
+    """The device, which was these bytes before the server, lists one of these. So does what of it the syncs that are
+    done have made last: after a failure of power no more may be there."""
+    disk = Disk(fresh)
+    for call in calls():
+        disk.does(call)
+    for lost in ("", ", and the power lost"):
+        if lost:
+            Path("device").write_bytes(disk.lasting)
+        found = printed("dump", "device")
+        check(found in wanted, f"with {name} refused{lost}: {found!r} is kept")
+
+
 def failing_commits() -> None:
     """Each call of a commit in turn. What was answered is there at the next start, and what was not may be."""
     for name, number, error in COMMITS:
         printed("format", "device", "--small")
+        fresh = Path("device").read_bytes()
         with watched(f"{name} {number} {error}", text="fault"):
             server = Server(limits="small")
         try:
@@ -279,9 +296,8 @@ def failing_commits() -> None:
             ends_with_fault(server, clients)
         finally:
             server.process.kill()
-        found = printed("dump", "device")
         wanted = [listing({queue: texts}), listing({queue: [*texts, b"fault"]})]
-        check(found in wanted, f"with {name} {number} refused {found!r} is kept")
+        keeps_one_of(wanted, fresh, f"{name} {number}")
 
 
 def failing_ticks() -> None:
@@ -318,7 +334,7 @@ def failing_saves() -> None:
     fresh = Path("fresh").read_bytes()
     for name, number, error, done in SAVES:
         Path("device").write_bytes(fresh)
-        with watched(f"{name} {number} {error}", place=OBJECTS * SECTOR, most=16):
+        with watched(f"{name} {number} {error}", place=OBJECTS * SECTOR):
             server = Server()
         try:
             clients = [process(), Client(), process()]
@@ -343,9 +359,8 @@ def failing_saves() -> None:
         refused_once(them)
         before = order(them).partition("x")[0]
         check(before.endswith(done) and before.count("O") == done.count("O"), f"before it come {before}")
-        found = printed("dump", "device")
-        lists = [listing(sent), listing(sent | {queue: [*sent[queue], text]})]
-        check(found in lists, f"with {name} {number} refused {found!r} is kept")
+        wanted = [listing(sent), listing(sent | {queue: [*sent[queue], text]})]
+        keeps_one_of(wanted, fresh, f"{name} {number}")
 
 
 # ---- sockets that fail
