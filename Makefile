@@ -71,7 +71,8 @@ runs: program
 	@$(RUNS)
 
 SERVES = python3 tests/serve.py crates/ipcd/out/ipcd && python3 tests/operations.py crates/ipcd/out/ipcd && \
-	python3 tests/session.py crates/ipcd/out/ipcd && sh examples/serve.sh crates/ipcd/out/ipcd
+	python3 tests/session.py crates/ipcd/out/ipcd && sh examples/serve.sh crates/ipcd/out/ipcd && \
+	python3 tests/calls.py crates/ipcd/out/ipcd && python3 tests/costs.py crates/ipcd/out/ipcd
 
 serves: program
 	@$(SERVES)

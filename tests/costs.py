@@ -1,0 +1,367 @@
+"""What the program's work costs in calls of the system, and what no reply tells.
+
+    python3 tests/costs.py PROGRAM
+
+Calls are counted by tests/watch_calls.c; without a C compiler it says so, and counts none. What is
+expected is in docs/OPERATIONS.md and docs/DEVICE.md. It takes ten seconds, and more beside other work.
+"""
+
+from __future__ import annotations
+
+import errno
+import os
+import resource
+import signal
+import subprocess
+import sys
+import tempfile
+import time
+from pathlib import Path
+
+sys.dont_write_bytecode = True
+
+from device_layout import (  # noqa: E402
+    BODY,
+    OBJECTS,
+    QUEUE_KIND,
+    RESTART,
+    SECTOR,
+    STANDARD,
+    Device,
+    Queue,
+    area,
+    area_of,
+    batch,
+    clock,
+    processes,
+    read,
+    request,
+    sectors_of,
+    state,
+    tick,
+)
+from server import (  # noqa: E402
+    PROGRAM,
+    TIMEOUT,
+    Client,
+    Server,
+    check,
+    frame,
+    printed,
+    process,
+    reply,
+    serving,
+    until,
+)
+from client import IPC_CREAT, hello_request, msgrcv_request, msgsnd_request  # noqa: E402
+from watch import OPEN, TURN, Call, build, calls, follows, order, watched  # noqa: E402
+
+LONGEST = 100  # milliseconds
+PIECE = 64  # sectors
+
+
+def turns_of(them: list[Call]) -> list[list[Call]]:
+    """The calls of each turn that has ended, from its wait on."""
+    starts = [at for at, call in enumerate(them) if call.name == "epoll_wait"]
+    return [them[here:there] for here, there in zip(starts, starts[1:])]
+
+
+# ---- turns
+
+
+def turns_that_are_idle() -> None:
+    """Each waits for 100 ms, and makes two writes and two syncs: ten turns and twenty syncs a second. So do those
+    of a server whose clients are silent, be they processes or not, also in the midst of a request."""
+    printed("format", "device", "--small")
+    with watched():
+        Server("--turns", "5", limits="small").ends(0)
+    for turn in turns_of(calls()):
+        follows("EBSHS", turn)
+        check((turn[0].size, turn[0].result) == (LONGEST, 0), f"{turn[0]} is the wait")
+        check(turn[1].size + turn[3].size == 1024, "a tick takes more than two sectors")
+    with watched(), serving(limits="small"):
+        clients = [Client(), process(), process(), Client()]
+        clients[2].send_bytes(frame(9, hello_request(1, 1))[:-1])
+        clients[3].send_bytes(b"\0")
+        # The server takes what came before a reply, or in the next turn.
+        clients[1].msgget(1, IPC_CREAT | 0o600)
+        seen = len(turns_of(calls()))
+        until(lambda: len(turns_of(calls())) >= seen + 12, "the server makes no turns")
+        idle = turns_of(calls())[seen + 4 :]
+    for turn in idle:
+        check(order(turn) in ("EBSHS", "EOSRS"), f"a turn with silent clients is {order(turn)}")
+        check((turn[0].size, turn[0].result) == (LONGEST, 0), f"{turn[0]} is the wait")
+
+
+def waits_if_nothing_is_left(them: list[Call]) -> None:
+    """Each wait may take 100 ms if the last read of each client has said that nothing is there, or the client does
+    not read; else it may take none."""
+    more: dict[int, bool] = {}
+    full: set[int] = set()
+    accepted = 0
+    for call in them:
+        if call.name == "accept4" and call.result >= 0:
+            more[call.result] = True
+            accepted += 1
+        elif call.name == "recv":
+            more[call.file] = call.result > 0
+        elif call.name == "send":
+            (full.add if call.result == -errno.EAGAIN else full.discard)(call.file)
+        elif call.name == "close":
+            more.pop(call.file, None)
+            full.discard(call.file)
+        elif call.name == "epoll_wait":
+            busy = accepted == 64 or any(it and file not in full for file, it in more.items())
+            wanted = 0 if busy else LONGEST
+            check(call.size == wanted, f"a wait may take {call.size} ms, and not {wanted}")
+            accepted = 0
+
+
+def waits() -> None:
+    """While a client has more there is none: after requests of 82 kB, of which a turn takes 16 times 4096 bytes, and
+    after 100 connections, of which it takes 64. There is one while a client has sent and does not read."""
+    printed("format", "device")
+    with watched(most=0), serving() as server, process() as client:
+        queue = client.msgget(1, IPC_CREAT | 0o600)
+        send = frame(7, msgsnd_request(queue, 1, b"x" * 8192))
+        server.process.send_signal(signal.SIGSTOP)
+        os.waitid(os.P_PID, server.process.pid, os.WSTOPPED)
+        client.send_bytes(10 * send)
+        many = [Client() for _ in range(100)]
+        server.process.send_signal(signal.SIGCONT)
+        client.is_answered(2 * reply(7, 0) + 8 * reply(7, errno.EAGAIN))
+        many[-1].hello(1, 1)
+        seen = len(turns_of(calls()))
+        until(lambda: len(turns_of(calls())) > seen + 2, "the server makes no turns")
+        pair = frame(7, msgrcv_request(queue, 8192)) + send
+        client._socket.setblocking(False)
+        sent = 0
+
+        def takes_no_more() -> bool:
+            nonlocal sent
+            try:
+                while True:
+                    sent += client._socket.send((100 * pair)[sent % len(pair) :])
+            except BlockingIOError:
+                last = [turn[0] for turn in turns_of(calls())[-3:]]
+                return all((wait.size, wait.result) == (LONGEST, 0) for wait in last)
+
+        until(takes_no_more, "the server spins for one that does not read")
+    them = calls()
+    waits_if_nothing_is_left(them)
+    reads = [sum(call.name == "recv" and call.result == 4096 for call in turn) for turn in turns_of(them)]
+    check(max(reads) == 16, f"the most reads in a turn are {max(reads)}")
+    accepts = [sum(call.name == "accept4" and call.result >= 0 for call in turn) for turn in turns_of(them)]
+    check(max(accepts) == 64, f"the most connections in a turn are {max(accepts)}")
+
+
+def clients_beyond_the_hundredth() -> None:
+    """Each of 200 connections is read."""
+    printed("format", "device")
+    with serving():
+        clients = [Client() for _ in range(200)]
+        for client in clients:
+            client.send_bytes(frame(1, hello_request(1, 1))[:-1])
+        for number, client in enumerate(clients):
+            client.send_bytes(frame(1, hello_request(1, 1))[-1:])
+            wanted = 0 if number < 64 else errno.ENFILE
+            answer = client.receive()
+            check(answer[:2] == (1, wanted), f"client {number} is answered {answer}")
+        for client in clients:
+            client.close()
+
+
+# ---- commits
+
+
+def commits() -> None:
+    """One makes two writes and two syncs, however long its batch is, and reads nothing. The batch of a short
+    request is the tick of its turn, its client's, and itself: 68 bytes and the text, so that 444 bytes of text take
+    one sector, and 445 two. A long one has a tick more for each further read of 4096 bytes."""
+    printed("format", "device")
+    texts = [b"x" * length for length in (0, 444, 445, 8192)]
+    with watched(), serving(), process() as client:
+        queue = client.msgget(1, IPC_CREAT | 0o600)
+        frames = []
+        for text in texts:
+            asked = msgsnd_request(queue, 1, text)
+            client.call(asked)
+            frames.append(frame(client._serial, asked)[4:])
+    them = calls()
+    ends = max(at for at, call in enumerate(them) if call.name == "epoll_wait")
+    follows(f"{OPEN}(?:{TURN})*", them[:ends])
+    served = them[[call.name for call in them].index("write") :]
+    check(all(call.name != "pread" for call in served), "a server reads its device")
+    batches = [call.data for call in served if call.name == "pwrite" and call.sector >= BODY]
+    for text, asked in zip(texts, frames):
+        (data,) = [data for data in batches if asked in data]
+        moment = int.from_bytes(data[9:17], "big")
+        ticks = data.count(tick(moment), 0, 1000)
+        check(ticks == 2 or len(text) == 8192, f"{ticks} ticks come before a request of {len(text)} bytes")
+        wanted = batch(*ticks * [tick(moment)], request(moment, 1, asked))
+        check(len(wanted) == 4 + 13 * ticks + 38 + len(text), "a batch has another length")
+        check(data.startswith(wanted), f"the batch of {len(text)} bytes has other bytes")
+        check(len(data) == SECTOR * sectors_of(len(wanted)), f"{len(data)} bytes are written of {len(wanted)}")
+
+
+# ---- states at their bounds
+
+EMPTY = ((1, b""),)
+BYTES = ((1, b"x"),)
+LONG = tuple((1, bytes([65 + number]) * 8192) for number in (0, 1))
+# The most that 32 queues may hold: of texts of 8192 bytes two, of none or a byte 16384.
+BOUNDS = {number: LONG if number < 12 else 16384 * (EMPTY if number < 23 else BYTES) for number in range(1, 33)}
+
+
+def full_device(messages: dict[int, tuple[tuple[int, bytes], ...]]) -> tuple[bytes, int]:
+    """A device that has these queues and a full journal, so that its open saves; and how many sectors they take."""
+    queues = {number: Queue(number, them, qbytes=16384) for number, them in messages.items()}
+    objects = state(clock(9, 2, len(queues) + 1), processes(), queues)
+    device = Device(STANDARD).save(1, 0, objects)
+    device.journal(1, *256 * [batch(RESTART)])
+    return bytes(device.image), sectors_of(len(area(objects)))
+
+
+def rows_of(messages: dict[int, tuple[tuple[int, bytes], ...]]) -> str:
+    row = "msg {0:10} {0:11} 0600       1000        100 {1:10} {2:10}\n"
+    return "".join(row.format(q, sum(len(text) for _, text in it), len(it)) for q, it in messages.items())
+
+
+def saves_in_pieces(writes: list[Call], first: int, sectors: int) -> None:
+    """These writes are a save's, from this sector on: so many sectors, 64 in each write but the last."""
+    wanted = [(first + at, SECTOR * min(PIECE, sectors - at)) for at in range(0, sectors, PIECE)]
+    found = [(call.sector, call.result) for call in writes]
+    check(found == wanted, f"a save of {sectors} sectors writes {found[:3]}.. {len(found)}, not {len(wanted)}")
+
+
+def open_and_save(them: list[Call], sectors: int) -> None:
+    """An open reads each sector that counts once, and a save is made of it in as few writes as may be."""
+    reads = [call for call in them if call.name == "pread"]
+    places = sorted(place for call in reads for place in range(call.sector, call.sector + call.result // SECTOR))
+    wanted = [0, 1, 3, *range(BODY, BODY + 256), *range(OBJECTS, OBJECTS + sectors)]
+    check(places == wanted, f"an open reads {len(places)} sectors, and not {len(wanted)} once each")
+    writes = [call for call in them if call.name == "pwrite" and call.sector >= OBJECTS]
+    saves_in_pieces(writes, OBJECTS + area_of(STANDARD), sectors)
+
+
+def queues_at_their_bounds() -> None:
+    """They are opened, saved, listed and served, and nothing is refused for memory."""
+    image, sectors = full_device(BOUNDS)
+    Path("device").write_bytes(image)
+    with watched(most=0):
+        check(printed("dump", "device") == rows_of(BOUNDS), "the device lists something else")
+    them = calls()
+    follows("SO+SRS[Pc]*", them)
+    open_and_save(them, sectors)
+    Path("device").write_bytes(image)
+    with watched(most=0), serving(), process() as client:
+        for number, messages in BOUNDS.items():
+            client.send(msgsnd_request(number, 1, b"x"))
+            check(client.receive()[1] == errno.EAGAIN, f"queue {number} is not full")
+            check(client.msgrcv(number, 8192) == messages[0], f"queue {number} has another first message")
+            client.msgsnd(number, *messages[0])
+        # 17 sectors of the journal each, so that a save comes.
+        for number in (*range(1, 12), *range(1, 12)):
+            client.msgsnd(number, *client.msgrcv(number, 8192))
+    after = calls()
+    served = after[[call.name for call in after].index("write") :]
+    check("SRS" in order(served), "the server has not saved")
+    # A text of 8192 bytes may be out of its queue then.
+    most = max(piece.count("O") for piece in order(served).split("S"))
+    check(most in (-(-(sectors - 17) // PIECE), -(-sectors // PIECE)), f"a save makes {most} writes")
+    check(printed("dump", "device") == rows_of(BOUNDS), "the queues hold something else")
+
+
+def cost_of_a_save(count: int) -> float:
+    """Of 32 queues of so many messages: the calls are as they should be. Answers the least seconds of the processor
+    for an open and a save, of three."""
+    messages = {number: count * EMPTY for number in range(1, 33)}
+    image, sectors = full_device(messages)
+    Path("device").write_bytes(image)
+    with watched(most=0):
+        printed("dump", "device")
+    open_and_save(calls(), sectors)
+    least = float("inf")
+    for _ in range(3):
+        Path("device").write_bytes(image)
+        before = resource.getrusage(resource.RUSAGE_CHILDREN)
+        printed("dump", "device")
+        after = resource.getrusage(resource.RUSAGE_CHILDREN)
+        least = min(least, after.ru_utime + after.ru_stime - before.ru_utime - before.ru_stime)
+    return least
+
+
+def saves_grow_with_the_messages() -> None:
+    """Eight times the messages are about eight times the work. Were it their square it would be 64 times."""
+    few, many = cost_of_a_save(2048), cost_of_a_save(16384)
+    # A processor's time may be told in hundredths of a second.
+    check(many < 24 * few + 0.1, f"2048 messages a queue take {few:.3f} s, and 16384 take {many:.3f} s")
+
+
+# ---- moments
+
+
+def milliseconds() -> int:
+    return time.time_ns() // 10**6
+
+
+def moments() -> None:
+    """They are milliseconds of the system's clock: in the journal, and in the objects that are saved after a stop."""
+    printed("format", "device", "--small")
+    bounds = []
+    with serving(limits="small"), process() as client:
+        queues = [client.msgget(key, IPC_CREAT | 0o600) for key in (1, 2)]
+        for queue in queues:
+            before = milliseconds()
+            # The turn after this reply begins after `before`.
+            client.msgget(1, 0)
+            client.msgsnd(queue, 1, b"x")
+            bounds.append((before, milliseconds()))
+            time.sleep(1)
+    content = read(Path("device").read_bytes())
+    records = [record for records in content.batches for record in records]
+    sent = [int.from_bytes(record[1:9], "big") for record in records if record[0] == 2 and record[17] == 0x0B]
+    script = subprocess.run(
+        [PROGRAM, "run", "device"], input="save\n", capture_output=True, text=True, timeout=TIMEOUT
+    )
+    check((script.returncode, script.stderr) == (0, ""), f"{script}")
+    objects = dict(read(Path("device").read_bytes()).objects)
+    saved = [int.from_bytes(objects[QUEUE_KIND + queue][24:32], "big") for queue in queues]
+    check(len(sent) == 2, f"{len(sent)} sends are in the journal")
+    for found in (sent, saved):
+        for moment, (first, last) in zip(found, bounds):
+            check(first <= moment <= last, f"{moment} is not from {first} to {last}")
+
+
+TESTS = [
+    moments,
+    clients_beyond_the_hundredth,
+]
+WATCHED = [
+    turns_that_are_idle,
+    waits,
+    commits,
+    queues_at_their_bounds,
+    saves_grow_with_the_messages,
+]
+
+
+def hangs(*_: object) -> None:
+    raise AssertionError("it hangs")
+
+
+def main() -> None:
+    signal.signal(signal.SIGALRM, hangs)
+    signal.alarm(300)
+    begin = time.monotonic()
+    with tempfile.TemporaryDirectory() as folder:
+        os.chdir(folder)
+        tests = [*TESTS, *(WATCHED if build("costs") else [])]
+        for test in tests:
+            test()
+            print(f"costs: {test.__name__}, {time.monotonic() - begin:.1f} s", flush=True)
+    print(f"costs: {len(tests)} tests, each as it should be")
+
+
+if __name__ == "__main__":
+    main()

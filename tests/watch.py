@@ -1,0 +1,104 @@
+"""Runs of the program with its calls of the system written down, by tests/watch_calls.c. All paths are in the
+working folder."""
+
+from __future__ import annotations
+
+import os
+import re
+import shutil
+import subprocess
+from collections.abc import Iterator
+from contextlib import contextmanager
+from pathlib import Path
+from typing import NamedTuple
+
+from device_layout import BODY, JOURNAL, OBJECTS, ROOT, SECTOR
+
+SOURCE = Path(__file__).resolve().parent / "watch_calls.c"
+LIBRARY = "watch_calls.so"
+LOG = "log"
+
+
+class Call(NamedTuple):
+    """A call that has ended. Its result is less the error number if it was refused."""
+
+    name: str
+    file: int
+    size: int
+    place: int
+    result: int
+    data: bytes
+
+    @property
+    def sector(self) -> int:
+        return self.place // SECTOR
+
+
+def build(of: str) -> bool:
+    """Builds the library. False, and a word, if there is no compiler."""
+    if shutil.which("cc") is None:
+        print(f"{of}: there is no cc here, so no call of the system is watched: left out")
+        return False
+    subprocess.run(["cc", "-shared", "-fPIC", "-o", LIBRARY, str(SOURCE)], check=True)
+    return True
+
+
+@contextmanager
+def watched(fail: str = "", text: str = "", place: int = 0, most: int = 65536) -> Iterator[None]:
+    """Programs that are started meanwhile are watched, and meet this failure."""
+    Path(LOG).unlink(missing_ok=True)
+    wanted = {"WATCH_LOG": os.path.abspath(LOG), "WATCH_BYTES": str(most)}
+    wanted |= {"WATCH_FAIL": fail} if fail else {}
+    wanted |= {"WATCH_TEXT": text} if text else {}
+    wanted |= {"WATCH_PLACE": str(place)} if place else {}
+    wanted |= {"LD_PRELOAD": os.path.abspath(LIBRARY)}
+    os.environ.update(wanted)
+    try:
+        yield
+    finally:
+        for name in wanted:
+            del os.environ[name]
+
+
+def calls() -> list[Call]:
+    """What the log has, up to its last whole line."""
+    found = []
+    for line in Path(LOG).read_text().splitlines(keepends=True):
+        if line.endswith("\n"):
+            name, file, size, place, result, data = line.split()
+            data = b"" if data == "-" else bytes.fromhex(data)
+            found.append(Call(name, int(file), int(size), int(place), int(result), data))
+    return found
+
+
+LETTERS = {"fdatasync": "S", "fsync": "F", "ftruncate": "T", "epoll_wait": "E", "recv": "<"}
+LETTERS |= {"send": ">", "accept4": "a", "close": "c", "write": "P", "pread": "r"}
+
+
+def letter(call: Call) -> str:
+    """Of a write the part of the device: 0 the superblock, R the root, H the journal's header, B its body, O objects.
+    Of a call that was refused, but for those of sockets, x."""
+    if call.result < 0 and call.name not in ("recv", "send", "accept4", "epoll_wait"):
+        return "x"
+    if call.name != "pwrite":
+        return LETTERS[call.name]
+    if call.sector >= OBJECTS:
+        return "O"
+    return "B" if call.sector >= BODY else {0: "0", ROOT: "R", JOURNAL: "H"}.get(call.sector, "?")
+
+
+def order(them: list[Call]) -> str:
+    """A letter for each, but for reads of the device that succeed."""
+    return "".join(letter(call) for call in them).replace("r", "")
+
+
+COMMIT = "(?:BSHS|O+SRS)"
+TURN = f"E[a<]*(?:{COMMIT}<*)*{COMMIT}>*(?:c+(?:{COMMIT}>*)?)?"
+OPEN = f"S{COMMIT}P"
+
+
+def follows(pattern: str, them: list[Call]) -> None:
+    """All of these calls are in this order."""
+    found = order(them)
+    if not re.fullmatch(pattern, found):
+        raise AssertionError(f"the calls are {found}, and not {pattern}")
