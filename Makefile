@@ -1,6 +1,7 @@
 # ipcd: the commands of this repository. They need the Rattle toolchain's `rt` on the path and Python, `runs`, `edits`
-# and `bench` also awk, `bench-serve` a C compiler, and `memory` awk and a C compiler: without that one it says so and
-# refuses nothing. `runs` renders the manual page if there is a man.
+# and `bench` also awk, `bench-serve` a C compiler, `memory` awk and a C compiler, and `serves` a C compiler to watch and
+# refuse calls of the system: without it these two say so, and refuse nothing. `runs` renders the manual page if there
+# is a man.
 
 .PHONY: help run test edits imports runs serves memory program install bench bench-serve
 
@@ -20,8 +21,8 @@ help:
 	@echo "            what it prints and says, its exit status, and what it leaves in the file; what 'make install'"
 	@echo "            puts where, and the manual page"
 	@echo "make serves the program as a server: clients by the dozen, crashes under load, what ends a connection, and what"
-	@echo "            docs/OPERATIONS.md says; the first sessions; and examples/serve.sh, in which a message outlives"
-	@echo "            a crash. Half a minute, once built"
+	@echo "            docs/OPERATIONS.md says; the first sessions; examples/serve.sh, in which a message outlives a"
+	@echo "            crash; and its calls of the system, watched, and each refused in turn. A minute, once built"
 	@echo "make memory the engine's tests and the program, with each allocation refused in turn"
 	@echo "make bench  processor time of runs, lines and ticks on both devices, peak memory, what a commit writes, and"
 	@echo "            commits a second on a file beside the same writes and syncs done bare"
