@@ -8,6 +8,7 @@ takes some seconds.
 
 from __future__ import annotations
 
+import contextlib
 import errno
 import os
 import resource
@@ -105,8 +106,12 @@ def backups() -> None:
 
 
 def names_of_open_files(server: Server) -> list[str]:
-    folder = f"/proc/{server.process.pid}/fd"
-    return [os.readlink(f"{folder}/{name}") for name in os.listdir(folder)]
+    """Of those that it has open all the while: it may close one of a client that has gone."""
+    names = []
+    for file in Path(f"/proc/{server.process.pid}/fd").iterdir():
+        with contextlib.suppress(FileNotFoundError):
+            names.append(os.readlink(file))
+    return names
 
 
 def removed_and_replaced() -> None:
