@@ -10,11 +10,8 @@ from __future__ import annotations
 
 import errno
 import os
-import signal
 import struct
 import sys
-import tempfile
-import time
 from pathlib import Path
 
 sys.dont_write_bytecode = True
@@ -37,10 +34,12 @@ from server import (  # noqa: E402
     Client,
     Server,
     check,
+    in_a_folder,
     listing,
     printed,
     process,
     run,
+    run_tests,
     serving,
     until,
 )
@@ -406,22 +405,10 @@ TESTS = [
 ]
 
 
-def hangs(*_: object) -> None:
-    raise AssertionError("it hangs")
-
-
 def main() -> None:
-    signal.signal(signal.SIGALRM, hangs)
-    signal.alarm(300)
-    begin = time.monotonic()
-    with tempfile.TemporaryDirectory() as folder:
-        os.chdir(folder)
-        if not build("calls"):
-            return
-        for test in TESTS:
-            test()
-            print(f"calls: {test.__name__}, {time.monotonic() - begin:.1f} s", flush=True)
-    print(f"calls: {len(TESTS)} tests, each as it should be")
+    with in_a_folder(300):
+        if build("calls"):
+            run_tests("calls", TESTS)
 
 
 if __name__ == "__main__":

@@ -14,7 +14,6 @@ import resource
 import signal
 import subprocess
 import sys
-import tempfile
 import time
 from pathlib import Path
 
@@ -47,9 +46,11 @@ from server import (  # noqa: E402
     Server,
     check,
     frame,
+    in_a_folder,
     printed,
     process,
     reply,
+    run_tests,
     serving,
     until,
 )
@@ -346,21 +347,9 @@ WATCHED = [
 ]
 
 
-def hangs(*_: object) -> None:
-    raise AssertionError("it hangs")
-
-
 def main() -> None:
-    signal.signal(signal.SIGALRM, hangs)
-    signal.alarm(300)
-    begin = time.monotonic()
-    with tempfile.TemporaryDirectory() as folder:
-        os.chdir(folder)
-        tests = [*TESTS, *(WATCHED if build("costs") else [])]
-        for test in tests:
-            test()
-            print(f"costs: {test.__name__}, {time.monotonic() - begin:.1f} s", flush=True)
-    print(f"costs: {len(tests)} tests, each as it should be")
+    with in_a_folder(300):
+        run_tests("costs", [*TESTS, *(WATCHED if build("costs") else [])])
 
 
 if __name__ == "__main__":

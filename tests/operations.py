@@ -18,7 +18,6 @@ import socket
 import stat
 import subprocess
 import sys
-import tempfile
 import threading
 import time
 from pathlib import Path
@@ -31,10 +30,12 @@ from server import (  # noqa: E402
     Client,
     Server,
     check,
+    in_a_folder,
     listing,
     printed,
     process,
     run,
+    run_tests,
     serving,
     until,
 )
@@ -235,20 +236,9 @@ TESTS = [
 ]
 
 
-def hangs(*_: object) -> None:
-    raise AssertionError("it hangs")
-
-
 def main() -> None:
-    signal.signal(signal.SIGALRM, hangs)
-    signal.alarm(120)
-    with tempfile.TemporaryDirectory() as folder:
-        os.chdir(folder)
-        for test in TESTS:
-            test()
-            if os.path.exists("device"):
-                os.remove("device")
-    print(f"operations: {len(TESTS)} tests, each as it should be")
+    with in_a_folder(120):
+        run_tests("operations", TESTS)
 
 
 if __name__ == "__main__":

@@ -18,7 +18,6 @@ import socket
 import struct
 import subprocess
 import sys
-import tempfile
 import threading
 import time
 from collections import Counter, defaultdict
@@ -34,11 +33,13 @@ from server import (  # noqa: E402
     check,
     drain,
     frame,
+    in_a_folder,
     listing,
     printed,
     process,
     reply,
     run,
+    run_tests,
     serving,
     until,
 )
@@ -674,23 +675,12 @@ TESTS = [
 ]
 
 
-def hangs(*_: object) -> None:
-    raise AssertionError("it hangs")
-
-
 def main() -> None:
-    signal.signal(signal.SIGALRM, hangs)
-    signal.alarm(180)
     _, most = resource.getrlimit(resource.RLIMIT_NOFILE)
     resource.setrlimit(resource.RLIMIT_NOFILE, (most, most))
-    begin = time.monotonic()
     print(f"serve: seed {SEED}", flush=True)
-    with tempfile.TemporaryDirectory() as folder:
-        os.chdir(folder)
-        for test in TESTS:
-            test()
-            print(f"serve: {test.__name__}, {time.monotonic() - begin:.1f} s", flush=True)
-    print(f"serve: {len(TESTS)} tests, each as it should be")
+    with in_a_folder(180):
+        run_tests("serve", TESTS)
 
 
 if __name__ == "__main__":

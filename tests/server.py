@@ -10,6 +10,7 @@ import stat
 import struct
 import subprocess
 import sys
+import tempfile
 import time
 from collections.abc import Callable, Iterator
 from contextlib import contextmanager
@@ -35,6 +36,29 @@ def until(condition: Callable[[], bool], text: str) -> None:
     while not condition():
         check(time.monotonic() < end, text)
         time.sleep(0.01)
+
+
+def hangs(*_: object) -> None:
+    raise AssertionError("it hangs")
+
+
+@contextmanager
+def in_a_folder(seconds: int) -> Iterator[None]:
+    """Works in a folder of its own, no longer than so many seconds."""
+    signal.signal(signal.SIGALRM, hangs)
+    signal.alarm(seconds)
+    with tempfile.TemporaryDirectory() as folder:
+        os.chdir(folder)
+        yield
+
+
+def run_tests(name: str, tests: list[Callable[[], None]]) -> None:
+    """Runs the tests, one after another, and says how long they took up to then."""
+    begin = time.monotonic()
+    for test in tests:
+        test()
+        print(f"{name}: {test.__name__}, {time.monotonic() - begin:.1f} s", flush=True)
+    print(f"{name}: {len(tests)} tests, each as it should be")
 
 
 def run(*words: str) -> subprocess.CompletedProcess[str]:
