@@ -32,6 +32,9 @@ has_row (Hello cred) = record { row = refl; made = refl }
 has_row (Calls (requests.Msgget key flags)) = record { row = refl; made = refl }
 has_row (Calls (requests.Msgsnd id flags mtype text)) = record { row = refl; made = refl }
 has_row (Calls (requests.Msgrcv id flags size mtype)) = record { row = refl; made = refl }
+has_row (Calls (requests.MsgctlStat id)) = record { row = refl; made = refl }
+has_row (Calls (requests.MsgctlSet id uid gid mode qbytes)) = record { row = refl; made = refl }
+has_row (Calls (requests.MsgctlRmid id)) = record { row = refl; made = refl }
 
 -- the requests of a row are taken apart into what made them
 abbrev Undoes : Row → Type 0

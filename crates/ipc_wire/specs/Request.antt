@@ -11,6 +11,9 @@ pub data PlainCall : Type 0 where
   Msgget : (key : ℤ) → (flags : ℕ) → PlainCall
   Msgsnd : (id flags : ℕ) → (mtype : ℤ) → (text : List ℕ) → PlainCall
   Msgrcv : (id flags size : ℕ) → (mtype : ℤ) → PlainCall
+  MsgctlStat : (id : ℕ) → PlainCall
+  MsgctlSet : (id uid gid mode qbytes : ℕ) → PlainCall
+  MsgctlRmid : (id : ℕ) → PlainCall
 
 -- HELLO, or a call of the process
 pub data PlainKind : Type 0 where
@@ -25,6 +28,9 @@ abbrev pub plain_call : Call → PlainCall
 plain_call (calls.Msgget key flags) = Msgget key flags.0
 plain_call (calls.Msgsnd id flags mtype text) = Msgsnd id.0 flags.0 mtype text.now
 plain_call (calls.Msgrcv id flags size mtype) = Msgrcv id.0 flags.0 size mtype
+plain_call (calls.MsgctlStat id) = MsgctlStat id.0
+plain_call (calls.MsgctlSet id uid gid mode qbytes) = MsgctlSet id.0 uid gid mode qbytes
+plain_call (calls.MsgctlRmid id) = MsgctlRmid id.0
 
 abbrev pub plain_kind : RequestKind → PlainKind
 plain_kind (kinds.Hello cred) = Hello cred

@@ -52,8 +52,38 @@ msgrcv =
       make = λ v rest. Calls (requests.Msgrcv v.0 v.1.0 v.1.1.0 v.1.1.1.0);
     }
 
+-- id
+abbrev pub msgctl_stat : Row
+msgctl_stat =
+    record {
+      opcode = 0x0d;
+      fields = U32 ∷ [];
+      rest = Nothing;
+      make = λ v rest. Calls (requests.MsgctlStat v.0);
+    }
+
+-- id, uid, gid, mode, qbytes
+abbrev pub msgctl_set : Row
+msgctl_set =
+    record {
+      opcode = 0x0e;
+      fields = U32 ∷ U32 ∷ U32 ∷ U32 ∷ U32 ∷ [];
+      rest = Nothing;
+      make = λ v rest. Calls (requests.MsgctlSet v.0 v.1.0 v.1.1.0 v.1.1.1.0 v.1.1.1.1.0);
+    }
+
+-- id
+abbrev pub msgctl_rmid : Row
+msgctl_rmid =
+    record {
+      opcode = 0x0f;
+      fields = U32 ∷ [];
+      rest = Nothing;
+      make = λ v rest. Calls (requests.MsgctlRmid v.0);
+    }
+
 abbrev pub rows : List Row
-rows = hello ∷ msgget ∷ msgsnd ∷ msgrcv ∷ []
+rows = hello ∷ msgget ∷ msgsnd ∷ msgrcv ∷ msgctl_stat ∷ msgctl_set ∷ msgctl_rmid ∷ []
 
 -- the row of an opcode among rows, if it has one
 abbrev pub row_among : List Row → ℕ → Option Row
@@ -76,3 +106,7 @@ parts_of (Calls (requests.Msgsnd id flags mtype text)) =
     record { row = msgsnd; values = (id, (flags, (mtype, tt))); rest = text }
 parts_of (Calls (requests.Msgrcv id flags size mtype)) =
     record { row = msgrcv; values = (id, (flags, (size, (mtype, tt)))); rest = [] }
+parts_of (Calls (requests.MsgctlStat id)) = record { row = msgctl_stat; values = (id, tt); rest = [] }
+parts_of (Calls (requests.MsgctlSet id uid gid mode qbytes)) =
+    record { row = msgctl_set; values = (id, (uid, (gid, (mode, (qbytes, tt))))); rest = [] }
+parts_of (Calls (requests.MsgctlRmid id)) = record { row = msgctl_rmid; values = (id, tt); rest = [] }

@@ -39,6 +39,15 @@ pub(crate) const MSGSND: u8 = 0x0b;
 /// The opcode of msgrcv(2).
 pub(crate) const MSGRCV: u8 = 0x0c;
 
+/// The opcode of IPC_STAT of msgctl(2).
+pub(crate) const MSGCTL_STAT: u8 = 0x0d;
+
+/// The opcode of IPC_SET of msgctl(2).
+pub(crate) const MSGCTL_SET: u8 = 0x0e;
+
+/// The opcode of IPC_RMID of msgctl(2).
+pub(crate) const MSGCTL_RMID: u8 = 0x0f;
+
 /// What stands at the front of the bytes. It takes no memory: the text of a message stays where it is.
 #[tactic(auto, unfolding(crate::specs::Stream::first, crate::specs::Stream::u32_at))]
 pub fn read_frame(bytes: &[u8]) -> Frame<'_>
@@ -129,6 +138,9 @@ fn read_kind(opcode: u8, fields: &[u8]) -> Option<RequestKind<'_>>
         MSGGET => read_msgget(fields),
         MSGSND => read_msgsnd(fields),
         MSGRCV => read_msgrcv(fields),
+        MSGCTL_STAT => read_msgctl_stat(fields),
+        MSGCTL_SET => read_msgctl_set(fields),
+        MSGCTL_RMID => read_msgctl_rmid(fields),
         _ => None,
     }
 }
@@ -194,4 +206,50 @@ fn read_msgrcv(fields: &[u8]) -> Option<RequestKind<'_>>
         size,
         mtype,
     }))
+}
+
+#[tactic(auto, unfolding(ipc_base::specs::Numbers::number_of))]
+fn read_msgctl_stat(fields: &[u8]) -> Option<RequestKind<'_>>
+    ensures { option_map plain_kind result ≡ made_by table.msgctl_stat fields.now }
+{
+    let mut cursor = Cursor::new(fields);
+    let id = Id(cursor.u32()?);
+    if !cursor.is_empty() {
+        return None;
+    }
+    Some(RequestKind::Call(Call::MsgctlStat { id }))
+}
+
+#[tactic(auto, unfolding(ipc_base::specs::Numbers::number_of))]
+fn read_msgctl_set(fields: &[u8]) -> Option<RequestKind<'_>>
+    ensures { option_map plain_kind result ≡ made_by table.msgctl_set fields.now }
+{
+    let mut cursor = Cursor::new(fields);
+    let id = Id(cursor.u32()?);
+    let uid = cursor.u32()?;
+    let gid = cursor.u32()?;
+    let mode = cursor.u32()?;
+    let qbytes = cursor.u32()?;
+    if !cursor.is_empty() {
+        return None;
+    }
+    Some(RequestKind::Call(Call::MsgctlSet {
+        id,
+        uid,
+        gid,
+        mode,
+        qbytes,
+    }))
+}
+
+#[tactic(auto, unfolding(ipc_base::specs::Numbers::number_of))]
+fn read_msgctl_rmid(fields: &[u8]) -> Option<RequestKind<'_>>
+    ensures { option_map plain_kind result ≡ made_by table.msgctl_rmid fields.now }
+{
+    let mut cursor = Cursor::new(fields);
+    let id = Id(cursor.u32()?);
+    if !cursor.is_empty() {
+        return None;
+    }
+    Some(RequestKind::Call(Call::MsgctlRmid { id }))
 }

@@ -41,6 +41,22 @@ pub enum Call<'a> {
         size: u32,
         mtype: i64,
     },
+    /// IPC_STAT of msgctl(2).
+    MsgctlStat {
+        id: Id,
+    },
+    /// IPC_SET of msgctl(2): the owner, the mode and the most bytes of the queue.
+    MsgctlSet {
+        id: Id,
+        uid: u32,
+        gid: u32,
+        mode: u32,
+        qbytes: u32,
+    },
+    /// IPC_RMID of msgctl(2).
+    MsgctlRmid {
+        id: Id,
+    },
 }
 
 /// What stands at the front of a stream.

@@ -19,7 +19,7 @@ ghost use Rattle.ipc_base.specs.Numbers.{record_bytes};
 ghost use Rattle.ipc_wire.specs.Request.{Calls, plain_call, plain_kind, plain_request};
 ghost use Rattle.ipc_wire.specs.Spelling.{HasFrame, opcode_of, fields_of, request_bytes, frame};
 
-use crate::reading::{HELLO, MSGGET, MSGRCV, MSGSND};
+use crate::reading::{HELLO, MSGCTL_RMID, MSGCTL_SET, MSGCTL_STAT, MSGGET, MSGRCV, MSGSND};
 use crate::record::Record;
 use crate::request::{Call, Request, RequestKind};
 use crate::writing::text_len;
@@ -130,6 +130,25 @@ fn call_parts(call: Call<'_>) -> Parts<'_>
             ],
             &[],
         ),
+        Call::MsgctlStat { id } => spelled(MSGCTL_STAT, &[Field::U32(id.0)], &[]),
+        Call::MsgctlSet {
+            id,
+            uid,
+            gid,
+            mode,
+            qbytes,
+        } => spelled(
+            MSGCTL_SET,
+            &[
+                Field::U32(id.0),
+                Field::U32(uid),
+                Field::U32(gid),
+                Field::U32(mode),
+                Field::U32(qbytes),
+            ],
+            &[],
+        ),
+        Call::MsgctlRmid { id } => spelled(MSGCTL_RMID, &[Field::U32(id.0)], &[]),
     }
 }
 

@@ -84,6 +84,10 @@ sent q m pid moment = record q { messages = q.messages ++ m ∷ []; lspid = pid;
 abbrev pub taken : Queue → ℕ → ℕ → ℕ → Queue
 taken q at pid moment = record q { messages = remove q.messages at; lrpid = pid; rtime = moment }
 
+-- the queue after msgctl(2) set at this moment how many bytes it may hold at most
+abbrev pub changed : Queue → ℕ → ℕ → Queue
+changed q qbytes moment = record q { qbytes = qbytes; ctime = moment }
+
 -- the numbers of a queue that msgctl(2) tells
 abbrev pub stat_of : Queue → QueueStat
 stat_of q =

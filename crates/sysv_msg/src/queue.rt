@@ -98,6 +98,7 @@ impl MsgQueue {
       sent,
       taken,
       stat_of,
+      changed,
       pick,
       HasRoom,
     };
@@ -236,6 +237,16 @@ impl MsgQueue {
         self.lrpid = pid;
         self.rtime = now;
         message
+    }
+
+    /// Replaces how many bytes, and messages, there may be at most, and notes when. What is there stays. It takes
+    /// no memory, and reserved room stays.
+    pub fn set(&mut self, qbytes: u32, now: Moment)
+        ensures queue { self.new.queue ≡ changed self.old.queue qbytes now.0 }
+        ensures room { self.new.room ≡ self.old.room }
+    {
+        self.qbytes = qbytes;
+        self.ctime = now;
     }
 
     /// All its numbers. The types of its messages are signed numbers of eight bytes.

@@ -16,3 +16,12 @@ pub returns-in-Msgrcv-clause-fields : goal.returns-in-Msgrcv-clause-fields
 returns-in-Msgrcv-clause-fields c =
     let fits : FitsSigned w64 c.in-Msgrcv.mtype = search rules in
     rw c.in-Msgrcv.is (rw (to_z-of_z w64 c.in-Msgrcv.mtype fits) at c.spelled-in-Msgrcv.ensures.fields)
+
+pub returns-in-MsgctlStat-clause-fields : goal.returns-in-MsgctlStat-clause-fields
+returns-in-MsgctlStat-clause-fields c = rw c.in-MsgctlStat.is c.spelled-in-MsgctlStat.ensures.fields
+
+pub returns-in-MsgctlSet-clause-fields : goal.returns-in-MsgctlSet-clause-fields
+returns-in-MsgctlSet-clause-fields c = rw c.in-MsgctlSet.is c.spelled-in-MsgctlSet.ensures.fields
+
+pub returns-in-MsgctlRmid-clause-fields : goal.returns-in-MsgctlRmid-clause-fields
+returns-in-MsgctlRmid-clause-fields c = rw c.in-MsgctlRmid.is c.spelled-in-MsgctlRmid.ensures.fields
