@@ -6,15 +6,14 @@ use Rattle.std.specs.Prelude.{Ok, Err, nat_eq, option_map, IfSome}
 use Rattle.ipc_base.specs.Table.{value_at}
 use Rattle.ipc_base.proofs.CallerLemmas.{at-with, own}
 use Rattle.ipc_state.specs.Held.{Held, Room, HasTextRoom, with_text_room}
-use Rattle.ipc_state.specs.LendsQueue.{HasQueue}
 use Rattle.ipc_base.specs.declared.errno.Errno.{Errno}
 use Rattle.ipc_base.specs.declared.identity.Cred.{Cred}
 use Rattle.ipc_base.specs.declared.limits.Limits.{Limits}
 use Rattle.sysv_msg.specs.Queue.{Queue, Kept, new_queue}
 use Rattle.ipc_wire.specs.Reply.{PlainBody}
 use Rattle.ipc_state.specs.declared.keyed.Entry.{Entry}
-use Rattle.ipc_state.specs.declared.perm.Perm.{Perm}
-use Rattle.ipc_state.specs.Perm.{perm_of}
+use Rattle.ipc_perm.specs.declared.perm.Perm.{Perm}
+use Rattle.ipc_perm.specs.Perm.{perm_of}
 use Rattle.ipc_state.specs.Numbered.{Numbered, is_full, AreNumbered}
 use Rattle.ipc_state.specs.Keyed.{Keyed, holding, keyed, AreKeyed}
 use Rattle.ipc_state.specs.declared.processes.Process.{Process}
@@ -72,69 +71,6 @@ module _ (limits : Limits) where
 
   pub queue-sound : (s : State) (id : ℕ) (e : Entry Queue) → queue_of s id ≡ Some e → HasSoundParts limits s → IsSoundQueue limits e.object
   queue-sound s id e is h = keying.entry-sound limits.msgmni (IsSoundQueue limits) s.msg id e is h.msg
-
--- ---- a queue that was lent
-
--- the identifier has a queue
-pub record Lent (s : State) (id : ℕ) (q : Queue) : Type 0 where
-  pub entry : Entry Queue
-  pub is : queue_of s id ≡ Some entry
-  pub object : entry.object ≡ q
-
--- so it has, where this one is found
-pub lent : (s : State) (id : ℕ) (q : Queue) → Some q ≡ option_map (λ (e : Entry Queue). e.object) (queue_of s id) → Lent s id q
-lent s id q found = by_entry (queue_of s id) refl found
-  where
-    by_entry : (r : Option (Entry Queue)) → queue_of s id ≡ r → Some q ≡ option_map (λ (e : Entry Queue). e.object) r → Lent s id q
-    by_entry None is found = cc
-    by_entry (Some e) is found = record { entry = e; is = is; object = cc }
-
--- where none is found, it has none
-pub not-lent : (s : State) (id : ℕ) → None ≡ option_map (λ (e : Entry Queue). e.object) (queue_of s id) → queue_of s id ≡ None
-not-lent s id none = by_entry (queue_of s id) none
-  where
-    by_entry : (r : Option (Entry Queue)) → None ≡ option_map (λ (e : Entry Queue). e.object) r → r ≡ None
-    by_entry None none = refl
-    by_entry (Some e) none = cc
-
-module _ (old new : Held) (id : ℕ) (k : Kept) (found : Lent old.state id k.queue) where
-  module _ (left : Kept) (put : HasQueue old id left new) where
-    -- what is left in its place
-    pub left-state : new.state ≡ with_queue old.state id (holding found.entry left.queue)
-    left-state = ap (λ (m : Held). m.state) (put found.entry found.is)
-
-    pub left-limits : new.limits ≡ old.limits
-    left-limits = ap (λ (m : Held). m.limits) (put found.entry found.is)
-
-    -- the same queue leaves the state as it is
-    pub same-state : left.queue ≡ k.queue → new.state ≡ old.state
-    same-state same =
-        let s : State = old.state in
-        left-state
-        ∙ (ap (λ (q : Queue). with_queue s id (holding found.entry q)) (same ∙ sym found.object)
-        ∙ ap (λ (es : List (ℕ × Entry Queue)). record s { msg = record { next = s.msg.next; entries = es } }) (own s.msg.entries id found.entry found.is))
-
-    module _ (room : Some k.room ≡ value_at nat_eq old.room.texts id) where
-      -- the same queue with the same room leaves all as it is
-      pub same-held : left ≡ k → new ≡ old
-      same-held same =
-          let rooms : with_text_room old.room id left.room ≡ old.room =
-          ap (λ (r : Kept). with_text_room old.room id r.room) same
-          ∙ (let r : Room = old.room in ap (λ (ts : List (ℕ × Option ℕ)). record r { texts = ts }) (own r.texts id k.room (sym room))) in
-          put found.entry found.is
-          ∙ (ap (λ (t : State). record old { state = t; room = with_text_room old.room id left.room }) (sym left-state ∙ same-state (ap (λ (r : Kept). r.queue) same))
-          ∙ ap (λ (r : Room). record old { room = r }) rooms)
-
-      -- and the room that is left is there
-      pub left-room : (bytes : ℕ) → left.room ≡ Some bytes → HasTextRoom new.room.texts id bytes
-      left-room bytes is =
-          let there : value_at nat_eq new.room.texts id ≡ Some left.room =
-          ap (λ (m : Held). value_at nat_eq m.room.texts id) (put found.entry found.is) ∙ at-with old.room.texts id left.room k.room (sym room) in
-          subst (λ (r : Option (Option ℕ)). IfSome r (λ n. n ≡ Some bytes)) (sym there) is
-
-  -- the room that was there
-  pub lent-room : (bytes : ℕ) → Some k.room ≡ value_at nat_eq old.room.texts id → HasTextRoom old.room.texts id bytes → k.room ≡ Some bytes
-  lent-room bytes room has = subst (λ (r : Option (Option ℕ)). IfSome r (λ n. n ≡ Some bytes)) (sym room) has
 
 -- ---- calls by their steps
 

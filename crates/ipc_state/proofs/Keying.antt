@@ -15,9 +15,8 @@ use Rattle.ipc_base.specs.Table.{value_at, with_value, keys_of, IsRising}
 use Rattle.ipc_base.proofs.CallerLemmas.{All-with_value, All-value_at}
 use Rattle.ipc_base.proofs.CallerLemmas.{keys-map as ids-map}
 use Rattle.ipc_state.specs.declared.keyed.Entry.{Entry}
-use Rattle.ipc_state.specs.declared.keyed.Keyed.{Keyed as KeyedTable}
 use Rattle.ipc_state.specs.declared.numbered.Item.{Item}
-use Rattle.ipc_state.specs.Tables.{item_row, keyed_of}
+use Rattle.ipc_state.specs.Tables.{item_row}
 use Rattle.ipc_state.specs.Keyed.{Keyed, key_row, keys_in, keyed, entry_map, AreKeyed}
 use Rattle.ipc_state.specs.Numbered.{none_yet, entry_of, is_full, with_entry, with_new, numbered_map, AreNumbered}
 use Rattle.ipc_state.specs.Tests.{is_named}
@@ -177,10 +176,10 @@ named-decides ks k = by_test (int_eq k.0 (pos 0)) refl (value_at int_eq ks k.0) 
         (λ yes some. ap Some (test.0 yes), λ named. test.1 (let same = named none in cc))
 
 -- the keys of a table
-abbrev item_key : {T : Type 0} → Item (Entry T) → ℤ × ℕ
+abbrev pub item_key : {T : Type 0} → Item (Entry T) → ℤ × ℕ
 item_key e = key_row (item_row e)
 
-item-keys : {T : Type 0} (es : List (Item (Entry T))) → map key_row (map item_row es) ≡ map item_key es
+pub item-keys : {T : Type 0} (es : List (Item (Entry T))) → map key_row (map item_row es) ≡ map item_key es
 item-keys [] = refl
 item-keys (e ∷ es) = ap (λ (ks : List (ℤ × ℕ)). item_key e ∷ ks) (item-keys es)
 
@@ -190,25 +189,25 @@ pub each-decides : {X Y : Type 0} (p : Y → Bool) (P : Y → Type 0) (row : X �
 each-decides p P row xs each =
     subst (λ (b : Bool). Decides b (All P (map row xs))) (list_all-map p row xs) (Decides-by_and p P (list_all p) each refl (λ _ _. refl) (map row xs))
 
-module _ {T : Type 0} (most : ℕ) (o : KeyedTable T) where
-  abbrev items : List (Item (Entry T))
-  items = o.objects.items.items
-
+-- whether identifiers, keys and modes are sound, by a list that has the entries
+module _ {T : Type 0} (most : ℕ) (o : Keyed T) (items : List (Item (Entry T))) (is : map item_row items ≡ o.entries) where
   abbrev ks : List (ℤ × ℕ)
-  ks = keys_in (keyed_of o)
+  ks = keys_in o
 
-  keys-decide : Decides (list_all (λ (e : Item (Entry T)). is_named (keyed (keyed_of o) e.value.key) e.value.key e.number) items) (All (IsNamed ks) ks)
+  keys-decide : Decides (list_all (λ (e : Item (Entry T)). is_named (keyed o e.value.key) e.value.key e.number) items) (All (IsNamed ks) ks)
   keys-decide =
-      subst (λ (l : List (ℤ × ℕ)). Decides (list_all (λ (e : Item (Entry T)). is_named (keyed (keyed_of o) e.value.key) e.value.key e.number) items)
-      (All (IsNamed ks) l)) (sym (item-keys items))
-      (each-decides (λ (k : ℤ × ℕ). is_named (keyed (keyed_of o) k.0) k.0 k.1) (IsNamed ks) item_key items (named-decides ks))
+      subst (λ (l : List (ℤ × ℕ)). Decides (list_all (λ (e : Item (Entry T)). is_named (keyed o e.value.key) e.value.key e.number) items) (All (IsNamed ks) l))
+      (sym (item-keys items) ∙ ap (map key_row) is)
+      (each-decides (λ (k : ℤ × ℕ). is_named (keyed o k.0) k.0 k.1) (IsNamed ks) item_key items (named-decides ks))
 
-  modes-decide : Decides (list_all (λ (e : Item (Entry T)). nat_lt e.value.perm.mode 512) items) (All HasMode (map item_row items))
-  modes-decide = each-decides (λ (e : ℕ × Entry T). nat_lt e.1.perm.mode 512) HasMode item_row items (λ e. Decides-ltb e.1.perm.mode 512)
+  modes-decide : Decides (list_all (λ (e : Item (Entry T)). nat_lt e.value.perm.mode 512) items) (All HasMode o.entries)
+  modes-decide =
+      subst (λ (es : List (ℕ × Entry T)). Decides (list_all (λ (e : Item (Entry T)). nat_lt e.value.perm.mode 512) items) (All HasMode es)) is
+      (each-decides (λ (e : ℕ × Entry T). nat_lt e.1.perm.mode 512) HasMode item_row items (λ e. Decides-ltb e.1.perm.mode 512))
 
-  pub keyed-decides : AreNumbered most (keyed_of o)
-      → Decides (list_all (λ (e : Item (Entry T)). is_named (keyed (keyed_of o) e.value.key) e.value.key e.number) items
-      && list_all (λ (e : Item (Entry T)). nat_lt e.value.perm.mode 512) items) (AreKeyed most (λ (x : T). ⊤) (keyed_of o))
+  pub keyed-decides : AreNumbered most o
+      → Decides (list_all (λ (e : Item (Entry T)). is_named (keyed o e.value.key) e.value.key e.number) items
+      && list_all (λ (e : Item (Entry T)). nat_lt e.value.perm.mode 512) items) (AreKeyed most (λ (x : T). ⊤) o)
   keyed-decides numbered =
       let both = Decides-and _ _ keys-decide modes-decide in (
         λ yes. let h = both.0 yes in record { numbered = numbered; keys = h.0; modes = h.1; each = λ k d within. tt },

@@ -1,6 +1,6 @@
 -- Message queues stay sound as they change, and how it is told whether they are.
-use Rattle.std.proofs.Common.{◌≡◌, ℕ, suc, pos, ◌+◌, ◌<◌, ◌≤◌, false, List, [], length, refl, arith}
-use Rattle.std.specs.Prelude.{nat_lt, nat_le, int_lt, ⊤}
+use Rattle.std.proofs.Common.{◌≡◌, ℕ, suc, pos, ◌+◌, ◌<◌, ◌≤◌, false, List, [], length, map, refl, subst, arith}
+use Rattle.std.specs.Prelude.{nat_lt, nat_le, int_lt, ⊤, All}
 use Rattle.std.specs.Bool.{Decides}
 use Rattle.std.specs.List.{list_all}
 use Rattle.std.proofs.lemmas.Bool.{leb-true, le-leb}
@@ -14,11 +14,10 @@ use Rattle.ipc_base.specs.Limits.{ArePassed}
 use Rattle.ipc_base.proofs.CallerLemmas.{passed-bounds}
 use Rattle.sysv_msg.specs.Queue.{Queue, Kept, PlainMessage, new_queue, full, byte_count, sent, taken}
 use Rattle.ipc_state.specs.declared.keyed.Entry.{Entry}
-use Rattle.ipc_state.specs.declared.keyed.Keyed.{Keyed as KeyedTable}
 use Rattle.ipc_state.specs.declared.numbered.Item.{Item}
 use Rattle.ipc_state.specs.Keyed.{AreKeyed}
 use Rattle.ipc_state.specs.Sound.{IsSoundMessage, IsSoundQueue, HasNumbers}
-use Rattle.ipc_state.specs.Tables.{item_row, queue_in, keyed_of, queues_of}
+use Rattle.ipc_state.specs.Tables.{HeldObjects, item_row, queue_in, queues_of}
 use Rattle.ipc_state.specs.Tests.{is_sound_message, is_sound_queue}
 use Rattle.ipc_state.proofs.Numbering.{neither}
 use Rattle.ipc_state.proofs.Keying.{each-decides, keyed-seen, keyed-unseen, each-seen}
@@ -74,20 +73,20 @@ module _ (limits : Limits) where
         λ h. all.1 (h.bytes, (h.count, (h.qbytes, h.messages))),
       )
 
-  module _ (o : KeyedTable Kept) where
-    abbrev items : List (Item (Entry Kept))
-    items = o.objects.items.items
-
+  module _ (o : HeldObjects Kept) (items : List (Item (Entry Kept))) (is : map item_row items ≡ o.objects.entries) where
     -- the queues are sound by what is told of keys and of each queue
-    pub queues-decide : AreKeyed limits.msgmni (λ (k : Kept). ⊤) (keyed_of o)
+    pub queues-decide : AreKeyed limits.msgmni (λ (k : Kept). ⊤) o.objects
         → Decides (list_all (λ (e : Item (Entry Kept)). is_sound_queue limits e.value.object.queue) items)
         (AreKeyed limits.msgmni (IsSoundQueue limits) (queues_of o))
     queues-decide h =
-        let each = each-decides (λ (e : ℕ × Entry Kept). is_sound_queue limits e.1.object.queue) (λ (e : ℕ × Entry Kept). IsSoundQueue limits e.1.object.queue) item_row
-        items (λ e. queue-decides e.1.object.queue) in (
-          λ yes. keyed-seen queue_in limits.msgmni (IsSoundQueue limits) (keyed_of o) h (each.0 yes),
-          λ sound. each.1 (each-seen queue_in limits.msgmni (IsSoundQueue limits) (keyed_of o) sound),
+        let each = subst (λ (es : List (ℕ × Entry Kept)). Decides (list_all (λ (e : Item (Entry Kept)). is_sound_queue limits e.value.object.queue) items)
+        (All (λ (e : ℕ × Entry Kept). IsSoundQueue limits e.1.object.queue) es)) is
+        (each-decides (λ (e : ℕ × Entry Kept). is_sound_queue limits e.1.object.queue) (λ (e : ℕ × Entry Kept). IsSoundQueue limits e.1.object.queue) item_row
+        items (λ e. queue-decides e.1.object.queue)) in (
+          λ yes. keyed-seen queue_in limits.msgmni (IsSoundQueue limits) o.objects h (each.0 yes),
+          λ sound. each.1 (each-seen queue_in limits.msgmni (IsSoundQueue limits) o.objects sound),
         )
 
-    pub queues-keyed : AreKeyed limits.msgmni (IsSoundQueue limits) (queues_of o) → AreKeyed limits.msgmni (λ (k : Kept). ⊤) (keyed_of o)
-    queues-keyed h = keyed-unseen queue_in limits.msgmni (IsSoundQueue limits) (keyed_of o) h
+  pub queues-keyed : (o : HeldObjects Kept) → AreKeyed limits.msgmni (IsSoundQueue limits) (queues_of o)
+      → AreKeyed limits.msgmni (λ (k : Kept). ⊤) o.objects
+  queues-keyed o h = keyed-unseen queue_in limits.msgmni (IsSoundQueue limits) o.objects h

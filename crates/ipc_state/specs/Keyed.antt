@@ -4,6 +4,7 @@ use Rattle.std.specs.Prelude.{◌≡◌, ◌≢◌, ℕ, ℤ, pos, ◌<◌, if�
 use Rattle.std.specs.Ordering.{int_eq}
 use Rattle.ipc_base.specs.Table.{value_at}
 use Rattle.ipc_state.specs.declared.keyed.Entry.{Entry}
+use Rattle.ipc_perm.specs.declared.perm.Perm.{Perm}
 use Rattle.ipc_state.specs.Numbered.{Numbered, AreNumbered}
 
 abbrev pub Keyed : Type 0 → Type 0
@@ -23,6 +24,10 @@ keyed o key = if int_eq key (pos 0) then None else value_at int_eq (keys_in o) k
 -- an entry with another object
 abbrev pub holding : {X Y : Type 0} → Entry X → Y → Entry Y
 holding e x = record { key = e.key; perm = e.perm; object = x }
+
+-- an entry with other permissions
+abbrev pub permitting : {X : Type 0} → Entry X → Perm → Entry X
+permitting e perm = record { key = e.key; perm = perm; object = e.object }
 
 -- each object seen in another way
 abbrev pub entry_map : {X Y : Type 0} → (X → Y) → Entry X → Entry Y

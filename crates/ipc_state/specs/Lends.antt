@@ -1,14 +1,13 @@
--- What the state and its tables are, once a `&mut` to something in them has ended.
+-- What tables are, once a `&mut` to something in them has ended.
 use Rattle.std.specs.Prelude.{◌≡◌, ℕ, Option, Some}
 use Rattle.std.specs.Borrow.{Fml, RattleType, MutBor, LendsSo}
 use Rattle.ipc_state.specs.declared.keyed.Entry.{Entry}
-use Rattle.ipc_state.specs.declared.keyed.Keyed.{Keyed as KeyedTable}
 use Rattle.ipc_state.specs.declared.numbered.Numbered.{Numbered as Table}
 use Rattle.ipc_state.specs.contracts.numbered.Numbered as numbered
 use Rattle.ipc_state.specs.contracts.keyed.Keyed as keyed
 use Rattle.ipc_state.specs.Numbered.{entry_of, with_entry}
 use Rattle.ipc_state.specs.Keyed.{holding}
-use Rattle.ipc_state.specs.Tables.{numbered_of, keyed_of, has_place}
+use Rattle.ipc_state.specs.Tables.{HeldObjects, numbered_of, has_place}
 
 -- what has the number is this now, and all else is as before
 pub record HasPut {T : Type 0} (old : Table T) (number : ℕ) (x : T) (new : Table T) : Type 0 where
@@ -16,15 +15,15 @@ pub record HasPut {T : Type 0} (old : Table T) (number : ℕ) (x : T) (new : Tab
   pub place : has_place new ≡ has_place old
 
 -- the identifier has this object now, under the same key, and all else is as before
-pub record HasPutObject {T : Type 0} (old : KeyedTable T) (id : ℕ) (x : T) (new : KeyedTable T) : Type 0 where
-  pub keyed : (e : Entry T) → entry_of (keyed_of old) id ≡ Some e
-      → keyed_of new ≡ with_entry (keyed_of old) id (holding e x)
-  pub place : has_place new.objects ≡ has_place old.objects
+abbrev pub HasPutObject : {X : Type 0} → HeldObjects X → ℕ → X → HeldObjects X → Type 0
+HasPutObject {X} old id x new =
+    (e : Entry X) → entry_of old.objects id ≡ Some e
+    → new ≡ record old { objects = with_entry old.objects id (holding e x) }
 
 module _ (T : RattleType) where
   -- the number has the last value written through r, and at `None` nothing has changed
   abbrev pub lends_numbered : MutBor (Table T.Denot) → ℕ → Option (MutBor T.Denot) → Fml
   lends_numbered o number r = LendsSo (numbered.the_row T) T o r (λ n x. HasPut o.now number x n) (λ n. n ≡ o.now)
 
-  abbrev pub lends_object : MutBor (KeyedTable T.Denot) → ℕ → Option (MutBor T.Denot) → Fml
+  abbrev pub lends_object : MutBor (HeldObjects T.Denot) → ℕ → Option (MutBor T.Denot) → Fml
   lends_object o id r = LendsSo (keyed.the_row T) T o r (λ n x. HasPutObject o.now id x n) (λ n. n ≡ o.now)

@@ -1,4 +1,3 @@
-pub mod Perm
 pub mod Numbered
 pub mod Keyed
 pub mod State
@@ -8,5 +7,5 @@ pub mod Held
 pub mod Tables
 pub mod Restored
 pub mod Lends
-pub mod LendsQueue
+pub mod LendsMsg
 pub mod Finish

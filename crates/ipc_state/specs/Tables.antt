@@ -5,7 +5,6 @@ use Rattle.sysv_msg.specs.Queue.{Queue, Kept}
 use Rattle.ipc_state.specs.declared.numbered.Item.{Item}
 use Rattle.ipc_state.specs.declared.numbered.Numbered.{Numbered as Table}
 use Rattle.ipc_state.specs.declared.keyed.Entry.{Entry}
-use Rattle.ipc_state.specs.declared.keyed.Keyed.{Keyed as KeyedTable}
 use Rattle.ipc_state.specs.Numbered.{Numbered, numbered_map}
 use Rattle.ipc_state.specs.Keyed.{Keyed, entry_map}
 
@@ -20,8 +19,10 @@ numbered_of o = record { next = o.next; entries = map item_row o.items.items }
 abbrev pub has_place : {T : Type 0} → Table T → Bool
 has_place o = nat_lt (vec_len o.items) (vec_capacity o.items)
 
-abbrev pub keyed_of : {T : Type 0} → KeyedTable T → Keyed T
-keyed_of o = numbered_of o.objects
+-- what a contract sees of the objects of one kind that are held: these, and whether there is room for one more
+pub record HeldObjects (X : Type 0) : Type 0 where
+  pub objects : Keyed X
+  pub place : Bool
 
 -- a queue, and the room in it
 abbrev pub queue_in : Kept → Queue
@@ -31,8 +32,8 @@ abbrev pub room_in : Kept → Option ℕ
 room_in k = k.room
 
 -- the queues
-abbrev pub queues_of : KeyedTable Kept → Keyed Queue
-queues_of o = numbered_map (entry_map queue_in) (keyed_of o)
+abbrev pub queues_of : HeldObjects Kept → Keyed Queue
+queues_of o = numbered_map (entry_map queue_in) o.objects
 
 -- a queue with its key and who may use it
 abbrev pub queue_entry : Entry Kept → Entry Queue
@@ -43,5 +44,5 @@ abbrev pub queue_row : Item (Entry Kept) → ℕ × Entry Queue
 queue_row e = (e.number, queue_entry e.value)
 
 -- the room in each queue
-abbrev pub texts_of : KeyedTable Kept → List (ℕ × Option ℕ)
-texts_of o = seen_as (λ e. room_in e.object) (keyed_of o).entries
+abbrev pub texts_of : HeldObjects Kept → List (ℕ × Option ℕ)
+texts_of o = seen_as (λ e. room_in e.object) o.objects.entries

@@ -3,13 +3,11 @@
 
 mod keyed;
 mod numbered;
-mod perm;
 mod processes;
 mod queues;
 mod state;
 
-pub use keyed::{Entry, IPC_PRIVATE};
+pub use keyed::{Entry, IPC_PRIVATE, Keyed};
 pub use numbered::{Item, LAST_NUMBER};
-pub use perm::Perm;
 pub use processes::Process;
 pub use state::{Numbers, State};

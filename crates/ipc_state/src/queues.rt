@@ -5,34 +5,28 @@ ghost use Rattle.std.specs.Prelude.{
   ◌↔◌,
   true,
   false,
-  nat_eq,
   map,
-  option_map,
-  option_copied,
   IsTrue,
-  IsOk,
   OnOk,
   OnErr,
 };
 ghost use Rattle.std.specs.Borrow.{sem};
 ghost use Rattle.std.specs.List.{list_all};
-ghost use Rattle.std.specs.Option.{option_copied_mut};
-ghost use Rattle.ipc_base.specs.Table.{value_at};
-ghost use Rattle.ipc_state.specs.Keyed.{keyed, entry_map, AreKeyed};
-ghost use Rattle.ipc_state.specs.LendsQueue.{lends_queue};
+ghost use Rattle.ipc_state.specs.Keyed.{entry_map, AreKeyed};
+ghost use Rattle.ipc_state.specs.LendsMsg.{lends_msg};
 ghost use Rattle.ipc_state.specs.Numbered.{is_full};
 ghost use Rattle.ipc_state.specs.Restored.{with_last_queue};
 ghost use Rattle.ipc_state.specs.Sound.{IsSoundQueue};
-ghost use Rattle.ipc_state.specs.State.{queue_of, with_new_queue};
-ghost use Rattle.ipc_state.specs.Tables.{queue_in, queue_row};
+ghost use Rattle.ipc_state.specs.State.{with_new_queue};
+ghost use Rattle.ipc_state.specs.Tables.{queue_in, queue_row, queues_of, texts_of};
 ghost use Rattle.ipc_state.specs.Tests.{is_sound_message, is_sound_queue};
 ghost use Rattle.sysv_msg.specs.Queue.{plain};
 
 use crate::keyed::{Entry, Keyed};
 use crate::numbered::Item;
-use crate::perm::Perm;
 use crate::state::State;
 use ipc_base::{Id, Limits};
+use ipc_perm::Perm;
 use std::alloc::AllocError;
 use sysv_msg::{Message, MsgQueue};
 
@@ -41,51 +35,31 @@ impl State {
     pub fn next_queue(&self) -> u32
         ensures { result ≡ self.now.state.msg.next }
     {
-        self.msg.objects.next()
+        self.msg.next()
     }
 
     /// The queues, by identifier.
     pub fn queues(&self) -> &[Item<Entry<MsgQueue>>]
         ensures { map queue_row result.now ≡ self.now.state.msg.entries }
     {
-        self.msg.objects.items()
+        self.msg.items()
     }
 
-    /// The identifier of the queue that a key names; IPC_PRIVATE names none.
-    pub fn queue_of_key(&self, key: i32) -> Option<Id>
-        ensures { option_map (λ id. id.0) result ≡ keyed self.now.state.msg key }
+    /// The message queues.
+    pub fn msg(&self) -> &Keyed<MsgQueue>
+        ensures { queues_of result.now ≡ self.now.state.msg }
     {
-        self.msg.of_key(key)
+        &self.msg
     }
 
-    /// The queue that an identifier has, to be changed.
-    pub fn queue_mut(&mut self, id: Id) -> Option<&mut MsgQueue>
-        ensures* writes_back { sem 𝓛 (lends_queue self.entry id.0 result) }
-        ensures queue { option_map queue_in (option_copied_mut result)
-            ≡ option_map (λ e. e.object) (queue_of self.old.state id.0) }
-        ensures room { option_map (λ k. k.room) (option_copied_mut result)
-            ≡ value_at nat_eq self.old.room.texts id.0 }
+    /// The message queues, to be changed.
+    pub fn msg_mut(&mut self) -> &mut Keyed<MsgQueue>
+        ensures* writes_back { sem 𝓛 (lends_msg self.entry result) }
+        ensures queues { queues_of result.now ≡ self.old.state.msg }
+        ensures place { result.now.place ≡ self.old.room.queue }
+        ensures texts { texts_of result.now ≡ self.old.room.texts }
     {
-        self.msg.get_mut(id)
-    }
-
-    /// Whether no queue can be added: there are msgmni, or no identifier is left.
-    pub fn has_all_queues(&self) -> bool
-        ensures { result ≡ is_full self.now.limits.msgmni self.now.state.msg }
-    {
-        self.msg.objects.is_full(self.limits.msgmni)
-    }
-
-    /// Takes the memory for one queue more; never refused if it is there already. Refused, all is as
-    /// before.
-    pub fn reserve_queue(&mut self) -> Result<(), AllocError>
-        ensures state { self.new.state ≡ self.old.state }
-        ensures limits { self.new.limits ≡ self.old.limits }
-        ensures ok { OnOk result (self.new.room.queue ≡ true) }
-        ensures succeeds { self.old.room.queue ≡ true → IsOk result }
-        ensures err { OnErr result (self.new ≡ self.old) }
-    {
-        self.msg.objects.reserve()
+        &mut self.msg
     }
 
     /// Adds a queue without messages under the next identifier, which it gives. It takes no memory.
@@ -97,7 +71,7 @@ impl State {
         ensures limits { self.new.limits ≡ self.old.limits }
     {
         let object = MsgQueue::new(self.alloc, self.limits.msgmnb, self.clock);
-        Id(self.msg.objects.add(Entry { key, perm, object }))
+        self.msg.add(key, perm, object)
     }
 
     /// Adds a queue that was read, at the end. Refused for want of memory, all is as before.
@@ -107,9 +81,7 @@ impl State {
         ensures limits { self.new.limits ≡ self.old.limits }
         ensures err { OnErr result (self.new ≡ self.old) }
     {
-        self.msg.objects.reserve()?;
-        self.msg.objects.push(id.0, entry);
-        Ok(())
+        self.msg.restore(id, entry)
     }
 
     /// Whether the queues are sound.
@@ -118,7 +90,7 @@ impl State {
             ↔ AreKeyed self.now.limits.msgmni (IsSoundQueue self.now.limits) self.now.state.msg }
     {
         self.msg.are_keyed(self.limits.msgmni)
-            && each_is_sound(self.msg.objects.items(), &self.limits)
+            && each_is_sound(self.msg.items(), &self.limits)
     }
 }
 

@@ -37,7 +37,7 @@ impl Model for State {
       state = record { clock = s.clock.0; processes = numbered_of s.processes; msg = queues_of s.msg };
       room = record {
         process = has_place s.processes;
-        queue = has_place s.msg.objects;
+        queue = s.msg.place;
         texts = texts_of s.msg;
       };
     } };
@@ -65,9 +65,7 @@ impl State {
             limits,
             clock: Moment(0),
             processes: Numbered::new(alloc),
-            msg: Keyed {
-                objects: Numbered::new(alloc),
-            },
+            msg: Keyed::new(alloc),
         }
     }
 
@@ -100,7 +98,7 @@ impl State {
     {
         self.clock = numbers.clock;
         self.processes.set_next(numbers.next_pid);
-        self.msg.objects.set_next(numbers.next_queue);
+        self.msg.set_next(numbers.next_queue);
     }
 
     /// Whether each part is sound.

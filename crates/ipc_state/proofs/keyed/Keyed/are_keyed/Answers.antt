@@ -1,16 +1,21 @@
-use Rattle.std.proofs.Common.{sym, subst}
+use Rattle.std.proofs.Common.{◌≡◌, map, sym, ap, subst, ◌∙◌}
 use Rattle.std.specs.Prelude.{⊤, Bool}
 use Rattle.std.specs.Bool.{Decides}
 use Rattle.ipc_state.specs.Keyed.{AreKeyed}
-use Rattle.ipc_state.specs.Tables.{keyed_of}
+use Rattle.ipc_state.specs.Numbered.{AreNumbered}
+use Rattle.ipc_state.specs.Tables.{HeldObjects, item_row}
 use Rattle.ipc_state.proofs.Keying.{keyed-decides}
 use Rattle.ipc_state.proofs.keyed.Keyed.are_keyed.Goals as goal
 
 pub returns-then-are_numbered : goal.returns-then-are_numbered
 returns-then-are_numbered g c =
-    subst (λ (b : Bool). Decides b (AreKeyed c.args.most (λ x. ⊤) (keyed_of c.args.self.now))) (sym c.are_named_with_modes.ensures)
-    (keyed-decides c.args.most c.args.self.now (c.are_numbered.ensures.0 c.if-are_numbered.true))
+    let o = c.args.self.now.objects in
+    let is = ap (map item_row) c.items.ensures ∙ ap (λ (h : HeldObjects _). h.objects.entries) c.self.view_is in
+    let numbers = subst (λ (h : HeldObjects _). Decides c.are_numbered.result (AreNumbered c.args.most h.objects)) c.self.view_is c.are_numbered.ensures in
+    subst (λ (b : Bool). Decides b (AreKeyed c.args.most (λ x. ⊤) o)) (sym c.are_named_with_modes.ensures)
+    (keyed-decides c.args.most o c.items.result.now is (numbers.0 c.if-are_numbered.true))
 
 pub returns-else-are_numbered : goal.returns-else-are_numbered
 returns-else-are_numbered g c =
-    (λ yes. let no = c.if-are_numbered.false in cc, λ h. c.are_numbered.ensures.1 h.numbered)
+    let numbers = subst (λ (h : HeldObjects _). Decides c.are_numbered.result (AreNumbered c.args.most h.objects)) c.self.view_is c.are_numbered.ensures in
+    (λ yes. let no = c.if-are_numbered.false in cc, λ h. numbers.1 h.numbered)

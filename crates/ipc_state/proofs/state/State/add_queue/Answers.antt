@@ -8,13 +8,13 @@ use Rattle.ipc_state.specs.Held.{Held}
 use Rattle.ipc_state.specs.Keyed.{Keyed, entry_map}
 use Rattle.ipc_state.specs.Numbered.{numbered_map}
 use Rattle.ipc_state.specs.State.{State, with_new_queue}
-use Rattle.ipc_state.specs.Tables.{keyed_of, numbered_of, queues_of, queue_in}
+use Rattle.ipc_state.specs.Tables.{numbered_of, queues_of, queue_in}
 use Rattle.ipc_state.proofs.state.State.add_queue.Goals as goal
 
 pub returns-clause-state : goal.returns-clause-state
 returns-clause-state c =
     let t = c.self.inside in
-    let o = keyed_of t.msg in
+    let o = t.msg.objects in
     let e : to_z w32 (of_z w32 c.args.key) ≡ c.args.key = to_z-of_z w32 c.args.key c.ranges.key in
     let made : ℤ → Queue → Entry Queue = λ (key : ℤ) (q : Queue). record { key = key; perm = c.args.perm; object = q } in
     let with_it : Entry Queue → State =
@@ -24,7 +24,7 @@ returns-clause-state c =
       msg = record { next = o.next + 1; entries = (queues_of t.msg).entries ++ (o.next, f) ∷ [] };
     } in
     ap (λ (n : Keyed Kept). let s : State = record { clock = t.clock.0; processes = numbered_of t.processes; msg = numbered_map (entry_map queue_in) n } in s)
-    c.add.ensures.items
+    c.add.ensures.objects
     ∙ (ap (λ (es : List (ℕ × Entry Queue)). let s : State = record {
       clock = t.clock.0;
       processes = numbered_of t.processes;

@@ -1,15 +1,10 @@
 use Rattle.std.proofs.Common.{sym, subst}
-use Rattle.std.specs.Prelude.{Bool, List}
+use Rattle.std.specs.Prelude.{Bool}
 use Rattle.std.specs.Bool.{Decides}
-use Rattle.std.specs.List.{list_all}
-use Rattle.sysv_msg.specs.Queue.{Kept}
-use Rattle.ipc_state.specs.declared.keyed.Entry.{Entry}
-use Rattle.ipc_state.specs.declared.numbered.Item.{Item}
 use Rattle.ipc_state.specs.Held.{Held}
 use Rattle.ipc_state.specs.Keyed.{AreKeyed}
 use Rattle.ipc_state.specs.Sound.{IsSoundQueue}
 use Rattle.ipc_state.specs.Tables.{queues_of}
-use Rattle.ipc_state.specs.Tests.{is_sound_queue}
 use Rattle.ipc_state.proofs.SoundQueues.{queues-decide, queues-keyed}
 use Rattle.ipc_state.proofs.state.State.are_queues_sound.Goals as goal
 
@@ -22,9 +17,7 @@ returns-then-are_keyed c =
     let t = c.self.inside in
     subst (λ (m : Held). Decides c.each_is_sound.result (AreSound m)) c.self.view_is
     (subst (λ (b : Bool). Decides b (AreKeyed t.limits.msgmni (IsSoundQueue t.limits) (queues_of t.msg))) (sym c.each_is_sound.ensures)
-    (subst (λ (es : List (Item (Entry Kept))). Decides (list_all (λ (e : Item (Entry Kept)). is_sound_queue t.limits e.value.object.queue) es)
-    (AreKeyed t.limits.msgmni (IsSoundQueue t.limits) (queues_of t.msg))) (sym c.items.ensures)
-    (queues-decide t.limits t.msg (c.are_keyed.ensures.0 c.if-are_keyed.true))))
+    (queues-decide t.limits t.msg c.items.result.now c.items.ensures (c.are_keyed.ensures.0 c.if-are_keyed.true)))
 
 pub returns-else-are_keyed : goal.returns-else-are_keyed
 returns-else-are_keyed c =

@@ -14,5 +14,5 @@ rows (e ∷ es) = ap (λ (rs : List (ℕ × Entry Queue)). queue_row e ∷ rs) (
 
 pub returns : goal.returns
 returns c =
-    ap (map queue_row) c.items.ensures ∙ (rows c.self.inside.msg.objects.items.items
+    rows c.items.result.now ∙ (ap (seen_as (entry_map queue_in)) c.items.ensures
     ∙ ap (λ (m : Held). m.state.msg.entries) c.self.view_is)
