@@ -1,5 +1,5 @@
 -- The objects of a kind stay sound as one comes or changes, and how it is told whether they are.
-use Rattle.std.proofs.Common.{◌≡◌, ◌≢◌, ℕ, ℤ, pos, ◌<◌, Bool, true, false, cond, List, [], ◌∷◌, ◌++◌, length}
+use Rattle.std.proofs.Common.{◌≡◌, ◌≢◌, ℕ, ℤ, pos, ◌+◌, ◌<◌, Bool, true, false, cond, List, [], ◌∷◌, ◌++◌, length}
 use Rattle.std.proofs.Common.{Option, Some, None, refl, map, ap, ◌∙◌, subst, sym, arith}
 use Rattle.std.specs.Prelude.{nat_eq, nat_lt, if◌then◌else◌, ◌&&◌, All}
 use Rattle.std.specs.Prelude.{⊤}
@@ -7,20 +7,20 @@ use Rattle.std.specs.Bool.{Decides}
 use Rattle.std.specs.List.{list_all}
 use Rattle.std.specs.Ordering.{int_eq}
 use Rattle.std.proofs.lemmas.Cmp.{int_eq_equiv}
-use Rattle.std.proofs.lemmas.Bool.Decides.{Decides-int_eq, Decides-by_and, Decides-and, Decides-eqb, Decides-ltb}
+use Rattle.std.proofs.lemmas.Bool.Decides.{nat_tests, Decides-int_eq, Decides-by_and, Decides-and, Decides-eqb, Decides-ltb}
 use Rattle.std.proofs.lemmas.List.Folds.{list_all-map}
 use Rattle.std.proofs.lemmas.List.{map-append, length-map}
 use Rattle.std.proofs.lemmas.List.Elements.{All-nil, All-cons, All-head, All-tail, All-push, All-weaker, All-map}
-use Rattle.ipc_base.specs.Table.{value_at, with_value, keys_of, IsRising}
-use Rattle.ipc_base.proofs.CallerLemmas.{All-with_value, All-value_at}
+use Rattle.ipc_base.specs.Table.{value_at, with_value, without, keys_of, IsRising}
+use Rattle.ipc_base.proofs.CallerLemmas.{All-with_value, All-value_at, choice}
 use Rattle.ipc_base.proofs.CallerLemmas.{keys-map as ids-map}
 use Rattle.ipc_state.specs.declared.keyed.Entry.{Entry}
 use Rattle.ipc_state.specs.declared.numbered.Item.{Item}
 use Rattle.ipc_state.specs.Tables.{item_row}
 use Rattle.ipc_state.specs.Keyed.{Keyed, key_row, keys_in, keyed, entry_map, AreKeyed}
-use Rattle.ipc_state.specs.Numbered.{none_yet, entry_of, is_full, with_entry, with_new, numbered_map, AreNumbered}
+use Rattle.ipc_state.specs.Numbered.{none_yet, entry_of, is_full, with_entry, with_new, without_entry, numbered_map, AreNumbered}
 use Rattle.ipc_state.specs.Tests.{is_named}
-use Rattle.ipc_state.proofs.Numbering.{none_yet-numbered, with_new-numbered, with_entry-numbered}
+use Rattle.ipc_state.proofs.Numbering.{none_yet-numbered, with_new-numbered, with_entry-numbered, without_entry-numbered}
 use Rattle.ipc_state.proofs.Places.{keys-map}
 
 -- ---- keys
@@ -112,11 +112,74 @@ module _ {X : Type 0} (most : ℕ) (IsSoundOne : X → Type 0) where
   pub entry-mode : (o : Keyed X) (id : ℕ) (e : Entry X) → entry_of o id ≡ Some e → AreKeyed most IsSoundOne o → e.perm.mode < 512
   entry-mode o id e is h = All-value_at nat_eq (λ (g : Entry X). g.perm.mode < 512) o.entries id e h.modes is
 
--- ---- seen in some way
-
 All-seen : {X Y : Type 0} (P : Y → Type 0) (f : X → Y) (xs : List X) → All P (map f xs) → All (λ x. P (f x)) xs
 All-seen P f [] h = All-nil _
 All-seen P f (x ∷ xs) h = All-cons (λ y. P (f y)) x xs (All-head P (f x) (map f xs) h) (All-seen P f xs (All-tail P (f x) (map f xs) h))
+
+-- ---- one is taken out
+
+module _ {X : Type 0} where
+  -- a key of another object is found as before
+  found_without : (es : List (ℕ × Entry X)) (id n : ℕ) (key : ℤ) → n ≢ id → value_at int_eq (map key_row es) key ≡ Some n
+      → value_at int_eq (map key_row (without nat_eq es id)) key ≡ Some n
+  found_without [] id n key other is = is
+  found_without (e ∷ es) id n key other is = by_test (nat_eq e.0 id) refl (int_eq e.1.key key) refl (found_without es id n key other) is
+    where
+      by_test : (b : Bool) → nat_eq e.0 id ≡ b → (k : Bool) → int_eq e.1.key key ≡ k
+          → (value_at int_eq (map key_row es) key ≡ Some n → value_at int_eq (map key_row (without nat_eq es id)) key ≡ Some n)
+          → cond k (Some e.0) (value_at int_eq (map key_row es) key) ≡ Some n
+          → value_at int_eq (map key_row (cond b es (e ∷ without nat_eq es id))) key ≡ Some n
+      by_test true gone true same later is =
+          let number : e.0 ≡ n = cc in
+          absurd (other (grind (arith, nat_tests)))
+      by_test true gone false same later is = is
+      by_test false gone true same later is = rw same is
+      by_test false gone false same later is = rw same (later is)
+
+  -- those that are left have other numbers, and are named as they were
+  named_without : (ks : List (ℤ × ℕ)) (low : ℕ) (es : List (ℕ × Entry X)) (high id : ℕ) → IsRising low (keys_of es) high
+      → All (λ (e : ℕ × Entry X). IsNamed ks (key_row e)) es
+      → All (λ (e : ℕ × Entry X). (e.0 ≢ id) × IsNamed ks (key_row e)) (without nat_eq es id)
+  named_without ks low [] high id rising each = All-nil _
+  named_without ks low (e ∷ es) high id rising each =
+      let P : ℕ × Entry X → Type 0 = λ (f : ℕ × Entry X). IsNamed ks (key_row f) in
+      choice (All (λ (f : ℕ × Entry X). (f.0 ≢ id) × P f)) (nat_eq e.0 id) es (e ∷ without nat_eq es id)
+      (λ is. apart (e.0 + 1) es rising.1 (All-tail P e es each) (grind (arith, nat_tests)))
+      (λ is. All-cons (λ (f : ℕ × Entry X). (f.0 ≢ id) × P f) e (without nat_eq es id)
+      ((λ same. let yes : nat_eq e.0 id ≡ true = grind (arith, nat_tests) in cc), All-head P e es each)
+      (named_without ks (e.0 + 1) es high id rising.1 (All-tail P e es each)))
+    where
+      apart : (low : ℕ) (fs : List (ℕ × Entry X)) → IsRising low (keys_of fs) high → All (λ (f : ℕ × Entry X). IsNamed ks (key_row f)) fs → id < low
+          → All (λ (f : ℕ × Entry X). (f.0 ≢ id) × IsNamed ks (key_row f)) fs
+      apart low [] rising each below = All-nil _
+      apart low (f ∷ fs) rising each below =
+          All-cons (λ (g : ℕ × Entry X). (g.0 ≢ id) × IsNamed ks (key_row g)) f fs
+          ((λ same. omega (arith, same, rising.0)), All-head (λ (g : ℕ × Entry X). IsNamed ks (key_row g)) f fs each)
+          (apart (f.0 + 1) fs rising.1 (All-tail (λ (g : ℕ × Entry X). IsNamed ks (key_row g)) f fs each) (omega (arith, rising.0)))
+
+  -- what holds of each holds of those that are left
+  all_without : (P : ℕ × Entry X → Type 0) (es : List (ℕ × Entry X)) (id : ℕ) → All P es → All P (without nat_eq es id)
+  all_without P [] id each = each
+  all_without P (e ∷ es) id each =
+      choice (All P) (nat_eq e.0 id) es (e ∷ without nat_eq es id) (λ is. All-tail P e es each)
+      (λ is. All-cons P e (without nat_eq es id) (All-head P e es each) (all_without P es id (All-tail P e es each)))
+
+  pub without_entry-keyed : (most : ℕ) (IsSoundOne : X → Type 0) (o : Keyed X) (id : ℕ) → AreKeyed most IsSoundOne o
+      → AreKeyed most IsSoundOne (without_entry o id)
+  without_entry-keyed most IsSoundOne o id h =
+      let ks : List (ℤ × ℕ) = keys_in o in
+      let left : List (ℕ × Entry X) = without nat_eq o.entries id in
+      let named = named_without ks 1 o.entries o.next id h.numbered.numbers (All-seen (IsNamed ks) key_row o.entries h.keys) in
+      record {
+        numbered = without_entry-numbered most o id h.numbered;
+        keys = All-map (IsNamed (map key_row left)) key_row left
+            (All-weaker (λ (e : ℕ × Entry X). (e.0 ≢ id) × IsNamed ks (key_row e)) (λ (e : ℕ × Entry X). IsNamed (map key_row left) (key_row e))
+            (λ e is some. found_without o.entries id e.0 e.1.key is.0 (is.1 some)) left named);
+        modes = all_without HasMode o.entries id h.modes;
+        each = all_without (λ (e : ℕ × Entry X). IsSoundOne e.1.object) o.entries id h.each;
+      }
+
+-- ---- seen in some way
 
 module _ {X Y : Type 0} (see : X → Y) (most : ℕ) (P : Y → Type 0) (o : Keyed X) where
   abbrev seen : Keyed Y

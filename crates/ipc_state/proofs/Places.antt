@@ -1,7 +1,7 @@
 -- What has a number, found and changed at its place in a table, and seen in some way.
 use Rattle.std.proofs.Common.{◌≡◌, ℕ, ℤ, Bool, true, false, cond, List, [], ◌∷◌, Option, Some, None, map, refl, ap}
 use Rattle.std.specs.Prelude.{nat_eq, position}
-use Rattle.ipc_base.specs.Table.{value_at, with_value, seen_as}
+use Rattle.ipc_base.specs.Table.{value_at, with_value, without, seen_as}
 use Rattle.ipc_state.specs.declared.keyed.Entry.{Entry}
 use Rattle.ipc_state.specs.declared.numbered.Item.{Item}
 use Rattle.ipc_state.specs.declared.numbered.Numbered.{Numbered as Table}
@@ -21,6 +21,16 @@ module _ {X Y : Type 0} (see : X → Y) where
       by_test : (b : Bool) → seen_as see (with_value nat_eq es n x) ≡ with_value nat_eq (seen_as see es) n (see x)
           → seen_as see (cond b ((e.0, x) ∷ es) (e ∷ with_value nat_eq es n x))
           ≡ cond b ((e.0, see x) ∷ seen_as see es) ((e.0, see e.1) ∷ with_value nat_eq (seen_as see es) n (see x))
+      by_test true same = refl
+      by_test false same = ap (λ (rs : List (ℕ × Y)). (e.0, see e.1) ∷ rs) same
+
+  -- and what is left without a number is seen as what is left
+  pub seen-without : (es : List (ℕ × X)) (n : ℕ) → seen_as see (without nat_eq es n) ≡ without nat_eq (seen_as see es) n
+  seen-without [] n = refl
+  seen-without (e ∷ es) n = by_test (nat_eq e.0 n) (seen-without es n)
+    where
+      by_test : (b : Bool) → seen_as see (without nat_eq es n) ≡ without nat_eq (seen_as see es) n
+          → seen_as see (cond b es (e ∷ without nat_eq es n)) ≡ cond b (seen_as see es) ((e.0, see e.1) ∷ without nat_eq (seen_as see es) n)
       by_test true same = refl
       by_test false same = ap (λ (rs : List (ℕ × Y)). (e.0, see e.1) ∷ rs) same
 

@@ -12,7 +12,7 @@ use Rattle.std.proofs.lemmas.List.Sums.{sum_by-append, sum_by-remove}
 use Rattle.ipc_base.specs.declared.limits.Limits.{Limits}
 use Rattle.ipc_base.specs.Limits.{ArePassed}
 use Rattle.ipc_base.proofs.CallerLemmas.{passed-bounds}
-use Rattle.sysv_msg.specs.Queue.{Queue, Kept, PlainMessage, new_queue, full, byte_count, sent, taken}
+use Rattle.sysv_msg.specs.Queue.{Queue, Kept, PlainMessage, new_queue, full, byte_count, sent, taken, changed}
 use Rattle.ipc_state.specs.declared.keyed.Entry.{Entry}
 use Rattle.ipc_state.specs.declared.numbered.Item.{Item}
 use Rattle.ipc_state.specs.Keyed.{AreKeyed}
@@ -56,6 +56,9 @@ module _ (limits : Limits) where
         qbytes = h.qbytes;
         messages = All-append P _ _ (All-take P at q.messages h.messages) (All-drop P (suc at) q.messages h.messages);
       }
+
+  pub changed-sound : (q : Queue) (qbytes moment : ℕ) → qbytes ≤ limits.msgmnb → IsSoundQueue limits q → IsSoundQueue limits (changed q qbytes moment)
+  changed-sound q qbytes moment within h = record { bytes = h.bytes; count = h.count; qbytes = within; messages = h.messages }
 
   -- ---- how it is told
 

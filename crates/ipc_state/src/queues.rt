@@ -12,6 +12,7 @@ ghost use Rattle.std.specs.Prelude.{
 };
 ghost use Rattle.std.specs.Borrow.{sem};
 ghost use Rattle.std.specs.List.{list_all};
+ghost use Rattle.ipc_base.specs.Limits.{ArePassed};
 ghost use Rattle.ipc_state.specs.Keyed.{entry_map, AreKeyed};
 ghost use Rattle.ipc_state.specs.LendsMsg.{lends_msg};
 ghost use Rattle.ipc_state.specs.Numbered.{is_full};
@@ -45,9 +46,10 @@ impl State {
         self.msg.items()
     }
 
-    /// The message queues.
+    /// The message queues, under limits that passed their check.
     pub fn msg(&self) -> &Keyed<MsgQueue>
-        ensures { queues_of result.now ≡ self.now.state.msg }
+        ensures queues { queues_of result.now ≡ self.now.state.msg }
+        ensures passed { ArePassed self.now.limits }
     {
         &self.msg
     }

@@ -1,22 +1,29 @@
--- What each call answers and leaves: msgget(2) and msgop(2), in this server's profile. Refusals stand in the order
--- in which they are tested. A call that would have to wait is refused, with or without IPC_NOWAIT.
-use Rattle.std.specs.Prelude.{ℕ, ℤ, pos, Bool, false, not, ◌&&◌, List, [], length, nat_lt, ◌==◌, int_lt}
-use Rattle.std.specs.Prelude.{slice_get, unwrap_or}
+-- What each call answers and leaves: msgget(2), msgop(2) and msgctl(2), in this server's profile. Refusals stand in the
+-- order in which they are tested. A call that would have to wait is refused, with or without IPC_NOWAIT.
+use Rattle.std.specs.Prelude.{ℕ, ℤ, pos, Bool, not, ◌&&◌, ◌||◌, List, [], ◌∷◌, ◌++◌, length, take, nat_lt, ◌==◌, int_lt}
+use Rattle.std.specs.Prelude.{slice_get, unwrap_or, if◌then◌else◌, Ok}
 use Rattle.std.specs.Ordering.{int_eq}
 use Rattle.std.specs.Int.RustNames.{bit_and}
-use Rattle.ipc_base.specs.declared.errno.Errno.TheVariants.{ENOENT, EEXIST, EINVAL, ENOSPC, EAGAIN, ENOMSG, E2BIG}
+use Rattle.ipc_base.specs.declared.errno.Errno.{Errno}
+use Rattle.ipc_base.specs.declared.errno.Errno.TheVariants.{EPERM, ENOENT, E2BIG, EAGAIN, EACCES, EEXIST, EINVAL, ENOSPC, ENOMSG}
 use Rattle.ipc_base.specs.declared.identity.Cred.{Cred}
 use Rattle.ipc_base.specs.declared.limits.Limits.{Limits}
+use Rattle.ipc_base.specs.Numbers.{record_bytes}
+use Rattle.ipc_perm.specs.declared.perm.Perm.{Perm}
+use Rattle.ipc_perm.specs.Perm.{perm_of, owned_by, asked_by, may, owns}
 use Rattle.ipc_wire.specs.Request.{PlainCall}
 use Rattle.ipc_wire.specs.Request as requests
-use Rattle.ipc_wire.specs.declared.reply.Body.TheVariants.{Empty, Number, Message}
-use Rattle.sysv_msg.specs.Queue.{Queue, PlainMessage, pick, full, sent, taken}
-use Rattle.ipc_state.specs.Numbered.{is_full, last_number}
-use Rattle.ipc_state.specs.Keyed.{holding, keyed}
-use Rattle.ipc_state.specs.Perm.{perm_of}
-use Rattle.ipc_state.specs.State.{State, cred_of, queue_of, with_queue, with_new_queue}
+use Rattle.ipc_wire.specs.declared.reply.Body.TheVariants.{Empty, Number, Message, Record}
+use Rattle.sysv_msg.specs.Queue.{Queue, PlainMessage, pick, full, sent, taken, changed}
+use Rattle.ipc_state.specs.declared.keyed.Entry.{Entry}
+use Rattle.ipc_state.specs.Numbered.{entry_of, is_full, last_number, without_entry}
+use Rattle.ipc_state.specs.Keyed.{Keyed, holding, permitting, keyed}
+use Rattle.ipc_state.specs.State.{State, cred_of, with_queue, with_new_queue}
 use Rattle.ipc_state.specs.Finish.{Finish, Attempt, Done, ended, answer, refuse, if_some, ◌orelse◌, ◌>>◌}
 use Rattle.ipc_state.specs.Finish.{◌>>=◌}
+use Rattle.sysv_calls.specs.Records.{perm_fields, queue_fields}
+
+-- ---- flags
 
 -- whether a flag is among the flags
 abbrev pub has : ℕ → ℕ → Bool
@@ -29,24 +36,72 @@ creat = 512
 abbrev pub excl : ℕ
 excl = 1024
 
+-- MSG_NOERROR and MSG_EXCEPT
+abbrev pub noerror : ℕ
+noerror = 4096
+
+abbrev pub except : ℕ
+except = 8192
+
+-- ---- what is alike for the objects of every kind
+
+-- to read an object, and to change it
+abbrev pub read : ℕ
+read = 4
+
+abbrev pub write : ℕ
+write = 2
+
+-- a get wants a new object alone: IPC_CREAT and IPC_EXCL
+abbrev pub is_exclusive : ℕ → Bool
+is_exclusive flags = has flags creat && has flags excl
+
+-- a get may make an object: with IPC_CREAT, or by the key IPC_PRIVATE
+abbrev pub may_make : ℤ → ℕ → Bool
+may_make key flags = int_eq key (pos 0) || has flags creat
+
+-- what an identifier has, unless its permissions refuse the caller
+abbrev pub reached : {X : Type 0} → Keyed X → ℕ → Errno → (Perm → Bool) → Attempt (Entry X)
+reached o id refusal refuses = do
+  e ← entry_of o id orelse EINVAL
+  refuse refusal (refuses e.perm)
+  Ok e
+
+-- for a caller that may use it so
+abbrev pub accessible : {X : Type 0} → Keyed X → Cred → ℕ → ℕ → Attempt (Entry X)
+accessible o cred id access = reached o id EACCES (λ perm. not (may cred perm access))
+
+-- for a caller that may change it by IPC_SET and remove it
+abbrev pub owned : {X : Type 0} → Keyed X → Cred → ℕ → Attempt (Entry X)
+owned o cred id = reached o id EPERM (λ perm. not (owns cred perm))
+
+-- IPC_RMID of msgctl(2) and semctl(2)
+abbrev pub removed : {X : Type 0} → Keyed X → Cred → ℕ → Attempt (Keyed X)
+removed o cred id = do
+  e ← owned o cred id
+  Ok (without_entry o id)
+
+-- ---- message queues
+
 -- msgget(2): the queue that the key names, or a new one of the caller
 abbrev pub msgget : Limits → State → Cred → ℤ → ℕ → Attempt Done
 msgget limits s cred key flags =
     if_some (keyed s.msg key)
     (λ id. do
-      refuse EEXIST (has flags creat && has flags excl)
+      refuse EEXIST (is_exclusive flags)
+      e ← accessible s.msg cred id (asked_by flags)
       answer s (Number id))
     (do
-      refuse ENOENT (not (int_eq key (pos 0)) && not (has flags creat))
+      refuse ENOENT (not (may_make key flags))
       refuse ENOSPC (is_full limits.msgmni s.msg)
       answer (with_new_queue limits s key (perm_of cred flags)) (Number s.msg.next))
 
 -- msgsnd of msgop(2)
-abbrev pub msgsnd : Limits → State → ℕ → ℕ → ℤ → List ℕ → Attempt Done
-msgsnd limits s pid id mtype text = do
+abbrev pub msgsnd : Limits → State → Cred → ℕ → ℕ → ℤ → List ℕ → Attempt Done
+msgsnd limits s cred pid id mtype text = do
   refuse EINVAL (not (int_lt (pos 0) mtype))
   refuse EINVAL (nat_lt limits.msgmax (length text))
-  e ← queue_of s id orelse EINVAL
+  e ← accessible s.msg cred id write
   refuse EAGAIN (full e.object (length text))
   answer (with_queue s id (holding e (sent e.object (record { mtype = mtype; text = text }) pid s.clock))) Empty
 
@@ -54,21 +109,50 @@ msgsnd limits s pid id mtype text = do
 abbrev pub message_at : Queue → ℕ → PlainMessage
 message_at q at = unwrap_or (slice_get q.messages at) (record { mtype = pos 0; text = [] })
 
--- msgrcv of msgop(2)
-abbrev pub msgrcv : State → ℕ → ℕ → ℕ → ℤ → Attempt Done
-msgrcv s pid id size mtype = do
+-- a text of so many bytes is longer than a receive asked for, and may not be cut
+abbrev pub is_too_long : ℕ → ℕ → ℕ → Bool
+is_too_long flags size bytes = nat_lt size bytes && not (has flags noerror)
+
+-- msgrcv of msgop(2); with MSG_NOERROR a text that is longer than asked for is cut, and the rest is lost
+abbrev pub msgrcv : State → Cred → ℕ → ℕ → ℕ → ℕ → ℤ → Attempt Done
+msgrcv s cred pid id flags size mtype = do
   refuse EINVAL (nat_lt last_number size)
-  e ← queue_of s id orelse EINVAL
-  at ← pick e.object.messages mtype false orelse ENOMSG
-  refuse E2BIG (nat_lt size (length (message_at e.object at).text))
+  e ← accessible s.msg cred id read
+  at ← pick e.object.messages mtype (has flags except) orelse ENOMSG
+  refuse E2BIG (is_too_long flags size (length (message_at e.object at).text))
   answer (with_queue s id (holding e (taken e.object at pid s.clock)))
-      (Message (message_at e.object at).mtype (message_at e.object at).text)
+      (Message (message_at e.object at).mtype (take size (message_at e.object at).text))
+
+-- IPC_STAT of msgctl(2)
+abbrev pub msgctl_stat : State → Cred → ℕ → Attempt Done
+msgctl_stat s cred id = do
+  e ← accessible s.msg cred id read
+  answer s (Record (record_bytes (perm_fields e ++ queue_fields e.object)))
+
+-- IPC_SET of msgctl(2): nobody may raise how much a queue may hold above msgmnb
+abbrev pub msgctl_set : Limits → State → Cred → ℕ → ℕ → ℕ → ℕ → ℕ → Attempt Done
+msgctl_set limits s cred id uid gid mode qbytes = do
+  e ← owned s.msg cred id
+  refuse EPERM (nat_lt limits.msgmnb qbytes)
+  answer (with_queue s id (holding (permitting e (owned_by e.perm uid gid mode)) (changed e.object qbytes s.clock))) Empty
+
+-- IPC_RMID of msgctl(2)
+abbrev pub msgctl_rmid : State → Cred → ℕ → Attempt Done
+msgctl_rmid s cred id = do
+  queues ← removed s.msg cred id
+  answer (record s { msg = queues }) Empty
+
+-- ---- every call
 
 -- each call by a process
 abbrev pub call_of : Limits → State → ℕ → PlainCall → Attempt Done
 call_of limits s pid (requests.Msgget key flags) = msgget limits s (cred_of s pid) key flags
-call_of limits s pid (requests.Msgsnd id flags mtype text) = msgsnd limits s pid id mtype text
-call_of limits s pid (requests.Msgrcv id flags size mtype) = msgrcv s pid id size mtype
+call_of limits s pid (requests.Msgsnd id flags mtype text) = msgsnd limits s (cred_of s pid) pid id mtype text
+call_of limits s pid (requests.Msgrcv id flags size mtype) = msgrcv s (cred_of s pid) pid id flags size mtype
+call_of limits s pid (requests.MsgctlStat id) = msgctl_stat s (cred_of s pid) id
+call_of limits s pid (requests.MsgctlSet id uid gid mode qbytes) =
+    msgctl_set limits s (cred_of s pid) id uid gid mode qbytes
+call_of limits s pid (requests.MsgctlRmid id) = msgctl_rmid s (cred_of s pid) id
 
 -- its attempt
 abbrev pub attempt : Limits → State → ℕ → PlainCall → Finish

@@ -1,2 +1,5 @@
+pub mod Records
 pub mod Calls
 pub mod Needs
+pub mod Spare
+pub mod Seen

@@ -1,0 +1,89 @@
+use Rattle.std.proofs.Common.{◌≡◌, ◌≤◌, ℕ, arith, List, true, false, refl, sym, ap, ◌∙◌, rules}
+use Rattle.std.specs.Prelude.{not, nat_lt, Err, is_some}
+use Rattle.std.proofs.lemmas.Bool.Decides.{nat_tests}
+use Rattle.ipc_base.proofs.CallerLemmas.{at-with, twice}
+use Rattle.ipc_base.specs.declared.limits.Limits.{Limits}
+use Rattle.ipc_base.specs.declared.errno.Errno.TheVariants.{EPERM}
+use Rattle.ipc_perm.specs.declared.perm.Perm.{Perm}
+use Rattle.ipc_perm.specs.Perm.{owns, owned_by}
+use Rattle.ipc_wire.specs.declared.reply.Body.TheVariants.{Empty}
+use Rattle.sysv_msg.specs.Queue.{Queue, changed}
+use Rattle.ipc_state.specs.declared.keyed.Entry.{Entry}
+use Rattle.ipc_state.specs.Finish.{done}
+use Rattle.ipc_state.specs.Keyed.{Keyed, holding, permitting}
+use Rattle.ipc_state.specs.Numbered.{with_entry}
+use Rattle.ipc_state.specs.Tables.{queue_entry}
+use Rattle.ipc_state.proofs.CallerLemmas.{lent, is-lent, lent-queue, put-perm, put-queues}
+use Rattle.sysv_calls.proofs.Reaching.{reached-refused, let-in, let-in-there}
+use Rattle.sysv_calls.proofs.msg.msgctl_set.Goals as goal
+
+not_above : (n most : ℕ) → n ≤ most → nat_lt most n ≡ false
+not_above n most h = grind (arith, nat_tests)
+
+pub returns-in_err-perm-clause-finish : goal.returns-in_err-perm-clause-finish
+returns-in_err-perm-clause-finish c =
+    let old = c.args.state.now in
+    let is : c.from_residual.result ≡ Err c.in_err-perm.field-0.0 = search rules in
+    let no = reached-refused c.args.id.0 EPERM (λ perm. not (owns c.args.cred perm)) c.msg.result.now old.state.msg c.msg.ensures.queues
+    c.owned.result c.owned.ensures c.in_err-perm.field-0.0 c.in_err-perm.was in
+    rw is (rw no refl)
+
+pub returns-then-qbytes-limits-clause-finish : goal.returns-then-qbytes-limits-clause-finish
+returns-then-qbytes-limits-clause-finish c =
+    let old = c.args.state.now in
+    let is = let-in c.args.id.0 EPERM (λ perm. not (owns c.args.cred perm)) old.state.msg c.msg.result.now c.msg.ensures.queues
+    c.owned.result c.owned.ensures c.in_ok-perm.field-0 c.in_ok-perm.was in
+    let above : nat_lt old.limits.msgmnb c.args.qbytes ≡ true = search rules in
+    rw is (rw above refl)
+
+pub set_perm-requires : goal.set_perm-requires
+set_perm-requires c =
+    let old = c.args.state.now in
+    let has = let-in-there c.args.id.0 EPERM (λ perm. not (owns c.args.cred perm)) old.state.msg c.msg.result.now c.msg.ensures.queues
+    c.owned.result c.owned.ensures c.in_ok-perm.field-0 c.in_ok-perm.was in
+    let there = lent c.msg_mut-queues.result.now old.state.msg c.args.id.0 _ c.msg_mut-queues.ensures.queues has in
+    ap is_some there.is
+
+pub unwrap-requires : goal.unwrap-requires
+unwrap-requires c =
+    let old = c.args.state.now in
+    let id = c.args.id.0 in
+    let e = queue_entry c.in_ok-perm.field-0.now in
+    let has = let-in-there c.args.id.0 EPERM (λ perm. not (owns c.args.cred perm)) old.state.msg c.msg.result.now c.msg.ensures.queues
+    c.owned.result c.owned.ensures c.in_ok-perm.field-0 c.in_ok-perm.was in
+    let there = lent c.msg_mut-queues.result.now old.state.msg id e c.msg_mut-queues.ensures.queues has in
+    let perm = c.owned_by.result in
+    let permits = put-perm c.msg_mut-queues.result.now old.state.msg id e c.msg_mut-queues.ensures.queues there perm c.set_perm.new.self c.set_perm.ensures in
+    let next = lent c.set_perm.new.self (with_entry old.state.msg id (permitting e perm)) id (permitting e perm) permits
+    (at-with old.state.msg.entries id (permitting e perm) e has) in
+    is-lent c.set_perm.new.self _ id _ permits next c.get_mut.result c.get_mut.ensures.object
+
+pub returns-clause-finish : goal.returns-clause-finish
+returns-clause-finish c =
+    let old = c.args.state.now in
+    let is = let-in c.args.id.0 EPERM (λ perm. not (owns c.args.cred perm)) old.state.msg c.msg.result.now c.msg.ensures.queues
+    c.owned.result c.owned.ensures c.in_ok-perm.field-0 c.in_ok-perm.was in
+    let within : nat_lt old.limits.msgmnb c.args.qbytes ≡ false =
+    ap (λ (l : Limits). nat_lt l.msgmnb c.args.qbytes) (sym c.limits.ensures.limits) ∙ not_above c.args.qbytes c.limits.result.now.msgmnb c.if-qbytes-limits.false in
+    let id = c.args.id.0 in
+    let e = queue_entry c.in_ok-perm.field-0.now in
+    let has = let-in-there c.args.id.0 EPERM (λ perm. not (owns c.args.cred perm)) old.state.msg c.msg.result.now c.msg.ensures.queues
+    c.owned.result c.owned.ensures c.in_ok-perm.field-0 c.in_ok-perm.was in
+    let there = lent c.msg_mut-queues.result.now old.state.msg id e c.msg_mut-queues.ensures.queues has in
+    let perm = c.owned_by.result in
+    let permits = put-perm c.msg_mut-queues.result.now old.state.msg id e c.msg_mut-queues.ensures.queues there perm c.set_perm.new.self c.set_perm.ensures in
+    let next = lent c.set_perm.new.self (with_entry old.state.msg id (permitting e perm)) id (permitting e perm) permits
+    (at-with old.state.msg.entries id (permitting e perm) e has) in
+    let left = c.set.new.self in
+    let object = lent-queue c.set_perm.new.self _ id _ permits next c.get_mut.result c.get_mut.ensures.object c.unwrap.result c.unwrap.ensures in
+    let puts = put-queues c.set_perm.new.self _ id _ permits next left (c.get_mut.follows.lender left) (c.get_mut.follows.holds left) in
+    let sets : left.queue ≡ changed e.object c.args.qbytes old.state.clock =
+    c.set.ensures.queue ∙ (ap (changed c.unwrap.result.now.queue c.args.qbytes) c.clock-now.ensures ∙ ap (λ (q : Queue). changed q c.args.qbytes old.state.clock) object) in
+    let entry : Perm → Queue → Entry Queue = λ (p : Perm) (q : Queue). holding (permitting e p) q in
+    ap (λ (m : Keyed Queue). done (record old.state { msg = m }) Empty)
+    (puts
+    ∙ (ap (λ (es : List (ℕ × Entry Queue)). let n : Keyed Queue = record { next = old.state.msg.next; entries = es } in n)
+    (twice old.state.msg.entries id (permitting e perm) (entry perm left.queue))
+    ∙ (ap (λ (q : Queue). with_entry old.state.msg id (entry perm q)) sets
+    ∙ ap (λ (p : Perm). with_entry old.state.msg id (entry p (changed e.object c.args.qbytes old.state.clock))) c.owned_by.ensures.perm)))
+    ∙ rw is (rw within refl)
