@@ -1,0 +1,27 @@
+use Rattle.std.proofs.Common.{w32, ap, ◌∙◌}
+use Rattle.std.proofs.lemmas.Int.{to_z-of_z}
+use Rattle.ipc_keys.specs.Directory.{shown, has_place}
+use Rattle.ipc_keys.proofs.Directories.{of_integers, lookup-old, changed, vacant_place, SameAt-others, shown-above, taken-above}
+use Rattle.ipc_keys.proofs.keys.KeyDir.bind.Goals as goal
+
+pub bind-requires : goal.bind-requires
+bind-requires c =
+    let key = to_z-of_z w32 c.args.key c.ranges.key in
+    lookup-old of_integers c.self.inside.directory.numbers.entries _ _ _ c.self.view_is key ∙ vacant_place _ c.requires.vacant
+
+pub returns-clause-found : goal.returns-clause-found
+returns-clause-found c =
+    let key = to_z-of_z w32 c.args.key c.ranges.key in
+    let change = changed of_integers _ _ _ _ _ _ c.self.view_is key c.bind.ensures in
+    ap shown change.at ∙ shown-above _ c.requires.number
+
+pub returns-clause-vacant : goal.returns-clause-vacant
+returns-clause-vacant c =
+    let key = to_z-of_z w32 c.args.key c.ranges.key in
+    let change = changed of_integers _ _ _ _ _ _ c.self.view_is key c.bind.ensures in
+    ap has_place change.at ∙ taken-above _ c.requires.number
+
+pub returns-clause-others : goal.returns-clause-others
+returns-clause-others c =
+    let key = to_z-of_z w32 c.args.key c.ranges.key in
+    SameAt-others (changed of_integers _ _ _ _ _ _ c.self.view_is key c.bind.ensures)
