@@ -7,11 +7,10 @@ use Rattle.ipc_state.specs.Held.{Room}
 use Rattle.sysv_calls.specs.Needs.{Needs, Nothing, needs, is_something, Has}
 use Rattle.ipc_engine.specs.Event.{PlainEvent, Connect, Call, Tick, Exit, Restart, PlainOutcome}
 
--- the limits that it keeps, the state, the room that is reserved in it, and the replies of the last event
+-- the limits that it keeps, the state, and the replies of the last event
 pub record Machine : Type 0 where
   pub limits : Limits
   pub state : State
-  pub room : Room
   pub outcomes : List PlainOutcome
 
 -- the process that an event names is connected
@@ -45,11 +44,3 @@ IsReadyForHello limits s room = has_all_processes limits s ≡ false → room.pr
 -- what a request of a process needs is there
 abbrev pub IsReadyFor : Room → PlainKind → Type 0
 IsReadyFor room kind = Has room (kind_needs kind)
-
--- what an event needs is there
-abbrev pub IsReady : Limits → State → Room → PlainEvent → Type 0
-IsReady limits s room (Connect cred serial moment) = IsReadyForHello limits s room
-IsReady limits s room (Call pid request moment) = IsReadyFor room request.kind
-IsReady limits s room (Tick moment) = Unit {0}
-IsReady limits s room (Exit pid moment) = Unit {0}
-IsReady limits s room Restart = Unit {0}

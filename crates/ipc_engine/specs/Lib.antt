@@ -2,5 +2,6 @@ pub mod Event
 pub mod Step
 pub mod View
 pub mod Engine
+pub mod Buffer
 pub mod Sound
 pub mod Listing

@@ -17,12 +17,15 @@ ghost use Rattle.std.specs.Prelude.{
   IfOk,
   All,
   vec_capacity,
+  max,
 };
-ghost use Rattle.ipc_base.specs.Limits.{ArePassed};
+ghost use Rattle.ipc_base.specs.Limits.{ArePassed, longest_body};
 ghost use Rattle.ipc_wire.specs.Request.{plain_kind};
 ghost use Rattle.ipc_state.specs.Finish.{finish_of};
 ghost use Rattle.ipc_state.specs.Sound.{HasSoundParts, FitsBody};
 ghost use Rattle.ipc_state.specs.State.{State as PlainState, has_all_processes, is_process, start};
+ghost use Rattle.sysv_calls.specs.Spare.{IsSpare, IsKept, room_of, room_in as room_in_answer};
+ghost use Rattle.ipc_engine.specs.Buffer.{room_in};
 ghost use Rattle.ipc_engine.specs.Engine.{kind_takes_memory, IsReadyFor, IsReadyForHello};
 ghost use Rattle.ipc_engine.specs.Step.{step as step_on, asked, connect as connect_step, replied, most_replies};
 ghost use Rattle.ipc_engine.specs.Listing.{rows_of};
@@ -42,17 +45,19 @@ use sysv_calls::{Answer, attempt, reserve};
 /// The most replies that one event causes.
 const MOST_REPLIES: usize = 1;
 
-/// The machine. A contract sees its limits, its state, the room that is reserved in it, and the
-/// replies of the last event.
+/// The machine. A contract sees its limits, its state, and the replies of the last event.
 #[derive(Drop)]
 pub struct Engine {
     state: State,
     outcomes: Vec<Outcome>,
+    /// The buffer in which a call makes the body of its reply, unless a reply has it.
+    spare: Vec<u8>,
 }
 
 impl Model for Engine {
     ghost use Rattle.std.specs.Prelude.{◌≤◌, map, vec_capacity};
     ghost use Rattle.ipc_base.specs.Limits.{ArePassed};
+    ghost use Rattle.ipc_engine.specs.Buffer.{HasBuffer};
     ghost use Rattle.ipc_engine.specs.Engine.{Machine};
     ghost use Rattle.ipc_engine.specs.Sound.{IsSound};
     ghost use Rattle.ipc_engine.specs.Step.{most_replies};
@@ -63,16 +68,15 @@ impl Model for Engine {
     ghost view = { λ e. record {
       limits = e.state.limits;
       state = e.state.state;
-      room = e.state.room;
       outcomes = map plain_outcome e.outcomes.items;
     } };
 
     ghost invariant = { λ e. (most_replies ≤ vec_capacity e.outcomes) × IsSound e.state.limits e.state.state
-        × ArePassed e.state.limits };
+        × ArePassed e.state.limits × HasBuffer e.state.limits e.spare e.outcomes.items };
 }
 
 impl Engine {
-    ghost use Rattle.ipc_engine.specs.Engine.{IsForProcess, IsReady, takes_memory};
+    ghost use Rattle.ipc_engine.specs.Engine.{IsForProcess, takes_memory};
 
     /// A machine to which nothing has happened. Refused for want of memory.
     pub fn new(alloc: Global, limits: Limits) -> Result<Engine, AllocError>
@@ -83,9 +87,11 @@ impl Engine {
         ensures sound { IfOk result (λ engine. IsSound engine.limits engine.state) }
     {
         let outcomes = Vec::with_capacity(alloc, MOST_REPLIES)?;
+        let spare = buffer(alloc, &limits)?;
         Ok(Engine {
             state: State::new(alloc, limits),
             outcomes,
+            spare,
         })
     }
 
@@ -102,14 +108,18 @@ impl Engine {
             return Err(StateFault::Unsound);
         }
         let outcomes = Vec::with_capacity(alloc, MOST_REPLIES)?;
-        Ok(Engine { state, outcomes })
+        let spare = buffer(alloc, state.limits())?;
+        Ok(Engine {
+            state,
+            outcomes,
+            spare,
+        })
     }
 
     /// The state, which is sound. What its readers tell is of the machine's state.
     pub fn state(&self) -> &State
         ensures limits { result.now.limits ≡ self.now.limits }
         ensures state { result.now.state ≡ self.now.state }
-        ensures room { result.now.room ≡ self.now.room }
         ensures sound { IsSound self.now.limits self.now.state }
         ensures passed { ArePassed self.now.limits }
     {
@@ -157,9 +167,9 @@ impl Engine {
     }
 
     /// One step on an event: `outcomes` are its replies. Refused for want of memory, which only a HELLO
-    /// that gets a process, msgget(2) and msgsnd(2) take, nothing has changed, the clock included;
-    /// never refused if the room that the event needs is there. The state is sound before and after,
-    /// and no body of a reply is longer than `Limits::longest_reply` says.
+    /// that gets a process, msgget(2) and msgsnd(2) take, nothing has changed, the clock included. The
+    /// state is sound before and after, and no body of a reply is longer than `Limits::longest_reply`
+    /// says.
     pub fn step(&mut self, event: Event<'_>) -> Result<(), AllocError>
         requires { IsForProcess self.old.state (plain_event event) }
         ensures state { OnOk result (self.new.state
@@ -169,8 +179,6 @@ impl Engine {
         ensures limits { self.new.limits ≡ self.old.limits }
         ensures err { OnErr result (self.new ≡ self.old) }
         ensures memory { takes_memory self.old.limits self.old.state (plain_event event.entry) ≡ false
-            → IsOk result }
-        ensures succeeds { IsReady self.old.limits self.old.state self.old.room (plain_event event.entry)
             → IsOk result }
         ensures was_sound { IsSound self.old.limits self.old.state }
         ensures sound { IsSound self.new.limits self.new.state }
@@ -183,6 +191,7 @@ impl Engine {
                 moment,
             } => {
                 reserve_hello(&mut self.state)?;
+                take_back(&mut self.outcomes, &mut self.spare);
                 self.state.begin(moment);
                 let outcome = connect(&mut self.state, cred, serial);
                 answer(&mut self.outcomes, outcome);
@@ -193,25 +202,68 @@ impl Engine {
                 moment,
             } => {
                 reserve_kind(&mut self.state, &request.kind)?;
+                take_back(&mut self.outcomes, &mut self.spare);
                 self.state.begin(moment);
-                let ended = ask(&mut self.state, pid, &request.kind);
+                let ended = ask(&mut self.state, pid, &request.kind, &mut self.spare);
                 answer(&mut self.outcomes, reply_to(pid, request.serial, ended));
             }
             Event::Tick { moment } => {
+                take_back(&mut self.outcomes, &mut self.spare);
                 self.state.begin(moment);
-                self.outcomes.clear();
             }
             Event::Exit { pid, moment } => {
+                take_back(&mut self.outcomes, &mut self.spare);
                 self.state.begin(moment);
                 self.state.remove_process(pid);
-                self.outcomes.clear();
             }
             Event::Restart => {
+                take_back(&mut self.outcomes, &mut self.spare);
                 self.state.restart();
-                self.outcomes.clear();
             }
         }
         Ok(())
+    }
+}
+
+/// An empty buffer that has room for any body of a reply.
+fn buffer(alloc: Global, limits: &Limits) -> Result<Vec<u8>, AllocError>
+    requires { ArePassed limits.now }
+    ensures { IfOk result (λ spare. longest_body limits.now ≤ vec_capacity spare) }
+{
+    Vec::with_capacity(alloc, limits.longest_reply() as usize)
+}
+
+/// The replies of the last event go, and the buffer that one of them has is spare again.
+fn take_back(outcomes: &mut Vec<Outcome>, spare: &mut Vec<u8>)
+    ensures gone { outcomes.new.items ≡ [] }
+    ensures capacity { vec_capacity outcomes.old ≤ vec_capacity outcomes.new }
+    ensures empty { spare.new.items ≡ [] }
+    ensures room { max (vec_capacity spare.old) (room_in outcomes.old.items) ≤ vec_capacity spare.new }
+{
+    if let Some(outcome) = outcomes.pop() {
+        give_back(outcome.body, spare);
+    }
+    outcomes.clear();
+    spare.clear();
+}
+
+/// The buffer that a body has is spare again, if it has more room than the one that is.
+fn give_back(body: Body<Vec<u8>>, spare: &mut Vec<u8>)
+    ensures { max (vec_capacity spare.old) (room_of body) ≤ vec_capacity spare.new }
+{
+    match body {
+        Body::Record(bytes) => keep_larger(spare, bytes),
+        Body::Message { text: _text, .. } => {}
+        Body::Empty | Body::Number(_) => {}
+    }
+}
+
+/// Of two buffers the one with more room.
+fn keep_larger(spare: &mut Vec<u8>, other: Vec<u8>)
+    ensures { max (vec_capacity spare.old) (vec_capacity other) ≤ vec_capacity spare.new }
+{
+    if other.capacity() > spare.capacity() {
+        *spare = other;
     }
 }
 
@@ -230,7 +282,6 @@ fn reserve_hello(state: &mut State) -> Result<(), AllocError>
     ensures state { state.new.state ≡ state.old.state }
     ensures limits { state.new.limits ≡ state.old.limits }
     ensures ok { OnOk result (IsReadyForHello state.new.limits state.new.state state.new.room) }
-    ensures succeeds { IsReadyForHello state.old.limits state.old.state state.old.room → IsOk result }
     ensures memory { not (has_all_processes state.old.limits state.old.state) ≡ false → IsOk result }
     ensures err { OnErr result (state.new ≡ state.old) }
 {
@@ -269,7 +320,6 @@ fn reserve_kind(state: &mut State, kind: &RequestKind<'_>) -> Result<(), AllocEr
     ensures state { state.new.state ≡ state.old.state }
     ensures limits { state.new.limits ≡ state.old.limits }
     ensures ok { OnOk result (IsReadyFor state.new.room (plain_kind kind.now)) }
-    ensures succeeds { IsReadyFor state.old.room (plain_kind kind.now) → IsOk result }
     ensures memory { kind_takes_memory (plain_kind kind.now) ≡ false → IsOk result }
     ensures err { OnErr result (state.new ≡ state.old) }
 {
@@ -280,23 +330,26 @@ fn reserve_kind(state: &mut State, kind: &RequestKind<'_>) -> Result<(), AllocEr
 }
 
 /// How a request of a process ends, whose memory is reserved. It takes none.
-fn ask(state: &mut State, pid: Pid, kind: &RequestKind<'_>) -> Answer
+fn ask(state: &mut State, pid: Pid, kind: &RequestKind<'_>, spare: &mut Vec<u8>) -> Answer
+    requires spare { IsSpare state.old.limits spare.old }
     requires sound { HasSoundParts state.old.limits state.old.state }
     requires room { IsReadyFor state.old.room (plain_kind kind.now) }
     requires process { is_process state.old.state pid.0 ≡ true }
     ensures finish { finish_of state.new.state result
         ≡ asked state.old.limits state.old.state pid.0 (plain_kind kind.now) }
     ensures limits { state.new.limits ≡ state.old.limits }
+    ensures spare { IsKept state.old.limits spare.new result }
 {
     match kind {
         RequestKind::Hello(_) => Err(Errno::EPROTO),
-        RequestKind::Call(call) => attempt(state, pid, call),
+        RequestKind::Call(call) => attempt(state, pid, call, spare),
     }
 }
 
 /// The reply that tells a process how its request ended.
 fn reply_to(pid: Pid, serial: u32, ended: Answer) -> Outcome
-    ensures { (s : PlainState) → step_of s result ≡ replied pid.0 serial (finish_of s ended) }
+    ensures reply { (s : PlainState) → step_of s result ≡ replied pid.0 serial (finish_of s ended) }
+    ensures room { room_of result.body ≡ room_in_answer ended }
 {
     let (errno, body) = match ended {
         Ok(body) => (None, body),

@@ -253,6 +253,7 @@ pub record IsGood (limits : Limits) (s : State) (d : Done) : Type 0 where
   pub state : HasSoundParts limits s → HasSoundParts limits d.state
   pub body : HasSoundParts limits s → FitsBody limits d.body
   pub kept : d.state.processes ≡ s.processes
+  pub clock : d.state.clock ≡ s.clock
 
 abbrev IfDone : (Done → Type 0) → Attempt Done → Type 0
 IfDone P (Ok d) = P d
@@ -286,7 +287,7 @@ module _ {limits : Limits} {s : State} where
 
   -- a call that reads the state alone
   pub read : (body : PlainBody) → (HasSoundParts limits s → FitsBody limits body) → Ends limits s (answer s body)
-  read body fits = record { good = record { state = λ h. h; body = fits; kept = refl } }
+  read body fits = record { good = record { state = λ h. h; body = fits; kept = refl; clock = refl } }
 
 pub ended-sound : (limits : Limits) (s : State) (call : Attempt Done) → Ends limits s call → HasSoundParts limits s → EndsSound limits (ended s call)
 ended-sound limits s (Ok d) ends h = record { state = ends.good.state h; body = ends.good.body h }
@@ -295,3 +296,7 @@ ended-sound limits s (Err e) ends h = record { state = h; body = omega arith }
 pub ended-keeps : (limits : Limits) (s : State) (call : Attempt Done) → Ends limits s call → (ended s call).state.processes ≡ s.processes
 ended-keeps limits s (Ok d) ends = ends.good.kept
 ended-keeps limits s (Err e) ends = refl
+
+pub ended-clock : (limits : Limits) (s : State) (call : Attempt Done) → Ends limits s call → (ended s call).state.clock ≡ s.clock
+ended-clock limits s (Ok d) ends = ends.good.clock
+ended-clock limits s (Err e) ends = refl

@@ -22,7 +22,7 @@ use Rattle.ipc_perm.specs.declared.perm.Perm.{Perm}
 use Rattle.ipc_perm.specs.Perm.{perm_of, owned_by, asked_by, may, owns}
 use Rattle.ipc_state.specs.Sound.{HasSoundParts, IsSoundMessage, IsSoundQueue, FitsBody}
 use Rattle.ipc_state.specs.State.{State, cred_of, with_queue, with_new_queue}
-use Rattle.ipc_state.proofs.CallerLemmas.{EndsSound, Ends, after-refuse, after-attempt, after-orelse, by-if_some, answered, read, ended-sound, ended-keeps}
+use Rattle.ipc_state.proofs.CallerLemmas.{EndsSound, Ends, after-refuse, after-attempt, after-orelse, by-if_some, answered, read, ended-sound, ended-keeps, ended-clock}
 use Rattle.ipc_state.proofs.CallerLemmas.{perm_of-mode, owned_by-mode, with_new_queue-sound, with_queue-sound, queue-sound, sent-sound, taken-sound}
 use Rattle.ipc_state.proofs.CallerLemmas.{changed-sound, permitted-sound, without_queue-sound}
 use Rattle.sysv_calls.specs.Calls.{write, except, has, is_exclusive, accessible, removed, message_at, call_of, attempt}
@@ -44,6 +44,7 @@ module _ (limits : Limits) (s : State) where
         state = λ h. with_new_queue-sound limits s key (perm_of cred flags) unused room (perm_of-mode cred flags) h;
         body = λ _. omega arith;
         kept = refl;
+        clock = refl;
       }))))
 
   msgsnd-ends : (cred : Cred) (pid id : ℕ) (mtype : ℤ) (text : List ℕ) → Ends limits s (defined.msgsnd limits s cred pid id mtype text)
@@ -58,6 +59,7 @@ module _ (limits : Limits) (s : State) where
             with_queue-sound limits s id e new is (sent-sound limits e.object m pid s.clock room good (queue-sound limits s id e is h)) h;
         body = λ _. omega arith;
         kept = refl;
+        clock = refl;
       })))))
 
   -- a text of a message of a queue, cut
@@ -81,6 +83,7 @@ module _ (limits : Limits) (s : State) where
         state = λ h. with_queue-sound limits s id e new is (taken-sound limits q at pid s.clock inside (queue-sound limits s id e is h)) h;
         body = λ h. message_at-fits q at size inside (queue-sound limits s id e is h);
         kept = refl;
+        clock = refl;
       })))))
 
   msgctl_stat-ends : (cred : Cred) (id : ℕ) → Ends limits s (defined.msgctl_stat s cred id)
@@ -97,6 +100,7 @@ module _ (limits : Limits) (s : State) where
             (changed-sound limits e.object qbytes s.clock (ltb-false limits.msgmnb qbytes within) (queue-sound limits s id e is h)) h;
         body = λ _. omega arith;
         kept = refl;
+        clock = refl;
       })))
 
   msgctl_rmid-ends : (cred : Cred) (id : ℕ) → Ends limits s (defined.msgctl_rmid s cred id)
@@ -106,6 +110,7 @@ module _ (limits : Limits) (s : State) where
         state = λ h. subst (λ (m : Keyed Queue). HasSoundParts limits (record s { msg = m })) (removed-is s.msg cred id queues is) (without_queue-sound limits s id h);
         body = λ _. omega arith;
         kept = refl;
+        clock = refl;
       }))
 
   call-ends : (pid : ℕ) (call : PlainCall) → Ends limits s (call_of limits s pid call)
@@ -123,3 +128,7 @@ attempt-sound limits s pid call = ended-sound limits s (call_of limits s pid cal
 -- a call leaves the processes as they are
 pub attempt-keeps : (limits : Limits) (s : State) (pid : ℕ) (call : PlainCall) → (attempt limits s pid call).state.processes ≡ s.processes
 attempt-keeps limits s pid call = ended-keeps limits s (call_of limits s pid call) (call-ends limits s pid call)
+
+-- and the clock
+pub attempt-clock : (limits : Limits) (s : State) (pid : ℕ) (call : PlainCall) → (attempt limits s pid call).state.clock ≡ s.clock
+attempt-clock limits s pid call = ended-clock limits s (call_of limits s pid call) (call-ends limits s pid call)

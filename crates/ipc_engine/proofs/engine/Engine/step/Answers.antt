@@ -5,6 +5,8 @@ use Rattle.ipc_wire.specs.Request.{plain_request}
 use Rattle.ipc_engine.specs.Event.{Connect, Call, Exit, Restart}
 use Rattle.ipc_engine.specs.Step.{most_replies}
 use Rattle.ipc_engine.specs.View.{plain_outcome}
+use Rattle.sysv_calls.specs.Spare.{IsKept}
+use Rattle.ipc_engine.proofs.Buffers.{buffer-spare, buffer-answered}
 use Rattle.ipc_engine.proofs.Soundness.{after-sound, after-fits}
 use Rattle.ipc_engine.proofs.engine.Engine.step.Goals as goal
 
@@ -25,6 +27,8 @@ invariant_of-self-in-Connect c =
       room,
       after-sound old.limits new.limits old.state new.state event same (search rules) c.self.invariant.1,
       subst (λ (l : Limits). ArePassed l) (sym same) c.self.invariant.2,
+      buffer-spare old.limits new.limits same c.self.inside.spare c.take_back.new.spare c.self.inside.outcomes.items c.answer.new.outcomes.items
+      c.self.invariant.3 c.take_back.ensures.room,
     )
 
 pub returns-in_ok-reserve_kind-in-Call-clause-sound : goal.returns-in_ok-reserve_kind-in-Call-clause-sound
@@ -40,10 +44,13 @@ invariant_of-self-in-Call c =
     let new = c.ask-ended.new.state in
     let event = Call c.in-Call.pid.0 (plain_request c.in-Call.request) c.in-Call.moment.0 in
     let room : most_replies ≤ vec_capacity c.answer-in-Call.new.outcomes = search rules in
-    let same : new.limits ≡ old.limits = search rules in (
+    let same : new.limits ≡ old.limits = search rules in
+    let kept : IsKept old.limits c.ask-ended.new.spare c.ask-ended.result = search rules in (
       room,
       after-sound old.limits new.limits old.state new.state event same (search rules) c.self.invariant.1,
       subst (λ (l : Limits). ArePassed l) (sym same) c.self.invariant.2,
+      buffer-answered old.limits new.limits same c.ask-ended.new.spare c.ask-ended.result c.reply_to.result c.answer-in-Call.new.outcomes.items
+      kept c.reply_to.ensures.room c.answer-in-Call.ensures.items,
     )
 
 pub returns-in_ok-reserve_kind-in-Call-clause-fits : goal.returns-in_ok-reserve_kind-in-Call-clause-fits
@@ -65,11 +72,13 @@ invariant_of-self-in-Exit c =
     let old = c.self.inside.state in
     let new = c.remove_process.new.self in
     let event = Exit c.in-Exit.pid.0 c.in-Exit.moment.0 in
-    let room : most_replies ≤ vec_capacity c.clear-in-Exit.new.self = search rules in
+    let room : most_replies ≤ vec_capacity c.take_back-in-Exit.new.outcomes = search rules in
     let same : new.limits ≡ old.limits = search rules in (
       room,
       after-sound old.limits new.limits old.state new.state event same (search rules) c.self.invariant.1,
       subst (λ (l : Limits). ArePassed l) (sym same) c.self.invariant.2,
+      buffer-spare old.limits new.limits same c.self.inside.spare c.take_back-in-Exit.new.spare c.self.inside.outcomes.items c.take_back-in-Exit.new.outcomes.items
+      c.self.invariant.3 c.take_back-in-Exit.ensures.room,
     )
 
 pub returns-in-Restart-clause-sound : goal.returns-in-Restart-clause-sound
@@ -82,9 +91,12 @@ pub invariant_of-self-in-Restart : goal.invariant_of-self-in-Restart
 invariant_of-self-in-Restart c =
     let old = c.self.inside.state in
     let new = c.restart.new.self in
-    let room : most_replies ≤ vec_capacity c.clear-in-Restart.new.self = search rules in
+    let event = Restart in
+    let room : most_replies ≤ vec_capacity c.take_back-in-Restart.new.outcomes = search rules in
     let same : new.limits ≡ old.limits = search rules in (
       room,
-      after-sound old.limits new.limits old.state new.state Restart same (search rules) c.self.invariant.1,
+      after-sound old.limits new.limits old.state new.state event same (search rules) c.self.invariant.1,
       subst (λ (l : Limits). ArePassed l) (sym same) c.self.invariant.2,
+      buffer-spare old.limits new.limits same c.self.inside.spare c.take_back-in-Restart.new.spare c.self.inside.outcomes.items c.take_back-in-Restart.new.outcomes.items
+      c.self.invariant.3 c.take_back-in-Restart.ensures.room,
     )

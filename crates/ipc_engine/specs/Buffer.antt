@@ -1,0 +1,17 @@
+-- The buffer in which a call makes the body of its reply: it is spare, or stands in the one reply that there is.
+use Rattle.std.specs.Prelude.{ℕ, ◌≤◌, max, List, [], ◌∷◌, vec_capacity}
+use Rattle.std.specs.Global.{Vec}
+use Rattle.ipc_base.specs.declared.limits.Limits.{Limits}
+use Rattle.ipc_base.specs.Limits.{longest_body}
+use Rattle.sysv_calls.specs.Spare.{room_of}
+use Rattle.ipc_engine.specs.declared.event.Outcome.{Outcome}
+
+-- how much room replies bring
+abbrev pub room_in : List Outcome → ℕ
+room_in [] = 0
+room_in (o ∷ []) = room_of o.body
+room_in (o ∷ p ∷ os) = 0
+
+-- the longest body has room in it
+abbrev pub HasBuffer : Limits → Vec ℕ → List Outcome → Type 0
+HasBuffer limits spare outcomes = longest_body limits ≤ max (vec_capacity spare) (room_in outcomes)
