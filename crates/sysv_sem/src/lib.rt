@@ -1,0 +1,11 @@
+//! System V semaphore sets: what a list of operations does to a set. See semop(2) and semctl(2).
+#![tactic(auto)]
+
+mod laws;
+mod operation;
+mod set;
+mod trial;
+
+pub use laws::{done_performs_each, done_stays_in_range};
+pub use operation::{Operation, Trial, Verdict};
+pub use set::{SemSet, SemStat};
