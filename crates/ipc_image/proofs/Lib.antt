@@ -4,7 +4,7 @@ mod Numbers
 mod Reading
 mod RestoredParts
 mod ReadLists
-mod ReadQueues
+mod ReadKinds
 mod WholeState
 mod EventRecords
 pub mod CallerLemmas
@@ -12,3 +12,4 @@ mod Windows
 mod SavedLists
 mod SavedObjects
 mod Marks
+pub mod Shapes

@@ -1,29 +1,34 @@
--- Marks of a queue's object: how many bytes its first messages have.
-use Rattle.std.proofs.Common.{◌≡◌, ℕ, ◌+◌, ◌<◌, ◌^◌, List, [], ◌∷◌, ◌++◌, length, take, drop, Some, ap, sym, ◌∙◌, arith}
+-- Lists of things in saved objects: one of them by its place, and how many bytes the first ones have.
+use Rattle.std.proofs.Common.{◌≡◌, ℕ, ◌+◌, ◌<◌, ◌≤◌, List, [], ◌∷◌, ◌++◌, length, map, take, drop, get_or, Some, refl, ap, sym, subst, ◌∙◌, arith}
+use Rattle.std.specs.Prelude.{All, option_map}
 use Rattle.std.proofs.lemmas.List.{length-append, flat_map_more, take_more, take-append-drop}
+use Rattle.std.proofs.lemmas.List.Elements.{All-get_or}
 use Rattle.std.proofs.lemmas.Grind.{flat_map-append}
-use Rattle.std.proofs.lemmas.Option.{get_or_from_slice_get, slice_get_within}
+use Rattle.std.proofs.lemmas.Option.{get_or_from_slice_get, slice_get_within, slice_get_read, slice_get-map}
 use Rattle.std.specs.List.{flat_map, slice_get}
-use Rattle.sysv_msg.specs.Queue.{Queue, PlainMessage}
-use Rattle.ipc_state.specs.Sound.{HasNumbers}
-use Rattle.ipc_image.specs.Saved.{message_bytes}
 use Rattle.ipc_image.specs.SavedParts.{first_bytes}
-use Rattle.ipc_image.proofs.SavedObjects.{length-messages}
 
--- one message more
-pub first-next : (messages : List PlainMessage) (k : ℕ) (m : PlainMessage) → slice_get messages k ≡ Some m
-    → length (first_bytes (k + 1) messages) ≡ length (first_bytes k messages) + (12 + length m.text)
-first-next messages k m is =
-    let more = flat_map_more message_bytes [] (take k messages) m in
-    let same = get_or_from_slice_get messages k m m is in
-    let next : first_bytes (k + 1) messages ≡ first_bytes k messages ++ message_bytes m =
-    ap (flat_map message_bytes) (take_more messages k m (slice_get_within messages k m is) ∙ ap (λ x. take k messages ++ x ∷ []) same) ∙ sym more in
-    omega (arith, ap length next, length-append (first_bytes k messages) (message_bytes m))
+-- one of them as a value of the definitions
+pub row-at : {A X : Type 0} (row : A → X) (ys : List A) (i : ℕ) (a : A) → i < length ys → a ≡ get_or ys i a
+    → slice_get (map row ys) i ≡ Some (row a)
+row-at row ys i a within is = slice_get-map row ys i ∙ ap (option_map row) (slice_get_read ys (length ys) i a refl within is)
 
--- a number of eight bytes counts those of all
-pub first-fit : (q : Queue) (k : ℕ) → HasNumbers q → length (first_bytes k q.messages) < 2 ^ 64
-first-fit q k numbers =
-    let others : List ℕ = flat_map message_bytes (drop k q.messages) in
-    let all = ap length (sym (flat_map-append message_bytes (take k q.messages) (drop k q.messages))
-    ∙ ap (flat_map message_bytes) (take-append-drop k q.messages)) in
-    omega (arith, all, length-append (first_bytes k q.messages) others, length-messages q.messages, numbers.bytes, numbers.count)
+-- what holds of each holds of it
+pub each-at : {X : Type 0} (P : X → Type 0) (xs : List X) (i : ℕ) (x : X) → All P xs → slice_get xs i ≡ Some x → P x
+each-at P xs i x each is = subst P (get_or_from_slice_get xs i x x is) (All-get_or P xs i x (slice_get_within xs i x is) each)
+
+module _ {X : Type 0} (bytes_of : X → List ℕ) (xs : List X) (k : ℕ) where
+  -- one more
+  pub first-next : (x : X) → slice_get xs k ≡ Some x → length (first_bytes bytes_of (k + 1) xs) ≡ length (first_bytes bytes_of k xs) + length (bytes_of x)
+  first-next x is =
+      let next : first_bytes bytes_of (k + 1) xs ≡ first_bytes bytes_of k xs ++ bytes_of x =
+      ap (flat_map bytes_of) (take_more xs k x (slice_get_within xs k x is) ∙ ap (λ y. take k xs ++ y ∷ []) (get_or_from_slice_get xs k x x is))
+      ∙ sym (flat_map_more bytes_of [] (take k xs) x) in
+      ap length next ∙ length-append (first_bytes bytes_of k xs) (bytes_of x)
+
+  -- no more than all
+  pub first-fit : length (first_bytes bytes_of k xs) ≤ length (flat_map bytes_of xs)
+  first-fit =
+      let others : List ℕ = flat_map bytes_of (drop k xs) in
+      let all = ap length (sym (flat_map-append bytes_of (take k xs) (drop k xs)) ∙ ap (flat_map bytes_of) (take-append-drop k xs)) in
+      omega (arith, all, length-append (first_bytes bytes_of k xs) others)

@@ -36,19 +36,16 @@ module _ {X : Type 0} (bytes_of : X → List ℕ) (P : X → Type 0) where
           read = spelled-more bytes_of P one items x bytes left rest so_far.read is;
         }
 
-    module _ (xs : List X) (fit : All P xs) (is : bytes ≡ flat_map bytes_of xs) where
-      same : flat_map bytes_of items ++ left ≡ flat_map bytes_of xs ++ []
-      same = sym so_far.read ∙ is ∙ sym (append-nil (flat_map bytes_of xs))
-
-      -- where there are no more, nothing is left
-      pub whole-read : length xs ≡ count → left ≡ []
-      whole-read long = (spelled-same bytes_of P one items xs left [] so_far.fit fit (so_far.long ∙ sym long) same).1
+    module _ (xs : List X) (after : List ℕ) (fit : All P xs) (is : bytes ≡ flat_map bytes_of xs ++ after) where
+      -- as many of them leave what follows them
+      pub whole-read : length xs ≡ count → (items ≡ xs) × (left ≡ after)
+      whole-read long = spelled-same bytes_of P one items xs left after so_far.fit fit (so_far.long ∙ sym long) (sym so_far.read ∙ is)
 
       -- where there are more, the next one stands next
       pub stuck : count < length xs → ((x : X) (rest : List ℕ) → P x → left ≢ bytes_of x ++ rest) → ⊥
       stuck less never =
-          let next = spelled-next bytes_of P one items xs left [] so_far.fit fit (omega (arith, less, so_far.long)) same in
-          never next.0 (flat_map bytes_of next.1 ++ []) (middle items next.0 next.1 (subst (All P) next.2 fit)) next.3
+          let next = spelled-next bytes_of P one items xs left after so_far.fit fit (omega (arith, less, so_far.long)) (sym so_far.read ∙ is) in
+          never next.0 (flat_map bytes_of next.1 ++ after) (middle items next.0 next.1 (subst (All P) next.2 fit)) next.3
         where
           middle : (ys : List X) (x : X) (more : List X) → All P (ys ++ x ∷ more) → P x
           middle [] x more h = All-head P x more h

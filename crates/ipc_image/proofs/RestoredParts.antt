@@ -1,104 +1,65 @@
--- What the numbers of a part make of it, and that the parts of saved objects are told apart.
-use Rattle.std.proofs.Common.{◌≡◌, ◌<◌, ◌^◌, ℕ, ℤ, List, [], ◌∷◌, ◌++◌, length, get_or, take, drop, refl, sym, ◌∙◌, ap, subst}
-use Rattle.std.specs.Prelude.{FitsSigned}
-use Rattle.std.specs.Int.{w32, w64, cast_signed, cast_unsigned}
+-- The bytes of a queue, what its numbers make of it, and that queues and clocks are told apart.
+use Rattle.std.proofs.Common.{◌≡◌, ℕ, ℤ, List, [], ◌∷◌, ◌++◌, length, map, get_or, refl, sym, ◌∙◌, ap, subst}
+use Rattle.std.specs.Prelude.{All, FitsSigned}
+use Rattle.std.specs.List.{flat_map}
+use Rattle.std.specs.Int.{w32, w64, cast_unsigned}
 use Rattle.std.proofs.lemmas.Int.{to_z-of_z}
-use Rattle.std.proofs.lemmas.List.{append_assoc, take_at, drop_at}
-use Rattle.ipc_state.specs.declared.processes.Process.{Process}
+use Rattle.std.proofs.lemmas.List.{length-map}
+use Rattle.std.proofs.lemmas.List.Elements.{All-map, All-weaker}
+use Rattle.std.proofs.lemmas.List.Folds.{flat_map-map}
 use Rattle.sysv_msg.specs.Queue.{Queue, PlainMessage}
 use Rattle.ipc_state.specs.declared.keyed.Entry.{Entry}
-use Rattle.ipc_base.specs.Numbers.{fields_bytes, FitFields}
 use Rattle.ipc_state.specs.State.{State}
-use Rattle.ipc_image.specs.Saved.{FitsMessage, FitsProcess, FitsQueue}
-use Rattle.ipc_base.specs.declared.field.Size.TheVariants.{Four}
-use Rattle.ipc_image.specs.Saved.{count_bytes, processes_bytes}
-use Rattle.std.specs.List.{flat_map}
-use Rattle.ipc_image.specs.Saved.{clock_sizes, clock_numbers, process_sizes, process_numbers, process_bytes, queue_sizes, queue_numbers}
-use Rattle.ipc_image.specs.Saved.{message_sizes, message_numbers, message_bytes}
+use Rattle.ipc_base.specs.Numbers.{fields_bytes, FitFields}
 use Rattle.ipc_base.proofs.CallerLemmas.{fields_one, listed, numbers_are}
+use Rattle.ipc_image.specs.Shape.{IsTree, tree_bytes}
+use Rattle.ipc_image.specs.Saved.{clock_sizes, clock_numbers, message_shape, message_tree, message_bytes, FitsMessage}
+use Rattle.ipc_image.specs.Saved.{queue_sizes, queue_numbers, queue_shape, queue_tree, queue_bytes, FitsQueue}
+use Rattle.ipc_image.specs.SavedParts.{message_from, message_of, with_messages, entry_from, queue_of}
+use Rattle.ipc_image.proofs.Shapes.{each_back}
 
--- the queue that has these numbers, this key and these messages
-abbrev pub entry_from : List ℕ → ℤ → List PlainMessage → Entry Queue
-entry_from ns key messages =
-    record {
-      key = key;
-      perm = record { uid = get_or ns 1 0; gid = get_or ns 2 0; cuid = get_or ns 3 0; cgid = get_or ns 4 0; mode = get_or ns 5 0 };
-      object = record {
-        messages = messages;
-        qbytes = get_or ns 11 0;
-        stime = get_or ns 6 0;
-        rtime = get_or ns 7 0;
-        ctime = get_or ns 8 0;
-        lspid = get_or ns 9 0;
-        lrpid = get_or ns 10 0;
-      };
-    }
+-- its numbers, and its messages
+pub queue_spelled : (e : Entry Queue) → queue_bytes e ≡ fields_bytes queue_sizes (queue_numbers e) ++ flat_map message_bytes e.object.messages
+queue_spelled e =
+    ap (λ (l : List ℕ). fields_bytes queue_sizes (queue_numbers e) ++ l) (flat_map-map (tree_bytes message_shape) message_tree e.object.messages)
 
+-- a queue's tree gives it back
+pub queue_known : (e : Entry Queue) → FitsQueue e → IsTree queue_shape (queue_tree e) × (queue_of (queue_tree e) ≡ e)
+queue_known e fit =
+    let ms : List PlainMessage = e.object.messages in
+    let back = each_back message_tree message_of ms
+    (All-weaker FitsMessage (λ m. message_of (message_tree m) ≡ m) (λ m f. ap (message_from m.text) (to_z-of_z w64 m.mtype f.0)) ms fit.messages) in (
+      (
+        fit.numbers,
+        refl,
+        length-map ms message_tree,
+        All-map (IsTree message_shape) message_tree ms (All-weaker FitsMessage (λ m. IsTree message_shape (message_tree m)) (λ m f. f.1) ms fit.messages),
+      ),
+      ap (λ (k : ℤ). entry_from (queue_numbers e) k (map message_of (map message_tree ms))) (to_z-of_z w32 e.key fit.key)
+          ∙ ap (entry_from (queue_numbers e) e.key) back,
+    )
+
+-- numbers and messages that were read are a queue's
 pub queue_found : (ns bytes rest : List ℕ) (key : ℤ) (messages : List PlainMessage) → FitFields queue_sizes ns
     → bytes ≡ fields_bytes queue_sizes ns ++ rest → FitsSigned w32 key → cast_unsigned w32 key ≡ get_or ns 0 0
-    → length messages ≡ get_or ns 12 0
-    → FitsQueue (entry_from ns key messages) × (bytes ≡ fields_bytes queue_sizes (queue_numbers (entry_from ns key messages)) ++ rest)
-queue_found ns bytes rest key messages fit is fits spelled count =
+    → length messages ≡ get_or ns 12 0 → All FitsMessage messages → rest ≡ flat_map message_bytes messages
+    → FitsQueue (entry_from ns key messages) × (bytes ≡ queue_bytes (entry_from ns key messages))
+queue_found ns bytes rest key messages fit is fits spelled count each read =
+    let e : Entry Queue = entry_from ns key messages in
     let middle : List ℕ = listed 11 1 ns in
-    let same : ns ≡ queue_numbers (entry_from ns key messages) =
+    let same : ns ≡ queue_numbers e =
     numbers_are queue_sizes ns fit ∙ ap (λ (n : ℕ). n ∷ listed 12 1 ns) (sym spelled)
-    ∙ ap (λ (n : ℕ). cast_unsigned w32 key ∷ (middle ++ n ∷ [])) (sym count) in
-    ((fits, subst (FitFields queue_sizes) same fit), is ∙ ap (λ (l : List ℕ). fields_bytes queue_sizes l ++ rest) same)
+    ∙ ap (λ (n : ℕ). cast_unsigned w32 key ∷ (middle ++ n ∷ [])) (sym count) in (
+      record { key = fits; numbers = subst (FitFields queue_sizes) same fit; messages = each },
+      is ∙ ap (λ (l : List ℕ). fields_bytes queue_sizes ns ++ l) read
+          ∙ ap (λ (l : List ℕ). fields_bytes queue_sizes l ++ flat_map message_bytes messages) same ∙ sym (queue_spelled e),
+    )
 
--- a signed number is known by its bits
-signed32 : (a b : ℤ) → FitsSigned w32 a → FitsSigned w32 b → cast_unsigned w32 a ≡ cast_unsigned w32 b → a ≡ b
-signed32 a b fits also same = sym (to_z-of_z w32 a fits) ∙ ap (cast_signed w32) same ∙ to_z-of_z w32 b also
-
-signed64 : (a b : ℤ) → FitsSigned w64 a → FitsSigned w64 b → cast_unsigned w64 a ≡ cast_unsigned w64 b → a ≡ b
-signed64 a b fits also same = sym (to_z-of_z w64 a fits) ∙ ap (cast_signed w64) same ∙ to_z-of_z w64 b also
-
--- two messages with the same bytes
-pub message_one : (m k : PlainMessage) (more others : List ℕ) → FitsMessage m → FitsMessage k
-    → message_bytes m ++ more ≡ message_bytes k ++ others → (m ≡ k) × (more ≡ others)
-message_one m k more others fit also same =
-    let first = fields_one message_sizes (message_numbers m) (message_numbers k) (m.text ++ more) (k.text ++ others) fit.1 also.1
-    (sym (append_assoc (fields_bytes message_sizes (message_numbers m)) m.text more) ∙ same
-    ∙ append_assoc (fields_bytes message_sizes (message_numbers k)) k.text others) in
-    let bits : cast_unsigned w64 m.mtype ≡ cast_unsigned w64 k.mtype = ap (λ (ns : List ℕ). get_or ns 0 0) first.0 in
-    let long : length m.text ≡ length k.text = ap (λ (ns : List ℕ). get_or ns 1 0) first.0 in
-    let type : m.mtype ≡ k.mtype = signed64 m.mtype k.mtype fit.0 also.0 bits in
-    let text : m.text ≡ k.text =
-    sym (take_at m.text more (length m.text) refl) ∙ ap (take (length m.text)) first.1 ∙ take_at k.text others (length m.text) (sym long) in
-    let after : more ≡ others =
-    sym (drop_at m.text more (length m.text) refl) ∙ ap (drop (length m.text)) first.1 ∙ drop_at k.text others (length m.text) (sym long) in
-    let one : m ≡ record { mtype = k.mtype; text = m.text } = ap (λ (t : ℤ). record { mtype = t; text = m.text }) type in
-    (one ∙ ap (λ (l : List ℕ). record { mtype = k.mtype; text = l }) text, after)
-
--- two processes
-pub process_one : (p q : ℕ × Process) (more others : List ℕ) → FitsProcess p → FitsProcess q
-    → process_bytes p ++ more ≡ process_bytes q ++ others → (p ≡ q) × (more ≡ others)
-process_one p q more others fit also same =
-    let first = fields_one process_sizes (process_numbers p) (process_numbers q) more others fit also same in
-    let made : List ℕ → ℕ × Process = λ ns. (get_or ns 0 0, record { cred = record { uid = get_or ns 1 0; gid = get_or ns 2 0 } }) in
-    (ap made first.0, first.1)
-
--- the count of processes, and what follows it
-pub counted : (n : ℕ) (bytes : List ℕ) (ps : List (ℕ × Process)) → n < 2 ^ 32 → length ps < 2 ^ 32 → count_bytes n ++ bytes ≡ processes_bytes ps
-    → (n ≡ length ps) × (bytes ≡ flat_map process_bytes ps)
-counted n bytes ps few also same =
-    let both = fields_one (Four ∷ []) (n ∷ []) (length ps ∷ []) bytes (flat_map process_bytes ps) (few, tt) (also, tt) same in
-    (ap (λ (ns : List ℕ). get_or ns 0 0) both.0, both.1)
-
--- two queues before their messages
-pub queue_one : (e f : Entry Queue) (more others : List ℕ) → FitsQueue e → FitsQueue f
-    → fields_bytes queue_sizes (queue_numbers e) ++ more ≡ fields_bytes queue_sizes (queue_numbers f) ++ others
-    → (e.key ≡ f.key) × (queue_numbers e ≡ queue_numbers f) × (more ≡ others)
-queue_one e f more others fit also same =
-    let first = fields_one queue_sizes (queue_numbers e) (queue_numbers f) more others fit.1 also.1 same in
-    let bits : cast_unsigned w32 e.key ≡ cast_unsigned w32 f.key = ap (λ (ns : List ℕ). get_or ns 0 0) first.0 in
-    (signed32 e.key f.key fit.0 also.0 bits, first.0, first.1)
-
--- with the same numbers, keys and messages they are the same
-pub same_queue : (e f : Entry Queue) → e.key ≡ f.key → queue_numbers e ≡ queue_numbers f → e.object.messages ≡ f.object.messages → e ≡ f
-same_queue e f key numbers messages =
-    ap (λ (k : ℤ). entry_from (queue_numbers e) k e.object.messages) key
-    ∙ ap (λ (ns : List ℕ). entry_from ns f.key e.object.messages) numbers
-    ∙ ap (λ (ms : List PlainMessage). entry_from (queue_numbers f) f.key ms) messages
+-- a queue to which these messages were added
+pub rebuilt_queue : (q r : Queue) (ms : List PlainMessage) → r.messages ≡ q.messages ++ ms → with_messages r [] ≡ with_messages q []
+    → r ≡ with_messages q (q.messages ++ ms)
+rebuilt_queue q r ms added others =
+    ap (with_messages r) added ∙ ap (λ (v : Queue). with_messages v (q.messages ++ ms)) others
 
 -- a state with its clock and its next numbers alone
 abbrev pub emptied : State → State

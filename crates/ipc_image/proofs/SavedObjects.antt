@@ -1,12 +1,12 @@
 -- The state as objects: how many bytes each has, that they are objects, and that they fit where they are kept.
-use Rattle.std.proofs.Common.{◌≡◌, ℕ, zero, suc, ◌+◌, ◌*◌, ◌^◌, ◌<◌, ◌≤◌, List, [], ◌∷◌, length, map, get_or, Some, refl, sym, ap, subst, ◌∙◌, arith}
+use Rattle.std.proofs.Common.{◌≡◌, ℕ, zero, suc, ◌+◌, ◌*◌, ◌^◌, ◌<◌, ◌≤◌, List, [], ◌∷◌, length, map, Some, refl, sym, ap, subst, ◌∙◌, arith}
 use Rattle.std.specs.Prelude.{All, sum_by, option_map}
 use Rattle.std.proofs.lemmas.List.{length-map, length-append}
 use Rattle.std.proofs.lemmas.List.Concat.{flat_map-cons}
 use Rattle.std.proofs.lemmas.List.Elements.{All-cons, All-head, All-tail, All-map, All-nil, All-weaker}
 use Rattle.std.proofs.lemmas.List.Sums.{sum_by-cons, sum_by-le, sum_by_from}
 use Rattle.std.proofs.lemmas.Nat.{mul-le}
-use Rattle.std.proofs.lemmas.Option.{slice_get_read, slice_get-map}
+use Rattle.std.proofs.lemmas.Option.{slice_get-map}
 use Rattle.std.specs.List.{flat_map, slice_get}
 use Rattle.ipc_state.specs.declared.processes.Process.{Process}
 use Rattle.ipc_base.specs.declared.limits.Limits.{Limits}
@@ -14,7 +14,8 @@ use Rattle.ipc_base.specs.Limits.{ArePassed}
 use Rattle.ipc_base.specs.Objects.{PlainObjects, AreObjects, object_sectors, Fit}
 use Rattle.ipc_base.specs.Table.{keys_of, IsRising}
 use Rattle.ipc_base.proofs.CallerLemmas.{passed-bounds, rising-weaker, rising-lower}
-use Rattle.sysv_msg.specs.Queue.{Queue, PlainMessage, Kept, byte_count}
+use Rattle.sysv_msg.specs.Queue.{Queue, PlainMessage, Kept, byte_count, stat_of}
+use Rattle.sysv_msg.specs.declared.queue.QueueStat.{QueueStat}
 use Rattle.ipc_state.specs.declared.numbered.Item.{Item}
 use Rattle.ipc_state.specs.declared.keyed.Entry.{Entry}
 use Rattle.ipc_state.specs.Sound.{IsSoundQueue, HasNumbers}
@@ -23,12 +24,13 @@ use Rattle.ipc_engine.specs.Sound.{IsSound}
 use Rattle.ipc_state.specs.State.{State, start}
 use Rattle.ipc_state.specs.Tables.{queue_row}
 use Rattle.ipc_base.specs.Numbers.{fields_bytes}
-use Rattle.ipc_image.specs.Saved.{clock_sizes, clock_numbers, count_bytes, process_bytes, processes_bytes, message_bytes, queue_bytes, queue_number, saved}
+use Rattle.ipc_image.specs.Saved.{clock_sizes, clock_numbers, count_bytes, process_bytes, processes_bytes, message_bytes, queue_bytes, queue_object, saved}
+use Rattle.ipc_image.proofs.RestoredParts.{queue_spelled}
 use Rattle.ipc_image.specs.Sizes.{sectors, process_sectors, area_of}
 
 -- ---- how many bytes each has
 
-length-processes : (processes : List (ℕ × Process)) → length (flat_map process_bytes processes) ≡ 16 * length processes
+pub length-processes : (processes : List (ℕ × Process)) → length (flat_map process_bytes processes) ≡ 16 * length processes
 length-processes [] = refl
 length-processes (p ∷ processes) =
     ap length (flat_map-cons process_bytes p processes) ∙ length-append (process_bytes p) (flat_map process_bytes processes)
@@ -44,12 +46,12 @@ length-messages (m ∷ messages) =
     ∙ omega (arith, length-messages messages, sum_by-cons (λ (n : PlainMessage). length n.text) m messages)
 
 pub queue-long : (e : Entry Queue) → length (queue_bytes e) ≡ 64 + (12 * length e.object.messages + byte_count e.object.messages)
-queue-long e = omega (arith, length-messages e.object.messages)
+queue-long e = omega (arith, ap length (queue_spelled e), length-messages e.object.messages)
+
+pub queue_counts : (e : Entry Queue) (s : QueueStat) → s ≡ stat_of e.object → length (queue_bytes e) ≡ 64 + (12 * s.qnum + s.bytes)
+queue_counts e s is = omega (arith, queue-long e, ap (λ (t : QueueStat). t.qnum) is, ap (λ (t : QueueStat). t.bytes) is)
 
 -- ---- which object is which
-
-abbrev queue_object : ℕ × Entry Queue → ℕ × List ℕ
-queue_object e = (queue_number e.0, queue_bytes e.1)
 
 module _ (s : State) where
   pub saved-count : length (saved s) ≡ 4 + length s.msg.entries
@@ -81,14 +83,7 @@ module _ (s : State) where
   saved-number (suc (suc (suc zero))) few = refl
   saved-number (suc (suc (suc (suc i)))) few = absurd (omega arith)
 
-  -- a queue as it is kept
-  pub entry-kept : (j : ℕ) (rows : List (Item (Entry Kept))) (e : Item (Entry Kept)) → map queue_row rows ≡ s.msg.entries → j < length rows
-      → e ≡ get_or rows j e → slice_get s.msg.entries j ≡ Some (queue_row e)
-  entry-kept j rows e are within is =
-      let row : slice_get rows j ≡ Some e = slice_get_read rows (length rows) j e refl within is in
-      ap (λ (l : List (ℕ × Entry Queue)). slice_get l j) (sym are) ∙ slice_get-map queue_row rows j ∙ ap (option_map queue_row) row
-
-  -- its object
+  -- a queue's object
   pub saved-queue : (i j : ℕ) (e : Item (Entry Kept)) → i ≡ 4 + j → slice_get s.msg.entries j ≡ Some (queue_row e)
       → slice_get (saved s) i ≡ Some (queue_object (queue_row e))
   unfolding saved

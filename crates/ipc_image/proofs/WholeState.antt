@@ -1,22 +1,22 @@
 -- The whole of a state: its objects part by part, and that two states with the same objects are the same.
-use Rattle.std.proofs.Common.{◌≡◌, ℕ, List, [], ◌∷◌, ◌++◌, length, drop, get_or, map, Option, Some, refl, sym, ◌∙◌, ap, subst, arith}
+use Rattle.std.proofs.Common.{◌≡◌, ◌<◌, ◌^◌, ℕ, List, [], ◌∷◌, ◌++◌, length, drop, map, Option, Some, refl, sym, ◌∙◌, ap, subst}
 use Rattle.std.specs.Prelude.{All, slice_get, unwrap_or}
-use Rattle.std.specs.List.{flat_map}
-use Rattle.std.proofs.lemmas.List.Elements.{All-head, All-tail}
 use Rattle.ipc_base.specs.Numbers.{fields_bytes}
 use Rattle.ipc_base.specs.Objects.{PlainObjects}
-use Rattle.ipc_base.proofs.CallerLemmas.{spelled-same}
-use Rattle.sysv_msg.specs.Queue.{Queue, PlainMessage}
+use Rattle.sysv_msg.specs.Queue.{Queue}
 use Rattle.ipc_state.specs.declared.keyed.Entry.{Entry}
 use Rattle.ipc_state.specs.declared.processes.Process.{Process}
 use Rattle.ipc_state.specs.declared.state.Numbers.{Numbers}
 use Rattle.ipc_state.specs.Restored.{with_numbers}
 use Rattle.ipc_state.specs.State.{State, start}
-use Rattle.ipc_image.specs.Relations.Parts.{IsClockOf}
-use Rattle.ipc_image.specs.Relations.Restored.{AddsProcesses, AddsQueues, with_processes, with_queues}
-use Rattle.ipc_image.specs.Saved.{clock_sizes, clock_numbers, count_bytes, process_bytes, processes_bytes, message_bytes, queue_bytes, queue_number}
-use Rattle.ipc_image.specs.Saved.{queue_object, saved, FitsProcess, FitsMessage, FitsQueue, HasPlaces, HasAllPlaces}
-use Rattle.ipc_image.proofs.RestoredParts.{clock_one, process_one, counted, message_one, queue_one, same_queue}
+use Rattle.ipc_image.specs.Relations.Restored.{IsClockOf}
+use Rattle.ipc_image.specs.Relations.Restored.{with_processes, with_queues}
+use Rattle.ipc_image.specs.Saved.{clock_sizes, clock_numbers, count_bytes, process_shape, process_numbers, process_bytes, processes_bytes, FitsProcess}
+use Rattle.ipc_image.specs.Saved.{queue_shape, queue_tree, queue_bytes, queue_object, saved, FitsQueue, HasPlaces, HasAllPlaces}
+use Rattle.ipc_image.specs.SavedParts.{process_of, queue_of, without_processes, without_queues}
+use Rattle.ipc_image.proofs.Shapes.{plain_one, counted_one}
+use Rattle.ipc_image.proofs.ReadKinds.{objects_one}
+use Rattle.ipc_image.proofs.RestoredParts.{clock_one, queue_known}
 
 -- the objects of a state, each in its place
 pub record HasParts (s : State) (objects : PlainObjects) : Type 0 where
@@ -57,57 +57,41 @@ pub same_object : (objects : PlainObjects) (i : ℕ) (a b : List ℕ) → slice_
 same_object objects i a b is also =
     ap (λ (o : Option (ℕ × List ℕ)). (unwrap_or o (i, a)).1) (sym is ∙ also)
 
--- the state that the parts make has these objects
-pub all_restored : (objects : PlainObjects) (n : Numbers) (one two three : State) (clock processes calls adjustments : List ℕ)
+-- ---- added
+
+pub processes_added : (s t : State) (ps : List (ℕ × Process)) → t.processes.entries ≡ s.processes.entries ++ ps
+    → without_processes t ≡ without_processes s → t ≡ with_processes s ps
+processes_added s t ps added others =
+    let set : List (ℕ × Process) → State → State = λ l v. record v { processes = record { next = v.processes.next; entries = l } } in
+    ap (λ (l : List (ℕ × Process)). set l t) added ∙ ap (set (s.processes.entries ++ ps)) others
+
+pub queues_added : (s t : State) (es : List (ℕ × Entry Queue)) → t.msg.entries ≡ s.msg.entries ++ es → without_queues t ≡ without_queues s
+    → t ≡ with_queues s es
+queues_added s t es added others =
+    let set : List (ℕ × Entry Queue) → State → State = λ l v. record v { msg = record { next = v.msg.next; entries = l } } in
+    ap (λ (l : List (ℕ × Entry Queue)). set l t) added ∙ ap (set (s.msg.entries ++ es)) others
+
+-- the objects are those of the state that they make
+pub all_restored : (objects : PlainObjects) (n : Numbers) (ps : List (ℕ × Process)) (es : List (ℕ × Entry Queue)) (s : State)
+    (clock processes calls adjustments : List ℕ)
     → slice_get objects 0 ≡ Some (0, clock) → slice_get objects 1 ≡ Some (1, processes) → slice_get objects 2 ≡ Some (2, calls)
-    → slice_get objects 3 ≡ Some (3, adjustments) → calls ≡ count_bytes 0 → adjustments ≡ count_bytes 0
-    → IsClockOf n clock → one ≡ with_numbers start n → AddsProcesses one processes two → AddsQueues two (drop 4 objects) three
-    → HasAllPlaces three × (objects ≡ saved three)
-all_restored objects n one two three clock processes calls adjustments at0 at1 at2 at3 no_call no_adjustment of from adds more =
-    let t : State = with_queues (with_processes (with_numbers start n) adds.processes) more.entries in
-    let is : three ≡ t =
-    more.added ∙ ap (λ (s : State). with_queues s more.entries) (adds.added ∙ ap (λ (s : State). with_processes s adds.processes) from) in
+    → slice_get objects 3 ≡ Some (3, adjustments) → calls ≡ count_bytes 0 → adjustments ≡ count_bytes 0 → IsClockOf n clock
+    → length ps < 2 ^ 32 → All FitsProcess ps → processes ≡ processes_bytes ps → All HasPlaces es → drop 4 objects ≡ map queue_object es
+    → s ≡ with_queues (with_processes (with_numbers start n) ps) es → HasAllPlaces s × (objects ≡ saved s)
+all_restored objects n ps es s clock processes calls adjustments at0 at1 at2 at3 no_call no_adjustment of few fit read places others is =
+    let t : State = with_queues (with_processes (with_numbers start n) ps) es in
     let numbers = of t refl refl refl in
-    let all : HasAllPlaces t = record { clock = numbers.0; count = adds.count; processes = adds.fit; queues = more.places } in
+    let all : HasAllPlaces t = record { clock = numbers.0; count = few; processes = fit; queues = places } in
     let parts : HasParts t objects = record {
       clock = at0 ∙ ap (λ (l : List ℕ). let o : Option (ℕ × List ℕ) = Some (0, l) in o) numbers.1;
-      processes = at1 ∙ ap (λ (l : List ℕ). let o : Option (ℕ × List ℕ) = Some (1, l) in o) adds.read;
+      processes = at1 ∙ ap (λ (l : List ℕ). let o : Option (ℕ × List ℕ) = Some (1, l) in o) read;
       calls = at2 ∙ ap (λ (l : List ℕ). let o : Option (ℕ × List ℕ) = Some (2, l) in o) no_call;
       adjustments = at3 ∙ ap (λ (l : List ℕ). let o : Option (ℕ × List ℕ) = Some (3, l) in o) no_adjustment;
-      queues = more.read;
+      queues = others;
     } in
     (subst HasAllPlaces (sym is) all, are_saved t objects parts ∙ ap saved (sym is))
 
 -- ---- told apart
-
--- two queues with the same bytes
-pub entry_one : (e f : Entry Queue) → FitsQueue e → FitsQueue f → All FitsMessage e.object.messages → All FitsMessage f.object.messages
-    → queue_bytes e ≡ queue_bytes f → e ≡ f
-entry_one e f fit also texts others same =
-    let ms : List PlainMessage = e.object.messages in
-    let ns : List PlainMessage = f.object.messages in
-    let parts = queue_one e f (flat_map message_bytes ms) (flat_map message_bytes ns) fit also same in
-    let long : length ms ≡ length ns = ap (λ (l : List ℕ). get_or l 12 0) parts.1 in
-    let messages = spelled-same message_bytes FitsMessage message_one ms ns [] [] texts others long (ap (λ (l : List ℕ). l ++ []) parts.2) in
-    same_queue e f parts.0 parts.1 messages.0
-
--- with their identifiers
-object_one : (e f : ℕ × Entry Queue) → HasPlaces e → HasPlaces f → queue_object e ≡ queue_object f → e ≡ f
-object_one e f at also same =
-    let number : queue_number e.0 ≡ queue_number f.0 = ap (λ (o : ℕ × List ℕ). o.0) same in
-    let id : e.0 ≡ f.0 = omega (arith, number) in
-    let one = entry_one e.1 f.1 at.numbers also.numbers at.messages also.messages (ap (λ (o : ℕ × List ℕ). o.1) same) in
-    ap (λ (n : ℕ). (n, e.1)) id ∙ ap (λ (x : Entry Queue). (f.0, x)) one
-
--- the queues
-entries_one : (es fs : List (ℕ × Entry Queue)) → All HasPlaces es → All HasPlaces fs → map queue_object es ≡ map queue_object fs → es ≡ fs
-entries_one [] [] at also same = refl
-entries_one [] (f ∷ fs) at also same = absurd (omega (arith, ap length same))
-entries_one (e ∷ es) [] at also same = absurd (omega (arith, ap length same))
-entries_one (e ∷ es) (f ∷ fs) at also same =
-    let first : e ≡ f = object_one e f (All-head HasPlaces e es at) (All-head HasPlaces f fs also) cc in
-    let rest : es ≡ fs = entries_one es fs (All-tail HasPlaces e es at) (All-tail HasPlaces f fs also) cc in
-    ap (λ (x : ℕ × Entry Queue). x ∷ es) first ∙ ap (λ (xs : List (ℕ × Entry Queue)). f ∷ xs) rest
 
 -- a state with these processes and queues
 abbrev with_parts : State → List (ℕ × Process) → List (ℕ × Entry Queue) → State
@@ -118,6 +102,10 @@ with_parts u ps es =
       msg = record { next = u.msg.next; entries = es };
     }
 
+-- two queues with the same bytes
+queue_one : (e f : Entry Queue) → FitsQueue e → FitsQueue f → queue_bytes e ≡ queue_bytes f → e ≡ f
+queue_one e f fit also same = (plain_one queue_shape queue_tree queue_of FitsQueue queue_known e f [] [] fit also (ap (λ (l : List ℕ). l ++ []) same)).0
+
 -- two states
 pub saved_once : (s t : State) → HasAllPlaces s → HasAllPlaces t → saved s ≡ saved t → s ≡ t
 saved_once s t at also same =
@@ -127,9 +115,8 @@ saved_once s t at also same =
     let mine = parts_of s objects (sym same) in
     let its = parts_of t objects refl in
     let clock = clock_one s t at.clock also.clock (same_object objects 0 _ _ mine.clock its.clock) in
-    let read = same_object objects 1 _ _ mine.processes its.processes in
-    let count = counted (length ps) (flat_map process_bytes ps) qs at.count also.count read in
-    let processes = (spelled-same process_bytes FitsProcess process_one ps qs [] [] at.processes also.processes count.0 (ap (λ (l : List ℕ). l ++ []) count.1)).0 in
-    let entries = entries_one s.msg.entries t.msg.entries at.queues also.queues (sym mine.queues ∙ its.queues) in
+    let processes = counted_one process_bytes FitsProcess (plain_one process_shape process_numbers process_of FitsProcess (λ p fit. (fit, refl))) ps qs
+    at.count also.count at.processes also.processes (same_object objects 1 _ _ mine.processes its.processes) in
+    let entries = objects_one (2 ^ 32) queue_bytes FitsQueue queue_one s.msg.entries t.msg.entries at.queues also.queues (sym mine.queues ∙ its.queues) in
     ap (λ (u : State). with_parts u ps s.msg.entries) clock ∙ ap (λ (l : List (ℕ × Process)). with_parts t l s.msg.entries) processes
     ∙ ap (λ (es : List (ℕ × Entry Queue)). with_parts t qs es) entries

@@ -1,4 +1,6 @@
 -- How large a device must be, what its superblock says, and how events stand on it.
+pub mod Shape
+pub mod Kind
 pub mod Saved
 pub mod Sizes
 pub mod Superblock

@@ -1,3 +1,2 @@
 -- What joins the readers of saved objects to the definitions. A reader of the definitions alone needs none of it.
-pub mod Parts
 pub mod Restored

@@ -15,6 +15,8 @@ use Rattle.ipc_state.specs.State.{State}
 use Rattle.ipc_base.specs.declared.field.Size.{Size}
 use Rattle.ipc_base.specs.declared.field.Size.TheVariants.{Four, Eight}
 use Rattle.ipc_base.specs.Numbers.{fields_bytes, FitFields}
+use Rattle.ipc_image.specs.Kind.{object_in, FitsIn}
+use Rattle.ipc_image.specs.Shape.{Shape, Fields, Texts, Listing, Tree, IsTree, bytes_in}
 
 -- ---- the four that every state has
 
@@ -28,19 +30,26 @@ clock_numbers s = s.clock ∷ s.processes.next ∷ s.msg.next ∷ 1 ∷ 1 ∷ 1 
 abbrev pub count_bytes : ℕ → List ℕ
 count_bytes n = fields_bytes (Four ∷ []) (n ∷ [])
 
+-- how many of some things there are, and each of them
+abbrev pub counted_bytes : {X : Type 0} → (X → List ℕ) → List X → List ℕ
+counted_bytes bytes_of xs = count_bytes (length xs) ++ flat_map bytes_of xs
+
 -- a process: its pid, its user, its group, and how many descriptors it has
 abbrev pub process_sizes : List Size
 process_sizes = Four ∷ Four ∷ Four ∷ Four ∷ []
+
+abbrev pub process_shape : Shape
+process_shape = Fields process_sizes
 
 abbrev pub process_numbers : ℕ × Process → List ℕ
 process_numbers p = p.0 ∷ p.1.cred.uid ∷ p.1.cred.gid ∷ 0 ∷ []
 
 abbrev pub process_bytes : ℕ × Process → List ℕ
-process_bytes p = fields_bytes process_sizes (process_numbers p)
+process_bytes = bytes_in process_shape process_numbers
 
 -- how many processes there are, and each of them, by pid
 abbrev pub processes_bytes : List (ℕ × Process) → List ℕ
-processes_bytes processes = count_bytes (length processes) ++ flat_map process_bytes processes
+processes_bytes processes = counted_bytes process_bytes processes
 
 -- ---- message queues
 
@@ -63,12 +72,24 @@ message_sizes = Eight ∷ Four ∷ []
 abbrev pub message_numbers : PlainMessage → List ℕ
 message_numbers m = cast_unsigned w64 m.mtype ∷ length m.text ∷ []
 
+abbrev pub message_shape : Shape
+message_shape = Texts message_sizes (1 ∷ [])
+
+abbrev pub message_tree : PlainMessage → Tree message_shape
+message_tree m = (message_numbers m, m.text)
+
 abbrev pub message_bytes : PlainMessage → List ℕ
-message_bytes m = fields_bytes message_sizes (message_numbers m) ++ m.text
+message_bytes = bytes_in message_shape message_tree
 
 -- a queue, and each of its messages, the oldest first
+abbrev pub queue_shape : Shape
+queue_shape = Listing queue_sizes [] 12 message_shape
+
+abbrev pub queue_tree : Entry Queue → Tree queue_shape
+queue_tree e = (queue_numbers e, [], map message_tree e.object.messages)
+
 abbrev pub queue_bytes : Entry Queue → List ℕ
-queue_bytes e = fields_bytes queue_sizes (queue_numbers e) ++ flat_map message_bytes e.object.messages
+queue_bytes = bytes_in queue_shape queue_tree
 
 -- the number of a queue's object
 abbrev pub queue_number : ℕ → ℕ
@@ -76,7 +97,7 @@ queue_number id = 2 ^ 32 + id
 
 -- its object
 abbrev pub queue_object : ℕ × Entry Queue → ℕ × List ℕ
-queue_object e = (queue_number e.0, queue_bytes e.1)
+queue_object = object_in (2 ^ 32) queue_bytes
 
 -- ---- all of it
 
@@ -89,20 +110,20 @@ saved s =
 -- ---- each number has its place
 
 abbrev pub FitsProcess : ℕ × Process → Type 0
-FitsProcess p = FitFields process_sizes (process_numbers p)
+FitsProcess p = IsTree process_shape (process_numbers p)
 
 abbrev pub FitsMessage : PlainMessage → Type 0
-FitsMessage m = FitsSigned w64 m.mtype × FitFields message_sizes (message_numbers m)
+FitsMessage m = FitsSigned w64 m.mtype × IsTree message_shape (message_tree m)
 
--- of a queue before its messages
-abbrev pub FitsQueue : Entry Queue → Type 0
-FitsQueue e = FitsSigned w32 e.key × FitFields queue_sizes (queue_numbers e)
+-- of a queue and its messages
+pub record FitsQueue (e : Entry Queue) : Type 0 where
+  pub key : FitsSigned w32 e.key
+  pub numbers : FitFields queue_sizes (queue_numbers e)
+  pub messages : All FitsMessage e.object.messages
 
--- of a queue with its identifier and its messages
-pub record HasPlaces (e : ℕ × Entry Queue) : Type 0 where
-  pub id : e.0 < 2 ^ 32
-  pub numbers : FitsQueue e.1
-  pub messages : All FitsMessage e.1.object.messages
+-- and of its identifier
+abbrev pub HasPlaces : ℕ × Entry Queue → Type 0
+HasPlaces = FitsIn FitsQueue
 
 -- of the state
 pub record HasAllPlaces (s : State) : Type 0 where

@@ -1,6 +1,8 @@
 -- What is known of numbers once they are read, and marks.
-use Rattle.std.specs.Prelude.{◌≡◌, ℕ, ◌-◌, ◌<◌, ◌^◌, List, length, take, Some, slice_get}
+use Rattle.std.specs.Prelude.{◌≡◌, ℕ, ◌-◌, ◌<◌, ◌≤◌, ◌^◌, List, length, take, Some, slice_get, [], ℤ, slice_index, map}
 use Rattle.std.specs.List.{flat_map}
+use Rattle.std.specs.Int.{w32, w64, cast_signed}
+use Rattle.ipc_state.specs.declared.processes.Process.{Process}
 use Rattle.sysv_msg.specs.declared.queue.QueueStat.{QueueStat}
 use Rattle.ipc_base.specs.declared.objects.Mark.{Mark}
 use Rattle.sysv_msg.specs.Queue.{Kept, Queue, PlainMessage}
@@ -9,7 +11,8 @@ use Rattle.ipc_state.specs.State.{State}
 use Rattle.ipc_state.specs.declared.perm.Perm.{Perm}
 use Rattle.ipc_state.specs.declared.numbered.Item.{Item}
 use Rattle.ipc_state.specs.Tables.{queue_row}
-use Rattle.ipc_image.specs.Saved.{message_bytes, HasPlaces}
+use Rattle.ipc_image.specs.Saved.{process_bytes, message_bytes, queue_shape, HasPlaces}
+use Rattle.ipc_image.specs.Shape.{Tree}
 
 -- each number of a kind has its place
 abbrev pub IsWidePerm : Perm → Type 0
@@ -25,15 +28,64 @@ IsWideStat s =
 abbrev pub IsWideQueue : Item (Entry Kept) → Type 0
 IsWideQueue e = HasPlaces (queue_row e)
 
--- the bytes of the first messages
-abbrev pub first_bytes : ℕ → List PlainMessage → List ℕ
-first_bytes n messages = flat_map message_bytes (take n messages)
+-- the bytes of the first of some things
+abbrev pub first_bytes : {X : Type 0} → (X → List ℕ) → ℕ → List X → List ℕ
+first_bytes bytes_of n xs = flat_map bytes_of (take n xs)
 
--- the parts of a queue's object are its messages, and the mark has the bytes of the first of them
-abbrev pub IsMarkIn : List PlainMessage → Mark → Type 0
-IsMarkIn messages m = m.bytes ≡ length (first_bytes m.parts messages)
+-- the mark has the bytes of the first of them
+abbrev pub IsMarkIn : {X : Type 0} → (X → List ℕ) → List X → Mark → Type 0
+IsMarkIn bytes_of xs m = m.bytes ≡ length (first_bytes bytes_of m.parts xs)
 
--- it is a mark of the i-th object; those of the first four are never looked at
-abbrev pub IsMarkOf : State → ℕ → Mark → Type 0
-IsMarkOf s i m =
-    (e : ℕ × Entry Queue) → slice_get s.msg.entries (i - 4) ≡ Some e → IsMarkIn e.1.object.messages m
+-- it is a mark of the i-th object; those of objects without a list are never looked at
+pub record IsMarkOf (s : State) (i : ℕ) (m : Mark) : Type 0 where
+  pub processes : i ≡ 1 → IsMarkIn process_bytes s.processes.entries m
+  pub messages : 4 ≤ i → (e : ℕ × Entry Queue) → slice_get s.msg.entries (i - 4) ≡ Some e
+      → IsMarkIn message_bytes e.1.object.messages m
+
+-- what a tree is of
+abbrev pub process_of : List ℕ → ℕ × Process
+process_of ns = (slice_index ns 0, record { cred = record { uid = slice_index ns 1; gid = slice_index ns 2 } })
+
+abbrev pub message_from : List ℕ → ℤ → PlainMessage
+message_from text mtype = record { mtype = mtype; text = text }
+
+abbrev pub message_of : List ℕ × List ℕ → PlainMessage
+message_of t = message_from t.1 (cast_signed w64 (slice_index t.0 0))
+
+-- a state without its processes
+abbrev pub without_processes : State → State
+without_processes s = record s { processes = record { next = s.processes.next; entries = [] } }
+
+-- a state without its queues
+abbrev pub without_queues : State → State
+without_queues s = record s { msg = record { next = s.msg.next; entries = [] } }
+
+-- a queue with these messages in the place of its own
+abbrev pub with_messages : Queue → List PlainMessage → Queue
+with_messages q messages = record q { messages = messages }
+
+-- the queue with these numbers, this key and these messages
+abbrev pub entry_from : List ℕ → ℤ → List PlainMessage → Entry Queue
+entry_from ns key messages =
+    record {
+      key = key;
+      perm = record {
+        uid = slice_index ns 1;
+        gid = slice_index ns 2;
+        cuid = slice_index ns 3;
+        cgid = slice_index ns 4;
+        mode = slice_index ns 5;
+      };
+      object = record {
+        messages = messages;
+        qbytes = slice_index ns 11;
+        stime = slice_index ns 6;
+        rtime = slice_index ns 7;
+        ctime = slice_index ns 8;
+        lspid = slice_index ns 9;
+        lrpid = slice_index ns 10;
+      };
+    }
+
+abbrev pub queue_of : Tree queue_shape → Entry Queue
+queue_of t = entry_from t.0 (cast_signed w32 (slice_index t.0 0)) (map message_of t.2)

@@ -2,13 +2,17 @@
 //! the state as objects.
 #![tactic(auto)]
 
+mod clock;
 mod fault;
+mod fields;
+mod kind;
 mod laws;
-mod parts;
 mod places;
+mod process;
+mod queue;
 mod records;
 mod restoring;
-mod saved_parts;
+mod saved;
 mod sizes;
 mod state_objects;
 mod superblock;

@@ -1,19 +1,22 @@
 //! The state as objects, without any memory.
 
-ghost use Rattle.std.specs.Prelude.{◌≡◌, ◌≤◌, ◌<◌, ◌-◌, length, true, option_map, Some, slice_get, ⊤};
+ghost use Rattle.std.specs.Prelude.{◌≡◌, ◌≤◌, ◌<◌, ◌-◌, ◌^◌, length, true, option_map, Some, slice_get, ⊤};
 ghost use Rattle.ipc_base.specs.declared.limits.Limits.{Limits};
 ghost use Rattle.ipc_base.specs.Limits.{ArePassed};
 ghost use Rattle.ipc_base.specs.Objects.{Fit};
 ghost use Rattle.ipc_state.specs.State.{State as PlainState, start};
-ghost use Rattle.ipc_image.specs.Saved.{saved, queue_bytes, queue_number, StandForState};
-ghost use Rattle.ipc_state.specs.Sound.{HasNumbers};
+ghost use Rattle.ipc_image.specs.Saved.{saved, queue_bytes, queue_number, HasPlaces, HasAllPlaces, StandForState};
 ghost use Rattle.ipc_state.specs.Tables.{queue_entry, queue_row};
 ghost use Rattle.ipc_engine.specs.Sound.{IsSound};
 ghost use Rattle.ipc_image.specs.SavedParts.{IsMarkOf};
 ghost use Rattle.ipc_image.specs.Sizes.{area_of};
 ghost use Rattle.ipc_image.specs.Window.{passed};
 
-use crate::saved_parts::{START, put_clock, put_count, put_processes, put_queue, queue_len};
+use crate::clock::put_clock;
+use crate::fields::put_count;
+use crate::queue::{put_queue, queue_len};
+use crate::restoring::ALWAYS;
+use crate::saved::{START, put_counted};
 use crate::widths::read_state;
 use crate::window::Window;
 use ipc_base::{Mark, Moment, Objects};
@@ -21,9 +24,6 @@ use ipc_engine::Engine;
 use ipc_state::{Entry, Item, State};
 use std::marker::Model;
 use sysv_msg::MsgQueue;
-
-/// How many objects every state has: the clock, the processes, the waiting calls, the adjustments.
-const ALWAYS: u32 = 4;
 
 /// The number of a queue's object is this one and its identifier.
 const QUEUES: u64 = 1 << 32;
@@ -39,13 +39,14 @@ impl<'a> Model for StateObjects<'a> {
     ghost use Rattle.ipc_base.specs.Limits.{ArePassed};
     ghost use Rattle.ipc_engine.specs.Sound.{IsSound};
     ghost use Rattle.ipc_state.specs.State.{State as PlainState};
+    ghost use Rattle.ipc_image.specs.Saved.{HasAllPlaces};
 
     ghost Value = { PlainState };
 
     ghost view = { λ o. o.state.now.state };
 
     ghost invariant = { λ o. ArePassed o.state.now.limits
-        × IsSound o.state.now.limits o.state.now.state };
+        × IsSound o.state.now.limits o.state.now.state × HasAllPlaces o.state.now.state };
 }
 
 /// The state of the machine as objects. It takes no memory. They stand for that state, and fit where
@@ -106,12 +107,14 @@ impl<'a> Objects for StateObjects<'a> {
 fn queue_at<'a>(state: &'a State, i: u32) -> &'a Item<Entry<MsgQueue>>
     requires passed { ArePassed state.now.limits }
     requires sound { IsSound state.now.limits state.now.state }
+    requires places { HasAllPlaces state.now.state }
     requires queue { 4 ≤ i }
     requires object { i < length (saved state.now.state) }
     ensures object { slice_get (saved state.now.state) i
         ≡ Some (queue_number result.now.number, queue_bytes (queue_entry result.now.value)) }
     ensures entry { slice_get state.now.state.msg.entries (i - 4) ≡ Some (queue_row result.now) }
-    ensures numbers { HasNumbers result.now.value.object.queue }
+    ensures places { HasPlaces (queue_row result.now) }
+    ensures short { length (queue_bytes (queue_entry result.now.value)) < 2 ^ 64 }
 {
     &state.queues()[(i - ALWAYS) as usize]
 }
@@ -120,6 +123,7 @@ fn queue_at<'a>(state: &'a State, i: u32) -> &'a Item<Entry<MsgQueue>>
 fn put_object(window: &mut Window, state: &State, i: u32, mark: &mut Mark)
     requires passed { ArePassed state.now.limits }
     requires sound { IsSound state.now.limits state.now.state }
+    requires places { HasAllPlaces state.now.state }
     requires object { i < length (saved state.now.state) }
     requires mark { IsMarkOf state.now.state i mark.old }
     ensures passed { option_map (λ o. passed o.1 window.old) (slice_get (saved state.now.state) i)
@@ -128,7 +132,7 @@ fn put_object(window: &mut Window, state: &State, i: u32, mark: &mut Mark)
 {
     match i {
         0 => put_clock(window, state.clock(), state.next_pid(), state.next_queue()),
-        1 => put_processes(window, state.processes()),
+        1 => put_counted(window, state.processes(), mark),
         2 | 3 => put_count(window, 0),
         _ => put_queue(window, &queue_at(state, i).value, mark),
     }

@@ -1,12 +1,15 @@
 -- The parts of a state, and the state that they make.
-use Rattle.std.proofs.Common.{◌≡◌, ◌∙◌, sym, ap}
+use Rattle.std.proofs.Common.{◌≡◌, ◌∙◌, ◌++◌, [], length, drop, map, sym, ap, arith}
 use Rattle.std.specs.Prelude.{Err}
-use Rattle.std.proofs.lemmas.Result.{on_ok_weaker}
+use Rattle.std.proofs.lemmas.List.{append-nil, length-drop, drop_all}
+use Rattle.ipc_base.specs.declared.limits.Limits.{Limits}
+use Rattle.ipc_base.specs.Numbers.{fields_bytes}
+use Rattle.ipc_base.specs.Objects.{PlainObjects}
 use Rattle.ipc_state.specs.Restored.{with_numbers}
 use Rattle.ipc_state.specs.State.{State, start}
-use Rattle.ipc_base.specs.Numbers.{fields_bytes}
-use Rattle.ipc_image.specs.Saved.{clock_sizes, clock_numbers, count_bytes, processes_bytes}
-use Rattle.ipc_image.proofs.WholeState.{parts_of, same_object, all_restored}
+use Rattle.ipc_image.specs.Relations.Restored.{with_processes, with_queues}
+use Rattle.ipc_image.specs.Saved.{clock_sizes, clock_numbers, count_bytes, processes_bytes, queue_object, saved}
+use Rattle.ipc_image.proofs.WholeState.{parts_of, same_object, all_restored, processes_added, queues_added}
 use Rattle.ipc_image.proofs.restoring.restore.Goals as goal
 use Rattle.ipc_image.proofs.restoring.restore.Goals.{then-not-is_none_counted-via-then-not-is_none_counted}
 use Rattle.ipc_image.proofs.restoring.restore.Goals.{then-not-is_none_counted-via-else-not-is_none_counted+then-not-is_none_counted-2}
@@ -51,26 +54,46 @@ returns-in_default-read_clock-clause-damaged c is s all are =
     c.in_default-read_clock.ensures.none s all.clock
     (same_object c.args.objects.now 0 c.in-Some.clock.now (fields_bytes clock_sizes (clock_numbers s)) c.in-Some.ensures.some (parts_of s c.args.objects.now are).clock)
 
-pub returns-in_err-restore_processes-clause-damaged : goal.returns-in_err-restore_processes-clause-damaged
-returns-in_err-restore_processes-clause-damaged c is s all are =
+pub returns-in_err-read_counted-clause-damaged : goal.returns-in_err-read_counted-clause-damaged
+returns-in_err-read_counted-clause-damaged c is s all are =
     let why = rw is at c.from_residual.ensures in
     let same = same_object c.args.objects.now 1 c.in-Some-object_numbered.processes.now (processes_bytes s.processes.entries)
     c.in-Some-object_numbered.ensures.some (parts_of s c.args.objects.now are).processes in
-    c.in_err-restore_processes.ensures.damaged (ap (λ e. Err e) (sym why.1)) s.processes.entries all.count all.processes same
+    c.in_err-read_counted.ensures.damaged (ap (λ e. Err e) (sym why.1)) s.processes.entries all.count all.processes same
+
+-- the queues are all that is left
+queues_of : (s : State) (objects : PlainObjects) → objects ≡ saved s → drop 4 objects ≡ map queue_object s.msg.entries ++ []
+queues_of s objects are = (parts_of s objects are).queues ∙ sym (append-nil (map queue_object s.msg.entries))
+
+pub returns-in_err-next-clause-damaged : goal.returns-in_err-next-clause-damaged
+returns-in_err-next-clause-damaged c is s all are =
+    let why = rw is at c.from_residual-in_err-next.ensures in
+    c.in_err-next.ensures.damaged (ap (λ e. Err e) (sym why.1)) s.msg.entries [] tt all.queues (queues_of s c.args.objects.now are)
+
+pub returns-then-next-count-clause-damaged : goal.returns-then-next-count-clause-damaged
+returns-then-next-count-clause-damaged c is s all are =
+    let objects = c.args.objects.now in
+    let none = c.in_ok-next.ensures.whole s.msg.entries [] tt (queues_of s objects are) all.queues in
+    absurd (omega (arith, ap length none, length-drop c.in_ok-next.next objects, c.if-next-count.true, c.count.ensures.count))
 
 pub returns-clause-ok : goal.returns-clause-ok
 returns-clause-ok c =
+    let objects = c.args.objects.now in
+    let n = c.in-Some-read_clock.numbers in
     let one : State = c.restore_numbers.new.self.state in
-    let from : one ≡ with_numbers start c.in-Some-read_clock.numbers =
-    c.restore_numbers.ensures.state ∙ ap (λ (s : State). with_numbers s c.in-Some-read_clock.numbers) c.requires in
-    on_ok_weaker c.restore_queues.result
-    (λ adds. all_restored c.args.objects.now c.in-Some-read_clock.numbers one c.restore_processes.new.state.state c.restore_queues.new.state.state
-    c.in-Some.clock.now c.in-Some-object_numbered.processes.now c.in-Some-object_numbered-2.calls.now c.in-Some-object_numbered-3.adjustments.now
-    c.in-Some.ensures.some c.in-Some-object_numbered.ensures.some c.in-Some-object_numbered-2.ensures.some c.in-Some-object_numbered-3.ensures.some
-    (c.is_none_counted.ensures.0 c.if-not-is_none_counted.false)
-    (c.is_none_counted-else-not-is_none_counted.ensures.0 c.if-not-is_none_counted-2.false)
-    c.in-Some-read_clock.ensures.some from c.in_ok-restore_processes.ensures.ok adds)
-    c.restore_queues.ensures.ok
-
-pub returns-clause-damaged : goal.returns-clause-damaged
-returns-clause-damaged c is s all are = c.restore_queues.ensures.damaged is s.msg.entries all.queues (parts_of s c.args.objects.now are).queues
+    let from : one ≡ with_numbers start n = c.restore_numbers.ensures.state ∙ ap (λ (s : State). with_numbers s n) c.requires in
+    let ps = c.in_ok-read_counted.ensures.ok in
+    let es = c.in_ok-next.ensures.ok in
+    let two : State = c.read_counted.new.into.state in
+    let three : State = c.restore_kind.new.state.state in
+    let is : three ≡ with_queues (with_processes (with_numbers start n) ps.0) es.0 =
+    queues_added two three es.0 es.3 (ap (λ (o : State × Limits). o.0) es.4)
+    ∙ ap (λ (s : State). with_queues s es.0) (processes_added one two ps.0 ps.4 (ap (λ (o : State × Limits). o.0) ps.5)
+    ∙ ap (λ (s : State). with_processes s ps.0) from) in
+    let past : drop c.in_ok-next.next objects ≡ [] = drop_all c.in_ok-next.next objects (omega (arith, c.if-next-count.false, c.count.ensures.count)) in
+    let queues : drop 4 objects ≡ map queue_object es.0 =
+    es.2 ∙ ap (λ (l : PlainObjects). map queue_object es.0 ++ l) past ∙ append-nil (map queue_object es.0) in
+    all_restored objects n ps.0 es.0 three c.in-Some.clock.now c.in-Some-object_numbered.processes.now
+    c.in-Some-object_numbered-2.calls.now c.in-Some-object_numbered-3.adjustments.now c.in-Some.ensures.some c.in-Some-object_numbered.ensures.some
+    c.in-Some-object_numbered-2.ensures.some c.in-Some-object_numbered-3.ensures.some (c.is_none_counted.ensures.0 c.if-not-is_none_counted.false)
+    (c.is_none_counted-else-not-is_none_counted.ensures.0 c.if-not-is_none_counted-2.false) c.in-Some-read_clock.ensures.some ps.1 ps.2 ps.3 es.1 queues is

@@ -1,10 +1,16 @@
-use Rattle.std.proofs.Common.{◌≡◌, ℕ, List, [], ◌∷◌, Some, ap, sym, arith, ◌∙◌}
+use Rattle.std.proofs.Common.{◌≡◌, ℕ, List, [], ◌∷◌, length, Some, ap, sym, subst, arith, ◌∙◌}
 use Rattle.std.specs.Prelude.{option_map}
+use Rattle.std.specs.List.{flat_map}
+use Rattle.std.proofs.lemmas.Option.{same_Some}
+use Rattle.sysv_msg.specs.Queue.{Queue}
+use Rattle.ipc_state.specs.declared.keyed.Entry.{Entry}
 use Rattle.ipc_state.specs.State.{State}
+use Rattle.ipc_state.specs.Tables.{queue_row}
+use Rattle.ipc_image.specs.SavedParts.{IsMarkIn}
 use Rattle.ipc_base.specs.Numbers.{fields_bytes}
-use Rattle.ipc_image.specs.Saved.{clock_sizes, clock_numbers, processes_bytes}
+use Rattle.ipc_image.specs.Saved.{clock_sizes, clock_numbers, process_bytes, processes_bytes, message_bytes}
 use Rattle.ipc_image.specs.Window.{Shown, passed}
-use Rattle.ipc_image.proofs.SavedObjects.{saved-clock, saved-processes, saved-none}
+use Rattle.ipc_image.proofs.SavedObjects.{saved-clock, saved-processes, saved-none, length-processes}
 use Rattle.ipc_image.proofs.state_objects.put_object.Goals as goal
 
 module _ (w : Shown) where
@@ -20,11 +26,21 @@ returns-in-0-clause-passed c =
     (ap (option_map (after c.args.window.now)) (saved-clock s)
     ∙ ap Some (ap (λ (ns : List ℕ). passed (fields_bytes clock_sizes ns) c.args.window.now) same ∙ sym c.put_clock.ensures))
 
+pub put_counted-requires-clause-short : goal.put_counted-requires-clause-short
+put_counted-requires-clause-short c =
+    let ps = c.args.state.now.state.processes.entries in
+    omega (
+      arith,
+      length-processes ps,
+      ap (λ l. length (flat_map process_bytes l)) c.processes.ensures,
+      c.requires.places.count,
+    )
+
 pub returns-in-1-clause-passed : goal.returns-in-1-clause-passed
 returns-in-1-clause-passed c =
     rw c.in-1.is
     (ap (option_map (after c.args.window.now)) (saved-processes c.args.state.now.state)
-    ∙ ap Some (ap (λ l. passed (processes_bytes l) c.args.window.now) (sym c.processes.ensures) ∙ sym c.put_processes.ensures))
+    ∙ ap Some (ap (λ l. passed (processes_bytes l) c.args.window.now) (sym c.processes.ensures) ∙ sym c.put_counted.ensures.passed))
 
 pub returns-in-2-clause-passed : goal.returns-in-2-clause-passed
 returns-in-2-clause-passed c =
@@ -32,3 +48,20 @@ returns-in-2-clause-passed c =
 
 pub returns-in_default-clause-passed : goal.returns-in_default-clause-passed
 returns-in_default-clause-passed c = ap (option_map (after c.args.window.now)) c.queue_at.ensures.object ∙ ap Some (sym c.put_queue.ensures.passed)
+
+pub put_queue-requires-clause-mark : goal.put_queue-requires-clause-mark
+put_queue-requires-clause-mark c = c.requires.mark.messages (omega arith) (queue_row c.queue_at.result.now) c.queue_at.ensures.entry
+
+pub returns-in-1-clause-mark : goal.returns-in-1-clause-mark
+returns-in-1-clause-mark c = record {
+  processes = λ is. subst (λ l. IsMarkIn process_bytes l c.put_counted.new.mark) c.processes.ensures c.put_counted.ensures.mark;
+  messages = λ le. absurd (omega (arith, le, c.in-1.is));
+}
+
+pub returns-in_default-clause-mark : goal.returns-in_default-clause-mark
+returns-in_default-clause-mark c = record {
+  processes = λ is. absurd (omega (arith, is));
+  messages = λ le e found.
+      subst (λ (f : ℕ × Entry Queue). IsMarkIn message_bytes f.1.object.messages c.put_queue.new.mark)
+      (same_Some (queue_row c.queue_at.result.now) e (sym c.queue_at.ensures.entry ∙ found)) c.put_queue.ensures.mark;
+}

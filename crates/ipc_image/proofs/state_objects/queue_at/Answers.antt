@@ -1,12 +1,13 @@
-use Rattle.std.proofs.Common.{◌-◌, ◌<◌, ℕ, List, arith, length, ap, subst, sym}
+use Rattle.std.proofs.Common.{◌-◌, ◌<◌, ◌≡◌, ◌^◌, ◌∙◌, ℕ, List, Some, arith, length, ap, sym}
+use Rattle.std.specs.Prelude.{slice_get}
 use Rattle.std.proofs.lemmas.List.{length-map}
-use Rattle.std.proofs.lemmas.List.Elements.{All-get_or}
 use Rattle.sysv_msg.specs.Queue.{Kept}
 use Rattle.ipc_state.specs.declared.keyed.Entry.{Entry}
 use Rattle.ipc_state.specs.declared.numbered.Item.{Item}
-use Rattle.ipc_state.specs.Sound.{HasNumbers}
 use Rattle.ipc_state.specs.Tables.{queue_row}
-use Rattle.ipc_image.proofs.SavedObjects.{saved-count, saved-queue, entry-kept, rows-numbers}
+use Rattle.ipc_image.specs.Saved.{queue_object, saved, HasPlaces}
+use Rattle.ipc_image.proofs.Marks.{row-at, each-at}
+use Rattle.ipc_image.proofs.SavedObjects.{saved-count, saved-queue, saved-are}
 use Rattle.ipc_image.proofs.state_objects.queue_at.Goals as goal
 
 pub bounds-queues-i : goal.bounds-queues-i
@@ -28,11 +29,13 @@ returns c =
     let e : Item (Entry Kept) = c.index-queues-i.result in
     let within : place < length rows =
     omega (arith, c.requires.queue, c.requires.object, saved-count s, length-map rows queue_row, ap length c.queues.ensures) in
-    let entry = entry-kept s place rows e c.queues.ensures within c.index-queues-i.is in
-    let numbers = rows-numbers c.args.state.now.limits s c.requires.passed c.requires.sound rows c.queues.ensures in
+    let entry : slice_get s.msg.entries place ≡ Some (queue_row e) =
+    ap (λ l. slice_get l place) (sym c.queues.ensures) ∙ row-at queue_row rows place e within c.index-queues-i.is in
+    let object = saved-queue s c.args.i place e (omega (arith, c.requires.queue)) entry in
     record {
-      object = saved-queue s c.args.i place e (omega (arith, c.requires.queue)) entry;
+      object = object;
       entry = entry;
-      numbers = subst (λ (r : Item (Entry Kept)). HasNumbers r.value.object.queue) (sym c.index-queues-i.is)
-          (All-get_or (λ (r : Item (Entry Kept)). HasNumbers r.value.object.queue) rows place e within numbers);
+      places = each-at HasPlaces s.msg.entries place (queue_row e) c.requires.places.queues entry;
+      short = each-at (λ (o : ℕ × List ℕ). length o.1 < 2 ^ 64) (saved s) c.args.i (queue_object (queue_row e))
+          (saved-are c.args.state.now.limits s c.requires.passed c.requires.sound).lengths object;
     }

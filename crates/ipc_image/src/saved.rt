@@ -1,0 +1,179 @@
+//! What every list of things in a saved object has, whatever they are: it passes a window, and is read back.
+
+ghost use Rattle.std.specs.Prelude.{◌≡◌, ◌≢◌, ◌<◌, ◌^◌, ◌++◌, ◌∷◌, [], ℕ, List, All};
+ghost use Rattle.std.specs.Prelude.{length, map, Err, IfOk, OnOk};
+ghost use Rattle.std.specs.List.{flat_map};
+ghost use Rattle.ipc_engine.specs.declared.fault.StateFault.{StateFault};
+ghost use Rattle.ipc_image.specs.Shape.{Shape, Tree, tree_bytes, bytes_in, IsTree};
+ghost use Rattle.ipc_image.specs.Saved.{counted_bytes};
+ghost use Rattle.ipc_image.specs.SavedParts.{first_bytes, IsMarkIn};
+ghost use Rattle.ipc_image.specs.Window.{Shown, passed};
+
+use crate::fields::{put_count, take_count};
+use crate::window::Window;
+use ipc_base::Mark;
+use ipc_engine::StateFault;
+
+/// The mark of nothing.
+pub(crate) const START: Mark = Mark { parts: 0, bytes: 0 };
+
+/// A thing of the state that stands in a saved object among others of its kind.
+pub(crate) trait Saved {
+    /// To what it is added when it is read.
+    type Into;
+
+    /// What it is for the definitions.
+    ghost Plain: { Type 0 };
+
+    ghost plain: { Self → Plain };
+
+    /// Its bytes.
+    ghost shape: { Shape };
+
+    ghost tree: { Plain → Tree shape };
+
+    ghost back: { Tree shape → Plain };
+
+    /// Each of its numbers has its place.
+    ghost Fits: { Plain → Type 0 };
+
+    /// Those that were added, and all else.
+    ghost items: { Self.Into → List Plain };
+
+    ghost Others: { Type 0 };
+
+    ghost others: { Self.Into → Others };
+
+    /// How many bytes it has.
+    fn len(&self) -> u64
+        requires { Fits (plain self.now) }
+        ensures { result ≡ length (tree_bytes shape (tree (plain self.now))) };
+
+    /// It passes the window.
+    fn put(&self, window: &mut Window)
+        requires { Fits (plain self.now) }
+        ensures { window.new ≡ passed (tree_bytes shape (tree (plain self.now))) window.old };
+
+    /// Reads one at the front of the bytes, and adds it. The bytes after it are left.
+    fn take<'b>(into: &mut Self::Into, bytes: &'b [u8]) -> Result<&'b [u8], StateFault>
+        ensures ok { IfOk result (λ rest. (x : Plain) × Fits x
+            × (bytes.now ≡ tree_bytes shape (tree x) ++ rest.now)
+            × (items into.new ≡ items into.old ++ x ∷ []) × (others into.new ≡ others into.old)) }
+        ensures damaged { result ≡ Err StateFault.Unsound → (x : Plain) (rest : List ℕ) → Fits x
+            → bytes.now ≢ tree_bytes shape (tree x) ++ rest };
+
+    /// Its tree gives it back.
+    ghost known: { (x : Plain) → Fits x → IsTree shape (tree x) × (back (tree x) ≡ x) };
+}
+
+/// All of them pass the window. The mark is of them.
+pub(crate) fn put_list<T: Saved>(window: &mut Window, items: &[T], mark: &mut Mark)
+    requires fit { All T.Fits (map T.plain items.now) }
+    requires short { length (flat_map (bytes_in T.shape T.tree) (map T.plain items.now)) < 2 ^ 64 }
+    requires mark { IsMarkIn (bytes_in T.shape T.tree) (map T.plain items.now) mark.old }
+    ensures passed { window.new ≡ passed (flat_map (bytes_in T.shape T.tree) (map T.plain items.now)) window.old }
+    ensures mark { IsMarkIn (bytes_in T.shape T.tree) (map T.plain items.now) mark.new }
+{
+    if !window.passes_over(mark.bytes) {
+        *mark = START;
+    }
+    pass_over(window, items, mark);
+    put_from(window, items, mark.parts);
+}
+
+// The mark goes on over those that end before the window begins; they have passed then.
+fn pass_over<T: Saved>(window: &mut Window, items: &[T], mark: &mut Mark)
+    requires fit { All T.Fits (map T.plain items.now) }
+    requires short { length (flat_map (bytes_in T.shape T.tree) (map T.plain items.now)) < 2 ^ 64 }
+    requires mark { IsMarkIn (bytes_in T.shape T.tree) (map T.plain items.now) mark.old }
+    ensures passed { (begun : Shown)
+        → window.old ≡ passed (first_bytes (bytes_in T.shape T.tree) mark.old.parts (map T.plain items.now)) begun
+        → window.new ≡ passed (first_bytes (bytes_in T.shape T.tree) mark.new.parts (map T.plain items.now)) begun }
+    ensures mark { IsMarkIn (bytes_in T.shape T.tree) (map T.plain items.now) mark.new }
+{
+    while mark.parts < items.len() {
+        let len = items[mark.parts].len();
+        if !window.passes_over(len) {
+            return;
+        }
+        mark.parts += 1;
+        mark.bytes += len;
+    }
+}
+
+// Those after the first ones, as many as are seen.
+fn put_from<T: Saved>(window: &mut Window, items: &[T], first: usize)
+    requires { All T.Fits (map T.plain items.now) }
+    ensures { (begun : Shown)
+        → window.old ≡ passed (first_bytes (bytes_in T.shape T.tree) first (map T.plain items.now)) begun
+        → window.new ≡ passed (flat_map (bytes_in T.shape T.tree) (map T.plain items.now)) begun }
+{
+    for at in first..items.len() {
+        if window.is_full() {
+            return;
+        }
+        items[at].put(window);
+    }
+}
+
+/// Reads so many, and adds them. The bytes after them are left.
+pub(crate) fn take_list<'b, T: Saved>(
+    into: &mut T::Into,
+    count: u32,
+    bytes: &'b [u8],
+) -> Result<&'b [u8], StateFault>
+    ensures ok { IfOk result (λ rest. (xs : List T.Plain) × All T.Fits xs × (length xs ≡ count)
+        × (bytes.now ≡ flat_map (bytes_in T.shape T.tree) xs ++ rest.now) × (T.items into.new ≡ T.items into.old ++ xs) × (T.others into.new ≡ T.others into.old)) }
+    ensures damaged { result ≡ Err StateFault.Unsound → (xs : List T.Plain) (rest : List ℕ)
+        → length xs ≡ count → All T.Fits xs → bytes.now ≢ flat_map (bytes_in T.shape T.tree) xs ++ rest }
+{
+    let mut left = bytes;
+    for _ in 0..count {
+        left = T::take(into, left)?;
+    }
+    Ok(left)
+}
+
+/// Reads so many, and nothing after them, and adds them.
+pub(crate) fn read_list<T: Saved>(
+    into: &mut T::Into,
+    count: u32,
+    bytes: &[u8],
+) -> Result<(), StateFault>
+    ensures ok { OnOk result ((xs : List T.Plain) × All T.Fits xs × (length xs ≡ count)
+        × (bytes.now ≡ flat_map (bytes_in T.shape T.tree) xs) × (T.items into.new ≡ T.items into.old ++ xs) × (T.others into.new ≡ T.others into.old)) }
+    ensures damaged { result ≡ Err StateFault.Unsound → (xs : List T.Plain)
+        → length xs ≡ count → All T.Fits xs → bytes.now ≢ flat_map (bytes_in T.shape T.tree) xs }
+{
+    let rest = take_list::<T>(into, count, bytes)?;
+    if !rest.is_empty() {
+        return Err(StateFault::Unsound);
+    }
+    Ok(())
+}
+
+/// Reads how many there are, and them, and nothing after them, and adds them.
+pub(crate) fn read_counted<T: Saved>(into: &mut T::Into, bytes: &[u8]) -> Result<(), StateFault>
+    ensures ok { OnOk result ((xs : List T.Plain) × (length xs < 2 ^ 32) × All T.Fits xs
+        × (bytes.now ≡ counted_bytes (bytes_in T.shape T.tree) xs) × (T.items into.new ≡ T.items into.old ++ xs) × (T.others into.new ≡ T.others into.old)) }
+    ensures damaged { result ≡ Err StateFault.Unsound → (xs : List T.Plain)
+        → length xs < 2 ^ 32 → All T.Fits xs → bytes.now ≢ counted_bytes (bytes_in T.shape T.tree) xs }
+{
+    let Some((count, rest)) = take_count(bytes) else {
+        return Err(StateFault::Unsound);
+    };
+    read_list::<T>(into, count, rest)
+}
+
+/// How many there are, and all of them, pass the window. The mark is of them.
+pub(crate) fn put_counted<T: Saved>(window: &mut Window, items: &[T], mark: &mut Mark)
+    requires few { length items.now < 2 ^ 32 }
+    requires fit { All T.Fits (map T.plain items.now) }
+    requires short { length (flat_map (bytes_in T.shape T.tree) (map T.plain items.now)) < 2 ^ 64 }
+    requires mark { IsMarkIn (bytes_in T.shape T.tree) (map T.plain items.now) mark.old }
+    ensures passed { window.new ≡ passed (counted_bytes (bytes_in T.shape T.tree) (map T.plain items.now)) window.old }
+    ensures mark { IsMarkIn (bytes_in T.shape T.tree) (map T.plain items.now) mark.new }
+{
+    put_count(window, items.len() as u32);
+    put_list(window, items, mark);
+}
