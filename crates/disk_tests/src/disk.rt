@@ -1,6 +1,7 @@
 //! Each constructor once, the table of a crash, a fuse that burns down, and a disk in a file.
 
 mod file;
+mod joined;
 mod remembering;
 
 use ipc_disk::{DiskFault, FuseDisk, MemoryDisk, SectorDisk};

@@ -3,4 +3,5 @@ pub mod CallerLemmas
 mod Choices
 mod Listed
 mod Pieces
+mod RunsLemmas
 mod SlotsLemmas

@@ -3,11 +3,13 @@ pub mod Counts
 pub mod Crash
 pub mod File
 pub mod Fuse
+pub mod Joined
 pub mod Medium
 pub mod Memory
 pub mod Range
 pub mod Relations
 pub mod Run
+pub mod Runs
 pub mod Since
 pub mod Slots
 pub mod Standing

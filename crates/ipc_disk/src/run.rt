@@ -1,14 +1,15 @@
-//! A run: neighbouring sectors that were written and are not in a file yet.
+//! A run: neighbouring sectors that were written and wait to be put into a disk.
 
 ghost use Rattle.std.specs.Prelude.{◌≡◌, ◌⊎◌, ◌-◌, ◌+◌, ◌≤◌, ◌<◌, ◌*◌, ◌++◌, ◌↔◌, [], ◌∷◌};
-ghost use Rattle.std.specs.Prelude.{IsTrue, flat_map, slice_get, slice_set};
+ghost use Rattle.std.specs.Prelude.{All, IsTrue, length, slice_get, slice_set};
 ghost use Rattle.std.specs.Prelude.{IfNone, IfSome, Some, IsSome};
+ghost use Rattle.ipc_disk.specs.Medium.{IsSector};
 ghost use Rattle.ipc_disk.specs.Range.{IsInside};
 ghost use Rattle.ipc_disk.specs.declared.run.TheConstants.{LONGEST};
 
 use crate::Range;
 
-// The most sectors that one write puts into a file.
+// The most sectors that one write puts into a disk.
 const LONGEST: usize = 64;
 
 /// The sectors of `range`, in order, at the front of `sectors`.
@@ -17,6 +18,8 @@ pub(crate) struct Run {
     pub(crate) range: Range,
     sectors: [[u8; 512]; LONGEST],
     ghost short: { range.count ≤ LONGEST },
+    ghost all: { length sectors ≡ LONGEST },
+    ghost whole: { All IsSector sectors },
 }
 
 // The place of a sector in a range that has it.
@@ -28,6 +31,16 @@ fn place(range: Range, at: u32) -> Option<usize>
         return None;
     }
     Some((at - range.first) as usize)
+}
+
+// The same sector.
+fn copied(from: &[u8; 512]) -> [u8; 512]
+    ensures same { result ≡ from.now }
+    ensures sector { IsSector result }
+{
+    let mut sector = [0; 512];
+    sector.copy_from_slice(from);
+    sector
 }
 
 impl Run {
@@ -75,17 +88,17 @@ impl Run {
             ≡ run_values self.old ++ from.now ∷ [] }
     {
         let place = at - self.range.first;
-        self.sectors[place as usize] = *from;
+        self.sectors[place as usize] = copied(from);
         if place == self.range.count {
             self.range.count += 1;
         }
     }
 
-    /// The bytes of its sectors, one after another.
-    pub(crate) fn bytes(&self) -> &[u8]
-        ensures { result.now ≡ flat_map (λ sector. sector) (run_values self.now) }
+    /// Its sectors.
+    pub(crate) fn sectors(&self) -> &[[u8; 512]]
+        ensures { result.now ≡ run_values self.now }
     {
-        self.sectors[..self.range.count as usize].as_flattened()
+        &self.sectors[..self.range.count as usize]
     }
 
     /// Lets its sectors go, and begins again before the sector `first`.

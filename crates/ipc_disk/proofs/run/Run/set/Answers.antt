@@ -1,8 +1,29 @@
 -- A sector that the run has is written among those that it has.
-use Rattle.std.proofs.Common.{arith}
+use Rattle.std.proofs.Common.{arith, ◌∙◌, ap, ◌-◌, List, ℕ, take}
+use Rattle.std.specs.Prelude.{slice_set}
 use Rattle.std.proofs.Math.Seq.{take-set-lt}
+use Rattle.std.proofs.Math.ListN.{length-set}
+use Rattle.std.proofs.lemmas.List.Elements.{All-set}
+use Rattle.ipc_disk.specs.Medium.{IsSector}
 use Rattle.ipc_disk.proofs.run.Run.set.Goals as goal
+
+pub invariant_of-self : goal.invariant_of-self
+invariant_of-self c = record {
+  short = omega arith;
+  all = length-set _ _ _ ∙ c.args.self.now.all;
+  whole = All-set IsSector _ _ _ c.copied.ensures.sector c.args.self.now.whole;
+}
+
+pub invariant_of-self-else-place-self : goal.invariant_of-self-else-place-self
+invariant_of-self-else-place-self c = record {
+  short = omega arith;
+  all = length-set _ _ _ ∙ c.args.self.now.all;
+  whole = All-set IsSector _ _ _ c.copied.ensures.sector c.args.self.now.whole;
+}
 
 pub returns-else-place-self-clause-replaces : goal.returns-else-place-self-clause-replaces
 returns-else-place-self-clause-replaces c = λ inside.
-    take-set-lt c.args.self.now.range.count c.args.self.now.sectors _ c.args.from.now (omega arith)
+    let run = c.args.self.now in
+    let place : ℕ = c.args.at - run.range.first in
+    take-set-lt run.range.count run.sectors place c.copied.result (omega arith)
+    ∙ ap (λ (s : List ℕ). slice_set (take run.range.count run.sectors) place s) c.copied.ensures.same
