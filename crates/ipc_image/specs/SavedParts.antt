@@ -8,7 +8,7 @@ use Rattle.ipc_base.specs.declared.objects.Mark.{Mark}
 use Rattle.sysv_msg.specs.Queue.{Kept, Queue, PlainMessage}
 use Rattle.ipc_state.specs.declared.keyed.Entry.{Entry}
 use Rattle.ipc_state.specs.State.{State}
-use Rattle.ipc_state.specs.declared.perm.Perm.{Perm}
+use Rattle.ipc_perm.specs.declared.perm.Perm.{Perm}
 use Rattle.ipc_state.specs.declared.numbered.Item.{Item}
 use Rattle.ipc_state.specs.Tables.{queue_row}
 use Rattle.ipc_image.specs.Saved.{process_bytes, message_bytes, queue_shape, HasPlaces}

@@ -22,7 +22,8 @@ use crate::saved::{Saved, put_list, read_list};
 use crate::window::Window;
 use ipc_base::{Field, Id, Mark, Moment, Pid, take_fields};
 use ipc_engine::StateFault;
-use ipc_state::{Entry, Perm, State};
+use ipc_perm::Perm;
+use ipc_state::{Entry, State};
 use std::alloc::{AllocError, Global};
 use sysv_msg::{Message, MsgQueue, QueueNumbers};
 

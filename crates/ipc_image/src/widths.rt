@@ -11,7 +11,8 @@ ghost use Rattle.ipc_engine.specs.Sound.{IsSound};
 ghost use Rattle.ipc_image.specs.Saved.{clock_sizes, clock_numbers, FitsProcess, HasAllPlaces};
 ghost use Rattle.ipc_image.specs.SavedParts.{IsWidePerm, IsWideStat, IsWideQueue};
 
-use ipc_state::{Entry, Item, Perm, Process, State};
+use ipc_perm::Perm;
+use ipc_state::{Entry, Item, Process, State};
 use sysv_msg::{MsgQueue, QueueStat};
 
 /// Reads each number of a state.

@@ -3,7 +3,8 @@
 use super::{Answer, Ask, Line, small, talk};
 use ipc_base::{Cred, Id, Moment, Pid};
 use ipc_engine::{Engine, Row, StateFault};
-use ipc_state::{Entry, Numbers, Perm, Process, State};
+use ipc_perm::Perm;
+use ipc_state::{Entry, Numbers, Process, State};
 use std::alloc::{AllocError, Global};
 use std::test::Fail;
 use sysv_msg::{MsgQueue, QueueNumbers, QueueStat};

@@ -7,7 +7,7 @@ use Rattle.std.proofs.lemmas.Int.{of_z-to_z, to_z-of_z}
 use Rattle.sysv_msg.specs.Queue.{Queue}
 use Rattle.ipc_base.specs.Numbers.{FitFields}
 use Rattle.ipc_base.proofs.CallerLemmas.{fields_one, listed, numbers_are}
-use Rattle.ipc_state.specs.declared.perm.Perm.{Perm}
+use Rattle.ipc_perm.specs.declared.perm.Perm.{Perm}
 use Rattle.ipc_image.specs.Saved.{queue_sizes, queue_numbers, queue_bytes, message_bytes, FitsQueue}
 use Rattle.ipc_image.specs.SavedParts.{entry_from, with_messages}
 use Rattle.ipc_image.proofs.RestoredParts.{queue_spelled, queue_found, rebuilt_queue}
