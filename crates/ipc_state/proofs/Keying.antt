@@ -5,7 +5,8 @@ use Rattle.std.specs.Prelude.{nat_eq, nat_lt, if◌then◌else◌, ◌&&◌, All
 use Rattle.std.specs.Prelude.{⊤}
 use Rattle.std.specs.Bool.{Decides}
 use Rattle.std.specs.List.{list_all}
-use Rattle.std.specs.Ordering.{int_eq}
+use Rattle.std.specs.FinMap.{FinMap}
+use Rattle.std.specs.Ordering.{int_cmp, int_eq}
 use Rattle.std.proofs.lemmas.Cmp.{int_eq_equiv}
 use Rattle.std.proofs.lemmas.Bool.Decides.{nat_tests, Decides-int_eq, Decides-by_and, Decides-and, Decides-eqb, Decides-ltb}
 use Rattle.std.proofs.lemmas.List.Folds.{list_all-map}
@@ -16,6 +17,7 @@ use Rattle.ipc_base.proofs.CallerLemmas.{All-with_value, All-value_at, choice}
 use Rattle.ipc_base.proofs.CallerLemmas.{keys-map as ids-map}
 use Rattle.ipc_state.specs.declared.keyed.Entry.{Entry}
 use Rattle.ipc_state.specs.declared.numbered.Item.{Item}
+use Rattle.ipc_state.specs.Directory.{named_by}
 use Rattle.ipc_state.specs.Tables.{item_row}
 use Rattle.ipc_state.specs.Keyed.{Keyed, key_row, keys_in, keyed, entry_map, AreKeyed}
 use Rattle.ipc_state.specs.Numbered.{none_yet, entry_of, is_full, with_entry, with_new, without_entry, numbered_map, AreNumbered}
@@ -51,7 +53,7 @@ unkeyed true found none is = absurd (is refl)
 unkeyed false found none is = none
 
 -- an entry of the same key leaves the keys
-same_keys : {X : Type 0} (es : List (ℕ × Entry X)) (id : ℕ) (e f : Entry X) → value_at nat_eq es id ≡ Some e → f.key ≡ e.key
+pub same_keys : {X : Type 0} (es : List (ℕ × Entry X)) (id : ℕ) (e f : Entry X) → value_at nat_eq es id ≡ Some e → f.key ≡ e.key
     → map key_row (with_value nat_eq es id f) ≡ map key_row es
 same_keys [] id e f is same = refl
 same_keys {X} (g ∷ es) id e f is same = by_test (nat_eq g.0 id) is (λ there. same_keys es id e f there same)
@@ -112,7 +114,7 @@ module _ {X : Type 0} (most : ℕ) (IsSoundOne : X → Type 0) where
   pub entry-mode : (o : Keyed X) (id : ℕ) (e : Entry X) → entry_of o id ≡ Some e → AreKeyed most IsSoundOne o → e.perm.mode < 512
   entry-mode o id e is h = All-value_at nat_eq (λ (g : Entry X). g.perm.mode < 512) o.entries id e h.modes is
 
-All-seen : {X Y : Type 0} (P : Y → Type 0) (f : X → Y) (xs : List X) → All P (map f xs) → All (λ x. P (f x)) xs
+pub All-seen : {X Y : Type 0} (P : Y → Type 0) (f : X → Y) (xs : List X) → All P (map f xs) → All (λ x. P (f x)) xs
 All-seen P f [] h = All-nil _
 All-seen P f (x ∷ xs) h = All-cons (λ y. P (f y)) x xs (All-head P (f x) (map f xs) h) (All-seen P f xs (All-tail P (f x) (map f xs) h))
 
@@ -137,7 +139,7 @@ module _ {X : Type 0} where
       by_test false gone false same later is = rw same (later is)
 
   -- those that are left have other numbers, and are named as they were
-  named_without : (ks : List (ℤ × ℕ)) (low : ℕ) (es : List (ℕ × Entry X)) (high id : ℕ) → IsRising low (keys_of es) high
+  pub named_without : (ks : List (ℤ × ℕ)) (low : ℕ) (es : List (ℕ × Entry X)) (high id : ℕ) → IsRising low (keys_of es) high
       → All (λ (e : ℕ × Entry X). IsNamed ks (key_row e)) es
       → All (λ (e : ℕ × Entry X). (e.0 ≢ id) × IsNamed ks (key_row e)) (without nat_eq es id)
   named_without ks low [] high id rising each = All-nil _
@@ -252,16 +254,21 @@ pub each-decides : {X Y : Type 0} (p : Y → Bool) (P : Y → Type 0) (row : X �
 each-decides p P row xs each =
     subst (λ (b : Bool). Decides b (All P (map row xs))) (list_all-map p row xs) (Decides-by_and p P (list_all p) each refl (λ _ _. refl) (map row xs))
 
--- whether identifiers, keys and modes are sound, by a list that has the entries
-module _ {T : Type 0} (most : ℕ) (o : Keyed T) (items : List (Item (Entry T))) (is : map item_row items ≡ o.entries) where
+-- whether identifiers, keys and modes are sound, by a list that has the entries and a directory that agrees
+module _ {T : Type 0} (most : ℕ) (o : Keyed T) (items : List (Item (Entry T))) (is : map item_row items ≡ o.entries)
+    (keys : FinMap int_cmp ℕ) (agrees : (key : ℤ) → named_by keys key ≡ keyed o key) where
   abbrev ks : List (ℤ × ℕ)
   ks = keys_in o
 
-  keys-decide : Decides (list_all (λ (e : Item (Entry T)). is_named (keyed o e.value.key) e.value.key e.number) items) (All (IsNamed ks) ks)
+  -- whether each key names its object
+  abbrev names : Item (Entry T) → Bool
+  names e = is_named (named_by keys e.value.key) e.value.key e.number
+
+  keys-decide : Decides (list_all names items) (All (IsNamed ks) ks)
   keys-decide =
-      subst (λ (l : List (ℤ × ℕ)). Decides (list_all (λ (e : Item (Entry T)). is_named (keyed o e.value.key) e.value.key e.number) items) (All (IsNamed ks) l))
-      (sym (item-keys items) ∙ ap (map key_row) is)
-      (each-decides (λ (k : ℤ × ℕ). is_named (keyed o k.0) k.0 k.1) (IsNamed ks) item_key items (named-decides ks))
+      subst (λ (l : List (ℤ × ℕ)). Decides (list_all names items) (All (IsNamed ks) l)) (sym (item-keys items) ∙ ap (map key_row) is)
+      (each-decides (λ (k : ℤ × ℕ). is_named (named_by keys k.0) k.0 k.1) (IsNamed ks) item_key items
+      (λ k. subst (λ (r : Option ℕ). Decides (is_named r k.0 k.1) (IsNamed ks k)) (sym (agrees k.0)) (named-decides ks k)))
 
   modes-decide : Decides (list_all (λ (e : Item (Entry T)). nat_lt e.value.perm.mode 512) items) (All HasMode o.entries)
   modes-decide =
@@ -269,8 +276,7 @@ module _ {T : Type 0} (most : ℕ) (o : Keyed T) (items : List (Item (Entry T)))
       (each-decides (λ (e : ℕ × Entry T). nat_lt e.1.perm.mode 512) HasMode item_row items (λ e. Decides-ltb e.1.perm.mode 512))
 
   pub keyed-decides : AreNumbered most o
-      → Decides (list_all (λ (e : Item (Entry T)). is_named (keyed o e.value.key) e.value.key e.number) items
-      && list_all (λ (e : Item (Entry T)). nat_lt e.value.perm.mode 512) items) (AreKeyed most (λ (x : T). ⊤) o)
+      → Decides (list_all names items && list_all (λ (e : Item (Entry T)). nat_lt e.value.perm.mode 512) items) (AreKeyed most (λ (x : T). ⊤) o)
   keyed-decides numbered =
       let both = Decides-and _ _ keys-decide modes-decide in (
         λ yes. let h = both.0 yes in record { numbered = numbered; keys = h.0; modes = h.1; each = λ k d within. tt },

@@ -3,3 +3,4 @@ pub mod Numbering
 mod Places
 mod Keying
 mod SoundQueues
+mod Directories

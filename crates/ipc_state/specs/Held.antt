@@ -1,15 +1,18 @@
 -- What a contract sees of the state that is held: its limits, the state itself, and the room that is reserved in it, so
 -- that a change takes no memory.
+use Rattle.std.specs.FinMap.{FinMap}
+use Rattle.std.specs.Ordering.{int_cmp}
 use Rattle.std.specs.Prelude.{◌≡◌, ℕ, Bool, List, Option, Some, IfSome, nat_eq}
 use Rattle.ipc_base.specs.declared.limits.Limits.{Limits}
 use Rattle.ipc_base.specs.Table.{value_at, with_value}
 use Rattle.ipc_state.specs.State.{State}
 
--- whether there is room for one process more, and for one queue; for each queue, by identifier, of how
--- many bytes the message is that it has room for
+-- whether there is room for one process more, and for one queue; the directory of their keys, with those that have
+-- room there; for each queue, by identifier, of how many bytes the message is that it has room for
 pub record Room : Type 0 where
   pub process : Bool
   pub queue : Bool
+  pub keys : FinMap int_cmp ℕ
   pub texts : List (ℕ × Option ℕ)
 
 pub record Held : Type 0 where

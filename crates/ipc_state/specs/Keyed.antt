@@ -2,7 +2,7 @@
 -- most; IPC_PRIVATE, which is 0, names none, and any number of objects may have it.
 use Rattle.std.specs.Prelude.{◌≡◌, ◌≢◌, ℕ, ℤ, pos, ◌<◌, if◌then◌else◌, List, map, Option, Some, None, All}
 use Rattle.std.specs.Ordering.{int_eq}
-use Rattle.ipc_base.specs.Table.{value_at}
+use Rattle.ipc_base.specs.Table.{value_at, keys_of, IsRising}
 use Rattle.ipc_state.specs.declared.keyed.Entry.{Entry}
 use Rattle.ipc_perm.specs.declared.perm.Perm.{Perm}
 use Rattle.ipc_state.specs.Numbered.{Numbered, AreNumbered}
@@ -32,6 +32,11 @@ permitting e perm = record { key = e.key; perm = perm; object = e.object }
 -- each object seen in another way
 abbrev pub entry_map : {X Y : Type 0} → (X → Y) → Entry X → Entry Y
 entry_map see e = holding e (see e.object)
+
+-- numbers rise, and each key but IPC_PRIVATE names the object that has it
+pub record AreNamed {X : Type 0} (o : Keyed X) : Type 0 where
+  pub numbers : IsRising 1 (keys_of o.entries) o.next
+  pub keys : All (λ k. k.0 ≢ pos 0 → value_at int_eq (keys_in o) k.0 ≡ Some k.1) (keys_in o)
 
 -- What holds of them, when something holds of each: their identifiers are in order; each key but IPC_PRIVATE names the
 -- object that has it, so no two have the same; a mode has nine bits.

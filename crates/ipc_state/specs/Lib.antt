@@ -4,6 +4,7 @@ pub mod State
 pub mod Sound
 pub mod Tests
 pub mod Held
+pub mod Directory
 pub mod Tables
 pub mod Restored
 pub mod Lends

@@ -1,12 +1,15 @@
 -- How the state is kept: each part of the tables as a value of the definitions.
-use Rattle.std.specs.Prelude.{ℕ, Bool, nat_lt, List, map, Option, vec_len, vec_capacity}
+use Rattle.std.specs.Prelude.{◌≡◌, ◌≢◌, ℕ, ℤ, pos, Bool, true, nat_lt, List, map, Option, None, vec_len, vec_capacity}
+use Rattle.std.specs.FinMap.{FinMap}
+use Rattle.std.specs.Ordering.{int_cmp}
 use Rattle.ipc_base.specs.Table.{seen_as}
+use Rattle.ipc_keys.specs.Directory.{is_vacant}
 use Rattle.sysv_msg.specs.Queue.{Queue, Kept}
 use Rattle.ipc_state.specs.declared.numbered.Item.{Item}
 use Rattle.ipc_state.specs.declared.numbered.Numbered.{Numbered as Table}
 use Rattle.ipc_state.specs.declared.keyed.Entry.{Entry}
 use Rattle.ipc_state.specs.Numbered.{Numbered, numbered_map}
-use Rattle.ipc_state.specs.Keyed.{Keyed, entry_map}
+use Rattle.ipc_state.specs.Keyed.{Keyed, keyed, entry_map}
 
 -- one with its number
 abbrev pub item_row : {T : Type 0} → Item T → ℕ × T
@@ -19,10 +22,17 @@ numbered_of o = record { next = o.next; entries = map item_row o.items.items }
 abbrev pub has_place : {T : Type 0} → Table T → Bool
 has_place o = nat_lt (vec_len o.items) (vec_capacity o.items)
 
--- what a contract sees of the objects of one kind that are held: these, and whether there is room for one more
+-- what a contract sees of the objects of one kind that are held: these, whether there is room for one more, and the
+-- directory of their keys, with those that no object has and that have room
 pub record HeldObjects (X : Type 0) : Type 0 where
   pub objects : Keyed X
   pub place : Bool
+  pub keys : FinMap int_cmp ℕ
+
+-- an object of this key has room
+pub record HasPlaceFor {X : Type 0} (o : HeldObjects X) (key : ℤ) : Type 0 where
+  pub place : o.place ≡ true
+  pub vacant : key ≢ pos 0 → keyed o.objects key ≡ None → is_vacant o.keys key ≡ true
 
 -- a queue, and the room in it
 abbrev pub queue_in : Kept → Queue

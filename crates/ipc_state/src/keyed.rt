@@ -2,12 +2,16 @@
 
 ghost use Rattle.std.specs.Prelude.{
   ◌≡◌,
+  ◌≢◌,
+  ℤ,
+  pos,
   ◌<◌,
   ◌^◌,
   ◌↔◌,
   ◌&&◌,
   ⊤,
   true,
+  false,
   is_some,
   Some,
   IsTrue,
@@ -16,18 +20,16 @@ ghost use Rattle.std.specs.Prelude.{
   OnErr,
   map,
   option_map,
-  position,
   option_copied,
   nat_lt,
 };
 ghost use Rattle.std.specs.Borrow.{sem};
 ghost use Rattle.std.specs.List.{list_all};
 ghost use Rattle.std.specs.Option.{option_copied_mut};
-ghost use Rattle.std.specs.Ordering.{int_eq};
-ghost use Rattle.ipc_base.specs.Table.{value_at};
 ghost use Rattle.ipc_state.specs.Lends.{lends_object};
+ghost use Rattle.ipc_keys.specs.Directory.{is_vacant};
 ghost use Rattle.ipc_state.specs.declared.keyed.Entry.{Entry};
-ghost use Rattle.ipc_state.specs.Keyed.{keyed, key_row, permitting, AreKeyed};
+ghost use Rattle.ipc_state.specs.Keyed.{keyed, permitting, AreKeyed, AreNamed};
 ghost use Rattle.ipc_state.specs.Tests.{is_named};
 ghost use Rattle.ipc_state.specs.Numbered.{
   none_yet,
@@ -38,10 +40,13 @@ ghost use Rattle.ipc_state.specs.Numbered.{
   with_last,
   without_entry,
 };
-ghost use Rattle.ipc_state.specs.Tables.{item_row};
+ghost use Rattle.ipc_state.specs.Directory.{ArePositive, HasNoSpareKey, named_by};
+ghost use Rattle.ipc_state.specs.Tables.{HasPlaceFor, item_row};
 
+use crate::keys;
 use crate::numbered::{Item, Numbered};
 use ipc_base::Id;
+use ipc_keys::KeyDir;
 use ipc_perm::Perm;
 use std::alloc::{AllocError, Global};
 use std::marker::Model;
@@ -55,18 +60,31 @@ pub struct Entry<T> {
     pub object: T,
 }
 
-/// The objects of one kind. A contract sees them by identifier, and whether there is room for one more.
+/// The objects of one kind. A contract sees them by identifier, and what there is room for.
 #[derive(Drop)]
 pub struct Keyed<T> {
     objects: Numbered<Entry<T>>,
+    /// The identifier of each key but `IPC_PRIVATE`.
+    keys: KeyDir,
 }
 
 impl<T> Model for Keyed<T> {
+    ghost use Rattle.std.specs.Coded.{codes};
+    ghost use Rattle.ipc_keys.specs.contracts.keys.KeyDir as directory;
+    ghost use Rattle.ipc_state.specs.Directory.{Agree};
     ghost use Rattle.ipc_state.specs.Tables.{HeldObjects, numbered_of, has_place};
 
     ghost Value = { HeldObjects T };
 
-    ghost view = { λ o. record { objects = numbered_of o.objects; place = has_place o.objects } };
+    ghost coded = { Prim.hlevel (codes, directory.the_row.coded) };
+
+    ghost view = { λ o. record {
+      objects = numbered_of o.objects;
+      place = has_place o.objects;
+      keys = o.keys;
+    } };
+
+    ghost invariant = { λ o. Agree o.keys (numbered_of o.objects) };
 }
 
 /// The key of a get that always makes a new object. See msgget(2).
@@ -79,6 +97,7 @@ impl<T> Keyed<T> {
     {
         Keyed {
             objects: Numbered::new(alloc),
+            keys: KeyDir::new(alloc),
         }
     }
 
@@ -98,12 +117,14 @@ impl<T> Keyed<T> {
 
     /// The identifier that a key names; IPC_PRIVATE names none.
     pub fn of_key(&self, key: i32) -> Option<Id>
-        ensures { option_map (λ id. id.0) result ≡ keyed self.now.objects key }
+        ensures named { option_map (λ id. id.0) result ≡ named_by self.now.keys key }
+        ensures keyed { ArePositive self.now.objects.entries
+            → option_map (λ id. id.0) result ≡ keyed self.now.objects key }
     {
-        if key == IPC_PRIVATE {
-            return None;
+        match keys::named(&self.keys, key) {
+            Some(id) => Some(Id(id)),
+            None => None,
         }
-        id_of_key(self.objects.items(), key)
     }
 
     /// What an identifier has.
@@ -132,25 +153,41 @@ impl<T> Keyed<T> {
         self.objects.is_full(most)
     }
 
-    /// Takes the memory for one more; never refused if it is there already.
-    pub fn reserve(&mut self) -> Result<(), AllocError>
+    /// Takes the memory for one more of this key, if no object has it. Refused, no key has room that had
+    /// none; never refused if the memory is there already.
+    pub fn reserve(&mut self, key: i32) -> Result<(), AllocError>
         ensures objects { self.new.objects ≡ self.old.objects }
-        ensures ok { OnOk result (self.new.place ≡ true) }
-        ensures succeeds { self.old.place ≡ true → IsOk result }
-        ensures err { OnErr result (self.new ≡ self.old) }
+        ensures ok { OnOk result (ArePositive self.old.objects.entries → HasPlaceFor self.new key) }
+        ensures others { (other : ℤ) → other ≢ key → is_vacant self.new.keys other ≡ is_vacant self.old.keys other }
+        ensures err { OnErr result ((other : ℤ) → is_vacant self.new.keys other ≡ is_vacant self.old.keys other) }
     {
-        self.objects.reserve()
+        self.objects.reserve()?;
+        keys::reserve(&mut self.keys, key)
+    }
+
+    /// Gives back what was reserved for a key that no object has. It takes no memory.
+    pub fn release(&mut self, key: i32)
+        ensures objects { self.new.objects ≡ self.old.objects }
+        ensures key { is_vacant self.new.keys key ≡ false }
+        ensures others { (other : ℤ) → other ≢ key → is_vacant self.new.keys other ≡ is_vacant self.old.keys other }
+    {
+        keys::release(&mut self.keys, key);
     }
 
     /// Adds one under the next identifier, which it gives. It takes no memory.
     pub fn add(&mut self, key: i32, perm: Perm, object: T) -> Id
         requires place { self.old.place ≡ true }
-        requires number { self.old.objects.next < 2 ^ 31 }
+        requires key { key ≢ pos 0 → is_vacant self.old.keys key ≡ true }
+        requires number { (0 < self.old.objects.next) × (self.old.objects.next < 2 ^ 31) }
         ensures objects { self.new.objects
             ≡ with_new self.old.objects (record { key = key; perm = perm; object = object }) }
         ensures id { result.0 ≡ self.old.objects.next }
+        ensures key { key ≢ pos 0 → is_vacant self.new.keys key ≡ false }
+        ensures others { (other : ℤ) → other ≢ key → is_vacant self.new.keys other ≡ is_vacant self.old.keys other }
     {
-        Id(self.objects.add(Entry { key, perm, object }))
+        let id = self.objects.add(Entry { key, perm, object });
+        keys::bind(&mut self.keys, key, id);
+        Id(id)
     }
 
     /// Replaces who may use the object of an identifier.
@@ -172,7 +209,7 @@ impl<T> Keyed<T> {
 
     /// Whether the key of an object names it, or is IPC_PRIVATE.
     fn names(&self, item: &Item<Entry<T>>) -> bool
-        ensures { result ≡ is_named (keyed self.now.objects item.now.value.key) item.now.value.key item.now.number }
+        ensures { result ≡ is_named (named_by self.now.keys item.now.value.key) item.now.value.key item.now.number }
     {
         match self.of_key(item.value.key) {
             Some(id) => id.0 == item.number,
@@ -183,7 +220,7 @@ impl<T> Keyed<T> {
     /// Whether each object is named so.
     fn are_named(&self, items: &[Item<Entry<T>>]) -> bool
         ensures { result ≡ list_all
-            (λ e. is_named (keyed self.now.objects e.value.key) e.value.key e.number) items.now }
+            (λ e. is_named (named_by self.now.keys e.value.key) e.value.key e.number) items.now }
     {
         items.iter().all(|item| self.names(item))
     }
@@ -191,7 +228,7 @@ impl<T> Keyed<T> {
     /// Whether the keys and the modes of these are sound.
     fn are_named_with_modes(&self, items: &[Item<Entry<T>>]) -> bool
         ensures { result ≡ (list_all
-            (λ e. is_named (keyed self.now.objects e.value.key) e.value.key e.number) items.now
+            (λ e. is_named (named_by self.now.keys e.value.key) e.value.key e.number) items.now
             && list_all (λ e. nat_lt e.value.perm.mode 512) items.now) }
     {
         self.are_named(items) && have_modes(items)
@@ -209,35 +246,25 @@ impl<T: Drop> Keyed<T> {
     /// Adds one that was read, at the end. Refused for want of memory, all is as before.
     pub(crate) fn restore(&mut self, id: Id, entry: Entry<T>) -> Result<(), AllocError>
         ensures objects { OnOk result (self.new.objects ≡ with_last self.old.objects id.0 entry) }
-        ensures err { OnErr result (self.new ≡ self.old) }
+        ensures err { OnErr result (self.new.objects ≡ self.old.objects) }
     {
         self.objects.reserve()?;
+        keys::restore(&mut self.keys, entry.key, id.0)?;
         self.objects.push(id.0, entry);
         Ok(())
     }
 
-    /// Takes one out, if it is there.
+    /// Takes one out; its key names none then.
     pub fn remove(&mut self, id: Id)
-        ensures { self.new.objects ≡ without_entry self.old.objects id.0 }
+        requires named { AreNamed self.old.objects }
+        requires there { is_some (entry_of self.old.objects id.0) ≡ true }
+        ensures objects { self.new.objects ≡ without_entry self.old.objects id.0 }
+        ensures keys { HasNoSpareKey self.old.keys → HasNoSpareKey self.new.keys }
     {
+        let key = self.objects.get(id.0).unwrap().value.key;
+        keys::unbind(&mut self.keys, key);
         self.objects.remove(id.0);
     }
-}
-
-/// The identifier of the first object that has a key.
-fn id_of_key<T>(items: &[Item<Entry<T>>], key: i32) -> Option<Id>
-    ensures { option_map (λ id. id.0) result ≡ value_at int_eq (map key_row (map item_row items.now)) key }
-{
-    let place = place_of_key(items, key)?;
-    let item = &items[place];
-    Some(Id(item.number))
-}
-
-/// The place of the first object that has a key.
-fn place_of_key<T>(items: &[Item<Entry<T>>], key: i32) -> Option<usize>
-    ensures { result ≡ position (λ e. int_eq e.value.key key) items.now }
-{
-    items.iter().position(|item| item.value.key == key)
 }
 
 /// Whether each mode has nine bits.

@@ -2,6 +2,7 @@
 #![tactic(auto)]
 
 mod keyed;
+mod keys;
 mod numbered;
 mod processes;
 mod queues;

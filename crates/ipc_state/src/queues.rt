@@ -2,6 +2,10 @@
 
 ghost use Rattle.std.specs.Prelude.{
   ◌≡◌,
+  ◌≢◌,
+  ◌<◌,
+  ℤ,
+  pos,
   ◌↔◌,
   true,
   false,
@@ -13,6 +17,7 @@ ghost use Rattle.std.specs.Prelude.{
 ghost use Rattle.std.specs.Borrow.{sem};
 ghost use Rattle.std.specs.List.{list_all};
 ghost use Rattle.ipc_base.specs.Limits.{ArePassed};
+ghost use Rattle.ipc_keys.specs.Directory.{is_vacant};
 ghost use Rattle.ipc_state.specs.Keyed.{entry_map, AreKeyed};
 ghost use Rattle.ipc_state.specs.LendsMsg.{lends_msg};
 ghost use Rattle.ipc_state.specs.Numbered.{is_full};
@@ -59,6 +64,7 @@ impl State {
         ensures* writes_back { sem 𝓛 (lends_msg self.entry result) }
         ensures queues { queues_of result.now ≡ self.old.state.msg }
         ensures place { result.now.place ≡ self.old.room.queue }
+        ensures keys { result.now.keys ≡ self.old.room.keys }
         ensures texts { texts_of result.now ≡ self.old.room.texts }
     {
         &mut self.msg
@@ -67,10 +73,15 @@ impl State {
     /// Adds a queue without messages under the next identifier, which it gives. It takes no memory.
     pub fn add_queue(&mut self, key: i32, perm: Perm) -> Id
         requires room { self.old.room.queue ≡ true }
+        requires key { key ≢ pos 0 → is_vacant self.old.room.keys key ≡ true }
+        requires number { 0 < self.old.state.msg.next }
         requires more { is_full self.old.limits.msgmni self.old.state.msg ≡ false }
         ensures state { self.new.state ≡ with_new_queue self.old.limits self.old.state key perm }
         ensures id { result.0 ≡ self.old.state.msg.next }
         ensures limits { self.new.limits ≡ self.old.limits }
+        ensures key { key ≢ pos 0 → is_vacant self.new.room.keys key ≡ false }
+        ensures others { (other : ℤ) → other ≢ key
+            → is_vacant self.new.room.keys other ≡ is_vacant self.old.room.keys other }
     {
         let object = MsgQueue::new(self.alloc, self.limits.msgmnb, self.clock);
         self.msg.add(key, perm, object)
@@ -81,7 +92,7 @@ impl State {
         ensures state { OnOk result (self.new.state
             ≡ with_last_queue self.old.state id.0 (entry_map queue_in entry)) }
         ensures limits { self.new.limits ≡ self.old.limits }
-        ensures err { OnErr result (self.new ≡ self.old) }
+        ensures err { OnErr result (self.new.state ≡ self.old.state) }
     {
         self.msg.restore(id, entry)
     }

@@ -27,10 +27,14 @@ pub struct State {
 
 impl Model for State {
     ghost use Rattle.ipc_base.specs.Limits.{ArePassed};
+    ghost use Rattle.std.specs.Coded.{codes};
+    ghost use Rattle.ipc_keys.specs.contracts.keys.KeyDir as directory;
     ghost use Rattle.ipc_state.specs.Held.{Held};
     ghost use Rattle.ipc_state.specs.Tables.{numbered_of, queues_of, texts_of, has_place};
 
     ghost Value = { Held };
+
+    ghost coded = { Prim.hlevel (codes, directory.the_row.coded) };
 
     ghost view = { λ s. record {
       limits = s.limits;
@@ -38,6 +42,7 @@ impl Model for State {
       room = record {
         process = has_place s.processes;
         queue = s.msg.place;
+        keys = s.msg.keys;
         texts = texts_of s.msg;
       };
     } };

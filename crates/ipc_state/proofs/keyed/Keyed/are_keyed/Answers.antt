@@ -4,6 +4,8 @@ use Rattle.std.specs.Bool.{Decides}
 use Rattle.ipc_state.specs.Keyed.{AreKeyed}
 use Rattle.ipc_state.specs.Numbered.{AreNumbered}
 use Rattle.ipc_state.specs.Tables.{HeldObjects, item_row}
+use Rattle.ipc_state.specs.Directory.{Agree}
+use Rattle.ipc_state.proofs.Directories.{named-positive}
 use Rattle.ipc_state.proofs.Keying.{keyed-decides}
 use Rattle.ipc_state.proofs.keyed.Keyed.are_keyed.Goals as goal
 
@@ -12,8 +14,11 @@ returns-then-are_numbered g c =
     let o = c.args.self.now.objects in
     let is = ap (map item_row) c.items.ensures ∙ ap (λ (h : HeldObjects _). h.objects.entries) c.self.view_is in
     let numbers = subst (λ (h : HeldObjects _). Decides c.are_numbered.result (AreNumbered c.args.most h.objects)) c.self.view_is c.are_numbered.ensures in
+    let numbered = numbers.0 c.if-are_numbered.true in
+    let agree = subst (λ (h : HeldObjects _). Agree h.keys h.objects) c.self.view_is c.self.invariant in
+    let agrees = agree (named-positive o numbered.numbers) in
     subst (λ (b : Bool). Decides b (AreKeyed c.args.most (λ x. ⊤) o)) (sym c.are_named_with_modes.ensures)
-    (keyed-decides c.args.most o c.items.result.now is (numbers.0 c.if-are_numbered.true))
+    (keyed-decides c.args.most o c.items.result.now is c.args.self.now.keys agrees numbered)
 
 pub returns-else-are_numbered : goal.returns-else-are_numbered
 returns-else-are_numbered g c =

@@ -1,4 +1,5 @@
-use Rattle.std.proofs.Common.{◌≡◌, ℕ, ℤ, ◌+◌, ◌++◌, [], ◌∷◌, List, ap, ◌∙◌}
+use Rattle.std.proofs.Common.{◌≡◌, ◌≢◌, ℕ, ℤ, pos, true, ◌+◌, ◌++◌, [], ◌∷◌, List, sym, subst, ap, ◌∙◌}
+use Rattle.ipc_keys.specs.Directory.{is_vacant}
 use Rattle.std.specs.Int.{w32, cast_signed as to_z, cast_unsigned as of_z}
 use Rattle.std.proofs.lemmas.Int.{to_z-of_z}
 use Rattle.std.proofs.lemmas.List.{map-append}
@@ -33,3 +34,14 @@ returns-clause-state c =
     ∙ (ap (λ (key : ℤ). with_it (made key c.new-object.result.queue)) e
     ∙ (ap (λ (q : Queue). with_it (made c.args.key q)) c.new-object.ensures.queue
     ∙ ap (λ (m : Held). with_new_queue m.limits m.state c.args.key c.args.perm) c.self.view_is)))
+
+pub add-requires-clause-key : goal.add-requires-clause-key
+add-requires-clause-key c some =
+    let n : to_z w32 (of_z w32 c.args.key) ≡ c.args.key = to_z-of_z w32 c.args.key c.ranges.key in
+    subst (λ (z : ℤ). is_vacant c.self.inside.msg.keys z ≡ true) (sym n)
+    (subst (λ (m : Held). is_vacant m.room.keys c.args.key ≡ true) (sym c.self.view_is) (c.requires.key (subst (λ (z : ℤ). z ≢ pos 0) n some)))
+
+pub returns-clause-others : goal.returns-clause-others
+returns-clause-others c other apart =
+    let n : to_z w32 (of_z w32 c.args.key) ≡ c.args.key = to_z-of_z w32 c.args.key c.ranges.key in
+    c.add.ensures.others other (λ same. apart (same ∙ n)) ∙ ap (λ (m : Held). is_vacant m.room.keys other) c.self.view_is

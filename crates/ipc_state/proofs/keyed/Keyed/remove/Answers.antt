@@ -1,0 +1,27 @@
+use Rattle.std.proofs.Common.{◌≡◌, ℤ, Some, None, FitsSigned, w32, sym, subst, ap, ◌∙◌, rules}
+use Rattle.std.proofs.lemmas.Int.{to_z-of_z}
+use Rattle.std.specs.Ordering.{int_eq}
+use Rattle.std.specs.Prelude.{option_map, if◌then◌else◌}
+use Rattle.std.specs.Option.{option_copied}
+use Rattle.ipc_state.specs.declared.numbered.Item.{Item}
+use Rattle.ipc_state.specs.Directory.{HasNoSpareKey, named_by}
+use Rattle.ipc_state.specs.Keyed.{AreNamed}
+use Rattle.ipc_state.specs.Tables.{HeldObjects, numbered_of}
+use Rattle.ipc_state.proofs.Directories.{agree-without}
+use Rattle.ipc_state.proofs.keyed.Keyed.remove.Goals as goal
+
+pub invariant_of-self : goal.invariant_of-self
+invariant_of-self g c =
+    let old = c.self.inside in
+    let e = c.unwrap.result.now.value in
+    let is = sym c.get.ensures ∙ ap (λ r. option_map (λ (i : Item _). i.value) (option_copied r)) c.unwrap.ensures in
+    let named = subst (λ (h : HeldObjects _). AreNamed h.objects) (sym c.self.view_is) c.requires.named in
+    let fits : FitsSigned w32 e.key = search rules in
+    let names = subst (λ (z : ℤ). (k : ℤ) → named_by c.unbind.new.keys k ≡ (if int_eq z k then None else named_by old.keys k)) (to_z-of_z w32 e.key fits)
+    c.unbind.ensures.names in
+    agree-without old.keys c.unbind.new.keys (numbered_of old.objects) c.args.id.0 e (numbered_of c.remove.new.self) named is
+    names c.remove.ensures c.self.invariant
+
+pub returns-clause-keys : goal.returns-clause-keys
+returns-clause-keys g c spare =
+    c.unbind.ensures.spare (subst (λ (h : HeldObjects _). HasNoSpareKey h.keys) (sym c.self.view_is) spare)

@@ -1,0 +1,38 @@
+use Rattle.std.proofs.Common.{◌≡◌, ◌≢◌, ℤ, pos, true, None, refl, sym, subst, ap, ◌∙◌, rules}
+use Rattle.std.specs.Int.{w32, cast_signed as to_z, cast_unsigned as of_z}
+use Rattle.std.proofs.lemmas.Int.{to_z-of_z}
+use Rattle.std.proofs.lemmas.Result.{on_ok_weaker}
+use Rattle.ipc_keys.specs.Directory.{is_vacant}
+use Rattle.ipc_state.specs.Directory.{ArePositive, named_by}
+use Rattle.ipc_state.specs.Keyed.{Keyed, keyed}
+use Rattle.ipc_state.specs.Tables.{HeldObjects, HasPlaceFor, numbered_of, has_place}
+use Rattle.ipc_state.proofs.Directories.{agree-same}
+use Rattle.ipc_state.proofs.keyed.Keyed.reserve.Goals as goal
+
+pub invariant_of-self : goal.invariant_of-self
+invariant_of-self g c =
+    agree-same c.self.inside.keys c.self.inside.keys (numbered_of c.self.inside.objects) _ (λ k. refl) c.reserve.ensures.items c.self.invariant
+
+pub invariant_of-self-2 : goal.invariant_of-self-2
+invariant_of-self-2 g c =
+    agree-same c.self.inside.keys c.reserve-2.new.keys (numbered_of c.self.inside.objects) _ c.reserve-2.ensures.names c.reserve.ensures.items c.self.invariant
+
+pub returns-clause-ok : goal.returns-clause-ok
+returns-clause-ok g c =
+    let old = c.self.inside in
+    let n : to_z w32 (of_z w32 c.args.key) ≡ c.args.key = to_z-of_z w32 c.args.key c.ranges.key in
+    let place : has_place c.reserve.new.self ≡ true = c.in_ok-reserve.ensures.ok in
+    on_ok_weaker c.reserve-2.result
+    (λ ok positive. record {
+      place = place;
+      vacant = λ some unused.
+          let agrees = c.self.invariant (subst (λ (h : HeldObjects _). ArePositive h.objects.entries) (sym c.self.view_is) positive) c.args.key in
+          let none : named_by old.keys c.args.key ≡ None = agrees ∙ (ap (λ (o : Keyed _). keyed o c.args.key) (sym c.reserve.ensures.items) ∙ unused) in
+          subst (λ (z : ℤ). z ≢ pos 0 → named_by old.keys z ≡ None → is_vacant c.reserve-2.new.keys z ≡ true) n ok some none;
+    })
+    c.reserve-2.ensures.ok
+
+pub returns-clause-others : goal.returns-clause-others
+returns-clause-others g c other apart =
+    let n : to_z w32 (of_z w32 c.args.key) ≡ c.args.key = to_z-of_z w32 c.args.key c.ranges.key in
+    c.reserve-2.ensures.others other (λ same. apart (same ∙ n)) ∙ ap (λ (h : HeldObjects _). is_vacant h.keys other) c.self.view_is

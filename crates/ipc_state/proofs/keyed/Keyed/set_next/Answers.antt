@@ -1,0 +1,7 @@
+use Rattle.std.proofs.Common.{◌≡◌, sym, subst}
+use Rattle.ipc_state.specs.Directory.{Agree}
+use Rattle.ipc_state.specs.Keyed.{Keyed}
+use Rattle.ipc_state.proofs.keyed.Keyed.set_next.Goals as goal
+
+pub invariant_of-self : goal.invariant_of-self
+invariant_of-self g c = subst (λ (o : Keyed _). Agree c.self.inside.keys o) (sym c.set_next.ensures.items) c.self.invariant
