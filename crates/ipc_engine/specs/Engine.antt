@@ -42,5 +42,5 @@ abbrev pub IsReadyForHello : Limits → State → Room → Type 0
 IsReadyForHello limits s room = has_all_processes limits s ≡ false → room.process ≡ true
 
 -- what a request of a process needs is there
-abbrev pub IsReadyFor : Room → PlainKind → Type 0
-IsReadyFor room kind = Has room (kind_needs kind)
+abbrev pub IsReadyFor : State → Room → PlainKind → Type 0
+IsReadyFor s room kind = Has s room (kind_needs kind)

@@ -319,9 +319,8 @@ fn reserve_kind(state: &mut State, kind: &RequestKind<'_>) -> Result<(), AllocEr
     requires { HasSoundParts state.old.limits state.old.state }
     ensures state { state.new.state ≡ state.old.state }
     ensures limits { state.new.limits ≡ state.old.limits }
-    ensures ok { OnOk result (IsReadyFor state.new.room (plain_kind kind.now)) }
+    ensures ok { OnOk result (IsReadyFor state.new.state state.new.room (plain_kind kind.now)) }
     ensures memory { kind_takes_memory (plain_kind kind.now) ≡ false → IsOk result }
-    ensures err { OnErr result (state.new ≡ state.old) }
 {
     match kind {
         RequestKind::Hello(_) => Ok(()),
@@ -333,7 +332,7 @@ fn reserve_kind(state: &mut State, kind: &RequestKind<'_>) -> Result<(), AllocEr
 fn ask(state: &mut State, pid: Pid, kind: &RequestKind<'_>, spare: &mut Vec<u8>) -> Answer
     requires spare { IsSpare state.old.limits spare.old }
     requires sound { HasSoundParts state.old.limits state.old.state }
-    requires room { IsReadyFor state.old.room (plain_kind kind.now) }
+    requires room { IsReadyFor state.old.state state.old.room (plain_kind kind.now) }
     requires process { is_process state.old.state pid.0 ≡ true }
     ensures finish { finish_of state.new.state result
         ≡ asked state.old.limits state.old.state pid.0 (plain_kind kind.now) }

@@ -2,13 +2,16 @@
 -- whose steps do.
 use Rattle.std.proofs.Common.{◌≡◌, ℕ, ℤ, ◌<◌, Bool, true, false, Option, Some, None, refl, arith, sym, ap, subst, ◌∙◌, List}
 use Rattle.std.proofs.lemmas.Nat.{and_le_r}
-use Rattle.std.specs.Prelude.{Ok, Err, nat_eq, nat_le, nat_lt, option_map, IfSome, ◌||◌, if◌then◌else◌, pos}
+use Rattle.std.specs.Prelude.{Ok, Err, nat_eq, nat_le, nat_lt, option_map, IfSome, ◌||◌, if◌then◌else◌, pos, ⊤}
 use Rattle.std.specs.Ordering.{int_eq}
 use Rattle.std.proofs.lemmas.List.{length-map}
 use Rattle.std.specs.Borrow.{MutBor}
 use Rattle.std.specs.Option.{option_copied_mut, IsSome}
 use Rattle.ipc_base.specs.Table.{value_at}
-use Rattle.ipc_base.proofs.CallerLemmas.{at-map, at-with, own}
+use Rattle.ipc_base.specs.Table.{keys_of}
+use Rattle.ipc_base.proofs.CallerLemmas.{at-map, at-with, own, rising-bounds}
+use Rattle.ipc_state.specs.Directory.{ArePositive}
+use Rattle.ipc_state.proofs.Directories.{named-positive}
 use Rattle.ipc_state.specs.Held.{HasTextRoom}
 use Rattle.ipc_state.specs.Lends.{HasPutObject}
 use Rattle.ipc_state.specs.Tables.{HeldObjects, queue_in, queue_entry, queues_of, texts_of}
@@ -21,7 +24,7 @@ use Rattle.ipc_state.specs.declared.keyed.Entry.{Entry}
 use Rattle.ipc_perm.specs.declared.perm.Perm.{Perm}
 use Rattle.ipc_perm.specs.Perm.{perm_of, owned_by}
 use Rattle.ipc_state.specs.Numbered.{Numbered, entry_of, with_entry, without_entry, numbered_map, is_full, last_number, AreNumbered}
-use Rattle.ipc_state.specs.Keyed.{Keyed, holding, permitting, keyed, AreKeyed}
+use Rattle.ipc_state.specs.Keyed.{Keyed, holding, permitting, keyed, AreKeyed, AreNamed}
 use Rattle.ipc_state.specs.declared.processes.Process.{Process}
 use Rattle.ipc_state.specs.State.{State, start, at_moment, has_all_processes, with_process, exit, restart, queue_of, with_queue, with_new_queue}
 use Rattle.ipc_state.specs.Sound.{HasSoundParts, IsSoundQueue, FitsBody}
@@ -109,6 +112,21 @@ module _ (o : HeldObjects Kept) (s : Keyed Queue) (same : queues_of o ≡ s) whe
       ap (numbered_map queue_entry) is
       ∙ (ap (λ (es : List (ℕ × Entry Queue)). let n : Keyed Queue = record { next = o.objects.next; entries = es } in n) (seen-without queue_entry o.objects.entries id)
       ∙ ap (λ (t : Keyed Queue). without_entry t id) same)
+
+  module _ (limits : Limits) (sound : AreKeyed limits.msgmni (IsSoundQueue limits) s) where
+    held-sound : AreKeyed limits.msgmni (λ (k : Kept). ⊤) o.objects
+    held-sound = queues.queues-keyed limits o (subst (AreKeyed limits.msgmni (IsSoundQueue limits)) (sym same) sound)
+
+    -- their identifiers are above 0, and their keys name them
+    pub held-named : AreNamed o.objects
+    held-named = record { numbers = held-sound.numbered.numbers; keys = held-sound.keys }
+
+    pub held-positive : ArePositive o.objects.entries
+    held-positive = named-positive o.objects held-sound.numbered.numbers
+
+-- the next identifier is above 0
+pub next-positive : (limits : Limits) (s : State) → HasSoundParts limits s → 0 < s.msg.next
+next-positive limits s h = omega (arith, rising-bounds 1 (keys_of s.msg.entries) s.msg.next h.msg.numbered.numbers)
 
 -- ---- a queue that was lent
 

@@ -108,7 +108,7 @@ removed-seen o s same cred id =
   where
     by_attempt : (a : Attempt (Entry Kept)) → (seen queue_entry a >>= (λ e. Ok (without_entry s id)))
         ≡ seen (numbered_map queue_entry) (a >>= (λ e. Ok (without_entry o.objects id)))
-    by_attempt (Ok e) = ap (λ (t : Keyed Queue). Ok t) (sym (held-without o s same id (record { objects = without_entry o.objects id; place = false }) refl))
+    by_attempt (Ok e) = ap (λ (t : Keyed Queue). Ok t) (sym (held-without o s same id (record o { objects = without_entry o.objects id }) refl))
     by_attempt (Err e) = refl
 
 -- what is left is all but that

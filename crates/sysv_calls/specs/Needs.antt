@@ -1,21 +1,24 @@
 -- What each call may need of memory. It is taken before the attempt, so that the attempt takes none.
-use Rattle.std.specs.Prelude.{◌≡◌, ℕ, Bool, true, false, length}
+use Rattle.std.specs.Prelude.{◌≡◌, ◌≢◌, ℕ, ℤ, pos, Bool, true, false, length, None}
+use Rattle.ipc_keys.specs.Directory.{is_vacant}
 use Rattle.ipc_wire.specs.Request.{PlainCall}
 use Rattle.ipc_wire.specs.Request as requests
 use Rattle.ipc_state.specs.Held.{Room, HasTextRoom}
+use Rattle.ipc_state.specs.Keyed.{keyed}
+use Rattle.ipc_state.specs.State.{State}
 use Rattle.sysv_calls.specs.declared.memory.Needs.{Needs as Wants}
 use Rattle.sysv_calls.specs.declared.memory.Needs.TheVariants as wants
 
 pub data Needs : Type 0 where
   Nothing : Needs
-  -- room for one queue more and its key
-  Place : Needs
+  -- room for one queue more, and for its key
+  Place : (key : ℤ) → Needs
   -- room for a message of so many bytes in the queue that the identifier has
   Text : (id bytes : ℕ) → Needs
 
 -- the table: a call that it does not name needs nothing
 abbrev pub needs : PlainCall → Needs
-needs (requests.Msgget key flags) = Place
+needs (requests.Msgget key flags) = Place key
 needs (requests.Msgsnd id flags mtype text) = Text id (length text)
 needs _ = Nothing
 
@@ -27,17 +30,22 @@ is_something _ = true
 abbrev pub takes_memory : PlainCall → Bool
 takes_memory call = is_something (needs call)
 
-abbrev pub Has : Room → Needs → Type 0
-Has room Nothing = Unit {0}
-Has room Place = room.queue ≡ true
-Has room (Text id bytes) = HasTextRoom room.texts id bytes
+-- there is room for one queue more, and for this key, if no queue has it
+pub record HasPlace (s : State) (room : Room) (key : ℤ) : Type 0 where
+  pub queue : room.queue ≡ true
+  pub vacant : key ≢ pos 0 → keyed s.msg key ≡ None → is_vacant room.keys key ≡ true
+
+abbrev pub Has : State → Room → Needs → Type 0
+Has s room Nothing = Unit {0}
+Has s room (Place key) = HasPlace s room key
+Has s room (Text id bytes) = HasTextRoom room.texts id bytes
 
 -- what the attempt of a call needs is there
-abbrev pub IsReserved : Room → PlainCall → Type 0
-IsReserved room call = Has room (needs call)
+abbrev pub IsReserved : State → Room → PlainCall → Type 0
+IsReserved s room call = Has s room (needs call)
 
 -- the same of a program's value
 abbrev pub plain_needs : Wants → Needs
 plain_needs wants.Nothing = Nothing
-plain_needs wants.Place = Place
+plain_needs (wants.Place key) = Place key
 plain_needs (wants.Text id len) = Text id.0 len

@@ -1,13 +1,13 @@
 //! The memory of each call, and its attempt, which takes none.
 
-ghost use Rattle.std.specs.Prelude.{◌≡◌, true, false, IsOk, OnOk, OnErr};
+ghost use Rattle.std.specs.Prelude.{◌≡◌, true, false, IsOk, OnOk};
 ghost use Rattle.ipc_wire.specs.Request.{plain_call};
 ghost use Rattle.ipc_state.specs.Held.{HasTextRoom};
 ghost use Rattle.ipc_state.specs.Finish.{finish_of};
 ghost use Rattle.ipc_state.specs.Sound.{HasSoundParts};
 ghost use Rattle.ipc_state.specs.State.{is_process};
 ghost use Rattle.sysv_calls.specs.Calls as defined;
-ghost use Rattle.sysv_calls.specs.Needs.{IsReserved, takes_memory};
+ghost use Rattle.sysv_calls.specs.Needs.{HasPlace, IsReserved, takes_memory};
 ghost use Rattle.sysv_calls.specs.Spare.{IsSpare, IsKept};
 
 use crate::memory::{Needs, needed_by};
@@ -20,22 +20,30 @@ use std::alloc::AllocError;
 /// How a call ends: the body of its reply, or the error.
 pub type Answer = Result<Body<Vec<u8>>, Errno>;
 
-/// Takes the memory that the attempt of a call may need, which a read-only call never does; never
-/// refused if that memory is there already. Refused, all is as before.
+/// Takes the memory that the attempt of a call may need, which a call that grows nothing never does.
+/// Refused, the state is as before.
 pub fn reserve(state: &mut State, call: &Call<'_>) -> Result<(), AllocError>
     requires sound { HasSoundParts state.old.limits state.old.state }
     ensures state { state.new.state ≡ state.old.state }
     ensures limits { state.new.limits ≡ state.old.limits }
-    ensures ok { OnOk result (IsReserved state.new.room (plain_call call.now)) }
-    ensures succeeds { IsReserved state.old.room (plain_call call.now) → IsOk result }
+    ensures ok { OnOk result (IsReserved state.new.state state.new.room (plain_call call.now)) }
     ensures memory { takes_memory (plain_call call.now) ≡ false → IsOk result }
-    ensures err { OnErr result (state.new ≡ state.old) }
 {
     match needed_by(call) {
         Needs::Nothing => Ok(()),
-        Needs::Place => state.msg_mut().reserve(),
+        Needs::Place { key } => reserve_place(state, key),
         Needs::Text { id, len } => reserve_text(state, id, len),
     }
+}
+
+/// Takes the memory for one queue more, and for its key.
+fn reserve_place(state: &mut State, key: i32) -> Result<(), AllocError>
+    requires sound { HasSoundParts state.old.limits state.old.state }
+    ensures state { state.new.state ≡ state.old.state }
+    ensures limits { state.new.limits ≡ state.old.limits }
+    ensures ok { OnOk result (HasPlace state.new.state state.new.room key) }
+{
+    state.msg_mut().reserve(key)
 }
 
 /// Takes the memory for one message of `len` bytes in a queue, if the queue is there.
@@ -43,8 +51,6 @@ fn reserve_text(state: &mut State, id: Id, len: usize) -> Result<(), AllocError>
     ensures state { state.new.state ≡ state.old.state }
     ensures limits { state.new.limits ≡ state.old.limits }
     ensures ok { OnOk result (HasTextRoom state.new.room.texts id.0 len) }
-    ensures succeeds { HasTextRoom state.old.room.texts id.0 len → IsOk result }
-    ensures err { OnErr result (state.new ≡ state.old) }
 {
     match state.msg_mut().get_mut(id) {
         Some(queue) => queue.reserve(len),
@@ -56,7 +62,7 @@ fn reserve_text(state: &mut State, id: Id, len: usize) -> Result<(), AllocError>
 /// is made in the spare buffer, and has it.
 pub fn attempt(state: &mut State, pid: Pid, call: &Call<'_>, spare: &mut Vec<u8>) -> Answer
     requires sound { HasSoundParts state.old.limits state.old.state }
-    requires room { IsReserved state.old.room (plain_call call.now) }
+    requires room { IsReserved state.old.state state.old.room (plain_call call.now) }
     requires process { is_process state.old.state pid.0 ≡ true }
     requires spare { IsSpare state.old.limits spare.old }
     ensures finish { finish_of state.new.state result

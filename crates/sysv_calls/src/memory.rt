@@ -12,7 +12,7 @@ use ipc_wire::Call;
 pub(crate) enum Needs {
     Nothing,
     /// Room for one queue more and its key.
-    Place,
+    Place { key: i32 },
     /// Room for a message of `len` bytes in a queue.
     Text { id: Id, len: usize },
 }
@@ -22,7 +22,7 @@ pub(crate) fn needed_by(call: &Call<'_>) -> Needs
     ensures { plain_needs result ≡ needs_of (plain_call call.now) }
 {
     match call {
-        Call::Msgget { .. } => Needs::Place,
+        Call::Msgget { key, .. } => Needs::Place { key: *key },
         Call::Msgsnd { id, text, .. } => Needs::Text {
             id: *id,
             len: text.len(),

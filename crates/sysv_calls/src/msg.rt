@@ -6,6 +6,7 @@ ghost use Rattle.ipc_state.specs.Finish.{finish_of, ended};
 ghost use Rattle.ipc_state.specs.Held.{HasTextRoom};
 ghost use Rattle.ipc_state.specs.Sound.{HasSoundParts, HasNumbers};
 ghost use Rattle.sysv_calls.specs.Calls as defined;
+ghost use Rattle.sysv_calls.specs.Needs.{HasPlace};
 ghost use Rattle.sysv_calls.specs.Records.{perm_fields, queue_fields};
 ghost use Rattle.sysv_calls.specs.Spare.{IsSpare, IsKept};
 
@@ -19,9 +20,25 @@ use ipc_wire::{Body, push_fields};
 use std::mem;
 use sysv_msg::MsgQueue;
 
-/// msgget(2).
+/// msgget(2). Refused, the room of the key is given back.
 pub(crate) fn msgget(state: &mut State, cred: Cred, key: i32, flags: GetFlags) -> Answer
-    requires room { state.old.room.queue ≡ true }
+    requires sound { HasSoundParts state.old.limits state.old.state }
+    requires room { HasPlace state.old.state state.old.room key }
+    ensures finish { finish_of state.new.state result ≡ ended state.old.state
+        (defined.msgget state.old.limits state.old.state cred key flags.0) }
+    ensures limits { state.new.limits ≡ state.old.limits }
+{
+    let answer = get_queue(state, cred, key, flags);
+    if answer.is_err() {
+        state.msg_mut().release(key);
+    }
+    answer
+}
+
+/// The queue that a key names, or a new one.
+fn get_queue(state: &mut State, cred: Cred, key: i32, flags: GetFlags) -> Answer
+    requires sound { HasSoundParts state.old.limits state.old.state }
+    requires room { HasPlace state.old.state state.old.room key }
     ensures finish { finish_of state.new.state result ≡ ended state.old.state
         (defined.msgget state.old.limits state.old.state cred key flags.0) }
     ensures limits { state.new.limits ≡ state.old.limits }
@@ -154,6 +171,7 @@ pub(crate) fn msgctl_set(
 
 /// IPC_RMID of msgctl(2).
 pub(crate) fn msgctl_rmid(state: &mut State, cred: Cred, id: Id) -> Answer
+    requires { HasSoundParts state.old.limits state.old.state }
     ensures finish { finish_of state.new.state result
         ≡ ended state.old.state (defined.msgctl_rmid state.old.state cred id.0) }
     ensures limits { state.new.limits ≡ state.old.limits }

@@ -4,6 +4,7 @@ use Rattle.sysv_msg.specs.Queue.{Kept}
 use Rattle.ipc_state.specs.Finish.{refused}
 use Rattle.ipc_state.specs.Keyed.{Keyed}
 use Rattle.ipc_state.specs.Tables.{HeldObjects, queues_of}
+use Rattle.ipc_state.proofs.CallerLemmas.{held-named}
 use Rattle.sysv_calls.proofs.Reaching.{removed-ok, removed-refused}
 use Rattle.sysv_calls.proofs.msg.msgctl_rmid.Goals as goal
 
@@ -22,3 +23,6 @@ returns-clause-finish c =
     let yes = removed-ok c.msg_mut.result.now c.remove.new.objects c.args.state.now.state.msg c.msg_mut.ensures.queues c.args.cred c.args.id.0
     c.remove.result c.remove.ensures.objects tt c.in_ok-remove.was in
     rw yes refl
+
+pub remove-requires : goal.remove-requires
+remove-requires c = held-named c.msg_mut.result.now c.args.state.now.state.msg c.msg_mut.ensures.queues c.args.state.now.limits c.requires.msg
