@@ -1,11 +1,14 @@
 -- Rows as the map from keys to adjustments.
-use Rattle.std.proofs.Common.{◌≡◌, ◌≢◌, ℕ, ℤ, pos, ◌-ℤ◌, ◌-◌, to_z, of_z, FitsSigned, arith, ◌<◌, ◌≤◌, Bool, true, false, cond, List, [], ◌∷◌, map, filter, Option, Some, None, is_some, Result, Ok, Err, IsOk, OnOk, OnErr, IfNone, refl, sym, ap, subst, ◌∙◌, true≢false}
+use Rattle.std.proofs.Common.{◌≡◌, ◌≢◌, ℕ, ℤ, pos, ◌-ℤ◌, ◌-◌, to_z, of_z, FitsSigned, arith, ◌<◌, ◌≤◌, Bool, true, false, cond, List, []}
+use Rattle.std.proofs.Common.{◌∷◌, map, filter, Option, Some, None, is_some, Result, Ok, Err, IsOk, OnOk, OnErr, IfNone, refl, sym, ap}
+use Rattle.std.proofs.Common.{subst, ◌∙◌, true≢false}
 use Rattle.std.specs.Option.{unwrap_or, option_map}
 use Rattle.std.specs.Map.Calls.{RetainsPairs}
 use Rattle.std.specs.Cmp.{IsTotalOrder, nat_cmp_total, tied_itself, then_total, on_total}
 use Rattle.std.specs.Int.{w16}
 use Rattle.std.proofs.lemmas.Int.{ints, to_z-of_z}
-use Rattle.std.specs.FinMap.{FinMap, get, find, len, remove, contains_key, from_entries, get-from_entries, get-empty, get-remove, len-remove, empty_of_len, same_map, nat_cmp-IsAntisymmetric}
+use Rattle.std.specs.FinMap.{FinMap, get, find, len, remove, contains_key, from_entries, get-from_entries, get-empty, get-remove}
+use Rattle.std.specs.FinMap.{len-remove, empty_of_len, same_map, nat_cmp-IsAntisymmetric}
 use Rattle.std.specs.Map.{lookup}
 use Rattle.std.specs.BTreeMap.{BTreeMap}
 use Rattle.std.specs.BTreeMap.Range.{IsRangeOf}
@@ -17,7 +20,9 @@ use Rattle.std.specs.declared.cmp.Ordering.TheVariants.{Less, Equal, Greater}
 use Rattle.sem_undo.specs.Undo.{Key, key_cmp, adjustment, has_row, is_adjustment}
 
 pub key_total : IsTotalOrder key_cmp
-key_total = then_total (then_total (on_total (λ (k : Key). k.0) nat_cmp_total) (on_total (λ (k : Key). k.1) nat_cmp_total)) (on_total (λ (k : Key). k.2) nat_cmp_total)
+key_total =
+    then_total (then_total (on_total (λ (k : Key). k.0) nat_cmp_total) (on_total (λ (k : Key). k.1) nat_cmp_total))
+    (on_total (λ (k : Key). k.2) nat_cmp_total)
 
 both_equal : (a b : Ordering) → ordering_then a b ≡ Equal → (a ≡ Equal) × (b ≡ Equal)
 both_equal Less b e = cc
@@ -82,7 +87,8 @@ module _ {old new : FinMap key_cmp ℤ} {k : Key} {w : ℤ} (c : Changed old new
   row-kept had = each (λ q. has_row new q ≡ has_row old q) (ap is_some c.at ∙ sym had) (λ q ne. ap is_some (c.others q ne))
 
   pub adjustment-kept : adjustment old k ≡ w → (q : Key) → adjustment new q ≡ adjustment old q
-  adjustment-kept was = each (λ q. adjustment new q ≡ adjustment old q) (ap (λ r. unwrap_or r (pos 0)) c.at ∙ sym was) (λ q ne. ap (λ r. unwrap_or r (pos 0)) (c.others q ne))
+  adjustment-kept was = each (λ q. adjustment new q ≡ adjustment old q) (ap (λ r. unwrap_or r (pos 0)) c.at ∙ sym was)
+      (λ q ne. ap (λ r. unwrap_or r (pos 0)) (c.others q ne))
 
 pub none_there : (r : Option ℤ) → is_some r ≡ false → unwrap_or r (pos 0) ≡ pos 0
 none_there None e = refl

@@ -1,5 +1,6 @@
--- What is undone when processes exit (semop(2)): of each process and each semaphore, by its set and its number there, an
--- adjustment, which is added to the value at the exit.
+-- What is undone when processes exit (semop(2)): of each process and each semaphore, by its set and its number
+-- there, an adjustment, which is added to the value at the exit. A row that is reserved has the adjustment 0, as a
+-- key without a row has.
 use Rattle.std.specs.Prelude.{ℕ, ℤ, pos, negsuc, int_le, ◌==◌, Bool, not, ◌&&◌, if◌then◌else◌, is_some, refl}
 use Rattle.std.specs.Coded.{Coded, code_by, coded×, coded_ℕ}
 use Rattle.std.specs.Option.{unwrap_or}
@@ -19,7 +20,8 @@ key_of r = (r.pid.0, r.set.0, r.num)
 -- a key is stored as a pair and a pair in it
 abbrev pub key_code : Coded Key
 key_code =
-    code_by (ℕ × (ℕ × ℕ)) (coded× coded_ℕ (coded× coded_ℕ coded_ℕ)) (λ k. (k.0, (k.1, k.2))) (λ p. (p.0, p.1.0, p.1.1)) (λ _. refl)
+    code_by (ℕ × (ℕ × ℕ)) (coded× coded_ℕ (coded× coded_ℕ coded_ℕ))
+    (λ k. (k.0, (k.1, k.2))) (λ p. (p.0, p.1.0, p.1.1)) (λ _. refl)
 
 -- by rising process, then by rising set, then by rising number
 abbrev pub key_cmp : Key → Key → Ordering
