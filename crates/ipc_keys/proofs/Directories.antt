@@ -1,8 +1,10 @@
 -- What a change of the entries is to a caller.
-use Rattle.std.proofs.Common.{◌≡◌, ◌≢◌, ◌<◌, arith, ℕ, ℤ, Bool, true, false, cond, List, [], ◌∷◌, map, Option, Some, None, zero, suc, Result, Ok, Err, OnOk, OnErr, refl, sym, ap, subst, ◌∙◌, true≢false, nat_eq}
+use Rattle.std.proofs.Common.{◌≡◌, ◌≢◌, ◌<◌, arith, ℕ, ℤ, Bool, true, false, cond, List, [], ◌∷◌, map, Option, Some, None, zero, suc}
+use Rattle.std.proofs.Common.{Result, Ok, Err, OnOk, OnErr, refl, sym, ap, subst, ◌∙◌, true≢false, nat_eq}
 use Rattle.std.specs.Cmp.{IsTotalOrder, int_cmp_total, int_eq_equiv, tied_itself}
 use Rattle.std.specs.Cmp.Lexicographic.{pointwise, slice_cmp, nat_list_cmp_total, nat_list_eq_equiv, texts_ties}
-use Rattle.std.specs.FinMap.{FinMap, get, find, IsAntisymmetric, get-from_entries, int_cmp-IsAntisymmetric, nat_cmp-IsAntisymmetric, slice_cmp-IsAntisymmetric}
+use Rattle.std.specs.FinMap.{FinMap, get, find, IsAntisymmetric, get-from_entries, int_cmp-IsAntisymmetric, nat_cmp-IsAntisymmetric}
+use Rattle.std.specs.FinMap.{slice_cmp-IsAntisymmetric}
 use Rattle.std.specs.Map.{lookup, KeepsOthers}
 use Rattle.std.specs.Ordering.{eq_by_cmp, is_eq, nat_cmp, int_cmp, int_eq}
 use Rattle.std.specs.declared.cmp.Ordering.{Ordering}
@@ -137,7 +139,8 @@ module _ {K P X E : Type 0} (kind : Kind K P) (es fs : List (K × ℕ)) (old : F
 
   pub reserved-others : OnErr r (fs ≡ es) → (q : P) → q ≢ p → is_vacant (seen kind.order kind.plain fs) q ≡ is_vacant old q
   reserved-others err q ne =
-      elim r as (λ r. OnOk r (Puts kind.eq (kind.names p′) es fs (Some 0)) → OnErr r (fs ≡ es) → is_vacant (seen kind.order kind.plain fs) q ≡ is_vacant old q) [
+      elim r as (λ r. OnOk r (Puts kind.eq (kind.names p′) es fs (Some 0)) → OnErr r (fs ≡ es)
+      → is_vacant (seen kind.order kind.plain fs) q ≡ is_vacant old q) [
         | Ok x ↦ λ ok err. ap has_place ((changed kind es fs old p′ p (Some 0) view key ok).others q ne)
         | Err e ↦ λ ok err. ap (λ l. is_vacant (seen kind.order kind.plain l) q) err ∙ ap (λ m. is_vacant m q) view
       ] ok err

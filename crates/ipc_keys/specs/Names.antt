@@ -1,6 +1,6 @@
--- Which names there may be (mq_overview(7), sem_overview(7), shm_overview(7)): a slash, and then one or more bytes, none
--- of them a slash or 0. What is wrong with a queue's name is told apart; any other wrong form is EINVAL. A name of the
--- right form may still be too long.
+-- Which names there may be (mq_overview(7), sem_overview(7), shm_overview(7)): a slash, and then one or more bytes,
+-- none of them a slash or 0. What is wrong with a queue's name is told apart; any other wrong form is EINVAL. A name
+-- of the right form may still be too long.
 use Rattle.std.specs.Prelude.{ℕ, ◌==◌, nat_lt, Bool, false, not, ◌&&◌, ◌||◌, if◌then◌else◌, List, [], ◌∷◌, length, drop}
 use Rattle.std.specs.Prelude.{Option, Some, None, Result, Ok, Err}
 use Rattle.std.specs.List.{list_any}

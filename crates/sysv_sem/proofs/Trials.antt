@@ -1,5 +1,7 @@
 -- A trial, operation by operation.
-use Rattle.std.proofs.Common.{◌≡◌, ℕ, zero, suc, ◌+◌, ◌<◌, ◌≤◌, ◌⊎◌, inl, inr, ℤ, pos, ◌-ℤ◌, Bool, true, false, cond, not, ◌&&◌, List, [], ◌∷◌, ◌++◌, length, take, drop, get_or, set, nat_eq, refl, sym, ap, subst, ◌∙◌, arith, add-one, FitsSigned, All, to_z, of_z}
+use Rattle.std.proofs.Common.{◌≡◌, ℕ, zero, suc, ◌+◌, ◌<◌, ◌≤◌, ◌⊎◌, inl, inr, ℤ, pos, ◌-ℤ◌, Bool, true, false, cond, not, ◌&&◌, List, []}
+use Rattle.std.proofs.Common.{◌∷◌, ◌++◌, length, take, drop, get_or, set, nat_eq, refl, sym, ap, subst, ◌∙◌, arith, add-one, FitsSigned}
+use Rattle.std.proofs.Common.{All, to_z, of_z}
 use Rattle.std.specs.Int.{w16}
 use Rattle.std.specs.List.{fold}
 use Rattle.std.proofs.lemmas.Bool.{ltb-false, eqb-true, eqb-false}
@@ -13,7 +15,8 @@ use Rattle.sysv_sem.specs.Set.{marked}
 use Rattle.sysv_sem.specs.declared.operation.Operation.{Operation}
 use Rattle.sysv_sem.specs.declared.operation.Verdict.{Verdict}
 use Rattle.sysv_sem.specs.declared.operation.Verdict.TheVariants.{Passes, Waits, OutOfRange}
-use Rattle.sysv_sem.specs.Operation.{most_value, is_adjustment, has_undo, value_after, judged, performed, adjusted, Done, unless_stopped, outcome_from, outcome}
+use Rattle.sysv_sem.specs.Operation.{most_value, is_adjustment, has_undo, value_after, judged, performed, adjusted, Done, unless_stopped}
+use Rattle.sysv_sem.specs.Operation.{outcome_from, outcome}
 use Rattle.sysv_sem.specs.Trial.{value_of, adjustment_of, AreAdjustments, CanBeDone}
 
 fits : (z : ℤ) → is_adjustment z ≡ true → FitsSigned w16 z
@@ -125,7 +128,8 @@ module _ (values : List ℕ) (held : ℕ → ℤ) (operations : List Operation) 
       let H = fold adjusted held (take at operations) in
       let first : drop at operations ≡ o ∷ drop (at + 1) operations =
       drop-cons operations at o within ∙ (λ i. sym is i ∷ drop (sym (add-one at) i) operations) in
-      let Vs : performed V o ≡ fold performed values (take (at + 1) operations) = ap (performed V) is ∙ sym (fold_more performed values operations at o within) in
+      let Vs : performed V o ≡ fold performed values (take (at + 1) operations) =
+      ap (performed V) is ∙ sym (fold_more performed values operations at o within) in
       let Hs : adjusted H o ≡ fold adjusted held (take (at + 1) operations) = ap (adjusted H) is ∙ sym (fold_more adjusted held operations at o within) in
       p.rest ∙ ap (outcome_from at V H) first
       ∙ (λ i. unless_stopped (h i) at (outcome_from (at + 1) (Vs i) (Hs i) (drop (at + 1) operations)))
@@ -135,7 +139,8 @@ module _ (values : List ℕ) (held : ℕ → ℤ) (operations : List Operation) 
   Passed-more h =
       let V = fold performed values (take at operations) in
       let H = fold adjusted held (take at operations) in
-      let Vs : performed V o ≡ fold performed values (take (at + 1) operations) = ap (performed V) is ∙ sym (fold_more performed values operations at o within) in
+      let Vs : performed V o ≡ fold performed values (take (at + 1) operations) =
+      ap (performed V) is ∙ sym (fold_more performed values operations at o within) in
       let Hs : adjusted H o ≡ fold adjusted held (take (at + 1) operations) = ap (adjusted H) is ∙ sym (fold_more adjusted held operations at o within) in
       let value : (n : ℕ) → get_or (fold performed values (take (at + 1) operations)) n 0 ≤ most_value = λ n.
       subst (λ l. get_or l n 0 ≤ most_value) Vs
