@@ -3,7 +3,6 @@ use Rattle.std.proofs.Common.{◌≡◌, ℕ, ◌+◌, ◌*◌, ◌≤◌, ◌<�
 use Rattle.std.specs.Int.{w32, w64, to_be_bytes}
 use Rattle.std.proofs.lemmas.List.{take_at}
 use Rattle.std.proofs.lemmas.Nat.{from_be_bytes-to_be_bytes_4, from_be_bytes-to_be_bytes_8}
-use Rattle.std.proofs.lemmas.List.Elements.{All-nil}
 use Rattle.ipc_base.specs.declared.limits.Limits.{Limits}
 use Rattle.ipc_base.specs.Limits.{ArePassed}
 use Rattle.ipc_base.specs.Objects.{Fit, PlainObjects}
@@ -14,7 +13,7 @@ use Rattle.ipc_engine.proofs.CallerLemmas.{start-sound}
 use Rattle.ipc_image.specs.Saved.{saved, StandForState}
 use Rattle.ipc_image.specs.Sizes.{entries, area_of}
 use Rattle.ipc_image.proofs.Bounds.{bounds}
-use Rattle.ipc_image.proofs.SavedObjects.{saved-fit}
+use Rattle.ipc_image.proofs.SavedObjects.{saved-fit, start-places}
 use Rattle.ipc_wire.specs.Spelling.{request_bytes}
 use Rattle.ipc_wire.proofs.CallerLemmas.{one_text}
 use Rattle.ipc_engine.specs.Event.{PlainEvent, Connect, Call, Tick, Exit, Restart, moment_of}
@@ -52,16 +51,7 @@ saved-fits = saved-fit
 
 -- the state to which nothing has happened stands as its objects
 pub start-stands : (limits : Limits) → StandForState limits start (saved start)
-start-stands limits = record {
-  sound = start-sound limits;
-  places = record {
-    clock = (omega arith, (omega arith, (omega arith, (omega arith, (omega arith, (omega arith, (omega arith, tt)))))));
-    count = omega arith;
-    processes = All-nil _;
-    queues = All-nil _;
-  };
-  are = refl;
-}
+start-stands limits = record { sound = start-sound limits; places = start-places; are = refl }
 
 -- bytes begin with the record that was written to their front
 pub record-read : (e : PlainEvent) (rest : List ℕ) → HasRecord e → BeginsWith (record_bytes e ++ rest) e
