@@ -1,9 +1,8 @@
 -- What the crates above cite of superblocks, of records, and of states as objects.
-use Rattle.std.proofs.Common.{◌≡◌, ℕ, ◌+◌, ◌*◌, ◌≤◌, ◌<◌, ◌^◌, List, [], ◌++◌, length, take, drop, Some, refl, sym, ap, subst, ◌∙◌, arith}
-use Rattle.std.specs.Int.{w32, w64, from_be_bytes, to_be_bytes}
-use Rattle.std.proofs.lemmas.List.{take_at, take-take}
+use Rattle.std.proofs.Common.{◌≡◌, ℕ, ◌+◌, ◌*◌, ◌≤◌, ◌<◌, ◌^◌, List, [], ◌++◌, length, Some, refl, sym, ap, subst, ◌∙◌, arith}
+use Rattle.std.specs.Int.{w32, w64, to_be_bytes}
+use Rattle.std.proofs.lemmas.List.{take_at}
 use Rattle.std.proofs.lemmas.Nat.{from_be_bytes-to_be_bytes_4, from_be_bytes-to_be_bytes_8}
-use Rattle.std.proofs.lemmas.List.Elements.{All-nil}
 use Rattle.ipc_base.specs.declared.limits.Limits.{Limits}
 use Rattle.ipc_base.specs.Limits.{ArePassed}
 use Rattle.ipc_base.specs.Objects.{Fit, PlainObjects}
@@ -14,16 +13,15 @@ use Rattle.ipc_engine.proofs.CallerLemmas.{start-sound}
 use Rattle.ipc_image.specs.Saved.{saved, StandForState}
 use Rattle.ipc_image.specs.Sizes.{entries, area_of}
 use Rattle.ipc_image.proofs.Bounds.{bounds}
-use Rattle.ipc_image.proofs.SavedObjects.{saved-fit}
+use Rattle.ipc_image.proofs.SavedObjects.{saved-fit, start-places}
 use Rattle.ipc_wire.specs.Spelling.{request_bytes}
 use Rattle.ipc_wire.proofs.CallerLemmas.{one_text}
 use Rattle.ipc_engine.specs.Event.{PlainEvent, Connect, Call, Tick, Exit, Restart, moment_of}
 use Rattle.ipc_image.specs.Records.{kind_of, details, text_of, record_bytes, HasDetails, HasRecord, BeginsWith}
 use Rattle.ipc_image.specs.RecordParts.{IsOf}
-use Rattle.ipc_image.specs.Superblock.{superblock_fields, IsFormatted, version_in, IsSuperblock}
+use Rattle.ipc_image.specs.Superblock.{IsFormatted, version_in, IsSuperblock}
 use Rattle.ipc_base.proofs.CallerLemmas.{number32_known}
 use Rattle.ipc_image.proofs.EventRecords.{Got, GotLong, connect_only, call_only, text_only, length_text, begun, text_cut}
-use Rattle.ipc_image.proofs.Numbers.{spelled}
 use Rattle.ipc_image.proofs.Reading as reading
 use Rattle.ipc_image.proofs.WholeState.{saved_once}
 
@@ -33,11 +31,7 @@ superblock-begins = reading.begins
 
 -- it is of the version 0
 pub superblock-version : (sectors : ℕ) (limits : Limits) (sector : List ℕ) → IsSuperblock sectors limits sector → version_in sector ≡ 0
-superblock-version sectors limits sector is =
-    let front : take 4 (drop 8 sector) ≡ to_be_bytes w32 0 =
-    sym (take-take 4 92 (drop 8 sector) (omega arith)) ∙ ap (take 4) (reading.numbers_of sectors limits sector is)
-    ∙ take_at (to_be_bytes w32 0) (spelled (drop 1 (superblock_fields sectors limits))) 4 refl in
-    ap (from_be_bytes w32) front ∙ from_be_bytes-to_be_bytes_4 0 (omega arith)
+superblock-version = reading.has_version
 
 -- a sector is the superblock of one device with one set of limits
 pub one-superblock : (sectors others : ℕ) (limits more : Limits) (sector : List ℕ) → sectors < 2 ^ 32 → others < 2 ^ 32
@@ -57,16 +51,7 @@ saved-fits = saved-fit
 
 -- the state to which nothing has happened stands as its objects
 pub start-stands : (limits : Limits) → StandForState limits start (saved start)
-start-stands limits = record {
-  sound = start-sound limits;
-  places = record {
-    clock = (omega arith, (omega arith, (omega arith, (omega arith, (omega arith, (omega arith, (omega arith, tt)))))));
-    count = omega arith;
-    processes = All-nil _;
-    queues = All-nil _;
-  };
-  are = refl;
-}
+start-stands limits = record { sound = start-sound limits; places = start-places; are = refl }
 
 -- bytes begin with the record that was written to their front
 pub record-read : (e : PlainEvent) (rest : List ℕ) → HasRecord e → BeginsWith (record_bytes e ++ rest) e

@@ -9,7 +9,6 @@ mod WholeState
 mod EventRecords
 pub mod CallerLemmas
 mod Windows
-mod SavedLists
 mod SavedObjects
 mod Marks
 pub mod Shapes

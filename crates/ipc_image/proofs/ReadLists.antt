@@ -1,14 +1,10 @@
 -- Things read one after another, as many as were counted: what was read so far, and what a reader that stops has shown.
-use Rattle.std.proofs.Common.{◌≡◌, ◌≢◌, ◌<◌, ◌+◌, ℕ, List, [], ◌∷◌, ◌++◌, length, refl, sym, ap, subst, ◌∙◌, arith}
+use Rattle.std.proofs.Common.{◌≡◌, ◌≢◌, ◌<◌, ◌+◌, ℕ, List, [], ◌∷◌, ◌++◌, length, refl, sym, subst, ◌∙◌, arith}
 use Rattle.std.specs.Prelude.{All}
 use Rattle.std.specs.List.{flat_map}
-use Rattle.std.proofs.lemmas.List.{append-nil, length-append}
+use Rattle.std.proofs.lemmas.List.{length-append}
 use Rattle.std.proofs.lemmas.List.Elements.{All-nil, All-push, All-head, All-tail}
-use Rattle.ipc_base.proofs.CallerLemmas.{spelled-next, spelled-same, spelled-more}
-
-pub empty : (l : List ℕ) → length l ≡ 0 → l ≡ []
-empty [] is = refl
-empty (x ∷ xs) is = absurd (omega (arith, is))
+use Rattle.ipc_base.proofs.CallerLemmas.{spelled-next, spelled-more}
 
 module _ {X : Type 0} (bytes_of : X → List ℕ) (P : X → Type 0) where
   -- these were read, so many, and these bytes are left
@@ -19,11 +15,6 @@ module _ {X : Type 0} (bytes_of : X → List ℕ) (P : X → Type 0) where
 
   pub none-read : (bytes : List ℕ) → AreRead [] 0 bytes bytes
   none-read bytes = record { fit = All-nil P; long = refl; read = refl }
-
-  -- nothing is left
-  pub all-read : (items : List X) (count : ℕ) (bytes left : List ℕ) → AreRead items count bytes left → left ≡ [] → bytes ≡ flat_map bytes_of items
-  all-read items count bytes left so_far none =
-      so_far.read ∙ ap (λ (l : List ℕ). flat_map bytes_of items ++ l) none ∙ append-nil (flat_map bytes_of items)
 
   module _ (one : (x y : X) (more others : List ℕ) → P x → P y → bytes_of x ++ more ≡ bytes_of y ++ others → (x ≡ y) × (more ≡ others))
       (items : List X) (count : ℕ) (bytes left : List ℕ) (so_far : AreRead items count bytes left) where
@@ -37,10 +28,6 @@ module _ {X : Type 0} (bytes_of : X → List ℕ) (P : X → Type 0) where
         }
 
     module _ (xs : List X) (after : List ℕ) (fit : All P xs) (is : bytes ≡ flat_map bytes_of xs ++ after) where
-      -- as many of them leave what follows them
-      pub whole-read : length xs ≡ count → (items ≡ xs) × (left ≡ after)
-      whole-read long = spelled-same bytes_of P one items xs left after so_far.fit fit (so_far.long ∙ sym long) (sym so_far.read ∙ is)
-
       -- where there are more, the next one stands next
       pub stuck : count < length xs → ((x : X) (rest : List ℕ) → P x → left ≢ bytes_of x ++ rest) → ⊥
       stuck less never =

@@ -1,93 +1,65 @@
 -- What a sector that is a superblock holds, and what makes one of it.
-use Rattle.std.proofs.Common.{◌≡◌, ℕ, Bool, true, false, eqb, ◌≤◌, ◌<◌, ◌^◌, List, [], ◌∷◌, ◌++◌, length, take, drop, get_or, refl, sym, ap, ◌∙◌, arith}
-use Rattle.std.specs.Prelude.{Result, Ok, Err, Some, None, IfErr, OnOk, not, position}
+use Rattle.std.proofs.Common.{◌≡◌, ℕ, Bool, true, false, eqb, ◌≤◌, ◌<◌, ◌^◌, List, [], ◌++◌, take, drop, get_or, refl, sym, ap, ◌∙◌, arith}
+use Rattle.std.specs.Prelude.{Result, Ok, Err, Some, None, IfErr, OnOk, not, position, replicate}
 use Rattle.std.specs.Cmp.Lexicographic.{pointwise}
 use Rattle.std.specs.Result.{is_err}
-use Rattle.std.specs.List.{AllByRecursion, starts_with}
+use Rattle.std.specs.List.{starts_with}
 use Rattle.std.proofs.lemmas.Bool.Decides.{Decides-eqb}
 use Rattle.std.proofs.lemmas.Slice.Eq.{slice_eq-Decides}
 use Rattle.std.specs.Int.{w32, from_be_bytes, to_be_bytes}
-use Rattle.std.proofs.lemmas.List.{take_at, take-take, drop-take}
+use Rattle.std.proofs.lemmas.List.{take_at, take-take, drop-take, take-append-drop}
 use Rattle.std.proofs.lemmas.Nat.{from_be_bytes-to_be_bytes_4}
 use Rattle.ipc_base.specs.declared.limits.Limits.{Limits}
 use Rattle.ipc_base.specs.declared.limits.BadLimits.{BadLimits}
+use Rattle.ipc_base.specs.declared.field.Size.TheVariants.{Four}
 use Rattle.ipc_base.specs.Limits.{ArePassed, tests}
-use Rattle.ipc_base.proofs.CallerLemmas.{passed-bounds}
+use Rattle.ipc_base.specs.Numbers.{fields_bytes, FitFields}
+use Rattle.ipc_base.proofs.CallerLemmas.{passed-bounds, fields_one}
 use Rattle.ipc_image.specs.Sizes.{need_of}
-use Rattle.ipc_image.specs.Superblock.{magic, limit_fields, superblock_fields, named_bytes, superblock_bytes, IsFormatted, version_in, IsSuperblock}
-use Rattle.ipc_image.proofs.Numbers.{spelled, AreBelow, each_below, same_numbers, take_both}
+use Rattle.ipc_image.specs.Superblock.{magic, limit_fields, limit_sizes, superblock_fields, named_bytes, superblock_bytes, IsFormatted, version_in, IsSuperblock}
+use Rattle.ipc_image.proofs.Numbers.{spelled}
 
--- the numbers of a superblock are numbers of four bytes
-limits_fit : (l : Limits) → ArePassed l → AllByRecursion (λ n. n < 2 ^ 32) (limit_fields l)
-limits_fit l passed = let b = passed-bounds l passed in search arith
+-- each limit has its four bytes
+pub limits_fit : (l : Limits) → ArePassed l → FitFields limit_sizes (limit_fields l)
+limits_fit l passed =
+    let b = passed-bounds l passed in search arith
 
-fields_fit : (sectors : ℕ) (limits : Limits) → sectors < 2 ^ 32 → ArePassed limits → AreBelow (2 ^ 32) (superblock_fields sectors limits)
-fields_fit sectors limits fits passed =
-    let rest = limits_fit limits passed in
-    each_below (2 ^ 32) (superblock_fields sectors limits) (omega arith) (search arith)
-
--- a sector that begins as a superblock, and the numbers that were read of it
-pub record HasNumbers (sector found : List ℕ) : Type 0 where
-  pub formatted : IsFormatted sector
-  pub count : length found ≡ 23
-  pub below : AreBelow (2 ^ 32) found
-  pub spells : spelled found ≡ take 92 (drop 8 sector)
-
-pub has_numbers : (sector found : List ℕ) (starts : Bool) → starts ≡ starts_with eqb sector magic → starts ≡ true
-    → length found ≡ 23 → AreBelow (2 ^ 32) found → spelled found ≡ take 92 (take 504 (drop 8 sector)) → HasNumbers sector found
-has_numbers sector found starts tested begun count below spells =
-    record {
-      formatted = sym ((slice_eq-Decides Decides-eqb magic (take 8 sector) starts tested).0 begun);
-      count = count;
-      below = below;
-      spells = spells ∙ take-take 92 504 (drop 8 sector) (omega arith);
-    }
+-- a sector that begins as a superblock does
+pub formatted : (sector : List ℕ) (starts : Bool) → starts ≡ starts_with eqb sector magic → starts ≡ true → IsFormatted sector
+formatted sector starts tested begun = sym ((slice_eq-Decides Decides-eqb magic (take 8 sector) starts tested).0 begun)
 
 pub not_formatted : (sector : List ℕ) (starts : Bool) → starts ≡ starts_with eqb sector magic → starts ≡ false → IsFormatted sector → ⊥
 not_formatted sector starts tested other formatted =
     let begun : starts ≡ true = (slice_eq-Decides Decides-eqb magic (take 8 sector) starts tested).1 (sym formatted) in
     cc
 
--- the version is the first of them
-pub first_is_version : (sector found : List ℕ) → HasNumbers sector found → version_in sector ≡ get_or found 0 0
-first_is_version sector [] has = absurd (omega (arith, has.count))
-first_is_version sector (n ∷ found) has =
-    let front : take 4 (drop 8 sector) ≡ to_be_bytes w32 n =
-    sym (take-take 4 92 (drop 8 sector) (omega arith)) ∙ ap (take 4) (sym has.spells) ∙ take_at (to_be_bytes w32 n) (spelled found) 4 refl in
-    ap (from_be_bytes w32) front ∙ from_be_bytes-to_be_bytes_4 n (has.below 0)
-
-module _ (sectors : ℕ) (limits : Limits) (sector : List ℕ) where
+module _ (sectors : ℕ) (limits : Limits) (sector : List ℕ) (is : IsSuperblock sectors limits sector) where
   -- how a superblock begins
-  pub begins : IsSuperblock sectors limits sector → IsFormatted sector
+  pub begins : IsFormatted sector
   unfolding named_bytes
-  begins is = sym (take-take 8 100 sector (omega arith)) ∙ ap (take 8) is.named
+  begins = sym (take-take 8 100 sector (omega arith)) ∙ ap (take 8) is.named
 
-  pub numbers_of : IsSuperblock sectors limits sector → take 92 (drop 8 sector) ≡ spelled (superblock_fields sectors limits)
+  pub numbers_of : take 92 (drop 8 sector) ≡ spelled (superblock_fields sectors limits)
   unfolding named_bytes
-  numbers_of is = sym (drop-take 8 92 sector) ∙ ap (drop 8) is.named
-
-  -- the numbers that are read of a superblock are its own
-  pub numbers_are : (found : List ℕ) → HasNumbers sector found → sectors < 2 ^ 32 → IsSuperblock sectors limits sector
-      → found ≡ superblock_fields sectors limits
-  numbers_are found has fits is =
-      same_numbers found (superblock_fields sectors limits) has.below (fields_fit sectors limits fits is.passed) has.count (has.spells ∙ numbers_of is)
-
-  -- a sector with the numbers of a superblock is one
-  pub is_superblock : (found : List ℕ) → HasNumbers sector found → found ≡ superblock_fields sectors limits → ArePassed limits → need_of limits ≤ sectors
-      → IsSuperblock sectors limits sector
-  unfolding named_bytes
-  is_superblock found has are passed room =
-      record {
-        named =
-            take_both 8 92 sector ∙ ap (λ (x : List ℕ). x ++ take 92 (drop 8 sector)) has.formatted
-            ∙ ap (λ (x : List ℕ). magic ++ x) (sym has.spells) ∙ ap (λ (ns : List ℕ). magic ++ spelled ns) are;
-        passed = passed;
-        room = room;
-      }
+  numbers_of = sym (drop-take 8 92 sector) ∙ ap (drop 8) is.named
 
   -- it has the version 0
-  pub has_version : (found : List ℕ) → HasNumbers sector found → sectors < 2 ^ 32 → IsSuperblock sectors limits sector → get_or found 0 0 ≡ 0
-  has_version found has fits is = ap (λ (ns : List ℕ). get_or ns 0 0) (numbers_are found has fits is)
+  pub has_version : version_in sector ≡ 0
+  has_version =
+      let front : take 4 (drop 8 sector) ≡ to_be_bytes w32 0 =
+      sym (take-take 4 92 (drop 8 sector) (omega arith)) ∙ ap (take 4) numbers_of
+      ∙ take_at (to_be_bytes w32 0) (spelled (drop 1 (superblock_fields sectors limits))) 4 refl in
+      ap (from_be_bytes w32) front ∙ from_be_bytes-to_be_bytes_4 0 (omega arith)
+
+  -- the limits stand after the other numbers
+  abbrev pub after_limits : List ℕ
+  after_limits = drop 64 (take 476 (drop 36 sector))
+
+  pub limits_stand : take 476 (drop 36 sector) ≡ fields_bytes limit_sizes (limit_fields limits) ++ after_limits
+  unfolding named_bytes
+  limits_stand =
+      sym (take-append-drop 64 (take 476 (drop 36 sector)))
+      ∙ ap (λ (l : List ℕ). l ++ after_limits) (take-take 64 476 (drop 36 sector) (omega arith) ∙ sym (drop-take 36 64 sector) ∙ ap (drop 36) is.named)
 
 -- what was written is a superblock
 pub written : (sectors : ℕ) (limits : Limits) → ArePassed limits → need_of limits ≤ sectors
@@ -96,36 +68,37 @@ unfolding named_bytes
 written sectors limits passed room = record { named = refl; passed = passed; room = room }
 
 -- the limits among the numbers
-abbrev limits_in : List ℕ → Limits
+abbrev pub limits_in : List ℕ → Limits
 limits_in ns =
     record {
-      processes = get_or ns 7 0;
-      msgmni = get_or ns 8 0;
-      msgmax = get_or ns 9 0;
-      msgmnb = get_or ns 10 0;
-      semmni = get_or ns 11 0;
-      semmsl = get_or ns 12 0;
-      semmns = get_or ns 13 0;
-      semopm = get_or ns 14 0;
-      queues = get_or ns 15 0;
-      maxmsg = get_or ns 16 0;
-      msgsize = get_or ns 17 0;
-      named_semaphores = get_or ns 18 0;
-      segments = get_or ns 19 0;
-      segment_bytes = get_or ns 20 0;
-      call_bytes = get_or ns 21 0;
-      descriptors = get_or ns 22 0;
+      processes = get_or ns 0 0;
+      msgmni = get_or ns 1 0;
+      msgmax = get_or ns 2 0;
+      msgmnb = get_or ns 3 0;
+      semmni = get_or ns 4 0;
+      semmsl = get_or ns 5 0;
+      semmns = get_or ns 6 0;
+      semopm = get_or ns 7 0;
+      queues = get_or ns 8 0;
+      maxmsg = get_or ns 9 0;
+      msgsize = get_or ns 10 0;
+      named_semaphores = get_or ns 11 0;
+      segments = get_or ns 12 0;
+      segment_bytes = get_or ns 13 0;
+      call_bytes = get_or ns 14 0;
+      descriptors = get_or ns 15 0;
     }
 
 -- the numbers of one sector are those of one device with one set of limits
 pub one_superblock : (sectors others : ℕ) (limits more : Limits) (sector : List ℕ) → sectors < 2 ^ 32 → others < 2 ^ 32
     → IsSuperblock sectors limits sector → IsSuperblock others more sector → (sectors ≡ others) × (limits ≡ more)
 one_superblock sectors others limits more sector fits other-fits is other-is =
-    let same : superblock_fields sectors limits ≡ superblock_fields others more =
-    same_numbers (superblock_fields sectors limits) (superblock_fields others more) (fields_fit sectors limits fits is.passed)
-    (fields_fit others more other-fits other-is.passed) refl
-    (sym (numbers_of sectors limits sector is) ∙ numbers_of others more sector other-is) in
-    (ap (λ (ns : List ℕ). get_or ns 1 0) same, ap (λ (ns : List ℕ). limits_in ns) same)
+    let fit : (n : ℕ) (l : Limits) → n < 2 ^ 32 → ArePassed l → FitFields (replicate 7 Four ++ limit_sizes) (superblock_fields n l) =
+    λ n l below passed. (omega arith, (below, (omega arith, (omega arith, (omega arith, (omega arith, (omega arith, limits_fit l passed))))))) in
+    let same = (fields_one (replicate 7 Four ++ limit_sizes) (superblock_fields sectors limits) (superblock_fields others more) [] []
+    (fit sectors limits fits is.passed) (fit others more other-fits other-is.passed)
+    (sym (numbers_of sectors limits sector is) ∙ numbers_of others more sector other-is)).0 in
+    (ap (λ (ns : List ℕ). get_or ns 1 0) same, ap (λ (ns : List ℕ). limits_in (drop 7 ns)) same)
 
 -- ---- what tests say
 

@@ -24,7 +24,7 @@ use Rattle.ipc_engine.specs.Sound.{IsSound}
 use Rattle.ipc_state.specs.State.{State, start}
 use Rattle.ipc_state.specs.Tables.{queue_row}
 use Rattle.ipc_base.specs.Numbers.{fields_bytes}
-use Rattle.ipc_image.specs.Saved.{clock_sizes, clock_numbers, count_bytes, process_bytes, processes_bytes, message_bytes, queue_bytes, queue_object, saved}
+use Rattle.ipc_image.specs.Saved.{clock_sizes, clock_numbers, count_bytes, process_bytes, processes_bytes, message_bytes, queue_bytes, queue_object, saved, HasAllPlaces}
 use Rattle.ipc_image.proofs.RestoredParts.{queue_spelled}
 use Rattle.ipc_image.specs.Sizes.{sectors, process_sectors, area_of}
 
@@ -183,15 +183,13 @@ module _ (limits : Limits) (s : State) (passed : ArePassed limits) (sound : IsSo
 
 -- ---- the state to which nothing has happened
 
-pub start-count : length (saved start) ≡ 4
-unfolding saved
-start-count = refl
-
-pub start-other : (i : ℕ) → 0 < i → i < length (saved start) → slice_get (saved start) i ≡ Some (i, count_bytes 0)
-unfolding saved
-start-other zero some few = absurd (omega arith)
-start-other (suc zero) some few = refl
-start-other (suc (suc i)) some few = saved-none start (suc (suc i)) (omega arith) few
+pub start-places : HasAllPlaces start
+start-places = record {
+  clock = (omega arith, (omega arith, (omega arith, (omega arith, (omega arith, (omega arith, (omega arith, tt)))))));
+  count = omega arith;
+  processes = All-nil _;
+  queues = All-nil _;
+}
 
 pub start-are : AreObjects (saved start)
 unfolding saved

@@ -78,13 +78,6 @@ module _ (w : Shown) where
       ap (λ (y : X). passed (bytes_of y) (passed (flat_map bytes_of (take i xs)) w)) (sym (get_or_from_slice_get xs i x x is))
       ∙ passed-more bytes_of xs i x (slice_get_within xs i x is)
 
-  -- all of a list of them, after a front
-  pub passed-list : {X : Type 0} (bytes_of : X → List ℕ) (xs : List X) (i : ℕ) (front : List ℕ) (begun all : Shown) → begun ≡ passed front w
-      → all ≡ passed (flat_map bytes_of (take i xs)) begun → length xs ≤ i → all ≡ passed (front ++ flat_map bytes_of xs) w
-  passed-list bytes_of xs i front begun all first others past =
-      others ∙ ap (passed (flat_map bytes_of (take i xs))) first ∙ passed-both front (flat_map bytes_of (take i xs))
-      ∙ ap (λ (l : List _). passed (front ++ flat_map bytes_of l) w) (take_all i xs past)
-
 -- all of a list of them, if the window shows no more after some
 pub passed-full : {X : Type 0} (w : Shown) (bytes_of : X → List ℕ) (xs : List X) (i : ℕ) (full : Shown)
     → full ≡ passed (flat_map bytes_of (take i xs)) w → ((piece : List ℕ) → passed piece full ≡ full) → full ≡ passed (flat_map bytes_of xs) w

@@ -10,7 +10,8 @@ use Rattle.ipc_state.specs.declared.keyed.Entry.{Entry}
 use Rattle.ipc_state.specs.State.{State}
 use Rattle.ipc_perm.specs.declared.perm.Perm.{Perm}
 use Rattle.ipc_state.specs.declared.numbered.Item.{Item}
-use Rattle.ipc_state.specs.Tables.{queue_row}
+use Rattle.ipc_base.specs.declared.identity.Moment.{Moment}
+use Rattle.ipc_state.specs.Tables.{item_row, queue_row}
 use Rattle.ipc_image.specs.Saved.{process_bytes, message_bytes, queue_shape, HasPlaces}
 use Rattle.ipc_image.specs.Shape.{Tree}
 
@@ -89,3 +90,12 @@ entry_from ns key messages =
 
 abbrev pub queue_of : Tree queue_shape → Entry Queue
 queue_of t = entry_from t.0 (cast_signed w32 (slice_index t.0 0)) (map message_of t.2)
+
+-- the state that has these tables
+abbrev pub seen_state : Moment → ℕ → ℕ → List (Item Process) → List (Item (Entry Kept)) → State
+seen_state clock next_pid next_queue processes queues =
+    record {
+      clock = clock.0;
+      processes = record { next = next_pid; entries = map item_row processes };
+      msg = record { next = next_queue; entries = map queue_row queues };
+    }

@@ -4,6 +4,8 @@ use Rattle.std.specs.Int.{w32, to_be_bytes, from_be_bytes}
 use Rattle.std.specs.List.{flat_map}
 use Rattle.ipc_base.specs.declared.limits.Limits.{Limits}
 use Rattle.ipc_base.specs.Limits.{ArePassed}
+use Rattle.ipc_base.specs.declared.field.Size.{Size}
+use Rattle.ipc_base.specs.declared.field.Size.TheVariants.{Four}
 use Rattle.ipc_image.specs.Sizes.{need_of}
 
 -- how every superblock begins
@@ -20,6 +22,10 @@ limit_fields l =
     ∷ l.named_semaphores
     ∷ l.segments ∷ l.segment_bytes ∷ l.call_bytes
     ∷ l.descriptors ∷ []
+
+-- each has four bytes
+abbrev pub limit_sizes : List Size
+limit_sizes = replicate 16 Four
 
 -- the numbers of the superblock of a device of so many sectors
 abbrev pub superblock_fields : ℕ → Limits → List ℕ

@@ -28,5 +28,5 @@ pub use places::{JOURNAL, JOURNAL_COUNT, OBJECTS, ROOT, SUPERBLOCK};
 pub use records::{read_event, record_len, write_event};
 pub use restoring::engine_of;
 pub use sizes::{area, need};
-pub use state_objects::{StartObjects, StateObjects, objects_of, start_objects};
+pub use state_objects::{StateObjects, objects_of, start_objects};
 pub use superblock::{read_superblock, write_superblock};

@@ -1,7 +1,7 @@
 //! The superblock: written, and read.
 
-ghost use Rattle.std.specs.Prelude.{◌≡◌, ◌≢◌, ◌↔◌, ◌≤◌, ◌<◌, ◌^◌, ℕ, length, slice_index};
-ghost use Rattle.std.specs.Prelude.{take, drop, Ok, IfOk, IsErrOf};
+ghost use Rattle.std.specs.Prelude.{◌≡◌, ◌≢◌, ◌↔◌, ◌++◌, ℕ, List, Some, take};
+ghost use Rattle.std.specs.Prelude.{Ok, IfOk, IfSome, IsErrOf};
 ghost use Rattle.std.specs.Int.{w32, to_be_bytes};
 ghost use Rattle.std.specs.List.{flat_map};
 ghost use Rattle.ipc_base.specs.Limits.{ArePassed};
@@ -12,12 +12,17 @@ ghost use Rattle.ipc_image.specs.Superblock.{
   IsFormatted,
   version_in,
   IsSuperblock,
+  limit_fields,
+  limit_sizes,
 };
+ghost use Rattle.ipc_base.specs.Numbers.{fields_bytes, record_bytes, FitFields};
 
 use crate::fault::SuperblockFault;
+use crate::fields::{FOUR, put_fields};
 use crate::places::{JOURNAL, JOURNAL_COUNT, OBJECTS, ROOT};
 use crate::sizes::need;
-use ipc_base::{Cursor, Limits, Put};
+use crate::window::Window;
+use ipc_base::{Field, Limits, take_fields};
 
 /// How a superblock begins.
 const MAGIC: &[u8; 8] = b"IPCSTORE";
@@ -34,13 +39,17 @@ const FIELDS: usize = 23;
 pub fn write_superblock(into: &mut [u8; 512], sectors: u32, limits: &Limits)
     ensures { into.new ≡ superblock_bytes sectors limits.now }
 {
-    *into = [0; 512];
-    // The sector has room for each field.
-    let mut put = Put::new(0);
-    put.bytes(into, MAGIC);
-    for field in fields_of(sectors, limits) {
-        put.u32(into, field);
-    }
+    *into = superblock_of(sectors, limits);
+}
+
+/// The superblock of a device of so many sectors, with these limits.
+fn superblock_of(sectors: u32, limits: &Limits) -> [u8; 512]
+    ensures { result ≡ superblock_bytes sectors limits.now }
+{
+    let mut window = Window::new(0);
+    window.put(MAGIC);
+    put_fields(&mut window, &fields_of(sectors, limits));
+    window.finish()
 }
 
 /// The limits of a device of so many sectors, from its sector 0. Bytes without a meaning are not
@@ -63,86 +72,96 @@ pub fn read_superblock(sector: &[u8; 512], sectors: u32) -> Result<Limits, Super
     if !sector.starts_with(MAGIC) {
         return Err(SuperblockFault::NotFormatted);
     }
-    let found = read_fields(&sector[8..]);
-    if found[0] != VERSION {
-        return Err(SuperblockFault::Version { found: found[0] });
+    let found = version_of(sector);
+    if found != VERSION {
+        return Err(SuperblockFault::Version { found });
     }
-    let limits = limits_of(&found);
-    if found != fields_of(sectors, &limits) || limits.check().is_err() || need(&limits) > sectors {
-        return Err(SuperblockFault::Damaged);
-    }
-    Ok(limits)
+    limits_of(sector, sectors).ok_or(SuperblockFault::Damaged)
 }
 
-/// As many numbers from the front of the bytes.
-fn read_fields(bytes: &[u8]) -> [u32; FIELDS]
-    requires { 92 ≤ length bytes.now }
-    ensures spelled { flat_map (to_be_bytes w32) result ≡ take 92 bytes.now }
-    ensures numbers { (i : ℕ) → slice_index result i < 2 ^ 32 }
+/// The limits with which the sector is the superblock of a device of so many sectors.
+fn limits_of(sector: &[u8; 512], sectors: u32) -> Option<Limits>
+    ensures some { IfSome result (λ limits. IsSuperblock sectors limits sector.now) }
+    ensures only { (limits : AnyLimits) → IsSuperblock sectors limits sector.now → result ≡ Some limits }
 {
-    let mut cursor = Cursor::new(bytes);
-    let mut found = [0; FIELDS];
-    for field in &mut found {
-        let Some(number) = cursor.u32() else {
-            unreachable!()
-        };
-        *field = number;
+    let limits = limits_in(&sector[36..])?;
+    let again = superblock_of(sectors, &limits);
+    if named_bytes(&again) != named_bytes(sector)
+        || limits.check().is_err()
+        || need(&limits) > sectors
+    {
+        return None;
     }
-    found
+    Some(limits)
+}
+
+/// The bytes of a superblock that have a meaning.
+fn named_bytes(sector: &[u8; 512]) -> &[u8]
+    ensures { result.now ≡ take 100 sector.now }
+{
+    &sector[..100]
+}
+
+/// The version that a sector names.
+fn version_of(sector: &[u8; 512]) -> u32
+    ensures { result ≡ version_in sector.now }
+{
+    u32::from_be_bytes([sector[8], sector[9], sector[10], sector[11]])
 }
 
 /// The numbers of a superblock.
-fn fields_of(sectors: u32, limits: &Limits) -> [u32; FIELDS]
-    ensures { result ≡ superblock_fields sectors limits.now }
+fn fields_of(sectors: u32, limits: &Limits) -> [Field; FIELDS]
+    ensures { record_bytes result ≡ flat_map (to_be_bytes w32) (superblock_fields sectors limits.now) }
 {
     [
-        VERSION,
-        sectors,
-        JOURNAL,
-        JOURNAL_COUNT,
-        OBJECTS,
-        sectors.saturating_sub(OBJECTS),
-        ROOT,
-        limits.processes,
-        limits.msgmni,
-        limits.msgmax,
-        limits.msgmnb,
-        limits.semmni,
-        limits.semmsl,
-        limits.semmns,
-        limits.semopm,
-        limits.queues,
-        limits.maxmsg,
-        limits.msgsize,
-        limits.named_semaphores,
-        limits.segments,
-        limits.segment_bytes,
-        limits.call_bytes,
-        limits.descriptors,
+        Field::U32(VERSION),
+        Field::U32(sectors),
+        Field::U32(JOURNAL),
+        Field::U32(JOURNAL_COUNT),
+        Field::U32(OBJECTS),
+        Field::U32(sectors.saturating_sub(OBJECTS)),
+        Field::U32(ROOT),
+        Field::U32(limits.processes),
+        Field::U32(limits.msgmni),
+        Field::U32(limits.msgmax),
+        Field::U32(limits.msgmnb),
+        Field::U32(limits.semmni),
+        Field::U32(limits.semmsl),
+        Field::U32(limits.semmns),
+        Field::U32(limits.semopm),
+        Field::U32(limits.queues),
+        Field::U32(limits.maxmsg),
+        Field::U32(limits.msgsize),
+        Field::U32(limits.named_semaphores),
+        Field::U32(limits.segments),
+        Field::U32(limits.segment_bytes),
+        Field::U32(limits.call_bytes),
+        Field::U32(limits.descriptors),
     ]
 }
 
-/// The limits among the numbers of a superblock.
-fn limits_of(found: &[u32; FIELDS]) -> Limits
-    ensures { (sectors : ℕ) (limits : AnyLimits)
-        → found.now ≡ superblock_fields sectors limits → result ≡ limits }
+/// The limits that stand at the front of some bytes.
+fn limits_in(bytes: &[u8]) -> Option<Limits>
+    ensures { (limits : AnyLimits) (rest : List ℕ) → FitFields limit_sizes (limit_fields limits)
+        → bytes.now ≡ fields_bytes limit_sizes (limit_fields limits) ++ rest → result ≡ Some limits }
 {
-    Limits {
-        processes: found[7],
-        msgmni: found[8],
-        msgmax: found[9],
-        msgmnb: found[10],
-        semmni: found[11],
-        semmsl: found[12],
-        semmns: found[13],
-        semopm: found[14],
-        queues: found[15],
-        maxmsg: found[16],
-        msgsize: found[17],
-        named_semaphores: found[18],
-        segments: found[19],
-        segment_bytes: found[20],
-        call_bytes: found[21],
-        descriptors: found[22],
-    }
+    let (found, _) = take_fields(bytes, &[FOUR; 16])?;
+    Some(Limits {
+        processes: found[0] as u32,
+        msgmni: found[1] as u32,
+        msgmax: found[2] as u32,
+        msgmnb: found[3] as u32,
+        semmni: found[4] as u32,
+        semmsl: found[5] as u32,
+        semmns: found[6] as u32,
+        semopm: found[7] as u32,
+        queues: found[8] as u32,
+        maxmsg: found[9] as u32,
+        msgsize: found[10] as u32,
+        named_semaphores: found[11] as u32,
+        segments: found[12] as u32,
+        segment_bytes: found[13] as u32,
+        call_bytes: found[14] as u32,
+        descriptors: found[15] as u32,
+    })
 }

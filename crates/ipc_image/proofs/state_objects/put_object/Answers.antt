@@ -1,11 +1,10 @@
-use Rattle.std.proofs.Common.{◌≡◌, ℕ, List, [], ◌∷◌, length, Some, ap, sym, subst, arith, ◌∙◌}
+use Rattle.std.proofs.Common.{ℕ, List, Some, map, ap, sym, subst, arith, ◌∙◌}
 use Rattle.std.specs.Prelude.{option_map}
-use Rattle.std.specs.List.{flat_map}
 use Rattle.std.proofs.lemmas.Option.{same_Some}
 use Rattle.sysv_msg.specs.Queue.{Queue}
 use Rattle.ipc_state.specs.declared.keyed.Entry.{Entry}
 use Rattle.ipc_state.specs.State.{State}
-use Rattle.ipc_state.specs.Tables.{queue_row}
+use Rattle.ipc_state.specs.Tables.{item_row, queue_row}
 use Rattle.ipc_image.specs.SavedParts.{IsMarkIn}
 use Rattle.ipc_base.specs.Numbers.{fields_bytes}
 use Rattle.ipc_image.specs.Saved.{clock_sizes, clock_numbers, process_bytes, processes_bytes, message_bytes}
@@ -19,32 +18,29 @@ module _ (w : Shown) where
 
 pub returns-in-0-clause-passed : goal.returns-in-0-clause-passed
 returns-in-0-clause-passed c =
-    let s : State = c.args.state.now.state in
-    let same : clock_numbers s ≡ c.clock.result.0 ∷ c.next_pid.result ∷ c.next_queue.result ∷ 1 ∷ 1 ∷ 1 ∷ 1 ∷ [] =
-    cc (c.clock.ensures, c.next_pid.ensures, c.next_queue.ensures) in
+    let s : State = c.args.objects.now in
     rw c.in-0.is
     (ap (option_map (after c.args.window.now)) (saved-clock s)
-    ∙ ap Some (ap (λ (ns : List ℕ). passed (fields_bytes clock_sizes ns) c.args.window.now) same ∙ sym c.put_clock.ensures))
+    ∙ ap Some (ap (λ (t : State). passed (fields_bytes clock_sizes (clock_numbers t)) c.args.window.now) (sym c.objects.view_is) ∙ sym c.put_clock.ensures))
 
 pub put_counted-requires-clause-short : goal.put_counted-requires-clause-short
 put_counted-requires-clause-short c =
-    let ps = c.args.state.now.state.processes.entries in
+    let ps = (map item_row c.objects.inside.processes.now) in
     omega (
       arith,
       length-processes ps,
-      ap (λ l. length (flat_map process_bytes l)) c.processes.ensures,
-      c.requires.places.count,
+      c.objects.invariant.0.count,
     )
 
 pub returns-in-1-clause-passed : goal.returns-in-1-clause-passed
 returns-in-1-clause-passed c =
     rw c.in-1.is
-    (ap (option_map (after c.args.window.now)) (saved-processes c.args.state.now.state)
-    ∙ ap Some (ap (λ l. passed (processes_bytes l) c.args.window.now) (sym c.processes.ensures) ∙ sym c.put_counted.ensures.passed))
+    (ap (option_map (after c.args.window.now)) (saved-processes c.args.objects.now)
+    ∙ ap Some (ap (λ (t : State). passed (processes_bytes t.processes.entries) c.args.window.now) (sym c.objects.view_is) ∙ sym c.put_counted.ensures.passed))
 
 pub returns-in-2-clause-passed : goal.returns-in-2-clause-passed
 returns-in-2-clause-passed c =
-    ap (option_map (after c.args.window.now)) (saved-none c.args.state.now.state c.args.i (omega arith) (omega arith)) ∙ ap Some (sym c.put_count.ensures)
+    ap (option_map (after c.args.window.now)) (saved-none c.args.objects.now c.args.i (omega arith) (omega arith)) ∙ ap Some (sym c.put_count.ensures)
 
 pub returns-in_default-clause-passed : goal.returns-in_default-clause-passed
 returns-in_default-clause-passed c = ap (option_map (after c.args.window.now)) c.queue_at.ensures.object ∙ ap Some (sym c.put_queue.ensures.passed)
@@ -54,7 +50,7 @@ put_queue-requires-clause-mark c = c.requires.mark.messages (omega arith) (queue
 
 pub returns-in-1-clause-mark : goal.returns-in-1-clause-mark
 returns-in-1-clause-mark c = record {
-  processes = λ is. subst (λ l. IsMarkIn process_bytes l c.put_counted.new.mark) c.processes.ensures c.put_counted.ensures.mark;
+  processes = λ is. subst (λ (t : State). IsMarkIn process_bytes t.processes.entries c.put_counted.new.mark) c.objects.view_is c.put_counted.ensures.mark;
   messages = λ le. absurd (omega (arith, le, c.in-1.is));
 }
 

@@ -1,7 +1,8 @@
 use Rattle.std.proofs.Common.{subst}
+use Rattle.std.specs.Prelude.{All}
 use Rattle.std.proofs.lemmas.List.Elements.{All-more}
 use Rattle.ipc_image.specs.SavedParts.{IsWideQueue}
-use Rattle.ipc_image.proofs.SavedLists.{each-done}
+use Rattle.std.proofs.lemmas.List.{take_all}
 use Rattle.ipc_image.proofs.widths.read_queues.Goals as goal
 
 pub loop-entry-preserved : goal.loop-entry-preserved
@@ -10,4 +11,4 @@ loop-entry-preserved c =
     (subst IsWideQueue c.entry-item.is c.read_queue.ensures)
 
 pub returns : goal.returns
-returns c = each-done IsWideQueue c.args.queues.now c.loop-entry.entry-index c.loop-entry.invariant c.loop-entry-test.false
+returns c = subst (All IsWideQueue) (take_all c.loop-entry.entry-index c.args.queues.now c.loop-entry-test.false) c.loop-entry.invariant

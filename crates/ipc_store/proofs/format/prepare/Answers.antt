@@ -4,6 +4,7 @@ use Rattle.ipc_disk.proofs.CallerLemmas.{EachImageSince-now}
 use Rattle.ipc_disk.specs.Since.{SameAt}
 use Rattle.ipc_checkpoint.specs.declared.layout.Layout.{Layout}
 use Rattle.ipc_checkpoint.specs.Checkpoint.{IsLaidOut, IsElsewhere, Holds}
+use Rattle.ipc_base.specs.Objects.{PlainObjects}
 use Rattle.ipc_state.specs.State.{start}
 use Rattle.ipc_image.specs.Saved.{saved}
 use Rattle.ipc_store.specs.Image.{layout_of}
@@ -52,4 +53,5 @@ returns-clause-prepared g c = λ honest erased image now.
     (is-prepared c.args.limits.now old _ new (omega (arith, was, c.requires.room)) (c.in_ok-put_header.ensures.header honest)
     (subst (λ (l : Layout). SameAt (IsElsewhere l) (g.D.SectorDisk.medium c.put_header.new.disk).contents new) there run.contents)
     (EachImageSince-now _ _ IsErased (returns-clause-any_moment g c honest erased) run.honest new run.honest.reads)
-    (subst (λ (l : Layout). Holds l 1 (saved start) new) there (c.in_ok-create.ensures.holds kept)))
+    (subst (λ (l : Layout). Holds l 1 (saved start) new) there
+    (subst (λ (o : PlainObjects). Holds c.layout_of-layout.result 1 o new) c.start_objects.ensures.objects (c.in_ok-create.ensures.holds kept))))

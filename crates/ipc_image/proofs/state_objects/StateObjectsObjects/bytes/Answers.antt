@@ -8,7 +8,7 @@ use Rattle.ipc_image.proofs.state_objects.StateObjectsObjects.bytes.Goals as goa
 
 pub returns-clause-bytes : goal.returns-clause-bytes
 returns-clause-bytes c =
-    let found = slice_get (saved c.self.inside.state.now.state) c.args.i in
+    let found = slice_get (saved c.args.self.now) c.args.i in
     let put : option_map (λ o. passed o.1 (at_place c.args.place)) found ≡ Some c.put_object.new.window =
     rw c.new-window.ensures at c.put_object.ensures.passed in
-    rw (← c.self.view_is) (object-shown c.args.place found c.put_object.new.window put ∙ ap Some (sym c.finish.ensures))
+    (object-shown c.args.place found c.put_object.new.window put ∙ ap Some (sym c.finish.ensures))

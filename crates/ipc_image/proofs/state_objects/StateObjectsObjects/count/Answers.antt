@@ -1,16 +1,21 @@
-use Rattle.std.proofs.Common.{length, ap, arith}
+use Rattle.std.proofs.Common.{length, ap, arith, subst}
 use Rattle.std.proofs.lemmas.List.{length-map}
+use Rattle.ipc_base.specs.Objects.{AreObjects}
+use Rattle.ipc_state.specs.State.{State}
 use Rattle.ipc_state.specs.Tables.{queue_row}
-use Rattle.ipc_image.proofs.SavedObjects.{saved-count, saved-are}
+use Rattle.ipc_image.specs.Saved.{saved}
+use Rattle.ipc_image.proofs.SavedObjects.{saved-count}
 use Rattle.ipc_image.proofs.state_objects.StateObjectsObjects.count.Goals as goal
+
+pub overflow_cast-result : goal.overflow_cast-result
+overflow_cast-result c = omega (arith, saved-count, c.self.invariant.1.count, length-map c.self.inside.queues.now queue_row)
+
+pub overflow_add-result : goal.overflow_add-result
+overflow_add-result c = omega (arith, saved-count, c.self.invariant.1.count, length-map c.self.inside.queues.now queue_row)
 
 pub returns-clause-count : goal.returns-clause-count
 returns-clause-count c =
-    let rows = c.queues.result.now in
-    rw (← c.self.view_is)
-    (omega (arith, saved-count c.self.inside.state.now.state, length-map rows queue_row, ap length c.queues.ensures))
+    omega (arith, saved-count c.args.self.now, length-map c.self.inside.queues.now queue_row, ap (λ (s : State). length s.msg.entries) c.self.view_is)
 
 pub returns-clause-objects : goal.returns-clause-objects
-returns-clause-objects c =
-    let held = c.self.inside.state.now in
-    rw (← c.self.view_is) (saved-are held.limits held.state c.self.invariant.0 c.self.invariant.1)
+returns-clause-objects c = subst (λ (s : State). AreObjects (saved s)) c.self.view_is c.self.invariant.1
