@@ -21,7 +21,7 @@ use Rattle.ipc_script.specs.declared.fault.ScriptFault.TheVariants.{NoMemory, In
 use Rattle.ipc_script.specs.declared.fault.ScriptFault.TheVariants.{TooLong, BadLine, InUse, Unknown}
 use Rattle.ipc_script.specs.Line.{longest_script, PlainLine, Open, Data, End, Tick, Save, Stop, line_of, lines_of}
 use Rattle.ipc_script.specs.Script.{Run, Cut, Progress, Outcome, start_run, text_done, first_cut, goes_on, run_lines, is_open, opened, report}
-use Rattle.ipc_script.specs.Script.{MayStop, stopped, fed_in_pieces, script_run, lines_run, WritesPart, WritesMore, EndsAs, BreaksOff, Halts, Runs}
+use Rattle.ipc_script.specs.Script.{MayStop, HasNoStop, stopped, fed_in_pieces, script_run, lines_run, WritesPart, WritesMore, EndsAs, BreaksOff, Halts, Runs}
 use Rattle.ipc_script.specs.Relations.Input.{IsReadFault, ReadsTooMuch}
 use Rattle.ipc_script.specs.Relations.Matches.{RunMatchesBetween, opened_of}
 use Rattle.ipc_script.specs.Relations.Simulation.{SimulatesScript, text_of}
@@ -191,6 +191,15 @@ module _ (rest line behind : List ℕ) (lines : lines_of rest ≡ line ∷ lines
         | inl none ↦ inl (All-tail (λ (l : List ℕ). line_of l ≢ Some Stop) line (lines_of behind) none)
         | inr honest ↦ inr (keeps honest)
       ]
+
+-- no line of a script is `stop`, so the first is none, and none behind it is
+pub no-stop-here : (rest line behind : List ℕ) → lines_of rest ≡ line ∷ lines_of behind → HasNoStop rest → line_of line ≢ Some Stop
+no-stop-here rest line behind is none =
+    All-head (λ (l : List ℕ). line_of l ≢ Some Stop) line (lines_of behind) (subst (All (λ (l : List ℕ). line_of l ≢ Some Stop)) is none)
+
+pub no-stop-behind : (rest line behind : List ℕ) → lines_of rest ≡ line ∷ lines_of behind → HasNoStop rest → HasNoStop behind
+no-stop-behind rest line behind is none =
+    All-tail (λ (l : List ℕ). line_of l ≢ Some Stop) line (lines_of behind) (subst (All (λ (l : List ℕ). line_of l ≢ Some Stop)) is none)
 
 -- no text, no line
 pub no_lines : (text : List ℕ) → length text ≡ 0 → lines_of text ≡ []
