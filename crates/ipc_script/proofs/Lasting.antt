@@ -1,6 +1,7 @@
 -- What calls, one after another, do to the history of a store.
-use Rattle.std.proofs.Common.{◌≡◌, ⊎_elim, ℕ, [], ◌++◌, sym, subst, ap, ◌∙◌}
+use Rattle.std.proofs.Common.{◌≡◌, ⊎_elim, ℕ, List, Option, [], ◌++◌, sym, subst, ap, ◌∙◌}
 use Rattle.std.specs.Prelude.{⊤, Result, Ok, Err}
+use Rattle.ipc_base.specs.declared.limits.Limits.{Limits}
 use Rattle.ipc_disk.specs.Counts.{Counts}
 use Rattle.ipc_disk.specs.Medium.{Image, Medium}
 use Rattle.ipc_store.specs.declared.fault.CommitError.{CommitError}
@@ -10,6 +11,7 @@ use Rattle.ipc_store.specs.View.{StoreView}
 use Rattle.ipc_store.proofs.CallerLemmas.{Takes-none, Takes-both}
 use Rattle.ipc_hub.specs.declared.fault.ServeError.{ServeError}
 use Rattle.ipc_hub.specs.declared.fault.ServeError.TheVariants as serve
+use Rattle.ipc_hub.specs.Clients.{Clients}
 use Rattle.ipc_hub.specs.View.{StoredHub}
 use Rattle.ipc_hub.specs.Relations.Faults.{Halts, Refuses}
 use Rattle.ipc_script.specs.declared.fault.ScriptFault.{ScriptFault}
@@ -17,7 +19,8 @@ use Rattle.ipc_script.specs.Relations.Faults.{ByFault, of_serve_error}
 use Rattle.ipc_script.specs.declared.fault.ScriptFault.TheVariants.{NoMemory, Input, Output, Device}
 use Rattle.ipc_script.specs.declared.fault.ScriptFault.TheVariants.{NotFormatted, Version, Damaged}
 use Rattle.ipc_script.specs.declared.fault.ScriptFault.TheVariants.{TooLong, BadLine, InUse, Unknown}
-use Rattle.ipc_script.specs.Relations.Lasts.{Lasts, Leaves, Settled, Settles, Empties, UnlessDisk}
+use Rattle.ipc_script.specs.Leaves.{Leaves, UnlessDisk}
+use Rattle.ipc_script.specs.Relations.Lasts.{Lasts, Settled, Settles, Empties}
 use Rattle.ipc_script.proofs.FaultCases.{by_fault}
 
 module _ {D : Type 0} (medium : D → Medium) where
@@ -105,6 +108,7 @@ settled-same store (Unknown number) = λ none. none
 
 pub leaves-same : {D : Type 0} (medium : D → Medium)
     (law : (d : D) (image : Image) → (medium d).images_since (medium d).moment image → (medium d).images_now image)
-    (store : StoreView D) (disk : D) (e : ScriptFault) → disk ≡ store.disk → Leaves medium store disk (Err e)
-leaves-same medium law store disk e same =
-    record { closed = store; handed = same; lasts = lasts-none medium law store; settled = settled-same store e }
+    (limits : Limits) (h : Clients) (script : List ℕ) (before after : Option (List ℕ)) (store : StoreView D) (disk : D) (e : ScriptFault)
+    → disk ≡ store.disk → Leaves medium limits h script before after store disk (Err e)
+leaves-same medium law limits h script before after store disk e same =
+    record { closed = store; handed = same; lasts = lasts-none medium law store; settled = settled-same store e; state = tt }

@@ -10,7 +10,8 @@ use Rattle.ipc_script.specs.Script.{Cut, Progress, WritesPart, line_done, text_d
 use Rattle.ipc_script.specs.Relations.Simulation.{text_of}
 use Rattle.ipc_script.proofs.FaultCases.{by_fault}
 use Rattle.ipc_script.proofs.ScriptLines.{run_begun, run_more, run_stopped, run_refused, run_broken, run_halted, run_ended, no_lines, may-here, may-behind}
-use Rattle.ipc_script.proofs.ScriptLines.{no-stop-here, no-stop-behind}
+use Rattle.ipc_script.proofs.ScriptLines.{no-stop-here, no-stop-behind, run_came}
+use Rattle.ipc_hub.specs.Clients.{Clients}
 use Rattle.ipc_script.proofs.Lasting.{lasts-none, lasts-both, settles-after, settled-unless}
 use Rattle.ipc_script.proofs.WrittenText.{part_none, grown_none}
 use Rattle.ipc_script.proofs.LineLengths.{cost-fits}
@@ -160,6 +161,7 @@ returns-in_default-clause-leaves g c = λ limits h matches none stops. record {
   handed = c.close-in_default.ensures.disk ∙ ap (λ s. s.disk) c.close.ensures.store;
   lasts = c.lines.invariant.lasts limits h matches none stops;
   settled = c.lines.invariant.settled stops;
+  state = tt;
 }
 
 pub returns-in-Err-clause-leaves : goal.returns-in-Err-clause-leaves
@@ -178,6 +180,7 @@ returns-in-Err-run_line-clause-leaves g c = λ limits h matches none stops.
       settled = settled-unless c.args.hub.store c.run_line.new.hub.store c.in-Err-run_line.fault
           (settles-after c.args.hub.store c.lines.hub.store c.run_line.new.hub.store c.in-Err-run_line.fault
           (c.lines.invariant.settled stops) c.in-Err-run_line.ensures.settles);
+      state = tt;
     }
 
 pub returns-clause-leaves : goal.returns-clause-leaves
@@ -186,4 +189,14 @@ returns-clause-leaves g c = λ limits h matches none stops. record {
   handed = c.close-3.ensures.disk ∙ ap (λ s. s.disk) c.close-2.ensures.store;
   lasts = c.lines.invariant.lasts limits h matches none stops;
   settled = c.lines.invariant.settled stops;
+  state =
+      let p = c.lines.invariant.runs limits h matches none (inl stops) in
+      let empty : length c.lines.rest.now ≡ 0 = grind (arith, nat_tests, c.lines-test.ensures) in
+      let came = run_came limits h c.args.script.now (c.lines.number + 1) c.lines.hub c.lines.opened.items c.lines.rest.now _ _ p
+      (no_lines c.lines.rest.now empty) in (
+        came.0,
+        came.1,
+        ap (λ s. s.machine.state) (sym c.close-2.ensures.store) ∙ c.close-2.ensures.state ∙ p.at.run.matches.hub.state
+            ∙ ap (λ (k : Clients). k.state) (sym came.2),
+      );
 }

@@ -1,9 +1,7 @@
-use Rattle.std.proofs.Common.{◌+◌, replicate, length, refl, sym, ap, subst, Err, arith}
+use Rattle.std.proofs.Common.{length, refl, sym, ap, subst, Err, arith}
 use Rattle.ipc_hub.specs.Clients.{no_clients}
 use Rattle.ipc_script.specs.declared.fault.ScriptFault.{ScriptFault}
-use Rattle.ipc_engine.specs.Event.{Restart}
 use Rattle.ipc_script.specs.Script.{MayStop, HasNoStop}
-use Rattle.std.proofs.lemmas.List.{length-replicate}
 use Rattle.ipc_script.proofs.Lasting.{leaves-same}
 use Rattle.ipc_script.proofs.NumbersSpent.{not-the-readers}
 use Rattle.ipc_script.proofs.ScriptLines.{script_done, not_read}
@@ -18,7 +16,8 @@ returns-in-Err g c =
       is.1,
       λ events _ _. is.2 machine.limits (no_clients machine.state events),
       λ _ _. not-the-readers _ _ c.in-Err.fault c.in-Err.ensures.faults,
-      λ _. leaves-same g.D.SectorDisk.medium g.met.D.SectorDisk.only_now c.args.store _ c.in-Err.fault c.close.ensures.disk,
+      λ events _ _. leaves-same g.D.SectorDisk.medium g.met.D.SectorDisk.only_now machine.limits (no_clients machine.state events) is.0 _ _ c.args.store _
+          c.in-Err.fault c.close.ensures.disk,
     )
 
 pub returns-in-Ok : goal.returns-in-Ok
@@ -34,9 +33,8 @@ returns-in-Ok g c =
       λ young may. rw c.new.ensures.store at (c.run_lines.ensures.disk)
           (record { goes_on = young.goes_on; left = omega (arith, young.numbers, c.in-Ok.ensures.bounded, ap length c.deref.ensures.value) })
           (subst (MayStop (g.D.SectorDisk.medium c.args.store.disk)) (sym c.deref.ensures.value) may),
-      λ stops.
-          let events = replicate (c.args.store.confirmed + c.args.store.waiting) Restart in
-          rw c.new.ensures.store at (c.run_lines.ensures.leaves machine.limits (no_clients machine.state events)
-          (c.new.ensures.matches events (length-replicate (c.args.store.confirmed + c.args.store.waiting) Restart)) refl
-          (subst HasNoStop (sym c.deref.ensures.value) stops)),
+      λ events count stops.
+          let left = c.run_lines.ensures.leaves machine.limits (no_clients machine.state events) (c.new.ensures.matches events count) refl
+          (subst HasNoStop (sym c.deref.ensures.value) stops) in
+          rw (c.new.ensures.store, c.deref.ensures.value) at left,
     )
