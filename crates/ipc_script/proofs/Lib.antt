@@ -14,6 +14,7 @@ pub mod HubAndClients
 pub mod UnchangedHeads
 pub mod FedPieces
 pub mod OpenConnections
+pub mod Lasting
 pub mod LineForms
 pub mod ScriptLines
 pub mod OpenedAgain

@@ -21,7 +21,8 @@ use Rattle.ipc_script.specs.declared.fault.ScriptFault.TheVariants.{NoMemory, In
 use Rattle.ipc_script.specs.declared.fault.ScriptFault.TheVariants.{TooLong, BadLine, InUse, Unknown}
 use Rattle.ipc_script.specs.Line.{longest_script, PlainLine, Open, Data, End, Tick, Save, Stop, line_of, lines_of}
 use Rattle.ipc_script.specs.Script.{Run, Cut, Progress, Outcome, start_run, text_done, first_cut, goes_on, run_lines, is_open, opened, report}
-use Rattle.ipc_script.specs.Script.{MayStop, stopped, fed_in_pieces, script_run, lines_run, WritesPart, WritesMore, EndsAs, BreaksOff, Halts, Runs}
+use Rattle.ipc_script.specs.Script.{after_line, run_after, script_after}
+use Rattle.ipc_script.specs.Script.{MayStop, HasNoStop, stopped, fed_in_pieces, script_run, lines_run, WritesPart, WritesMore, EndsAs, BreaksOff, Halts, Runs}
 use Rattle.ipc_script.specs.Relations.Input.{IsReadFault, ReadsTooMuch}
 use Rattle.ipc_script.specs.Relations.Matches.{RunMatchesBetween, opened_of}
 use Rattle.ipc_script.specs.Relations.Simulation.{SimulatesScript, text_of}
@@ -43,6 +44,8 @@ pub record PartlyRun {D : Type 0} (limits : Limits) (h : Clients) (script : List
   pub written : Appends before after text
   pub runs : (lines : List (List ℕ)) (more : List Cut)
       → run_lines limits 1 (start_run h) (first ++ lines) (done ++ more) ≡ later text (run_lines limits number now lines more)
+  pub comes : (lines : List (List ℕ)) (more : List Cut)
+      → run_after limits 1 (start_run h) (first ++ lines) (done ++ more) ≡ run_after limits number now lines more
 
 -- a beginning of what a line writes begins what it and the next lines write
 goes_part : (a b : Option (List ℕ)) (result : Result Progress ScriptFault) (next : Run → Outcome) → WritesPart a b (text_of result)
@@ -76,6 +79,7 @@ module _ {D : Type 0} (limits : Limits) (h : Clients) (script : List ℕ) where
         at = starts limits h hub matches none;
         written = Appends-nil w;
         runs = λ lines more. refl;
+        comes = λ lines more. refl;
       }
 
   module _ (number : ℕ) (hub : StoredHub D) (opened : List Opened) (rest : List ℕ) (w0 w1 : Option (List ℕ))
@@ -106,6 +110,11 @@ module _ {D : Type 0} (limits : Limits) (h : Clients) (script : List ℕ) where
               ∙ (p.runs (line ∷ others) (cut ∷ more)
               ∙ (ap (λ r. later p.text (goes_on r (λ now. run_lines limits (number + 1) now others more))) is
               ∙ ap (λ (t : List ℕ). record { text = t; fault = rest_of.fault }) (sym (append_assoc p.text q.text rest_of.text)))));
+          comes = λ others more.
+              ap (λ (ls : List (List ℕ)). run_after limits 1 (start_run h) ls ((p.done ++ cut ∷ []) ++ more)) (append_assoc p.first (line ∷ []) others)
+              ∙ (ap (run_after limits 1 (start_run h) (p.first ++ line ∷ others)) (append_assoc p.done (cut ∷ []) more)
+              ∙ (p.comes (line ∷ others) (cut ∷ more)
+              ∙ ap (λ r. after_line r p.now (λ now. run_after limits (number + 1) now others more)) is));
         }
 
     -- the server was dropped, and its device opened again
@@ -170,6 +179,20 @@ module _ {D : Type 0} (limits : Limits) (h : Clients) (script : List ℕ) where
         ∙ (ran [] ∙ ap (λ (ls : List (List ℕ)). later p.text (run_lines limits number p.now ls [])) none) in
         (p.done, (subst (Appends w0 w1) (sym (append-nil p.text) ∙ sym (ap (λ (o : Outcome). o.text) ends)) p.written, ap (λ (o : Outcome). o.fault) ends))
 
+    -- what is there then
+    pub run_came : lines_of rest ≡ [] → (cuts : List Cut) × Appends w0 w1 (script_run limits h script cuts).text
+        × (script_after limits h script cuts ≡ p.now.hub)
+    run_came none =
+        let ends : run_lines limits 1 (start_run h) (lines_of script) p.done ≡ record { text = p.text ++ []; fault = None } =
+        ap (run_lines limits 1 (start_run h) (lines_of script)) (sym (append-nil p.done))
+        ∙ (ran [] ∙ ap (λ (ls : List (List ℕ)). later p.text (run_lines limits number p.now ls [])) none) in
+        let all : run_after limits 1 (start_run h) (lines_of script) p.done ≡ p.now =
+        ap (run_after limits 1 (start_run h) (lines_of script)) (sym (append-nil p.done))
+        ∙ (ap (λ (ls : List (List ℕ)). run_after limits 1 (start_run h) ls (p.done ++ [])) p.lines
+        ∙ (p.comes (lines_of rest) []
+        ∙ ap (λ (ls : List (List ℕ)). run_after limits number p.now ls []) none)) in
+        (p.done, subst (Appends w0 w1) (sym (append-nil p.text) ∙ sym (ap (λ (o : Outcome). o.text) ends)) p.written, ap (λ (r : Run). r.hub) all)
+
 -- ---- lines that are `stop`
 
 module _ (rest line behind : List ℕ) (lines : lines_of rest ≡ line ∷ lines_of behind) where
@@ -191,6 +214,15 @@ module _ (rest line behind : List ℕ) (lines : lines_of rest ≡ line ∷ lines
         | inl none ↦ inl (All-tail (λ (l : List ℕ). line_of l ≢ Some Stop) line (lines_of behind) none)
         | inr honest ↦ inr (keeps honest)
       ]
+
+-- no line of a script is `stop`, so the first is none, and none behind it is
+pub no-stop-here : (rest line behind : List ℕ) → lines_of rest ≡ line ∷ lines_of behind → HasNoStop rest → line_of line ≢ Some Stop
+no-stop-here rest line behind is none =
+    All-head (λ (l : List ℕ). line_of l ≢ Some Stop) line (lines_of behind) (subst (All (λ (l : List ℕ). line_of l ≢ Some Stop)) is none)
+
+pub no-stop-behind : (rest line behind : List ℕ) → lines_of rest ≡ line ∷ lines_of behind → HasNoStop rest → HasNoStop behind
+no-stop-behind rest line behind is none =
+    All-tail (λ (l : List ℕ). line_of l ≢ Some Stop) line (lines_of behind) (subst (All (λ (l : List ℕ). line_of l ≢ Some Stop)) is none)
 
 -- no text, no line
 pub no_lines : (text : List ℕ) → length text ≡ 0 → lines_of text ≡ []

@@ -1,4 +1,5 @@
 pub mod Fault
+pub mod Leaves
 pub mod Line
 pub mod Script
 pub mod Dump

@@ -1,4 +1,5 @@
 -- What joins the code to the definitions. A reader of the definitions alone needs none of it.
+pub mod Lasts
 pub mod Lines
 pub mod Input
 pub mod Faults

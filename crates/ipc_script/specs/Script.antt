@@ -171,6 +171,22 @@ run_lines limits number r (line ∷ lines) cuts =
 abbrev pub script_run : Limits → Clients → List ℕ → List Cut → Outcome
 script_run limits h script cuts = run_lines limits 1 (start_run h) (lines_of script) cuts
 
+-- the run after a line, from which the next go on, if it was not refused
+abbrev pub after_line : Result Progress ScriptFault → Run → (Run → Run) → Run
+after_line (Err e) r next = r
+after_line (Ok p) r next = next p.run
+
+-- the run after lines, up to the first that is refused
+abbrev pub run_after : Limits → ℕ → Run → List (List ℕ) → List Cut → Run
+run_after limits number r [] cuts = r
+run_after limits number r (line ∷ lines) cuts =
+    after_line (text_done limits number r (line_of line) (first_cut cuts)) r
+    (λ now. run_after limits (number + 1) now lines (drop 1 cuts))
+
+-- what the server and its clients are when a whole script has run
+abbrev pub script_after : Limits → Clients → List ℕ → List Cut → Clients
+script_after limits h script cuts = (run_after limits 1 (start_run h) (lines_of script) cuts).hub
+
 -- the first lines of a script alone
 abbrev pub lines_run : Limits → Clients → List ℕ → ℕ → List Cut → Outcome
 lines_run limits h script count cuts = run_lines limits 1 (start_run h) (take count (lines_of script)) cuts

@@ -6,6 +6,7 @@ ghost use Rattle.std.specs.Prelude.{IfOk, IfErr, IfSome, OnOk};
 ghost use Rattle.std.specs.Io.KnownBytes.{Appends};
 ghost use Rattle.ipc_base.specs.declared.limits.Limits.{Limits};
 ghost use Rattle.ipc_disk.specs.Medium.{IsHonest};
+ghost use Rattle.ipc_store.specs.Histories.{Takes};
 ghost use Rattle.ipc_hub.specs.Clients.{Clients, accepted, client_at};
 ghost use Rattle.ipc_hub.specs.Relations.Matches.{IsFrame, HubMatches};
 ghost use Rattle.ipc_script.specs.Script.{Run, WritesPart, WritesMore, conn_text, report as report_of};
@@ -13,6 +14,7 @@ ghost use Rattle.ipc_script.specs.Script.{frame_line as frame_text, end_line as 
 ghost use Rattle.ipc_script.specs.Relations.Faults.{ByFault, WorldFailed};
 ghost use Rattle.ipc_script.specs.Relations.Matches.{RunMatches, ProgressMatches, HasWholeFrames};
 ghost use Rattle.ipc_script.specs.Relations.Matches.{opened_of};
+ghost use Rattle.ipc_script.specs.Relations.Lasts.{Empties};
 ghost use Rattle.ipc_script.specs.Relations.Numbers.{Costs};
 ghost use Rattle.ipc_script.specs.Relations.Report.{without_frames, frames_text, SimulatesReportAt};
 
@@ -46,6 +48,8 @@ pub fn report<D: SectorDisk, W: Write>(
         ((limits : Limits) (r : Run) → RunMatches limits hub.old opened.old r →
         WritesPart (W.contents writer.old) (W.contents writer.new) (report_of r).text)
         (Appends (W.contents writer.old) (W.contents writer.new) []) ⊥) }
+    ensures takes { Takes D.medium hub.old.store [] hub.new.store }
+    ensures empties { Empties hub.new.store result }
     ensures honest { IsHonest (D.medium hub.old.store.disk)
         → IsHonest (D.medium hub.new.store.disk) }
     ensures costs { Costs D.counts 1 hub.old.store hub.new.store result }

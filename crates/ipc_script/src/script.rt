@@ -1,7 +1,7 @@
 //! A script: lines of what connections do and when, run on a hub.
 
 ghost use Rattle.std.specs.Prelude.{◌≡◌, ◌≢◌, ◌<◌, ◌≤◌, ◌+◌, ◌*◌, ℕ, true, false, List, [], length, position};
-ghost use Rattle.std.specs.Prelude.{nat_eq, nat_lt, IfOk, IfErr, IfSome, OnOk};
+ghost use Rattle.std.specs.Prelude.{⊤, nat_eq, nat_lt, IfOk, IfErr, IfSome, OnOk};
 ghost use Rattle.std.specs.List.{prefix_len};
 ghost use Rattle.std.specs.Io.KnownBytes.{Appends};
 ghost use Rattle.ipc_base.specs.declared.limits.Limits.{Limits};
@@ -10,10 +10,13 @@ ghost use Rattle.ipc_engine.specs.Event.{PlainEvent};
 ghost use Rattle.ipc_store.specs.View.{Spends};
 ghost use Rattle.ipc_hub.specs.Clients.{Clients, no_clients, hangup};
 ghost use Rattle.ipc_hub.specs.Relations.Matches.{StoredMatches};
+ghost use Rattle.ipc_script.specs.Leaves.{Leaves};
 ghost use Rattle.ipc_script.specs.Line.{longest_script};
 ghost use Rattle.ipc_script.specs.Line.PlainLine.{Data, Stop};
-ghost use Rattle.ipc_script.specs.Script.{Run, Runs, MayStop, WritesMore, IsYoung, DiskFailed};
+ghost use Rattle.ipc_script.specs.Script.{Run, Runs, MayStop, HasNoStop, WritesMore, IsYoung};
+ghost use Rattle.ipc_script.specs.Script.{DiskFailed};
 ghost use Rattle.ipc_script.specs.Script.{is_open, line_done, opened as opened_run};
+ghost use Rattle.ipc_script.specs.Relations.Lasts.{Lasts, Settled, Settles};
 ghost use Rattle.ipc_script.specs.Relations.Lines.{plain_line};
 ghost use Rattle.ipc_script.specs.Relations.Faults.{ByFault, IfRefused, of_serve_error};
 ghost use Rattle.ipc_script.specs.Relations.Matches.{RunMatches, RunMatchesBetween};
@@ -53,7 +56,11 @@ pub fn run_script<D: SectorDisk, R: Read, W: Write>(
         Runs store.machine.limits (no_clients store.machine.state events) script
         (W.contents writer.old) (W.contents writer.new) result.0)
         × (IsYoung store → MayStop (D.medium store.disk) script → IfErr result.0 (λ e.
-        DiskFailed e (D.counts store.disk).failures (D.counts result.1).failures)) }
+        DiskFailed e (D.counts store.disk).failures (D.counts result.1).failures))
+        × ((events : List PlainEvent) → length events ≡ store.confirmed + store.waiting →
+        HasNoStop script → Leaves D.medium store.machine.limits
+        (no_clients store.machine.state events) script
+        (W.contents writer.old) (W.contents writer.new) store result.1 result.0) }
 {
     match read_script(alloc, reader) {
         Ok(script) => run_lines(alloc, Hub::new(alloc, store), &script, writer),
@@ -73,6 +80,9 @@ fn run_lines<D: SectorDisk, W: Write>(
         MayStop (D.medium hub.store.disk) script.now →
         SimulatesScript limits h script.now
         (W.contents writer.old) (W.contents writer.new) result.0 }
+    ensures leaves { (limits : Limits) (h : Clients) → StoredMatches limits hub h → h.clients ≡ [] →
+        HasNoStop script.now → Leaves D.medium limits h script.now
+        (W.contents writer.old) (W.contents writer.new) hub.store result.1 result.0 }
     ensures disk { HasNumbers (8 * length script.now) hub.store →
         MayStop (D.medium hub.store.disk) script.now →
         IfErr result.0 (λ e. DiskFailed e (D.counts hub.store.disk).failures
@@ -117,6 +127,9 @@ fn run_line<D: SectorDisk, W: Write>(
         RunMatchesBetween limits hub.old opened.old.items r →
         SimulatesLine limits (line_done limits number r (plain_line line.entry))
         hub.new opened.new.items (W.contents writer.old) (W.contents writer.new) result }
+    ensures lasts { (limits : Limits) (r : Run) → RunMatchesBetween limits hub.old opened.old.items r →
+        Lasts D.medium hub.old.store hub.new.store }
+    ensures settles { Settles hub.old.store hub.new.store result }
     ensures honest { OnOk result (IsHonest (D.medium hub.old.store.disk)
         → IsHonest (D.medium hub.new.store.disk)) }
     ensures costs { Costs D.counts (line_cost (plain_line line.entry))
@@ -145,6 +158,9 @@ fn serve_line<D: SectorDisk, W: Write>(
         RunMatchesBetween limits hub.old opened.old.items r →
         SimulatesLine limits (line_done limits number r (plain_line line.entry))
         hub.new opened.new.items (W.contents writer.old) (W.contents writer.new) result }
+    ensures lasts { (limits : Limits) (r : Run) → RunMatchesBetween limits hub.old opened.old.items r →
+        Lasts D.medium hub.old.store hub.new.store }
+    ensures settles { Settles hub.old.store hub.new.store result }
     ensures honest { IsHonest (D.medium hub.old.store.disk)
         → IsHonest (D.medium hub.new.store.disk) }
     ensures costs { Costs D.counts (line_cost (plain_line line.entry))
@@ -204,6 +220,7 @@ fn open<D: SectorDisk>(
     ensures err { IfErr result (λ e. IfRefused e (e ≡ ScriptFault.InUse number)) }
     ensures in_use { IfErr result (λ e. IfRefused e ((limits : Limits) (r : Run) →
         RunMatchesBetween limits hub.old opened.old.items r → is_open r conn ≡ true)) }
+    ensures store { hub.new.store ≡ hub.old.store }
     ensures honest { IsHonest (D.medium hub.old.store.disk)
         → IsHonest (D.medium hub.new.store.disk) }
     ensures costs { Costs D.counts 0 hub.old.store hub.new.store result }
@@ -243,6 +260,10 @@ fn close<D: SectorDisk>(
     ensures err { IfErr result (λ e. IfRefused e (e ≡ ScriptFault.Unknown number)) }
     ensures unknown { IfErr result (λ e. IfRefused e ((limits : Limits) (r : Run) →
         RunMatchesBetween limits hub.old opened.old.items r → is_open r conn ≡ false)) }
+    ensures lasts { (limits : Limits) (r : Run) → RunMatchesBetween limits hub.old opened.old.items r →
+        Lasts D.medium hub.old.store hub.new.store }
+    ensures settles { IfErr result (λ e.
+        ByFault e (Settled hub.old.store hub.new.store) ⊤ (Settled hub.old.store hub.new.store)) }
     ensures honest { IsHonest (D.medium hub.old.store.disk)
         → IsHonest (D.medium hub.new.store.disk) }
     ensures costs { Costs D.counts 3 hub.old.store hub.new.store result }
@@ -287,6 +308,9 @@ fn feed<D: SectorDisk, W: Write>(
         SimulatesLine limits
         (line_done limits sender.number r (Data sender.moment.0 sender.conn bytes.now))
         hub.new opened.new (W.contents writer.old) (W.contents writer.new) result }
+    ensures lasts { (limits : Limits) (r : Run) → RunMatchesBetween limits hub.old opened.old r →
+        Lasts D.medium hub.old.store hub.new.store }
+    ensures settles { Settles hub.old.store hub.new.store result }
     ensures honest { IsHonest (D.medium hub.old.store.disk)
         → IsHonest (D.medium hub.new.store.disk) }
     ensures costs { Costs D.counts (4 * length bytes.now) hub.old.store hub.new.store result }
@@ -326,6 +350,9 @@ fn feed_some<D: SectorDisk, W: Write>(
         × Appends (W.contents writer.old) (W.contents writer.new) [])) }
     ensures unknown { IfErr result (λ e. IfRefused e ((limits : Limits) (r : Run) →
         RunMatchesBetween limits hub.old opened.old r → is_open r sender.conn ≡ false)) }
+    ensures lasts { (limits : Limits) (r : Run) → RunMatchesBetween limits hub.old opened.old r →
+        Lasts D.medium hub.old.store hub.new.store }
+    ensures settles { Settles hub.old.store hub.new.store result }
     ensures honest { IsHonest (D.medium hub.old.store.disk)
         → IsHonest (D.medium hub.new.store.disk) }
     ensures spends { HasNumbers (3 + length bytes.now) hub.old.store → IfOk result (λ taken.

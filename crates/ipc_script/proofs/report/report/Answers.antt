@@ -4,6 +4,9 @@ use Rattle.ipc_script.specs.declared.fault.ScriptFault.{ScriptFault}
 use Rattle.ipc_script.specs.Relations.Faults.{ByFault, WorldFailed}
 use Rattle.ipc_script.proofs.FaultCases.{world_failed}
 use Rattle.ipc_script.proofs.LineForms.{still_matches}
+use Rattle.std.proofs.Common.{[], sym, subst}
+use Rattle.ipc_store.specs.Histories.{Takes}
+use Rattle.ipc_store.specs.View.{StoreView}
 use Rattle.ipc_script.proofs.report.report.Goals as goal
 
 on_ok : {P Q : Type 0} (result : Result ⊤ ScriptFault) → (P → Q) → OnOk result P → OnOk result Q
@@ -25,3 +28,7 @@ returns-in-Ok-clause-err g c =
     if_err _ _ _ c.report_all.result
     (λ done limits r i. done limits r (still_matches limits c.args.hub.now c.release.new.self c.args.opened.now r (c.in-Ok.ensures.ok limits r.hub) i)
     (c.in-Ok.ensures.confirmed ∙ i.matches.counts)) c.report_all.ensures.err
+
+pub returns-in-Ok-clause-takes : goal.returns-in-Ok-clause-takes
+returns-in-Ok-clause-takes g c =
+    subst (λ (s : StoreView g.row.D.Denot). Takes g.D.SectorDisk.medium c.args.hub.now.store [] s) (sym c.report_all.ensures.store) c.release.ensures.takes

@@ -7,6 +7,7 @@ use Rattle.std.specs.Prelude.{⊤}
 use Rattle.ipc_script.specs.Relations.Faults.{of_serve_error}
 use Rattle.ipc_script.proofs.FaultCases.{by_fault}
 use Rattle.ipc_script.proofs.OpenConnections.{by_number, close_in}
+use Rattle.ipc_script.proofs.Lasting.{lasts-refused}
 use Rattle.ipc_script.proofs.script.close.Goals as goal
 
 pub returns-in-Some-clause-ok : goal.returns-in-Some-clause-ok
@@ -38,3 +39,8 @@ pub returns-in-Err-clause-err : goal.returns-in-Err-clause-err
 returns-in-Err-clause-err g c =
     rw c.fault_of.ensures (by_fault ⊤ ⊤ ⊤ ⊤ _ _ (of_serve_error c.in-Err.error c.args.number) (λ t. t) (λ t. t) (λ is. is.0)
     (is_its_fault ⊤ ⊤ c.in-Err.error c.args.number tt))
+
+pub returns-in-Err-clause-lasts : goal.returns-in-Err-clause-lasts
+returns-in-Err-clause-lasts g c limits r b =
+    lasts-refused g.D.SectorDisk.medium g.met.D.SectorDisk.only_now g.D.SectorDisk.counts c.args.hub.now c.hangup.new.self c.args.conn c.in-Err.error
+    c.in-Err.ensures.refused

@@ -4,6 +4,7 @@ use Rattle.std.proofs.lemmas.Result.{err_from_is_err_and}
 use Rattle.ipc_script.proofs.HubAndClients.{connected, is_known, is_unknown, is_its_fault}
 use Rattle.ipc_script.proofs.FedPieces.{feeds_some, feeds_part}
 use Rattle.ipc_script.proofs.FaultCases.{by_fault}
+use Rattle.ipc_script.proofs.Lasting.{lasts-refused, lasts-more, settles-empty}
 use Rattle.ipc_script.proofs.script.feed_some.Goals as goal
 
 pub returns-in_err-report-in-Ok-clause-err : goal.returns-in_err-report-in-Ok-clause-err
@@ -36,3 +37,26 @@ returns-in-Err-clause-unknown g c =
     rw c.fault_of.ensures (is_unknown g.D.SectorDisk.medium g.D.SectorDisk.counts hub c.feed.new.self c.args.sender.conn _ c.in-Err.error
     c.args.sender.number (λ none limits r b. sym (connected limits hub.store.confirmed hub.hub r.hub c.args.sender.conn b.run.matches.hub) ∙ none)
     c.in-Err.ensures.refused)
+
+pub returns-in_err-report-in-Ok-clause-lasts : goal.returns-in_err-report-in-Ok-clause-lasts
+returns-in_err-report-in-Ok-clause-lasts g c = λ limits r b.
+    let fed = (c.in-Ok.ensures.ok limits r.hub b.run.matches).1 in
+    lasts-more g.D.SectorDisk.medium c.args.hub.now.store c.feed.new.self.store c.report.new.hub.store (fed.events, fed.takes) c.report.ensures.takes
+
+pub returns-in_err-report-in-Ok-clause-settles : goal.returns-in_err-report-in-Ok-clause-settles
+returns-in_err-report-in-Ok-clause-settles g c =
+    let q = err_from_is_err_and c.from_residual.result c.from_residual.ensures.1 in
+    rw (q.1, q.2) (settles-empty c.args.hub.now.store c.report.new.hub.store c.in_err-report-in-Ok.field-0.0 c.in_err-report-in-Ok.ensures.empties)
+
+pub returns-in_ok-report-in-Ok-clause-lasts : goal.returns-in_ok-report-in-Ok-clause-lasts
+returns-in_ok-report-in-Ok-clause-lasts g c = λ limits r b.
+    let fed = (c.in-Ok.ensures.ok limits r.hub b.run.matches).1 in
+    lasts-more g.D.SectorDisk.medium c.args.hub.now.store c.feed.new.self.store c.report.new.hub.store (fed.events, fed.takes) c.report.ensures.takes
+
+pub returns-in_ok-report-in-Ok-clause-settles : goal.returns-in_ok-report-in-Ok-clause-settles
+returns-in_ok-report-in-Ok-clause-settles g c = λ _. c.in_ok-report-in-Ok.ensures.empties
+
+pub returns-in-Err-clause-lasts : goal.returns-in-Err-clause-lasts
+returns-in-Err-clause-lasts g c = λ limits r b.
+    lasts-refused g.D.SectorDisk.medium g.met.D.SectorDisk.only_now g.D.SectorDisk.counts c.args.hub.now c.feed.new.self c.args.sender.conn c.in-Err.error
+    c.in-Err.ensures.refused

@@ -1,4 +1,4 @@
-use Rattle.std.proofs.Common.{◌≡◌, ◌+◌, [], length, Option, Some, Result, sym, ap, subst, ◌∙◌, arith}
+use Rattle.std.proofs.Common.{◌≡◌, ◌+◌, [], inl, length, Option, Some, Result, sym, ap, subst, ◌∙◌, arith}
 use Rattle.std.specs.Prelude.{option_map}
 use Rattle.std.proofs.KnownBytes.{Appends-nil}
 use Rattle.std.proofs.lemmas.Bool.Decides.{nat_tests}
@@ -10,6 +10,9 @@ use Rattle.ipc_script.specs.Script.{Cut, Progress, WritesPart, line_done, text_d
 use Rattle.ipc_script.specs.Relations.Simulation.{text_of}
 use Rattle.ipc_script.proofs.FaultCases.{by_fault}
 use Rattle.ipc_script.proofs.ScriptLines.{run_begun, run_more, run_stopped, run_refused, run_broken, run_halted, run_ended, no_lines, may-here, may-behind}
+use Rattle.ipc_script.proofs.ScriptLines.{no-stop-here, no-stop-behind, run_came}
+use Rattle.ipc_hub.specs.Clients.{Clients}
+use Rattle.ipc_script.proofs.Lasting.{lasts-none, lasts-both, settles-after, settled-unless}
 use Rattle.ipc_script.proofs.WrittenText.{part_none, grown_none}
 use Rattle.ipc_script.proofs.LineLengths.{cost-fits}
 use Rattle.ipc_script.proofs.NumbersSpent.{spends-none, spends-both, left-behind, failed-behind}
@@ -21,6 +24,9 @@ lines-init g c = record {
   may = λ may. may;
   left = omega arith;
   spends = λ has may. spends-none has;
+  none = λ stops. stops;
+  lasts = λ limits h matches none stops. lasts-none g.D.SectorDisk.medium g.met.D.SectorDisk.only_now c.args.hub.store;
+  settled = λ stops waits. waits;
   runs = λ limits h matches none may. rw c.new-opened.ensures.items (run_begun limits h c.args.script.now c.args.hub _ matches none);
 }
 
@@ -79,6 +85,9 @@ lines-preserved-in-Ok g c =
           let before = c.lines.invariant.spends has may in
           let here = left-behind 3 has before (omega (arith, c.lines.invariant.left, c.first_line.ensures.shorter)) in
           spends-both _ before (c.in-Ok.ensures.spends honest here) (omega (arith, c.lines.invariant.left, c.first_line.ensures.shorter));
+      none = λ stops. no-stop-behind rest text behind c.first_line.ensures.lines (c.lines.invariant.none stops);
+      lasts = λ limits h matches none stops. absurd (no-stop-here rest text behind c.first_line.ensures.lines (c.lines.invariant.none stops) stop);
+      settled = λ stops. absurd (no-stop-here rest text behind c.first_line.ensures.lines (c.lines.invariant.none stops) stop);
       runs = λ limits h matches none may.
           let p = c.lines.invariant.runs limits h matches none may in
           let honest = may-here rest text behind c.first_line.ensures.lines old (c.lines.invariant.may may) stop in
@@ -101,6 +110,13 @@ lines-preserved g c = record {
       let before = c.lines.invariant.spends has may in
       let here = left-behind _ has before (omega (arith, c.lines.invariant.left, cost)) in
       spends-both _ before (c.in_default-run_line.ensures.costs here) (omega (arith, c.lines.invariant.left, c.first_line.ensures.shorter, cost));
+  none = λ stops. no-stop-behind c.lines.rest.now c.first_line.result.0.now c.first_line.result.1.now c.first_line.ensures.lines
+      (c.lines.invariant.none stops);
+  lasts = λ limits h matches none stops.
+      let p = c.lines.invariant.runs limits h matches none (inl stops) in
+      lasts-both g.D.SectorDisk.medium c.args.hub.store c.lines.hub.store c.run_line.new.hub.store
+      (c.lines.invariant.lasts limits h matches none stops) (c.run_line.ensures.lasts limits p.now p.at);
+  settled = λ stops waits. c.in_default-run_line.ensures.settles (c.lines.invariant.settled stops waits);
   runs = λ limits h matches none may.
       let p = c.lines.invariant.runs limits h matches none may in
       let n = c.lines.number + 1 in
@@ -137,3 +153,50 @@ returns-in-Err-run_line-clause-disk g c has may =
     let here = left-behind _ has before (omega (arith, c.lines.invariant.left, cost)) in
     rw (c.close-in-Err-run_line-2.ensures.disk, c.close-in-Err-run_line.ensures.store)
     (failed-behind c.in-Err-run_line.fault _ before (c.in-Err-run_line.ensures.costs here))
+
+-- what is left: of a text that is no line, of a line that was not run, and at the end
+pub returns-in_default-clause-leaves : goal.returns-in_default-clause-leaves
+returns-in_default-clause-leaves g c = λ limits h matches none stops. record {
+  closed = c.lines.hub.store;
+  handed = c.close-in_default.ensures.disk ∙ ap (λ s. s.disk) c.close.ensures.store;
+  lasts = c.lines.invariant.lasts limits h matches none stops;
+  settled = c.lines.invariant.settled stops;
+  state = tt;
+}
+
+pub returns-in-Err-clause-leaves : goal.returns-in-Err-clause-leaves
+returns-in-Err-clause-leaves g c = λ limits h matches none stops.
+    let stop : line_of c.first_line.result.0.now ≡ Some Stop = sym c.line_of.ensures ∙ ap (option_map plain_line) (c.in-Some.is ∙ ap Some c.in-Stop.is) in
+    absurd (no-stop-here c.lines.rest.now c.first_line.result.0.now c.first_line.result.1.now c.first_line.ensures.lines (c.lines.invariant.none stops) stop)
+
+pub returns-in-Err-run_line-clause-leaves : goal.returns-in-Err-run_line-clause-leaves
+returns-in-Err-run_line-clause-leaves g c = λ limits h matches none stops.
+    let p = c.lines.invariant.runs limits h matches none (inl stops) in
+    record {
+      closed = c.run_line.new.hub.store;
+      handed = c.close-in-Err-run_line-2.ensures.disk ∙ ap (λ s. s.disk) c.close-in-Err-run_line.ensures.store;
+      lasts = lasts-both g.D.SectorDisk.medium c.args.hub.store c.lines.hub.store c.run_line.new.hub.store
+          (c.lines.invariant.lasts limits h matches none stops) (c.run_line.ensures.lasts limits p.now p.at);
+      settled = settled-unless c.args.hub.store c.run_line.new.hub.store c.in-Err-run_line.fault
+          (settles-after c.args.hub.store c.lines.hub.store c.run_line.new.hub.store c.in-Err-run_line.fault
+          (c.lines.invariant.settled stops) c.in-Err-run_line.ensures.settles);
+      state = tt;
+    }
+
+pub returns-clause-leaves : goal.returns-clause-leaves
+returns-clause-leaves g c = λ limits h matches none stops. record {
+  closed = c.lines.hub.store;
+  handed = c.close-3.ensures.disk ∙ ap (λ s. s.disk) c.close-2.ensures.store;
+  lasts = c.lines.invariant.lasts limits h matches none stops;
+  settled = c.lines.invariant.settled stops;
+  state =
+      let p = c.lines.invariant.runs limits h matches none (inl stops) in
+      let empty : length c.lines.rest.now ≡ 0 = grind (arith, nat_tests, c.lines-test.ensures) in
+      let came = run_came limits h c.args.script.now (c.lines.number + 1) c.lines.hub c.lines.opened.items c.lines.rest.now _ _ p
+      (no_lines c.lines.rest.now empty) in (
+        came.0,
+        came.1,
+        ap (λ s. s.machine.state) (sym c.close-2.ensures.store) ∙ c.close-2.ensures.state ∙ p.at.run.matches.hub.state
+            ∙ ap (λ (k : Clients). k.state) (sym came.2),
+      );
+}

@@ -3,7 +3,8 @@ use Rattle.ipc_base.specs.declared.limits.Limits.{Limits}
 use Rattle.ipc_hub.specs.Clients.{Clients}
 use Rattle.ipc_hub.specs.Relations.Matches.{StoredMatches}
 use Rattle.ipc_store.specs.View.{Spends}
-use Rattle.ipc_script.specs.Script.{MayStop}
+use Rattle.ipc_script.specs.Script.{MayStop, HasNoStop}
+use Rattle.ipc_script.specs.Relations.Lasts.{Lasts, Settled}
 use Rattle.ipc_script.specs.Relations.Numbers.{HasNumbers}
 use Rattle.ipc_script.proofs.ScriptLines.{PartlyRun}
 use Rattle.ipc_script.proofs.script.run_lines.Given as goal
@@ -17,6 +18,10 @@ invariant-lines g l = record {
   left : length l.rest ≤ length l.fn.script;
   spends : HasNumbers (8 * length l.fn.script) l.fn.hub.store → MayStop (g.D.SectorDisk.medium l.fn.hub.store.disk) l.fn.script
       → Spends g.D.SectorDisk.counts (8 * (length l.fn.script - length l.rest)) l.fn.hub.store l.hub.store;
+  none : HasNoStop l.fn.script → HasNoStop l.rest;
+  lasts : (limits : Limits) (h : Clients) → StoredMatches limits l.fn.hub h → h.clients ≡ [] → HasNoStop l.fn.script
+      → Lasts g.D.SectorDisk.medium l.fn.hub.store l.hub.store;
+  settled : HasNoStop l.fn.script → Settled l.fn.hub.store l.hub.store;
   runs : (limits : Limits) (h : Clients) → StoredMatches limits l.fn.hub h → h.clients ≡ []
       → MayStop (g.D.SectorDisk.medium l.fn.hub.store.disk) l.fn.script
       → PartlyRun limits h l.fn.script (l.number + 1) l.hub l.opened.items l.rest (g.W.Write.contents l.fn.writer) (g.W.Write.contents l.writer);

@@ -1,4 +1,4 @@
-use Rattle.std.proofs.Common.{◌≡◌, true, false, List, length, refl, ap, ◌∙◌}
+use Rattle.std.proofs.Common.{[], ◌≡◌, true, false, List, length, refl, ap, ◌∙◌}
 use Rattle.std.proofs.lemmas.Result.{err_from_is_err_and}
 use Rattle.ipc_hub.specs.Clients.{tick}
 use Rattle.ipc_script.specs.declared.report.Opened.{Opened}
@@ -13,6 +13,7 @@ use Rattle.ipc_script.proofs.HexBytes.{hex_nonempty}
 use Rattle.ipc_script.proofs.LineForms.{written_back, still_matches, line_unwritten, line_reported, line_refused}
 use Rattle.ipc_script.proofs.LineForms.{open_done, open_refused, end_done, end_refused}
 use Rattle.ipc_script.proofs.script.serve_line.Goals.{in-Open+in_ok-open-in-Open, in-End+in_ok-close-in-End, in-Tick+in-Ok, in-Save+in-Ok-save}
+use Rattle.ipc_script.proofs.Lasting.{lasts-same, lasts-none, lasts-more, lasts-halted, settles-all}
 use Rattle.ipc_script.proofs.script.serve_line.Goals as goal
 
 pub returns-in_err-open-in-Open-clause-line : goal.returns-in_err-open-in-Open-clause-line
@@ -90,3 +91,37 @@ returns-clause-line g c = λ limits r b.
           c.report.new.opened c.report.result
           c.report.ensures.ok c.report.ensures.err refl r (at _ (rw (← w.hub-is, ← w.opened-is) at i)) (λ cut. refl))
     ])
+
+pub returns-in_err-open-in-Open-clause-lasts : goal.returns-in_err-open-in-Open-clause-lasts
+returns-in_err-open-in-Open-clause-lasts g c = λ limits r b.
+    lasts-same g.D.SectorDisk.medium g.met.D.SectorDisk.only_now c.args.hub.now.store _ c.open.ensures.store
+
+pub returns-in_err-bytes-in-Data-clause-lasts : goal.returns-in_err-bytes-in-Data-clause-lasts
+returns-in_err-bytes-in-Data-clause-lasts g c = λ limits r b.
+    lasts-none g.D.SectorDisk.medium g.met.D.SectorDisk.only_now c.args.hub.now.store
+
+pub returns-in-Data-clause-lasts : goal.returns-in-Data-clause-lasts
+returns-in-Data-clause-lasts g c = λ limits r b. c.feed.ensures.lasts limits r (rw (← c.deref_mut.ensures.value) at b)
+
+pub returns-in-Err-clause-lasts : goal.returns-in-Err-clause-lasts
+returns-in-Err-clause-lasts g c = λ limits r b.
+    lasts-halted g.D.SectorDisk.medium g.met.D.SectorDisk.only_now g.D.SectorDisk.counts c.args.hub.now c.tick.new.self c.in-Err.field-0
+    c.in-Err.ensures.refused
+
+pub returns-clause-lasts : goal.returns-clause-lasts
+returns-clause-lasts g c = λ limits r b.
+    let hub = c.match-line.hub in
+    let med = g.D.SectorDisk.medium in
+    let old = c.args.hub.now.store in
+    lasts-more med old hub.store c.report.new.hub.store (elim c.match-line.branch [
+      | in-Open+in_ok-open-in-Open w ↦
+          rw w.hub-is (lasts-same med g.met.D.SectorDisk.only_now old _ w.open.ensures.store)
+      | in-End+in_ok-close-in-End w ↦ rw w.hub-is (w.close.ensures.lasts limits r b)
+      | in-Tick+in-Ok w ↦
+          let came = w.in-Ok.ensures.ok limits r.hub b.run.matches in
+          rw w.hub-is (came.events, came.takes)
+      | in-Save+in-Ok-save w ↦ rw w.hub-is ([], w.save.ensures.takes)
+    ]) c.report.ensures.takes
+
+pub returns-clause-settles : goal.returns-clause-settles
+returns-clause-settles g c = settles-all c.args.hub.now.store c.report.new.hub.store c.report.result c.report.ensures.empties

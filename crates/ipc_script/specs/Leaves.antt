@@ -1,0 +1,48 @@
+-- What the run of a script leaves on its disk.
+use Rattle.std.specs.Prelude.{◌≡◌, ⊤, ℕ, List, Option, Result, Ok, Err, OnOk}
+use Rattle.std.specs.Io.KnownBytes.{Appends}
+use Rattle.ipc_base.specs.declared.limits.Limits.{Limits}
+use Rattle.ipc_disk.specs.Medium.{Medium}
+use Rattle.ipc_store.specs.View.{StoreView}
+use Rattle.ipc_hub.specs.Clients.{Clients}
+use Rattle.ipc_script.specs.declared.fault.ScriptFault.{ScriptFault}
+use Rattle.ipc_script.specs.declared.fault.ScriptFault.TheVariants.{NoMemory, Input, Output, Device}
+use Rattle.ipc_script.specs.declared.fault.ScriptFault.TheVariants.{NotFormatted, Version, Damaged}
+use Rattle.ipc_script.specs.declared.fault.ScriptFault.TheVariants.{TooLong, BadLine, InUse, Unknown}
+use Rattle.ipc_script.specs.Script.{Cut, script_run, script_after}
+use Rattle.ipc_script.specs.Relations.Lasts.{Lasts, Settled}
+
+-- this holds, unless the fault is the disk's
+abbrev pub UnlessDisk : ScriptFault → Type 0 → Type 0
+UnlessDisk NoMemory P = P
+UnlessDisk Input P = P
+UnlessDisk Output P = P
+UnlessDisk Device P = ⊤
+UnlessDisk NotFormatted P = ⊤
+UnlessDisk (Version found) P = ⊤
+UnlessDisk (Damaged sector) P = ⊤
+UnlessDisk TooLong P = P
+UnlessDisk (BadLine number) P = P
+UnlessDisk (InUse number) P = P
+UnlessDisk (Unknown number) P = P
+
+-- a run, by its answer: if nothing waited, nothing waits, unless the disk failed
+abbrev pub EndsSettled : {D : Type 0} → StoreView D → StoreView D → Result ⊤ ScriptFault → Type 0
+EndsSettled old new (Ok _) = Settled old new
+EndsSettled old new (Err e) = UnlessDisk e (Settled old new)
+
+-- What a run leaves on the disk that it hands back, which was that of this store. The store that was
+-- closed at its end has taken some events, those of the lines that were run. So a crash at any moment of
+-- the run leaves what was acknowledged before it, and some of the other events, from the first on; and
+-- that stands on the disk at its end. If nothing waited before, all of them stand there, unless the disk
+-- failed. If all lines were run, they lead to the state to which the lines lead, for the same cut of each
+-- line as what was written.
+pub record Leaves {D : Type 0} (medium : D → Medium) (limits : Limits) (h : Clients) (script : List ℕ)
+    (before after : Option (List ℕ)) (store : StoreView D) (disk : D) (result : Result ⊤ ScriptFault)
+    : Type 0 where
+  pub closed : StoreView D
+  pub handed : disk ≡ closed.disk
+  pub lasts : Lasts medium store closed
+  pub settled : EndsSettled store closed result
+  pub state : OnOk result ((cuts : List Cut) × Appends before after (script_run limits h script cuts).text
+      × (closed.machine.state ≡ (script_after limits h script cuts).state))
