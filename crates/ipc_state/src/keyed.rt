@@ -158,6 +158,7 @@ impl<T> Keyed<T> {
     pub fn reserve(&mut self, key: i32) -> Result<(), AllocError>
         ensures objects { self.new.objects ≡ self.old.objects }
         ensures ok { OnOk result (ArePositive self.old.objects.entries → HasPlaceFor self.new key) }
+        ensures succeeds { ArePositive self.old.objects.entries → HasPlaceFor self.old key → IsOk result }
         ensures others { (other : ℤ) → other ≢ key → is_vacant self.new.keys other ≡ is_vacant self.old.keys other }
         ensures err { OnErr result ((other : ℤ) → is_vacant self.new.keys other ≡ is_vacant self.old.keys other) }
     {

@@ -1,6 +1,6 @@
 //! The keys of the objects of one kind in their directory; IPC_PRIVATE names none, and has no place there.
 
-ghost use Rattle.std.specs.Prelude.{◌≡◌, ◌≢◌, ◌<◌, ℤ, pos, true, false, None, if◌then◌else◌, OnOk, OnErr};
+ghost use Rattle.std.specs.Prelude.{◌≡◌, ◌≢◌, ◌<◌, ℤ, pos, true, false, None, if◌then◌else◌, IsOk, OnOk, OnErr};
 ghost use Rattle.std.specs.Ordering.{int_eq};
 ghost use Rattle.ipc_keys.specs.Directory.{is_vacant};
 ghost use Rattle.ipc_state.specs.Directory.{HasNoSpareKey, added, named_by, or_else};
@@ -19,10 +19,11 @@ pub(crate) fn named(keys: &KeyDir, key: i32) -> Option<u32>
     keys.find(key)
 }
 
-/// Makes room for a key that has no identifier, so that `bind` takes no memory.
+/// Makes room for a key that has no identifier, so that `bind` takes no memory; never refused if the room is there.
 pub(crate) fn reserve(keys: &mut KeyDir, key: i32) -> Result<(), AllocError>
     ensures names { (other : ℤ) → named_by keys.new other ≡ named_by keys.old other }
     ensures ok { OnOk result (key ≢ pos 0 → named_by keys.old key ≡ None → is_vacant keys.new key ≡ true) }
+    ensures succeeds { (key ≢ pos 0 → named_by keys.old key ≡ None → is_vacant keys.old key ≡ true) → IsOk result }
     ensures others { (other : ℤ) → other ≢ key → is_vacant keys.new other ≡ is_vacant keys.old other }
     ensures err { OnErr result (keys.new ≡ keys.old) }
 {

@@ -21,12 +21,13 @@ use std::alloc::AllocError;
 pub type Answer = Result<Body<Vec<u8>>, Errno>;
 
 /// Takes the memory that the attempt of a call may need, which a call that grows nothing never does.
-/// Refused, the state is as before.
+/// Refused, the state is as before; never refused if that memory is there.
 pub fn reserve(state: &mut State, call: &Call<'_>) -> Result<(), AllocError>
     requires sound { HasSoundParts state.old.limits state.old.state }
     ensures state { state.new.state ≡ state.old.state }
     ensures limits { state.new.limits ≡ state.old.limits }
     ensures ok { OnOk result (IsReserved state.new.state state.new.room (plain_call call.now)) }
+    ensures succeeds { IsReserved state.old.state state.old.room (plain_call call.now) → IsOk result }
     ensures memory { takes_memory (plain_call call.now) ≡ false → IsOk result }
 {
     match needed_by(call) {
@@ -42,6 +43,7 @@ fn reserve_place(state: &mut State, key: i32) -> Result<(), AllocError>
     ensures state { state.new.state ≡ state.old.state }
     ensures limits { state.new.limits ≡ state.old.limits }
     ensures ok { OnOk result (HasPlace state.new.state state.new.room key) }
+    ensures succeeds { HasPlace state.old.state state.old.room key → IsOk result }
 {
     state.msg_mut().reserve(key)
 }
@@ -51,6 +53,7 @@ fn reserve_text(state: &mut State, id: Id, len: usize) -> Result<(), AllocError>
     ensures state { state.new.state ≡ state.old.state }
     ensures limits { state.new.limits ≡ state.old.limits }
     ensures ok { OnOk result (HasTextRoom state.new.room.texts id.0 len) }
+    ensures succeeds { HasTextRoom state.old.room.texts id.0 len → IsOk result }
 {
     match state.msg_mut().get_mut(id) {
         Some(queue) => queue.reserve(len),

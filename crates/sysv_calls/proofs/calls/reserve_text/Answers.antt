@@ -1,10 +1,10 @@
-use Rattle.std.proofs.Common.{◌≡◌, sym, subst, ap, ◌∙◌}
+use Rattle.std.proofs.Common.{◌≡◌, ℕ, List, Option, sym, subst, ap, ◌∙◌}
 use Rattle.std.proofs.lemmas.Result.{on_ok_weaker}
 use Rattle.sysv_msg.specs.Queue.{Kept}
 use Rattle.ipc_state.specs.Held.{HasTextRoom}
 use Rattle.ipc_state.specs.Keyed.{Keyed}
 use Rattle.ipc_state.specs.Tables.{HeldObjects, texts_of}
-use Rattle.ipc_state.proofs.CallerLemmas.{holds, left-queues, left-room, no-room}
+use Rattle.ipc_state.proofs.CallerLemmas.{holds, had-room, left-queues, left-room, no-room}
 use Rattle.sysv_calls.proofs.calls.reserve_text.Goals as goal
 
 pub returns-in-Some-clause-state : goal.returns-in-Some-clause-state
@@ -22,6 +22,13 @@ returns-in-Some-clause-ok c =
     let h = holds o c.args.id.0 c.in-Some.queue.now c.in-Some.ensures.object in
     let left = c.reserve.new.self in
     on_ok_weaker c.reserve.result (left-room o c.args.id.0 _ h left (c.get_mut.follows.lender left) (c.get_mut.follows.holds left) c.args.len) c.reserve.ensures.ok
+
+pub returns-in-Some-clause-succeeds : goal.returns-in-Some-clause-succeeds
+returns-in-Some-clause-succeeds c has =
+    let o = c.msg_mut.result.now in
+    let h = holds o c.args.id.0 c.in-Some.queue.now c.in-Some.ensures.object in
+    c.reserve.ensures.succeeds
+    (had-room o c.args.id.0 _ h c.args.len (subst (λ (ts : List (ℕ × Option ℕ)). HasTextRoom ts c.args.id.0 c.args.len) (sym c.msg_mut.ensures.texts) has))
 
 pub returns-in-None-clause-ok : goal.returns-in-None-clause-ok
 returns-in-None-clause-ok c =

@@ -36,3 +36,13 @@ pub returns-clause-others : goal.returns-clause-others
 returns-clause-others g c other apart =
     let n : to_z w32 (of_z w32 c.args.key) ≡ c.args.key = to_z-of_z w32 c.args.key c.ranges.key in
     c.reserve-2.ensures.others other (λ same. apart (same ∙ n)) ∙ ap (λ (h : HeldObjects _). is_vacant h.keys other) c.self.view_is
+
+pub returns-clause-succeeds : goal.returns-clause-succeeds
+returns-clause-succeeds g c positive has =
+    let old = c.self.inside in
+    let n : to_z w32 (of_z w32 c.args.key) ≡ c.args.key = to_z-of_z w32 c.args.key c.ranges.key in
+    let held = subst (λ (h : HeldObjects _). HasPlaceFor h c.args.key) (sym c.self.view_is) has in
+    let agrees = c.self.invariant (subst (λ (h : HeldObjects _). ArePositive h.objects.entries) (sym c.self.view_is) positive) c.args.key in
+    c.reserve-2.ensures.succeeds
+    (subst (λ (z : ℤ). z ≢ pos 0 → named_by old.keys z ≡ None → is_vacant old.keys z ≡ true) (sym n)
+    (λ some none. held.vacant some (sym agrees ∙ none)))
