@@ -22,7 +22,8 @@ help:
 	@echo "            puts where, and the manual page"
 	@echo "make serves the program as a server: clients by the dozen, crashes under load, what ends a connection, and what"
 	@echo "            docs/OPERATIONS.md says; the first sessions; examples/serve.sh, in which a message outlives a"
-	@echo "            crash; and its calls of the system, watched, and each refused in turn. A minute, once built"
+	@echo "            crash; examples/users.sh, two users of a queue; and its calls of the system, watched, and each refused in"
+	@echo "            turn. A minute, once built"
 	@echo "make memory the engine's tests and the program, with each allocation refused in turn"
 	@echo "make bench  processor time of runs, lines and ticks on both devices, peak memory, what a commit writes, and"
 	@echo "            commits a second on a file beside the same writes and syncs done bare"
@@ -73,6 +74,7 @@ runs: program
 
 SERVES = python3 tests/serve.py crates/ipcd/out/ipcd && python3 tests/operations.py crates/ipcd/out/ipcd && \
 	python3 tests/session.py crates/ipcd/out/ipcd && sh examples/serve.sh crates/ipcd/out/ipcd && \
+	sh examples/users.sh crates/ipcd/out/ipcd && \
 	python3 tests/calls.py crates/ipcd/out/ipcd && python3 tests/costs.py crates/ipcd/out/ipcd
 
 serves: program

@@ -161,6 +161,14 @@ lines() {
 	difference "$1 | $2 | $3 | $4" "$4"
 }
 
+# The same on the standard device, with so many other queues: sends and receives, or gets by key.
+beside() {
+	device standard
+	generate first kind="$1" count=0 size=0 together=16 others="$2"
+	generate whole kind="$1" count=$((16 * 120)) size=0 together=16 others="$2"
+	difference "$3 | $2" 120
+}
+
 # Ticks on the small device with so many connections open, and so many runs in a group.
 ticks() {
 	device small
@@ -206,6 +214,13 @@ lines small 0 16 120
 lines small 0 100 28
 lines standard 0 1 252
 lines standard 8192 1 28
+echo
+echo "| a line of 16 requests on the standard device | other queues | microseconds | range |"
+echo "|---|---|---|---|"
+beside calls 0 "sends and receives, no byte"
+beside calls 31 "sends and receives, no byte"
+beside gets 0 "gets by a key"
+beside gets 31 "gets by a key"
 echo
 echo "| a tick on the small device, open connections | microseconds | range |"
 echo "|---|---|---|"

@@ -2,8 +2,9 @@
 #
 #     awk -v kind=KIND -v count=N .. -v script=FILE -v wanted=FILE -f bench/scripts.awk
 #
-# calls   COUNT requests by one connection, which has made a queue: sends and receives in turn, of texts of SIZE bytes,
-#         TOGETHER of them in a line
+# calls   COUNT requests by one connection, which has made a queue after OTHERS of other keys: sends and receives in turn,
+#         of texts of SIZE bytes, TOGETHER of them in a line
+# gets    COUNT gets of the queue by its key, TOGETHER of them in a line
 # ticks   COUNT ticks while OPENED connections are open; then the last of these says HELLO
 #
 # A row of the table is a call: its opcode, its fields and what its reply brings. A field is its size in bytes, or
@@ -51,13 +52,33 @@ function data(conn, hex) {
 	print "0 data " conn " " hex > script
 }
 
-# A user of its own says HELLO, and gets the one queue.
-function enter(conn) {
+# A user of its own says HELLO, and gets the other queues and then its own.
+function enter(conn,    other) {
 	open(conn)
 	data(conn, request(1, "HELLO", "1000 100"))
 	reply(conn, 1, "HELLO", conn)
+	for (other = 1; other <= others; other++) {
+		data(conn, request(2, "msgget", (2000 + other) " " create_0600))
+		reply(conn, 2, "msgget", other)
+	}
+	queue = others + 1
 	data(conn, request(2, "msgget", "1234 " create_0600))
-	reply(conn, 2, "msgget", "1")
+	reply(conn, 2, "msgget", queue)
+}
+
+# Connection 1 gets its queue again and again.
+function get(    number, piece, held) {
+	piece = ""
+	held = 0
+	for (number = 1; number <= count; number++) {
+		piece = piece request(number, "msgget", "1234 " create_0600)
+		reply(1, number, "msgget", queue)
+		if (++held == together || number == count) {
+			data(1, piece)
+			piece = ""
+			held = 0
+		}
+	}
 }
 
 # A text of so many bytes that begins with the number, where it has four.
@@ -74,10 +95,10 @@ function alternate(    number, piece, held, text) {
 	for (number = 1; number <= count; number++) {
 		text = text_of(size, int((number + 1) / 2))
 		if (number % 2 == 1) {
-			piece = piece request(number, "msgsnd", "1 0 7", text)
+			piece = piece request(number, "msgsnd", queue " 0 7", text)
 			reply(1, number, "msgsnd")
 		} else {
-			piece = piece request(number, "msgrcv", "1 0 " size " 7")
+			piece = piece request(number, "msgrcv", queue " 0 " size " 7")
 			reply(1, number, "msgrcv", "7", text)
 		}
 		if (++held == together || number == count) {
@@ -101,6 +122,9 @@ BEGIN {
 	if (kind == "calls") {
 		enter(1)
 		alternate()
+	} else if (kind == "gets") {
+		enter(1)
+		get()
 	} else if (kind == "ticks") {
 		for (conn = 1; conn <= opened; conn++)
 			open(conn)

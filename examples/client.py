@@ -19,7 +19,7 @@ file, is
     $ kill $!; wait $!; rm device socket
 
 A refused call raises OSError with the error number of the manual page: BlockingIOError for EAGAIN,
-FileNotFoundError for ENOENT, and so on. If the connection ends it is a ConnectionError.
+FileNotFoundError for ENOENT, PermissionError for EACCES and EPERM, and so on. If the connection ends it is a ConnectionError.
 
 A client that need not wait for each reply sends some requests ahead, and then receives the replies,
 which come in the same order.
@@ -41,11 +41,14 @@ import os
 import select
 import socket
 import struct
+from typing import NamedTuple
 
 IPC_PRIVATE = 0
 IPC_CREAT = 0o1000
 IPC_EXCL = 0o2000
 IPC_NOWAIT = 0o4000
+MSG_NOERROR = 0o10000
+MSG_EXCEPT = 0o20000
 
 
 # Requests: an opcode, and the fields of the call.
@@ -65,6 +68,37 @@ def msgsnd_request(msqid: int, mtype: int, mtext: bytes, msgflg: int = 0) -> byt
 
 def msgrcv_request(msqid: int, msgsz: int, msgtyp: int = 0, msgflg: int = 0) -> bytes:
     return struct.pack(">BIIIq", 0x0C, msqid, msgflg, msgsz, msgtyp)
+
+
+def msgctl_stat_request(msqid: int) -> bytes:
+    return struct.pack(">BI", 0x0D, msqid)
+
+
+def msgctl_set_request(msqid: int, uid: int, gid: int, mode: int, qbytes: int) -> bytes:
+    return struct.pack(">BIIIII", 0x0E, msqid, uid, gid, mode, qbytes)
+
+
+def msgctl_rmid_request(msqid: int) -> bytes:
+    return struct.pack(">BI", 0x0F, msqid)
+
+
+class QueueStat(NamedTuple):
+    """What IPC_STAT tells of a queue, see msgctl(2). Times are in milliseconds, and 0 is never."""
+
+    key: int
+    uid: int
+    gid: int
+    cuid: int
+    cgid: int
+    mode: int
+    stime: int
+    rtime: int
+    ctime: int
+    lspid: int
+    lrpid: int
+    qbytes: int
+    qnum: int
+    cbytes: int
 
 
 class Connection:
@@ -110,6 +144,19 @@ class Connection:
         """Takes a message off the queue: its type and its text, see msgop(2)."""
         body = self.call(msgrcv_request(msqid, msgsz, msgtyp, msgflg))
         return struct.unpack(">q", body[:8])[0], body[8:]
+
+    def msgctl_stat(self, msqid: int) -> QueueStat:
+        """What there is to know of a queue, IPC_STAT of msgctl(2)."""
+        body = self.call(msgctl_stat_request(msqid))
+        return QueueStat(*struct.unpack(">iIIIIIQQQIIIII", body))
+
+    def msgctl_set(self, msqid: int, uid: int, gid: int, mode: int, qbytes: int) -> None:
+        """Gives a queue another owner, mode and number of bytes, IPC_SET of msgctl(2)."""
+        self.call(msgctl_set_request(msqid, uid, gid, mode, qbytes))
+
+    def msgctl_rmid(self, msqid: int) -> None:
+        """Removes a queue with its messages, IPC_RMID of msgctl(2)."""
+        self.call(msgctl_rmid_request(msqid))
 
     def call(self, request: bytes) -> bytes:
         """Sends a request, and answers the body of its reply. All earlier replies were received."""
