@@ -16,7 +16,8 @@ use Rattle.ipc_base.specs.Limits.{ArePassed, tests}
 use Rattle.ipc_base.specs.Numbers.{fields_bytes, FitFields}
 use Rattle.ipc_base.proofs.CallerLemmas.{passed-bounds, fields_one}
 use Rattle.ipc_image.specs.Sizes.{need_of}
-use Rattle.ipc_image.specs.Superblock.{magic, limit_fields, limit_sizes, superblock_fields, named_bytes, superblock_bytes, IsFormatted, version_in, IsSuperblock}
+use Rattle.ipc_image.specs.Superblock.{magic, limit_fields, limit_sizes, superblock_fields, named_bytes, superblock_bytes}
+use Rattle.ipc_image.specs.Superblock.{IsFormatted, version_in, IsSuperblock}
 use Rattle.ipc_image.proofs.Numbers.{spelled}
 
 -- each limit has its four bytes

@@ -24,7 +24,8 @@ use Rattle.ipc_engine.specs.Sound.{IsSound}
 use Rattle.ipc_state.specs.State.{State, start}
 use Rattle.ipc_state.specs.Tables.{queue_row}
 use Rattle.ipc_base.specs.Numbers.{fields_bytes}
-use Rattle.ipc_image.specs.Saved.{clock_sizes, clock_numbers, count_bytes, process_bytes, processes_bytes, message_bytes, queue_bytes, queue_object, saved, HasAllPlaces}
+use Rattle.ipc_image.specs.Saved.{clock_sizes, clock_numbers, count_bytes, process_bytes, processes_bytes, message_bytes}
+use Rattle.ipc_image.specs.Saved.{queue_bytes, queue_object, saved, HasAllPlaces}
 use Rattle.ipc_image.proofs.RestoredParts.{queue_spelled}
 use Rattle.ipc_image.specs.Sizes.{sectors, process_sectors, area_of}
 
@@ -139,7 +140,8 @@ module _ (limits : Limits) (s : State) (passed : ArePassed limits) (sound : IsSo
   numbers-rise =
       let queues = queue-numbers-rise 1 s.msg.next s.msg.entries sound.parts.msg.numbered.numbers in
       let rest = rising-lower 4 (2 ^ 32 + 1) (keys_of (map queue_object s.msg.entries)) (2 ^ 64) (omega arith)
-      (rising-weaker (2 ^ 32 + 1) (keys_of (map queue_object s.msg.entries)) (2 ^ 32 + s.msg.next) (2 ^ 64) (omega (arith, sound.parts.msg.numbered.next)) queues) in
+      (rising-weaker (2 ^ 32 + 1) (keys_of (map queue_object s.msg.entries)) (2 ^ 32 + s.msg.next) (2 ^ 64)
+      (omega (arith, sound.parts.msg.numbered.next)) queues) in
       (omega arith, (omega arith, (omega arith, (omega arith, rest))))
 
   pub saved-are : AreObjects (saved s)
@@ -152,7 +154,8 @@ module _ (limits : Limits) (s : State) (passed : ArePassed limits) (sound : IsSo
         some = each-saved s Some-bytes (omega arith) (omega (arith, processes-long s.processes.entries)) (omega arith) (omega arith)
             (All-weaker (λ (e : ℕ × Entry Queue). length (queue_bytes e.1) ≤ 64 + 13 * limits.msgmnb) (λ e. Some-bytes (queue_object e))
             (λ e short. omega (arith, queue-long e.1)) s.msg.entries queues-short);
-        lengths = each-saved s Few-bytes (omega arith) (omega (arith, processes-long s.processes.entries, sound.parts.processes.count, b.processes.1)) (omega arith) (omega arith)
+        lengths = each-saved s Few-bytes (omega arith)
+            (omega (arith, processes-long s.processes.entries, sound.parts.processes.count, b.processes.1)) (omega arith) (omega arith)
             (All-weaker (λ (e : ℕ × Entry Queue). length (queue_bytes e.1) ≤ 64 + 13 * limits.msgmnb) (λ e. Few-bytes (queue_object e))
             (λ e short. omega (arith, short, b.msgmnb.1)) s.msg.entries queues-short);
         count = omega (arith, saved-count s, sound.parts.msg.numbered.count, b.msgmni);

@@ -15,7 +15,7 @@ use Rattle.ipc_image.specs.Saved.{clock_sizes, clock_numbers, count_bytes, proce
 use Rattle.ipc_image.specs.Saved.{queue_shape, queue_tree, queue_bytes, queue_object, saved, FitsQueue, HasPlaces, HasAllPlaces}
 use Rattle.ipc_image.specs.SavedParts.{process_of, queue_of, without_processes, without_queues}
 use Rattle.ipc_image.proofs.Shapes.{plain_one, counted_one}
-use Rattle.ipc_image.proofs.ReadKinds.{objects_one}
+use Rattle.ipc_image.proofs.ReadKinds.{object_at, objects_one}
 use Rattle.ipc_image.proofs.RestoredParts.{clock_one, queue_known}
 
 -- the objects of a state, each in its place
@@ -36,21 +36,13 @@ parts_of s objects are = record {
   queues = ap (λ (os : PlainObjects). drop 4 os) are;
 }
 
-first_four : (objects : PlainObjects) (a b c d : ℕ × List ℕ) → slice_get objects 0 ≡ Some a → slice_get objects 1 ≡ Some b
-    → slice_get objects 2 ≡ Some c → slice_get objects 3 ≡ Some d → objects ≡ a ∷ b ∷ c ∷ d ∷ drop 4 objects
-first_four [] a b c d p q r s = absurd cc
-first_four (x ∷ []) a b c d p q r s = absurd cc
-first_four (x ∷ y ∷ []) a b c d p q r s = absurd cc
-first_four (x ∷ y ∷ z ∷ []) a b c d p q r s = absurd cc
-first_four (x ∷ y ∷ z ∷ w ∷ rest) a b c d p q r s = cc
-
 pub are_saved : (s : State) (objects : PlainObjects) → HasParts s objects → objects ≡ saved s
 unfolding saved
 are_saved s objects parts =
-    first_four objects (0, fields_bytes clock_sizes (clock_numbers s)) (1, processes_bytes s.processes.entries) (2, count_bytes 0) (3, count_bytes 0)
-    parts.clock parts.processes parts.calls parts.adjustments
-    ∙ ap (λ (os : PlainObjects). (0, fields_bytes clock_sizes (clock_numbers s)) ∷ (1, processes_bytes s.processes.entries) ∷ (2, count_bytes 0)
-    ∷ (3, count_bytes 0) ∷ os) parts.queues
+    let next : ℕ → List ℕ → PlainObjects → PlainObjects = λ n bytes os. (n, bytes) ∷ os in
+    object_at objects 0 _ parts.clock ∙ ap (next 0 (fields_bytes clock_sizes (clock_numbers s)))
+    (object_at objects 1 _ parts.processes ∙ ap (next 1 (processes_bytes s.processes.entries)) (object_at objects 2 _ parts.calls
+    ∙ ap (next 2 (count_bytes 0)) (object_at objects 3 _ parts.adjustments ∙ ap (next 3 (count_bytes 0)) parts.queues)))
 
 -- what stands in a place is one thing
 pub same_object : (objects : PlainObjects) (i : ℕ) (a b : List ℕ) → slice_get objects i ≡ Some (i, a) → slice_get objects i ≡ Some (i, b) → a ≡ b

@@ -123,7 +123,8 @@ pub(crate) fn take_list<'b, T: Saved>(
     bytes: &'b [u8],
 ) -> Result<&'b [u8], StateFault>
     ensures ok { IfOk result (λ rest. (xs : List T.Plain) × All T.Fits xs × (length xs ≡ count)
-        × (bytes.now ≡ flat_map (bytes_in T.shape T.tree) xs ++ rest.now) × (T.items into.new ≡ T.items into.old ++ xs) × (T.others into.new ≡ T.others into.old)) }
+        × (bytes.now ≡ flat_map (bytes_in T.shape T.tree) xs ++ rest.now)
+        × (T.items into.new ≡ T.items into.old ++ xs) × (T.others into.new ≡ T.others into.old)) }
     ensures damaged { result ≡ Err StateFault.Unsound → (xs : List T.Plain) (rest : List ℕ)
         → length xs ≡ count → All T.Fits xs → bytes.now ≢ flat_map (bytes_in T.shape T.tree) xs ++ rest }
 {
@@ -141,7 +142,8 @@ pub(crate) fn read_list<T: Saved>(
     bytes: &[u8],
 ) -> Result<(), StateFault>
     ensures ok { OnOk result ((xs : List T.Plain) × All T.Fits xs × (length xs ≡ count)
-        × (bytes.now ≡ flat_map (bytes_in T.shape T.tree) xs) × (T.items into.new ≡ T.items into.old ++ xs) × (T.others into.new ≡ T.others into.old)) }
+        × (bytes.now ≡ flat_map (bytes_in T.shape T.tree) xs)
+        × (T.items into.new ≡ T.items into.old ++ xs) × (T.others into.new ≡ T.others into.old)) }
     ensures damaged { result ≡ Err StateFault.Unsound → (xs : List T.Plain)
         → length xs ≡ count → All T.Fits xs → bytes.now ≢ flat_map (bytes_in T.shape T.tree) xs }
 {
@@ -155,7 +157,8 @@ pub(crate) fn read_list<T: Saved>(
 /// Reads how many there are, and them, and nothing after them, and adds them.
 pub(crate) fn read_counted<T: Saved>(into: &mut T::Into, bytes: &[u8]) -> Result<(), StateFault>
     ensures ok { OnOk result ((xs : List T.Plain) × (length xs < 2 ^ 32) × All T.Fits xs
-        × (bytes.now ≡ counted_bytes (bytes_in T.shape T.tree) xs) × (T.items into.new ≡ T.items into.old ++ xs) × (T.others into.new ≡ T.others into.old)) }
+        × (bytes.now ≡ counted_bytes (bytes_in T.shape T.tree) xs)
+        × (T.items into.new ≡ T.items into.old ++ xs) × (T.others into.new ≡ T.others into.old)) }
     ensures damaged { result ≡ Err StateFault.Unsound → (xs : List T.Plain)
         → length xs < 2 ^ 32 → All T.Fits xs → bytes.now ≢ counted_bytes (bytes_in T.shape T.tree) xs }
 {

@@ -44,7 +44,8 @@ loop-i-preserved g c =
       items = so_far.items ++ x ∷ [];
       fit = All-push (FitsIn t.Fits) so_far.items x so_far.fit (omega arith, read.0);
       read = one-more t.FIRST (bytes_in t.shape t.tree) t.Fits so_far.items x (drop c.args.from objects) (drop (c.loop-i.i + 1) objects) c.number.result
-          c.object.result.now (so_far.read ∙ ap (λ (l : PlainObjects). map (object_in t.FIRST (bytes_in t.shape t.tree)) so_far.items ++ l) here) (rw c.FIRST.ensures at c.in-Some.ensures.some) read.1;
+          c.object.result.now (so_far.read ∙ ap (λ (l : PlainObjects). map (object_in t.FIRST (bytes_in t.shape t.tree)) so_far.items ++ l) here)
+          (rw c.FIRST.ensures at c.in-Some.ensures.some) read.1;
       added = added.0 ∙ ap (λ l. l ++ x ∷ []) so_far.added ∙ append_assoc (t.items c.args.state.now) so_far.items (x ∷ []);
       others = added.1 ∙ so_far.others;
     }

@@ -52,7 +52,8 @@ returns-then-not-is_none_counted-clause-damaged c is s all are =
 pub returns-in_default-read_clock-clause-damaged : goal.returns-in_default-read_clock-clause-damaged
 returns-in_default-read_clock-clause-damaged c is s all are =
     c.in_default-read_clock.ensures.none s all.clock
-    (same_object c.args.objects.now 0 c.in-Some.clock.now (fields_bytes clock_sizes (clock_numbers s)) c.in-Some.ensures.some (parts_of s c.args.objects.now are).clock)
+    (same_object c.args.objects.now 0 c.in-Some.clock.now (fields_bytes clock_sizes (clock_numbers s)) c.in-Some.ensures.some
+    (parts_of s c.args.objects.now are).clock)
 
 pub returns-in_err-read_counted-clause-damaged : goal.returns-in_err-read_counted-clause-damaged
 returns-in_err-read_counted-clause-damaged c is s all are =

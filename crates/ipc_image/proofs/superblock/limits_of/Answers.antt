@@ -24,11 +24,13 @@ pub returns-then-ne-clause-only : goal.returns-then-ne-clause-only
 returns-then-ne-clause-only c limits is =
     let sector : List ℕ = c.args.sector.now in
     let found : Limits = c.in_ok-limits.limits in
-    let own : found ≡ limits = same_Some found limits (c.in_ok-limits.ensures limits (after_limits c.args.sectors limits sector is) (limits_fit limits is.passed)
+    let own : found ≡ limits = same_Some found limits (c.in_ok-limits.ensures limits (after_limits c.args.sectors limits sector is)
+    (limits_fit limits is.passed)
     (limits_stand c.args.sectors limits sector is)) in
     absurd (elim c.then-ne.branch [
       | then-ne-via-then-ne w ↦ differ c.named_bytes.result.now c.named_bytes-2.result.now c.ne.result c.ne.ensures w.if-ne.true
-          (c.named_bytes.ensures ∙ ap (take 100) c.superblock_of-again.ensures ∙ written c.args.sectors found ∙ ap (named_bytes c.args.sectors) own ∙ sym (c.named_bytes-2.ensures ∙ is.named))
+          (c.named_bytes.ensures ∙ ap (take 100) c.superblock_of-again.ensures ∙ written c.args.sectors found ∙ ap (named_bytes c.args.sectors) own
+          ∙ sym (c.named_bytes-2.ensures ∙ is.named))
       | then-ne-via-else-ne+then-is_err w ↦ refused found w.check.result w.check.ensures.first
           (sym w.is_err.ensures.value ∙ w.if-is_err.true) (subst ArePassed (sym own) is.passed)
       | then-ne-via-else-ne+else-is_err+then-need-sectors w ↦
@@ -48,4 +50,5 @@ returns-clause-some c =
 
 pub returns-clause-only : goal.returns-clause-only
 returns-clause-only c limits is =
-    c.in_ok-limits.ensures limits (after_limits c.args.sectors limits c.args.sector.now is) (limits_fit limits is.passed) (limits_stand c.args.sectors limits c.args.sector.now is)
+    c.in_ok-limits.ensures limits (after_limits c.args.sectors limits c.args.sector.now is) (limits_fit limits is.passed)
+    (limits_stand c.args.sectors limits c.args.sector.now is)
