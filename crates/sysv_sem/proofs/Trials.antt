@@ -282,9 +282,9 @@ length-marked pid pids (o ∷ rest) = length-marked pid (marked pid pids o) rest
 pub whole : {A : Type 0} (xs items : List A) (len : ℕ) → length xs ≡ len → take len (xs ++ drop (length xs) items) ≡ xs
 whole xs items len e = ap (λ n. take n (xs ++ drop (length xs) items)) (sym e) ∙ take-append_seam xs (drop (length xs) items)
 
-pub can-perform : (values seen : List ℕ) (operations : List Operation) → values ≡ seen → All (λ v. v ≤ most_value) values
-    → (h : CanBeDone seen operations) → Performs values operations h.1
-can-perform values seen operations same all h =
+pub can-perform : (values known : List ℕ) (operations : List Operation) → values ≡ known → All (λ v. v ≤ most_value) values
+    → (h : CanBeDone known operations) → Performs values operations h.1
+can-perform values known operations same all h =
     Performs-done values h.0 operations 0 h.1 h.2 (all-bounded values all) (ap (λ l. outcome l h.0 operations) same ∙ h.3)
 
 -- the values after a list that passes are in range
