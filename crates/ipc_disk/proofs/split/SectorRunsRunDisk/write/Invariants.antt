@@ -10,5 +10,6 @@ invariant-loop-i g l = record {
       → (g.D.SectorDisk.medium l.self.disk).contents ≡ set_run l.first (take l.i l.from) (g.D.SectorDisk.medium l.initial.self.disk).contents;
   run : WritesRun l.first l.from (g.D.SectorDisk.medium l.initial.self.disk) (g.D.SectorDisk.medium l.self.disk);
   size : g.D.SectorDisk.size l.self.disk ≡ g.D.SectorDisk.size l.initial.self.disk;
+  failures : (g.D.SectorDisk.counts l.self.disk).failures ≡ (g.D.SectorDisk.counts l.initial.self.disk).failures;
   syncs : (g.D.SectorDisk.counts l.self.disk).syncs ≡ (g.D.SectorDisk.counts l.initial.self.disk).syncs;
 }
