@@ -74,6 +74,7 @@ pub record Opened (id : ℕ) (refusal : Errno) (refuses : Perm → Bool) (s : Ke
   pub room : (texts : List (ℕ × Option ℕ)) → texts_of o ≡ texts → (q : MutBor Kept) → r ≡ Some q → value_at nat_eq texts id ≡ Some q.now.room
   pub left : (k : Kept) (new : HeldObjects Kept) → HasPutObject o id k new → queues_of new ≡ with_entry s id (holding entry k.queue)
   pub same : (k : Kept) (new : HeldObjects Kept) → HasPutObject o id k new → k.queue ≡ entry.object → queues_of new ≡ s
+  pub keys : (k : Kept) (new : HeldObjects Kept) → HasPutObject o id k new → new.keys ≡ o.keys
 
 module _ (id : ℕ) (refusal : Errno) (refuses : Perm → Bool) (s : Keyed Queue) (o : HeldObjects Kept) (same : queues_of o ≡ s)
     (r : Result (Bor (Entry Kept)) Errno) (got : attempt_of r ≡ reached o.objects id refusal refuses) (e : Bor (Entry Kept)) (is : r ≡ Ok e) where
@@ -95,6 +96,7 @@ module _ (id : ℕ) (refusal : Errno) (refuses : Perm → Bool) (s : Keyed Queue
         room = λ texts rooms k found. lent-room lender s id _ also there q lends texts rooms k found;
         left = λ k new put. put-queues lender s id _ also there k new put;
         same = λ k new put is. put-same lender s id _ also there k new put is let-in-there;
+        keys = λ k new put. ap (λ (n : HeldObjects Kept). n.keys) (put there.entry there.is);
       }
 
 -- ---- without what an identifier has

@@ -3,6 +3,9 @@ use Rattle.std.specs.Prelude.{◌≡◌, ◌≢◌, ℕ, ℤ, pos, Bool, true, f
 use Rattle.ipc_keys.specs.Directory.{is_vacant}
 use Rattle.ipc_wire.specs.Request.{PlainCall}
 use Rattle.ipc_wire.specs.Request as requests
+use Rattle.std.specs.FinMap.{FinMap}
+use Rattle.std.specs.Ordering.{int_cmp}
+use Rattle.ipc_state.specs.Directory.{HasNoSpareKey}
 use Rattle.ipc_state.specs.Held.{Room, HasTextRoom}
 use Rattle.ipc_state.specs.Keyed.{keyed}
 use Rattle.ipc_state.specs.State.{State}
@@ -43,6 +46,12 @@ Has s room (Text id bytes) = HasTextRoom room.texts id bytes
 -- what the attempt of a call needs is there
 abbrev pub IsReserved : State → Room → PlainCall → Type 0
 IsReserved s room call = Has s room (needs call)
+
+-- no key but that of the call has room that no queue has
+abbrev pub HasSpareKeyOf : FinMap int_cmp ℕ → Needs → Type 0
+HasSpareKeyOf keys Nothing = HasNoSpareKey keys
+HasSpareKeyOf keys (Place key) = (other : ℤ) → other ≢ key → is_vacant keys other ≡ false
+HasSpareKeyOf keys (Text id bytes) = HasNoSpareKey keys
 
 -- the same of a program's value
 abbrev pub plain_needs : Wants → Needs

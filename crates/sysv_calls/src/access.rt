@@ -1,6 +1,7 @@
 //! What is alike for the objects of every kind: who may use them, and their removal. See sysvipc(7).
 
 ghost use Rattle.std.specs.Prelude.{◌≡◌, OnErr};
+ghost use Rattle.ipc_state.specs.Directory.{HasNoSpareKey};
 ghost use Rattle.ipc_state.specs.Keyed.{AreNamed};
 ghost use Rattle.sysv_calls.specs.Calls as defined;
 ghost use Rattle.sysv_calls.specs.Seen.{attempt_of, unit_of};
@@ -60,6 +61,7 @@ pub(crate) fn remove<T: Drop>(objects: &mut Keyed<T>, cred: Cred, id: Id) -> Res
     requires { AreNamed objects.old.objects }
     ensures objects { unit_of objects.new.objects result ≡ defined.removed objects.old.objects cred id.0 }
     ensures err { OnErr result (objects.new ≡ objects.old) }
+    ensures keys { HasNoSpareKey objects.old.keys → HasNoSpareKey objects.new.keys }
 {
     owned(objects, cred, id)?;
     objects.remove(id);

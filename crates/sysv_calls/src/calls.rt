@@ -1,13 +1,14 @@
 //! The memory of each call, and its attempt, which takes none.
 
-ghost use Rattle.std.specs.Prelude.{◌≡◌, true, false, IsOk, OnOk};
+ghost use Rattle.std.specs.Prelude.{◌≡◌, true, false, IsOk, OnOk, OnErr};
 ghost use Rattle.ipc_wire.specs.Request.{plain_call};
 ghost use Rattle.ipc_state.specs.Held.{HasTextRoom};
+ghost use Rattle.ipc_state.specs.Directory.{HasNoSpareKey};
 ghost use Rattle.ipc_state.specs.Finish.{finish_of};
 ghost use Rattle.ipc_state.specs.Sound.{HasSoundParts};
 ghost use Rattle.ipc_state.specs.State.{is_process};
 ghost use Rattle.sysv_calls.specs.Calls as defined;
-ghost use Rattle.sysv_calls.specs.Needs.{HasPlace, IsReserved, takes_memory};
+ghost use Rattle.sysv_calls.specs.Needs.{HasPlace, HasSpareKeyOf, IsReserved, Place, needs, takes_memory};
 ghost use Rattle.sysv_calls.specs.Spare.{IsSpare, IsKept};
 
 use crate::memory::{Needs, needed_by};
@@ -29,6 +30,8 @@ pub fn reserve(state: &mut State, call: &Call<'_>) -> Result<(), AllocError>
     ensures ok { OnOk result (IsReserved state.new.state state.new.room (plain_call call.now)) }
     ensures succeeds { IsReserved state.old.state state.old.room (plain_call call.now) → IsOk result }
     ensures memory { takes_memory (plain_call call.now) ≡ false → IsOk result }
+    ensures key { HasNoSpareKey state.old.room.keys → HasSpareKeyOf state.new.room.keys (needs (plain_call call.now)) }
+    ensures no_key { OnErr result (HasNoSpareKey state.old.room.keys → HasNoSpareKey state.new.room.keys) }
 {
     match needed_by(call) {
         Needs::Nothing => Ok(()),
@@ -44,6 +47,8 @@ fn reserve_place(state: &mut State, key: i32) -> Result<(), AllocError>
     ensures limits { state.new.limits ≡ state.old.limits }
     ensures ok { OnOk result (HasPlace state.new.state state.new.room key) }
     ensures succeeds { HasPlace state.old.state state.old.room key → IsOk result }
+    ensures key { HasNoSpareKey state.old.room.keys → HasSpareKeyOf state.new.room.keys (Place key) }
+    ensures no_key { OnErr result (HasNoSpareKey state.old.room.keys → HasNoSpareKey state.new.room.keys) }
 {
     state.msg_mut().reserve(key)
 }
@@ -54,6 +59,7 @@ fn reserve_text(state: &mut State, id: Id, len: usize) -> Result<(), AllocError>
     ensures limits { state.new.limits ≡ state.old.limits }
     ensures ok { OnOk result (HasTextRoom state.new.room.texts id.0 len) }
     ensures succeeds { HasTextRoom state.old.room.texts id.0 len → IsOk result }
+    ensures keys { state.new.room.keys ≡ state.old.room.keys }
 {
     match state.msg_mut().get_mut(id) {
         Some(queue) => queue.reserve(len),
@@ -72,6 +78,7 @@ pub fn attempt(state: &mut State, pid: Pid, call: &Call<'_>, spare: &mut Vec<u8>
         ≡ defined.attempt state.old.limits state.old.state pid.0 (plain_call call.now) }
     ensures limits { state.new.limits ≡ state.old.limits }
     ensures spare { IsKept state.old.limits spare.new result }
+    ensures no_key { HasSpareKeyOf state.old.room.keys (needs (plain_call call.now)) → HasNoSpareKey state.new.room.keys }
 {
     let cred = state.cred(pid);
     match call {

@@ -1,12 +1,14 @@
 //! The calls on message queues: msgget(2), msgop(2), msgctl(2). None takes memory in its attempt.
 
-ghost use Rattle.std.specs.Prelude.{◌≡◌, ◌+◌, ◌≤◌, ◌++◌, true, length, vec_len, vec_capacity};
+ghost use Rattle.std.specs.Prelude.{◌≡◌, ◌≢◌, ℤ, ◌+◌, ◌≤◌, ◌++◌, true, length, vec_len, vec_capacity};
 ghost use Rattle.ipc_base.specs.Numbers.{record_bytes};
+ghost use Rattle.ipc_keys.specs.Directory.{is_vacant};
+ghost use Rattle.ipc_state.specs.Directory.{HasNoSpareKey};
 ghost use Rattle.ipc_state.specs.Finish.{finish_of, ended};
 ghost use Rattle.ipc_state.specs.Held.{HasTextRoom};
 ghost use Rattle.ipc_state.specs.Sound.{HasSoundParts, HasNumbers};
 ghost use Rattle.sysv_calls.specs.Calls as defined;
-ghost use Rattle.sysv_calls.specs.Needs.{HasPlace};
+ghost use Rattle.sysv_calls.specs.Needs.{HasPlace, HasSpareKeyOf, Place};
 ghost use Rattle.sysv_calls.specs.Records.{perm_fields, queue_fields};
 ghost use Rattle.sysv_calls.specs.Spare.{IsSpare, IsKept};
 
@@ -20,18 +22,17 @@ use ipc_wire::{Body, push_fields};
 use std::mem;
 use sysv_msg::MsgQueue;
 
-/// msgget(2). Refused, the room of the key is given back.
+/// msgget(2). What room of the key is not used is given back.
 pub(crate) fn msgget(state: &mut State, cred: Cred, key: i32, flags: GetFlags) -> Answer
     requires sound { HasSoundParts state.old.limits state.old.state }
     requires room { HasPlace state.old.state state.old.room key }
     ensures finish { finish_of state.new.state result ≡ ended state.old.state
         (defined.msgget state.old.limits state.old.state cred key flags.0) }
     ensures limits { state.new.limits ≡ state.old.limits }
+    ensures no_key { HasSpareKeyOf state.old.room.keys (Place key) → HasNoSpareKey state.new.room.keys }
 {
     let answer = get_queue(state, cred, key, flags);
-    if answer.is_err() {
-        state.msg_mut().release(key);
-    }
+    state.msg_mut().release(key);
     answer
 }
 
@@ -42,6 +43,8 @@ fn get_queue(state: &mut State, cred: Cred, key: i32, flags: GetFlags) -> Answer
     ensures finish { finish_of state.new.state result ≡ ended state.old.state
         (defined.msgget state.old.limits state.old.state cred key flags.0) }
     ensures limits { state.new.limits ≡ state.old.limits }
+    ensures others { (other : ℤ) → other ≢ key
+        → is_vacant state.new.room.keys other ≡ is_vacant state.old.room.keys other }
 {
     if let Some(id) = state.msg().of_key(key) {
         if is_exclusive(flags) {
@@ -72,6 +75,7 @@ pub(crate) fn msgsnd(
     ensures finish { finish_of state.new.state result
         ≡ ended state.old.state (defined.msgsnd state.old.limits state.old.state cred pid.0 id.0 mtype text.now) }
     ensures limits { state.new.limits ≡ state.old.limits }
+    ensures keys { state.new.room.keys ≡ state.old.room.keys }
 {
     if mtype <= 0 || text.len() > state.limits().msgmax as usize {
         return Err(Errno::EINVAL);
@@ -99,6 +103,7 @@ pub(crate) fn msgrcv(
     ensures finish { finish_of state.new.state result
         ≡ ended state.old.state (defined.msgrcv state.old.state cred pid.0 id.0 flags.0 size mtype) }
     ensures limits { state.new.limits ≡ state.old.limits }
+    ensures keys { state.new.room.keys ≡ state.old.room.keys }
 {
     if size > LAST_NUMBER {
         return Err(Errno::EINVAL);
@@ -157,6 +162,7 @@ pub(crate) fn msgctl_set(
     ensures finish { finish_of state.new.state result ≡ ended state.old.state
         (defined.msgctl_set state.old.limits state.old.state cred id.0 uid gid mode qbytes) }
     ensures limits { state.new.limits ≡ state.old.limits }
+    ensures keys { state.new.room.keys ≡ state.old.room.keys }
 {
     let perm = owned(state.msg(), cred, id)?.perm;
     if qbytes > state.limits().msgmnb {
@@ -175,6 +181,7 @@ pub(crate) fn msgctl_rmid(state: &mut State, cred: Cred, id: Id) -> Answer
     ensures finish { finish_of state.new.state result
         ≡ ended state.old.state (defined.msgctl_rmid state.old.state cred id.0) }
     ensures limits { state.new.limits ≡ state.old.limits }
+    ensures keys { HasNoSpareKey state.old.room.keys → HasNoSpareKey state.new.room.keys }
 {
     remove(state.msg_mut(), cred, id)?;
     Ok(Body::Empty)

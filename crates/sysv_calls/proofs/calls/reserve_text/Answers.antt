@@ -35,3 +35,10 @@ returns-in-None-clause-ok c =
     let o = c.msg_mut.result.now in
     subst (λ (n : HeldObjects Kept). HasTextRoom (texts_of n) c.args.id.0 c.args.len) (sym c.get_mut.follows.holds-at-none)
     (no-room o c.args.id.0 c.args.len c.in-None.ensures.object)
+
+pub returns-in-Some-clause-keys : goal.returns-in-Some-clause-keys
+returns-in-Some-clause-keys c =
+    let o = c.msg_mut.result.now in
+    let h = holds o c.args.id.0 c.in-Some.queue.now c.in-Some.ensures.object in
+    let left = c.reserve.new.self in
+    ap (λ (n : HeldObjects Kept). n.keys) (c.get_mut.follows.holds left h.entry h.is) ∙ c.msg_mut.ensures.keys

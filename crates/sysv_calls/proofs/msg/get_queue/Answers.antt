@@ -116,3 +116,8 @@ returns-clause-finish c =
     ∙ ap (with_new_queue old.limits old.state c.args.key) c.new.ensures.perm) in
     rw unused (rw makes (rw full (ap (λ (i : ℕ). done c.add_queue.new.self.state (Number i)) c.add_queue.ensures.id
     ∙ ap (λ (s : State). done s (Number old.state.msg.next)) made)))
+
+pub returns-clause-others : goal.returns-clause-others
+returns-clause-others c other apart =
+    let n : to_z w32 (of_z w32 c.args.key) ≡ c.args.key = to_z-of_z w32 c.args.key c.ranges.key in
+    c.add_queue.ensures.others other (λ same. apart (same ∙ n))

@@ -7,12 +7,12 @@ use Rattle.ipc_base.specs.declared.errno.Errno.TheVariants.{EPERM}
 use Rattle.ipc_perm.specs.declared.perm.Perm.{Perm}
 use Rattle.ipc_perm.specs.Perm.{owns, owned_by}
 use Rattle.ipc_wire.specs.declared.reply.Body.TheVariants.{Empty}
-use Rattle.sysv_msg.specs.Queue.{Queue, changed}
+use Rattle.sysv_msg.specs.Queue.{Queue, Kept, changed}
 use Rattle.ipc_state.specs.declared.keyed.Entry.{Entry}
 use Rattle.ipc_state.specs.Finish.{done}
 use Rattle.ipc_state.specs.Keyed.{Keyed, holding, permitting}
 use Rattle.ipc_state.specs.Numbered.{with_entry}
-use Rattle.ipc_state.specs.Tables.{queue_entry}
+use Rattle.ipc_state.specs.Tables.{HeldObjects, queue_entry}
 use Rattle.ipc_state.proofs.CallerLemmas.{lent, is-lent, lent-queue, put-perm, put-queues}
 use Rattle.sysv_calls.proofs.Reaching.{reached-refused, let-in, let-in-there}
 use Rattle.sysv_calls.proofs.msg.msgctl_set.Goals as goal
@@ -87,3 +87,19 @@ returns-clause-finish c =
     ∙ (ap (λ (q : Queue). with_entry old.state.msg id (entry perm q)) sets
     ∙ ap (λ (p : Perm). with_entry old.state.msg id (entry p (changed e.object c.args.qbytes old.state.clock))) c.owned_by.ensures.perm)))
     ∙ rw is (rw within refl)
+
+pub returns-clause-keys : goal.returns-clause-keys
+returns-clause-keys c =
+    let old = c.args.state.now in
+    let id = c.args.id.0 in
+    let e = queue_entry c.in_ok-perm.field-0.now in
+    let has = let-in-there c.args.id.0 EPERM (λ perm. not (owns c.args.cred perm)) old.state.msg c.msg.result.now c.msg.ensures.queues
+    c.owned.result c.owned.ensures c.in_ok-perm.field-0 c.in_ok-perm.was in
+    let there = lent c.msg_mut-queues.result.now old.state.msg id e c.msg_mut-queues.ensures.queues has in
+    let perm = c.owned_by.result in
+    let permits = put-perm c.msg_mut-queues.result.now old.state.msg id e c.msg_mut-queues.ensures.queues there perm c.set_perm.new.self c.set_perm.ensures in
+    let next = lent c.set_perm.new.self (with_entry old.state.msg id (permitting e perm)) id (permitting e perm) permits
+    (at-with old.state.msg.entries id (permitting e perm) e has) in
+    let left = c.set.new.self in
+    ap (λ (h : HeldObjects Kept). h.keys) (c.get_mut.follows.holds left next.entry next.is)
+    ∙ (ap (λ (h : HeldObjects Kept). h.keys) (c.set_perm.ensures there.entry there.is) ∙ c.msg_mut-queues.ensures.keys)

@@ -112,3 +112,27 @@ returns-clause-finish c =
     ∙ (ap (λ (b : _). done new (Message got.mtype b)) c.truncate.ensures.items
     ∙ (ap (λ (m : PlainMessage). done new (Message m.mtype (take c.args.size m.text))) (sym got_is)
     ∙ rw small (rw t.is (rw picked (rw short refl))))))
+
+pub returns-in_default-clause-keys : goal.returns-in_default-clause-keys
+returns-in_default-clause-keys c =
+    let left = c.unwrap-queue.result.now in
+    let t = opened c.args.id.0 EACCES (λ perm. not (may c.args.cred perm read)) c.args.state.now.state.msg c.msg.result.now c.msg.ensures.queues
+    c.accessible.result c.accessible.ensures c.in_ok-accessible.field-0 c.in_ok-accessible.was
+    c.msg_mut.result.now c.msg_mut.ensures.queues c.get_mut.result c.get_mut.ensures.object in
+    t.keys left (c.get_mut.follows.lender left) (c.get_mut.follows.holds left) ∙ c.msg_mut.ensures.keys
+
+pub returns-then-is_too_long-clause-keys : goal.returns-then-is_too_long-clause-keys
+returns-then-is_too_long-clause-keys c =
+    let left = c.unwrap-queue.result.now in
+    let t = opened c.args.id.0 EACCES (λ perm. not (may c.args.cred perm read)) c.args.state.now.state.msg c.msg.result.now c.msg.ensures.queues
+    c.accessible.result c.accessible.ensures c.in_ok-accessible.field-0 c.in_ok-accessible.was
+    c.msg_mut.result.now c.msg_mut.ensures.queues c.get_mut.result c.get_mut.ensures.object in
+    t.keys left (c.get_mut.follows.lender left) (c.get_mut.follows.holds left) ∙ c.msg_mut.ensures.keys
+
+pub returns-clause-keys : goal.returns-clause-keys
+returns-clause-keys c =
+    let left = c.take-message.new.self in
+    let t = opened c.args.id.0 EACCES (λ perm. not (may c.args.cred perm read)) c.args.state.now.state.msg c.msg.result.now c.msg.ensures.queues
+    c.accessible.result c.accessible.ensures c.in_ok-accessible.field-0 c.in_ok-accessible.was
+    c.msg_mut.result.now c.msg_mut.ensures.queues c.get_mut.result c.get_mut.ensures.object in
+    t.keys left (c.get_mut.follows.lender left) (c.get_mut.follows.holds left) ∙ c.msg_mut.ensures.keys

@@ -75,3 +75,19 @@ returns-clause-finish c =
     ap (λ (m : Keyed Queue). done (record old.state { msg = m }) Empty)
     (t.left left (c.get_mut.follows.lender left) (c.get_mut.follows.holds left) ∙ ap (λ (q : Queue). with_entry old.state.msg c.args.id.0 (holding t.entry q)) sends)
     ∙ rw above (rw short (rw t.is (rw fits refl)))
+
+pub returns-then-not-fits-clause-keys : goal.returns-then-not-fits-clause-keys
+returns-then-not-fits-clause-keys c =
+    let left = c.unwrap-queue.result.now in
+    let t = opened c.args.id.0 EACCES (λ perm. not (may c.args.cred perm write)) c.args.state.now.state.msg c.msg.result.now c.msg.ensures.queues
+    c.accessible.result c.accessible.ensures c.in_ok-accessible.field-0 c.in_ok-accessible.was
+    c.msg_mut.result.now c.msg_mut.ensures.queues c.get_mut.result c.get_mut.ensures.object in
+    t.keys left (c.get_mut.follows.lender left) (c.get_mut.follows.holds left) ∙ c.msg_mut.ensures.keys
+
+pub returns-clause-keys : goal.returns-clause-keys
+returns-clause-keys c =
+    let left = c.send.new.self in
+    let t = opened c.args.id.0 EACCES (λ perm. not (may c.args.cred perm write)) c.args.state.now.state.msg c.msg.result.now c.msg.ensures.queues
+    c.accessible.result c.accessible.ensures c.in_ok-accessible.field-0 c.in_ok-accessible.was
+    c.msg_mut.result.now c.msg_mut.ensures.queues c.get_mut.result c.get_mut.ensures.object in
+    t.keys left (c.get_mut.follows.lender left) (c.get_mut.follows.holds left) ∙ c.msg_mut.ensures.keys
