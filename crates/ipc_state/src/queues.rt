@@ -102,8 +102,7 @@ impl State {
         ensures { IsTrue result
             ↔ AreKeyed self.now.limits.msgmni (IsSoundQueue self.now.limits) self.now.state.msg }
     {
-        self.msg.are_keyed(self.limits.msgmni)
-            && each_is_sound(self.msg.items(), &self.limits)
+        self.msg.are_keyed(self.limits.msgmni) && each_is_sound(self.msg.items(), &self.limits)
     }
 }
 

@@ -28,7 +28,7 @@ invariant_of-self-in-Connect c =
       after-sound old.limits new.limits old.state new.state event same (search rules) c.self.invariant.1,
       subst (λ (l : Limits). ArePassed l) (sym same) c.self.invariant.2,
       buffer-spare old.limits new.limits same c.self.inside.spare c.take_back.new.spare c.self.inside.outcomes.items c.answer.new.outcomes.items
-      c.self.invariant.3 c.take_back.ensures.room,
+          c.self.invariant.3 c.take_back.ensures.room,
     )
 
 pub returns-in_ok-reserve_kind-in-Call-clause-sound : goal.returns-in_ok-reserve_kind-in-Call-clause-sound
@@ -50,7 +50,7 @@ invariant_of-self-in-Call c =
       after-sound old.limits new.limits old.state new.state event same (search rules) c.self.invariant.1,
       subst (λ (l : Limits). ArePassed l) (sym same) c.self.invariant.2,
       buffer-answered old.limits new.limits same c.ask-ended.new.spare c.ask-ended.result c.reply_to.result c.answer-in-Call.new.outcomes.items
-      kept c.reply_to.ensures.room c.answer-in-Call.ensures.items,
+          kept c.reply_to.ensures.room c.answer-in-Call.ensures.items,
     )
 
 pub returns-in_ok-reserve_kind-in-Call-clause-fits : goal.returns-in_ok-reserve_kind-in-Call-clause-fits
@@ -78,7 +78,7 @@ invariant_of-self-in-Exit c =
       after-sound old.limits new.limits old.state new.state event same (search rules) c.self.invariant.1,
       subst (λ (l : Limits). ArePassed l) (sym same) c.self.invariant.2,
       buffer-spare old.limits new.limits same c.self.inside.spare c.take_back-in-Exit.new.spare c.self.inside.outcomes.items c.take_back-in-Exit.new.outcomes.items
-      c.self.invariant.3 c.take_back-in-Exit.ensures.room,
+          c.self.invariant.3 c.take_back-in-Exit.ensures.room,
     )
 
 pub returns-in-Restart-clause-sound : goal.returns-in-Restart-clause-sound
@@ -98,5 +98,5 @@ invariant_of-self-in-Restart c =
       after-sound old.limits new.limits old.state new.state event same (search rules) c.self.invariant.1,
       subst (λ (l : Limits). ArePassed l) (sym same) c.self.invariant.2,
       buffer-spare old.limits new.limits same c.self.inside.spare c.take_back-in-Restart.new.spare c.self.inside.outcomes.items c.take_back-in-Restart.new.outcomes.items
-      c.self.invariant.3 c.take_back-in-Restart.ensures.room,
+          c.self.invariant.3 c.take_back-in-Restart.ensures.room,
     )

@@ -1,6 +1,7 @@
 -- Each exit: what a crash leaves, and what was read.
 use Rattle.std.proofs.Common.{◌≡◌, ◌<◌, inl, inr, ⊎_elim, [], Err, sym, ap, subst, ◌∙◌, arith}
 use Rattle.ipc_checkpoint.specs.View.{epoch_of}
+use Rattle.ipc_disk.specs.Counts.{counted}
 use Rattle.ipc_disk.specs.Medium.{IsHonest}
 use Rattle.ipc_journal.specs.View.{used_of, epoch_of as journal_epoch}
 use Rattle.std.specs.Prelude.{⊤, Result}
@@ -120,3 +121,23 @@ returns-in-Err-restart-clause-unwritten g c = λ honest none.
 
 pub new-store-requires-clause-matches : goal.new-store-requires-clause-matches
 new-store-requires-clause-matches g c = λ honest. c.in-Ok.ensures.matches (c.read_device.ensures.honest.1 honest)
+
+pub returns-in-Err-restart-clause-version : goal.returns-in-Err-restart-clause-version
+returns-in-Err-restart-clause-version g c = λ found e honest. ⊎_elim (λ device. cc) (λ end. cc) c.in-Err-restart.ensures.faults
+
+-- what had failed when the store began
+failed_before : (g : Over) (c : In-Err-restart g) → (g.D.SectorDisk.counts c.new-store.result.disk).failures ≡ (g.D.SectorDisk.counts c.args.disk).failures
+failed_before g c = ap (λ v. (g.D.SectorDisk.counts v.disk).failures) c.new-store.ensures ∙ ⊎_elim (λ device. cc) (λ same. same) c.in-Ok.ensures.no_failure
+
+pub returns-in-Err-restart-clause-failure : goal.returns-in-Err-restart-clause-failure
+returns-in-Err-restart-clause-failure g c = λ e.
+    ap (λ d. (g.D.SectorDisk.counts d).failures) c.close.ensures.disk
+    ∙ (c.in-Err-restart.ensures.failure (ap Err e)
+    ∙ ap (λ n. counted n 1) (failed_before g (goal.at.returns-in-Err-restart-clause-failure g c).In-Err-restart))
+
+pub returns-in-Err-restart-clause-no_failure : goal.returns-in-Err-restart-clause-no_failure
+returns-in-Err-restart-clause-no_failure g c = (
+      tt,
+      ⊎_elim (λ device. inl cc) (λ same. inr (ap (λ d. (g.D.SectorDisk.counts d).failures) c.close.ensures.disk
+      ∙ (same ∙ failed_before g (goal.at.returns-in-Err-restart-clause-no_failure g c).In-Err-restart))) c.in-Err-restart.ensures.no_failure,
+    )
