@@ -238,7 +238,7 @@ fn gets_queues_by_key(rt: HostRuntime) -> Result<(), Fail> {
 
 /// A message has at most 64 bytes, and a queue 128.
 const SENDS: [Line; 13] = [
-    (Ask::Get(0, 0), Answer::Number(1)),
+    (Ask::Get(0, 0o600), Answer::Number(1)),
     (Ask::Send(1, 1, &[7; 64]), Answer::Done),
     (Ask::Send(1, 1, &[7; 64]), Answer::Done),
     (Ask::Send(1, 1, &[7; 1]), Answer::Refused(Errno::EAGAIN)),
@@ -261,7 +261,7 @@ fn sends_until_a_queue_is_full(rt: HostRuntime) -> Result<(), Fail> {
 
 const RECEIVES: [Line; 16] = [
     (Ask::Hello, Answer::Refused(Errno::EPROTO)),
-    (Ask::Get(0, 0), Answer::Number(1)),
+    (Ask::Get(0, 0o600), Answer::Number(1)),
     (Ask::Receive(1, 8, 0), Answer::Refused(Errno::ENOMSG)),
     (Ask::Receive(2, 8, 0), Answer::Refused(Errno::EINVAL)),
     (Ask::Send(1, 5, b"a"), Answer::Done),

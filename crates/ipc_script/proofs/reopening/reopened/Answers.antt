@@ -7,6 +7,7 @@ use Rattle.ipc_state.specs.State.{State}
 use Rattle.ipc_store.proofs.CallerLemmas.{ready-goes-on}
 use Rattle.ipc_store.specs.Relations.Matches.{StoreMatches}
 use Rattle.ipc_store.specs.View.{numbers_used}
+use Rattle.ipc_script.proofs.NumbersSpent.{halted-by}
 use Rattle.ipc_script.proofs.OpenedAgain.{reopens, stood, root}
 use Rattle.ipc_script.proofs.reopening.reopened.Given.{Over}
 use Rattle.ipc_script.proofs.reopening.reopened.Goals.{After-close-3}
@@ -60,6 +61,16 @@ returns-in-Ok-clause-spends g c honest has =
       failures = c.in-Ok.ensures.no_failure.0 ∙ failures g d;
       numbers = omega (arith, c.in-Ok.ensures.numbers is, epoch, ap numbers_used c.close-2.ensures.store, c.in_default.ensures.spends.numbers);
     })
+
+pub returns-in-Ok-clause-honest : goal.returns-in-Ok-clause-honest
+returns-in-Ok-clause-honest g c = λ honest.
+    rw c.new.ensures.store (c.in-Ok.ensures.ok (here g (goal.at.returns-in-Ok-clause-honest g c).After-close-3 honest)).found.2.device.honest
+
+-- what waited was not written
+pub returns-in-Err-clause-disk : goal.returns-in-Err-clause-disk
+returns-in-Err-clause-disk g c = λ honest has.
+    ap (λ d. (g.D.SectorDisk.counts d).failures) c.close-in-Err.ensures.disk ∙ ap (λ s. (g.D.SectorDisk.counts s.disk).failures) c.close.ensures.store
+    ∙ halted-by g.D.SectorDisk.medium g.D.SectorDisk.counts 3 c.args.hub c.release.new.self has c.in-Err.field-0 c.in-Err.ensures.refused
 
 pub returns-in-Err-open-clause-disk : goal.returns-in-Err-open-clause-disk
 returns-in-Err-open-clause-disk g c honest has =

@@ -1,5 +1,6 @@
 use Rattle.std.proofs.Common.{◌≡◌, ◌+◌, [], inl, length, Option, Some, Result, sym, ap, subst, ◌∙◌, arith}
-use Rattle.std.specs.Prelude.{option_map}
+use Rattle.std.specs.Bool.{◌==◌}
+use Rattle.std.specs.Prelude.{option_map, ℕ, true}
 use Rattle.std.proofs.KnownBytes.{Appends-nil}
 use Rattle.std.proofs.lemmas.Bool.Decides.{nat_tests}
 use Rattle.ipc_script.specs.declared.fault.ScriptFault.{ScriptFault}
@@ -127,9 +128,12 @@ lines-preserved g c = record {
       c.run_line.new.hub c.run_line.new.opened.items _ s.3.0 s.3.1;
 }
 
+none-left : (n : ℕ) → true ≡ (n == 0) → n ≡ 0
+none-left n is = grind (arith, nat_tests, is)
+
 pub returns-clause-runs : goal.returns-clause-runs
 returns-clause-runs g c = λ limits h matches nobody may.
-    let none : length c.lines.rest.now ≡ 0 = grind (arith, nat_tests, c.lines-test.ensures) in
+    let none : length c.lines.rest.now ≡ 0 = none-left _ c.lines-test.ensures in
     run_ended limits h c.args.script.now (c.lines.number + 1) c.lines.hub c.lines.opened.items c.lines.rest.now
     _ _ (c.lines.invariant.runs limits h matches nobody may) (no_lines c.lines.rest.now none)
 
@@ -191,7 +195,7 @@ returns-clause-leaves g c = λ limits h matches none stops. record {
   settled = c.lines.invariant.settled stops;
   state =
       let p = c.lines.invariant.runs limits h matches none (inl stops) in
-      let empty : length c.lines.rest.now ≡ 0 = grind (arith, nat_tests, c.lines-test.ensures) in
+      let empty : length c.lines.rest.now ≡ 0 = none-left _ c.lines-test.ensures in
       let came = run_came limits h c.args.script.now (c.lines.number + 1) c.lines.hub c.lines.opened.items c.lines.rest.now _ _ p
       (no_lines c.lines.rest.now empty) in (
         came.0,

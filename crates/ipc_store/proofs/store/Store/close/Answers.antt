@@ -9,4 +9,4 @@ use Rattle.ipc_store.proofs.store.Store.close.Goals as goal
 pub returns-clause-matches : goal.returns-clause-matches
 returns-clause-matches g c =
     subst (λ (v : StoreView _). v.stopped ≡ false → IsHonest (g.D.SectorDisk.medium v.disk)
-        → (base : State) × ((pending : List PlainEvent) × StoreMatches (g.D.SectorDisk.medium v.disk) v base pending)) c.self.view_is c.self.invariant.2
+    → (base : State) × ((pending : List PlainEvent) × StoreMatches (g.D.SectorDisk.medium v.disk) v base pending)) c.self.view_is c.self.invariant.2

@@ -137,7 +137,7 @@ returns-in-Err-restart-clause-failure g c = λ e.
 
 pub returns-in-Err-restart-clause-no_failure : goal.returns-in-Err-restart-clause-no_failure
 returns-in-Err-restart-clause-no_failure g c = (
-      tt,
-      ⊎_elim (λ device. inl cc) (λ same. inr (ap (λ d. (g.D.SectorDisk.counts d).failures) c.close.ensures.disk
+  tt,
+  ⊎_elim (λ device. inl cc) (λ same. inr (ap (λ d. (g.D.SectorDisk.counts d).failures) c.close.ensures.disk
       ∙ (same ∙ failed_before g (goal.at.returns-in-Err-restart-clause-no_failure g c).In-Err-restart))) c.in-Err-restart.ensures.no_failure,
-    )
+)
