@@ -207,7 +207,7 @@ def held() -> Device:
     three = ((3, b"three"), (1, b""), (3, b"more"))
     queues = {
         2: Queue(-2, three, (7, 8), (9, 10), 0o777, (4, 5, 6), (11, 12), 99),
-        5: Queue(0, (), (2**32 - 1, 2**31), mode=0),
+        5: Queue(0, (), (2**32 - 1, 2**31), mode=0o222),
     }
     objects = state(clock(50, 21, 6), processes((20, 2000, 200)), queues)
     first = batch(request(60, 20, msgrcv(1, 2)), tick(70))
@@ -218,7 +218,7 @@ def held() -> Device:
 
 HELD_LISTED = (
     "msg          2          -2 0777          7          8          4          2\n"
-    "msg          5           0 0000 4294967295 2147483648          3          1\n"
+    "msg          5           0 0222 4294967295 2147483648          3          1\n"
 )
 
 
@@ -235,7 +235,7 @@ def shows() -> None:
     nine = ((2, b"two"), (9, b"nine"))
     queues = {
         2: Queue(-2, ((3, b"more"),), (7, 8), (9, 10), 0o777, (4, 100, 6), (11, 22), 99),
-        5: Queue(0, nine, (2**32 - 1, 2**31), mode=0, times=(100, 0, 0), pids=(22, 0)),
+        5: Queue(0, nine, (2**32 - 1, 2**31), mode=0o222, times=(100, 0, 0), pids=(22, 0)),
     }
     objects = state(clock(100, 23, 6), processes((22, 1000, 100)), queues)
     wanted = held().put(BODY + 2, 0, batch(RESTART)).put(BODY + 3, 0, line)
