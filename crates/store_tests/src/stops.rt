@@ -38,14 +38,14 @@ use Line::{Commit, Exit, Get, Hello, Receive, Refused, Save, Send, Tick};
 // Each commit, and the first save, bring something that the probes see. The second save brings nothing.
 static SCRIPT: [Line; 62] = [
     Hello(1000),
-    Get(1, 7, 0x380),
+    Get(1, 7, 0x3b6),
     Commit, // 59 bytes, one sector
     Hello(1001),
     Tick,
     Get(2, 7, 0),
     Get(2, 8, 0),
     Hello(1002),
-    Get(3, 0, 0x380),
+    Get(3, 0, 0x3b6),
     Send(3, 2, 1, b"first"),
     Commit,
     Send(1, 1, 5, b"five"),
@@ -63,8 +63,8 @@ static SCRIPT: [Line; 62] = [
     Exit(3),
     Tick,
     Hello(1000),
-    Get(4, 7, 0x780),
-    Get(4, 8, 0x380),
+    Get(4, 7, 0x7b6),
+    Get(4, 8, 0x3b6),
     Receive(4, 1, 2, 0),
     Receive(4, 1, 64, 0),
     Commit,
