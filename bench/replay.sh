@@ -161,11 +161,12 @@ lines() {
 	difference "$1 | $2 | $3 | $4" "$4"
 }
 
-# The same on the standard device, with so many other queues: sends and receives, or gets by key.
+# The same on the standard device, with so many other queues: sends and receives, or gets by key. The fourth word is 1 if
+# the other keys are chosen to make a look-up slow.
 beside() {
 	device standard
-	generate first kind="$1" count=0 size=0 together=16 others="$2"
-	generate whole kind="$1" count=$((16 * 120)) size=0 together=16 others="$2"
+	generate first kind="$1" count=0 size=0 together=16 others="$2" alike="${4:-0}"
+	generate whole kind="$1" count=$((16 * 120)) size=0 together=16 others="$2" alike="${4:-0}"
 	difference "$3 | $2" 120
 }
 
@@ -221,6 +222,7 @@ beside calls 0 "sends and receives, no byte"
 beside calls 31 "sends and receives, no byte"
 beside gets 0 "gets by a key"
 beside gets 31 "gets by a key"
+beside gets 31 "gets by a key, of queues whose keys were chosen alike" 1
 echo
 echo "| a tick on the small device, open connections | microseconds | range |"
 echo "|---|---|---|"

@@ -4,7 +4,8 @@
 #
 # calls   COUNT requests by one connection, which has made a queue after OTHERS of other keys: sends and receives in turn,
 #         of texts of SIZE bytes, TOGETHER of them in a line
-# gets    COUNT gets of the queue by its key, TOGETHER of them in a line
+# gets    COUNT gets of the queue by its key, TOGETHER of them in a line; with ALIKE not 0 the other keys were chosen so
+#         that they stand where this one does in the table of keys
 # ticks   COUNT ticks while OPENED connections are open; then the last of these says HELLO
 #
 # A row of the table is a call: its opcode, its fields and what its reply brings. A field is its size in bytes, or
@@ -58,7 +59,7 @@ function enter(conn,    other) {
 	data(conn, request(1, "HELLO", "1000 100"))
 	reply(conn, 1, "HELLO", conn)
 	for (other = 1; other <= others; other++) {
-		data(conn, request(2, "msgget", (2000 + other) " " create_0600))
+		data(conn, request(2, "msgget", (alike ? chosen[other] : 2000 + other) " " create_0600))
 		reply(conn, 2, "msgget", other)
 	}
 	queue = others + 1
@@ -118,6 +119,11 @@ BEGIN {
 	create_0600 = 512 + 6 * 64
 	printf "" > script
 	printf "" > wanted
+	# Keys whose hash has the top and the low eight bits of that of 1234, with the fixed seed of the index map's hasher: in
+	# a table of any size up to 3,000 entries a look-up of one compares with each that is there.
+	split("25891 66592 67039 131551 158421 229201 234102 257653 317423 345478 387984 453382 459054 498814 547513 652520 " \
+		"685128 793461 808762 812744 852688 855761 885617 887761 953937 1014050 1019476 1023605 1165704 1173969 1207409",
+		chosen, " ")
 
 	if (kind == "calls") {
 		enter(1)

@@ -1,5 +1,5 @@
 -- What the crates above cite of a step.
-use Rattle.std.proofs.Common.{◌≡◌, ℕ, List, [], ◌∷◌, ◌++◌, refl}
+use Rattle.std.proofs.Common.{◌≡◌, ℕ, ◌<◌, ◌≤◌, List, [], ◌∷◌, ◌++◌, refl}
 use Rattle.std.specs.Prelude.{All}
 use Rattle.ipc_base.specs.declared.limits.Limits.{Limits}
 use Rattle.ipc_wire.specs.Request.{PlainKind, Hello, Calls}
@@ -11,7 +11,9 @@ use Rattle.ipc_engine.specs.Step.{step, run, asked}
 use Rattle.sysv_calls.proofs.CallerLemmas.{attempt-keeps}
 use Rattle.ipc_state.specs.State.{start}
 use Rattle.ipc_state.proofs.CallerLemmas.{start-sound as start-parts}
+use Rattle.ipc_engine.specs.Bytes.{bytes_to, allowed}
 use Rattle.ipc_engine.proofs.Soundness as soundness
+use Rattle.ipc_engine.proofs.Answered as answered
 
 -- nothing has happened yet
 pub start-sound : (limits : Limits) → IsSound limits start
@@ -36,3 +38,8 @@ pub run-parts : (limits : Limits) (s : State) (before after : List PlainEvent)
     → (run limits s (before ++ after)).state ≡ (run limits (run limits s before).state after).state
 run-parts limits s [] after = refl
 run-parts limits s (e ∷ before) after = run-parts limits (step limits s e).state before after
+
+-- an event sends a process no more bytes than it asked for
+pub step-bytes : (limits : Limits) (s : State) (e : PlainEvent) (pid : ℕ) → IsSound limits s → 0 < pid
+    → bytes_to pid (step limits s e).outcomes ≤ allowed limits s e pid
+step-bytes = answered.step-bytes

@@ -1,3 +1,4 @@
 pub mod Soundness
+mod Answered
 pub mod CallerLemmas
 mod Buffers

@@ -1,5 +1,6 @@
 pub mod Event
 pub mod Step
+pub mod Bytes
 pub mod View
 pub mod Engine
 pub mod Buffer

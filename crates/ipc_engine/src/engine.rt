@@ -180,6 +180,7 @@ impl Engine {
         ensures err { OnErr result (self.new ≡ self.old) }
         ensures memory { takes_memory self.old.limits self.old.state (plain_event event.entry) ≡ false
             → IsOk result }
+        ensures passed { ArePassed self.old.limits }
         ensures was_sound { IsSound self.old.limits self.old.state }
         ensures sound { IsSound self.new.limits self.new.state }
         ensures fits { OnOk result (All (λ o. FitsBody self.new.limits o.body) self.new.outcomes) }

@@ -10,6 +10,7 @@ ghost use Rattle.ipc_state.specs.State.{State, start, is_process, at_moment, res
 ghost use Rattle.ipc_engine.specs.Event.{PlainEvent, Connect, Call, Tick, Exit, Restart, moment_of};
 ghost use Rattle.ipc_engine.specs.Step.{step, run, asked, most_replies};
 ghost use Rattle.ipc_state.specs.Sound.{FitsBody};
+ghost use Rattle.ipc_engine.specs.Bytes.{bytes_to, allowed};
 ghost use Rattle.ipc_engine.specs.Sound.{IsSound};
 
 /// The state is sound before the first event, and after each event if it was before.
@@ -28,6 +29,13 @@ pub fn replies_fit()
 /// No event causes more replies than `most_replies`.
 pub fn replies_are_few()
     ensures { (limits : Limits) (s : State) (e : PlainEvent) → length (step limits s e).outcomes ≤ most_replies }
+{}
+
+/// An event sends a process no more bytes of frames than it asked for: one longest reply if it made the request, or is
+/// the one that a HELLO makes, and else none.
+pub fn replies_are_asked_for()
+    ensures { (limits : Limits) (s : State) (e : PlainEvent) (pid : ℕ) → IsSound limits s → 0 < pid
+        → bytes_to pid (step limits s e).outcomes ≤ allowed limits s e pid }
 {}
 
 /// A tick at a moment that has been changes nothing and says nothing.

@@ -2,7 +2,8 @@
 use Rattle.std.proofs.Common.{◌≡◌, ◌≢◌, ℕ, ◌+◌, ◌<◌, ◌≤◌, ◌^◌, Bool, true, false, List, [], ◌∷◌, Option, Some, None}
 use Rattle.std.proofs.Common.{refl, sym, ap, ◌∙◌, subst, arith, ◌⊎◌, inl, inr, ◌++◌, length}
 use Rattle.std.specs.Prelude.{nat_eq, if◌then◌else◌}
-use Rattle.std.proofs.lemmas.Bool.{cases_eq, eqb-true}
+use Rattle.std.proofs.lemmas.Bool.{cases_eq}
+use Rattle.std.proofs.lemmas.Bool.Decides.{nat_tests}
 use Rattle.std.proofs.lemmas.List.{length-append}
 use Rattle.ipc_hub.proofs.Rows.{same_value, process_of}
 use Rattle.ipc_base.specs.Limits.{longest_reply}
@@ -10,20 +11,22 @@ use Rattle.ipc_base.specs.Table.{value_at, with_value, keys_of, EachValue, ArePa
 use Rattle.ipc_base.specs.declared.limits.Limits.{Limits}
 use Rattle.ipc_base.proofs.CallerLemmas.{choice, at-with, other-with, keys_of-with_value, each-at, each-with, each-by_key, paired-with, paired-weaker}
 use Rattle.ipc_state.specs.State.{State, is_process}
+use Rattle.ipc_engine.specs.Bytes.{bytes_to, asks}
 use Rattle.ipc_engine.specs.Event.{PlainEvent, PlainOutcome}
+use Rattle.ipc_engine.specs.Sound.{IsSound}
 use Rattle.ipc_engine.specs.Step.{Step, step}
 use Rattle.ipc_engine.specs.View.{reply_of}
-use Rattle.ipc_hub.specs.Clients.{accepted, Client, Clients, client_at, is_for, last_reply, welcomed, serve, accept, with_client, with_frame}
+use Rattle.ipc_hub.specs.Clients.{accepted, Client, Clients, client_at, last_reply, welcomed, serve, accept, with_client, with_frame}
 use Rattle.ipc_hub.specs.View.{ConnectionView, HubView}
-use Rattle.ipc_hub.specs.Relations.Delivery.{last_frames, pushed, put_all, answered, with_answer, IsShort, AllShort}
+use Rattle.ipc_hub.specs.Relations.Delivery.{last_frames, pushed, put_all, answered, with_answer, IsShort}
 use Rattle.ipc_hub.specs.Relations.Rows.{Table, process_in}
-use Rattle.ipc_hub.specs.Relations.Delivery.{HasRoom, HasRoomIn, HaveRoom, HasRoomToAnswer}
+use Rattle.ipc_hub.specs.Relations.Delivery.{HasRoom, HasRoomForAll, HaveRoom, HasRoomToGreet, HasRoomToAnswer}
 use Rattle.ipc_hub.specs.Relations.Invariant.{AreOwn, IsKept, HubInvariant, GoesOn}
 use Rattle.ipc_hub.specs.Relations.Matches.{ClientMatches, HubMatches, IsAhead}
 use Rattle.ipc_hub.proofs.Deliveries.{push-matches, matches-later, accept-matches}
-use Rattle.ipc_hub.proofs.Keeping.{kept-pushed, delivery-goes-on, process-with}
+use Rattle.ipc_hub.proofs.Keeping.{kept-pushed, delivery-goes-on, process-with, quiet-for}
 use Rattle.ipc_hub.proofs.Ending.{client-there}
-use Rattle.ipc_hub.proofs.Requests.{Answers}
+use Rattle.ipc_hub.proofs.Requests.{Answers, Sends, connected-above}
 
 -- ---- the connection that asked
 
@@ -45,22 +48,28 @@ told-process o v pid =
     by-told o v (λ (w : ConnectionView). w.process ≡ Some pid → (v.process ≡ Some pid) ⊎ ((v.process ≡ None) × ((o.pid ≡ pid) × (nat_eq o.pid 0 ≡ false))))
     (λ _ is. inl is) (λ none t is. inr (none, (same_value o.pid pid is, t))) (λ _ _ is. inl is)
 
-told-kept : (limits : Limits) (o : PlainOutcome) (v : ConnectionView) → IsKept limits v → HasRoom o v → IsKept limits (answered (Some o) v)
-told-kept limits o v k room =
+told-kept : (limits : Limits) (o : PlainOutcome) (v : ConnectionView) → v.ended ≡ false → IsKept limits v → HasRoom o v
+    → IsKept limits (answered (Some o) v)
+told-kept limits o v live k room =
     by-told o v (IsKept limits) (λ _. kept-pushed limits o v k (omega (arith, room)) (λ _. room))
-    (λ _ _. record { input = k.input; last = k.last; spare = k.spare; size = k.size }) (λ _ _. k)
+    (λ _ _. record { input = k.input; last = k.last; over = λ ended. let never : false ≡ true = sym live ∙ ended in cc; spare = k.spare; size = k.size })
+    (λ _ _. k)
 
-told-room : (o : PlainOutcome) (v : ConnectionView) → HasRoom o v → HasRoomIn o (answered (Some o) v)
-told-room o v room = by-told o v (HasRoomIn o) (λ none for. let bad : false ≡ true = rw none at for in cc) (λ _ _ _. room) (λ _ _ _. room)
-
-for-process : (pid : ℕ) (p : Option ℕ) → is_for pid p ≡ true → p ≡ Some pid
-for-process pid None is = cc
-for-process pid (Some q) is = ap Some (eqb-true q pid is)
+-- the replies to its process have room then, if each of that process has no more bytes than have room
+told-room : (os : List PlainOutcome) (o : PlainOutcome) (v : ConnectionView)
+    → ((pid : ℕ) → 0 < pid → bytes_to pid os + last_frames ≤ v.outbox.free) → ((pid : ℕ) → v.process ≡ Some pid → 0 < pid)
+    → HasRoomForAll os (answered (Some o) v)
+told-room os o v room above =
+    by-told o v (HasRoomForAll os) (λ none pid some. let never : None ≡ Some pid = sym none ∙ some in cc)
+    (λ none t pid some. let same = same_value o.pid pid some in room pid (grind (arith, nat_tests, t, same))) (λ _ _ pid some. room pid (above pid some))
 
 -- ---- the hub
 
 module _ (h : HubView) (conn : ℕ) (v : ConnectionView) (now : Step) (inv : HubInvariant h) (found : value_at nat_eq h.connections conn ≡ Some v)
-    (room : longest_reply h.limits + last_frames ≤ v.outbox.free) (a : Answers h.limits h.state v.process now) where
+    (live : v.ended ≡ false) (room : longest_reply h.limits + last_frames ≤ v.outbox.free) (sound : IsSound h.limits h.state) (e : PlainEvent)
+    (sends : Sends h.limits h.state e now.outcomes)
+    (asks-none : (pid : ℕ) → is_process h.state pid ≡ true → v.process ≢ Some pid → asks h.state e pid ≡ false)
+    (a : Answers h.limits h.state v.process now) where
   abbrev table : Table
   table = with_value nat_eq h.connections conn (answered (Some a.o) v)
 
@@ -81,23 +90,35 @@ module _ (h : HubView) (conn : ℕ) (v : ConnectionView) (now : Step) (inv : Hub
   rising : keys_of table ≡ keys_of h.connections
   rising = keys_of-with_value nat_eq h.connections conn (answered (Some a.o) v)
 
-  each-room : EachValue (HasRoomIn a.o) table
-  each-room = each-by_key (HasRoomIn a.o) 0 table (2 ^ 32) (rw rising inv.rising) (λ k x is.
+  -- the connection that asked has room for the longest reply, and no other is sent anything
+  each-room : EachValue (HasRoomForAll now.outcomes) table
+  each-room = each-by_key (HasRoomForAll now.outcomes) 0 table (2 ^ 32) (rw rising inv.rising) (λ k x is.
       elim (cases_eq k conn) [
         | inl same ↦
             let one = same_value (answered (Some a.o) v) x (sym (at-with h.connections conn (answered (Some a.o) v) v found) ∙ (rw same at is)) in
-            subst (HasRoomIn a.o) one (told-room a.o v has)
-        | inr apart ↦ λ for. absurd (apart-from k apart
-            (ap process_of (sym (other-with h.connections conn k (answered (Some a.o) v) apart) ∙ is)
-            ∙ for-process a.o.pid x.process for))
+            subst (HasRoomForAll now.outcomes) one (told-room now.outcomes a.o v (λ pid some. omega (arith, sends.most pid some, room))
+            (λ pid some. connected-above h.limits h.state pid sound (inv.own.connected conn pid (mine ∙ some))))
+        | inr apart ↦ other-room k x apart (sym (other-with h.connections conn k (answered (Some a.o) v) apart) ∙ is)
       ])
+    where
+      other-room : (k : ℕ) (x : ConnectionView) → k ≢ conn → value_at nat_eq h.connections k ≡ Some x → HasRoomForAll now.outcomes x
+      other-room k x apart there =
+          quiet-for h.limits h.state e now.outcomes sound sends x (each-at (IsKept h.limits) h.connections k x inv.each there)
+          (λ pid some. let is = inv.own.connected k pid (ap process_of there ∙ some) in
+          (is, asks-none pid is (λ same. apart (inv.own.one k conn pid (ap process_of there ∙ some) (mine ∙ same)))))
 
-  all-room : HaveRoom (a.o ∷ []) table
-  all-room = (a.short, (each-room, tt))
+  short-one : IsShort a.o
+  short-one = let short = rw a.one at sends.short in short.0
+
+  all-room : HaveRoom now.outcomes table
+  all-room = record { short = sends.short; each = each-room }
 
   pub answer-room : HasRoomToAnswer now.outcomes conn h.connections
-  answer-room = subst (λ (os : List PlainOutcome). HasRoomToAnswer os conn h.connections) (sym a.one)
-      (record { own = rw found (λ _. (a.short, has)); all = rw found all-room })
+  answer-room =
+      record {
+        own = rw found (λ _. subst (λ (os : List PlainOutcome). HasRoomToGreet (last_reply os) v) (sym a.one) (short-one, has));
+        all = subst (λ (os : List PlainOutcome). HaveRoom now.outcomes (with_answer os conn h.connections)) (sym a.one) (rw found all-room);
+      }
 
   own : AreOwn now.state table
   own =
@@ -136,11 +157,11 @@ module _ (h : HubView) (conn : ℕ) (v : ConnectionView) (now : Step) (inv : Hub
       let mid : HubView = record h { state = now.state; connections = table } in
       let held : HubInvariant mid = record {
         own = own;
-        each = each-with (IsKept h.limits) h.connections conn (answered (Some a.o) v) inv.each (told-kept h.limits a.o v kept has);
+        each = each-with (IsKept h.limits) h.connections conn (answered (Some a.o) v) inv.each (told-kept h.limits a.o v live kept has);
         rising = rw rising inv.rising;
       } in
-      let goes : GoesOn mid new = delivery-goes-on mid new (a.o ∷ []) held all-room limits
-      (rows ∙ ap (λ (os : List PlainOutcome). put_all os (with_answer os conn h.connections)) a.one ∙ rw found refl)
+      let goes : GoesOn mid new = delivery-goes-on mid new now.outcomes held all-room limits
+      (rows ∙ ap (λ (os : List PlainOutcome). put_all now.outcomes (with_answer os conn h.connections)) a.one ∙ rw found refl)
       (λ k pid is. ap (λ (s : State). is_process s pid) state ∙ own.connected k pid is) in
       record { limits = goes.limits; numbers = goes.numbers ∙ rising; invariant = goes.invariant }
 
@@ -170,11 +191,11 @@ told-matches confirmed accepted mark o v c later le short m =
 -- an event of a connection
 pub serve-matches : (limits : Limits) (confirmed : ℕ) (old new : HubView) (h : Clients) (conn : ℕ) (v : ConnectionView) (c : Client) (e : PlainEvent)
     → HubMatches limits confirmed old h → value_at nat_eq old.connections conn ≡ Some v → client_at h conn ≡ Some c
-    → (a : Answers old.limits old.state v.process (step old.limits old.state e))
+    → Sends old.limits old.state e (step old.limits old.state e).outcomes → (a : Answers old.limits old.state v.process (step old.limits old.state e))
     → new.limits ≡ old.limits → new.state ≡ (step old.limits old.state e).state
     → new.connections ≡ put_all (step old.limits old.state e).outcomes (with_answer (step old.limits old.state e).outcomes conn old.connections)
     → IsAhead limits confirmed new (serve limits h conn c e)
-serve-matches limits confirmed old new h conn v c e m found here a same state rows =
+serve-matches limits confirmed old new h conn v c e m found here sends a same state rows =
     let mark : ℕ = length (h.events ++ e ∷ []) in
     let more : mark ≡ accepted h + 1 = omega (arith, length-append h.events (e ∷ [])) in
     let was : Step = step old.limits old.state e in
@@ -191,7 +212,7 @@ serve-matches limits confirmed old new h conn v c e m found here a same state ro
     paired-with (ClientMatches confirmed mark) old.connections h.clients conn (answered (Some a.o) v) d
     (paired-weaker (ClientMatches confirmed (accepted h)) (ClientMatches confirmed mark) old.connections h.clients m.clients
     (λ x y. matches-later confirmed (accepted h) mark x y (omega (arith, more))))
-    (told-matches confirmed (accepted h) mark a.o v c (omega (arith, m.known, more)) (omega (arith, more)) a.short mine) in
-    let short : AllShort was.outcomes = subst AllShort (sym a.one) (a.short, tt) in
+    (told-matches confirmed (accepted h) mark a.o v c (omega (arith, m.known, more)) (omega (arith, more)) (let short = rw a.one at sends.short in short.0) mine) in
     subst (λ (r : Option PlainOutcome). IsAhead limits confirmed new (accept limits (with_client h conn (welcomed mark r c)) e)) (sym last)
-    (accept-matches limits confirmed mark old new h e table clients m (omega arith) paired same state (rows ∙ ap (put_all was.outcomes) told) short)
+    (accept-matches limits confirmed mark old new h e table clients m (omega arith) paired same state (rows ∙ ap (put_all was.outcomes) told)
+    sends.short)

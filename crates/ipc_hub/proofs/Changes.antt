@@ -45,6 +45,7 @@ entry-invariant h conn v inv small none new =
     (record {
       input = rw new.input (first_short [] (omega arith));
       last = λ _. omega (arith, new.room);
+      over = λ ended. let never : false ≡ true = sym new.ended ∙ ended in cc;
       spare = omega (arith, new.room);
       size = omega (arith, new.room);
     }))
@@ -108,7 +109,7 @@ without-matches limits confirmed old new h conn m same state rows =
 
 released-kept : (limits : Limits) (v : ConnectionView) → IsKept limits v → IsKept limits (released v)
 released-kept limits v k =
-    record { input = k.input; last = k.last; spare = k.spare; size = omega (arith, k.size, length-append (kept v.outbox) []) }
+    record { input = k.input; last = k.last; over = k.over; spare = k.spare; size = omega (arith, k.size, length-append (kept v.outbox) []) }
 
 pub released-invariant : (h : HubView) → HubInvariant h → HubInvariant (record h { connections = seen_as released h.connections })
 released-invariant h inv =
@@ -154,6 +155,7 @@ consumed-kept limits v n within k =
     record {
       input = k.input;
       last = λ live. omega (arith, k.last live);
+      over = k.over;
       spare = omega (arith, k.spare);
       size = omega (
         arith,

@@ -14,7 +14,7 @@ use Rattle.ipc_hub.specs.Clients.{Clients, accepted, tick, feed, leave, hangup}
 use Rattle.ipc_hub.specs.View.{ConnectionView, HubView, StoredHub, HasNoFrame, connection_of, ended_of, kept}
 use Rattle.ipc_hub.specs.Relations.Delivery.{released}
 use Rattle.ipc_hub.specs.Relations.Invariant.{SameButSeen}
-use Rattle.ipc_hub.specs.Relations.Matches.{HubMatches, StoredMatches, Simulates, TakesIn, Comes, Accepts, Waits}
+use Rattle.ipc_hub.specs.Relations.Matches.{HubMatches, StoredMatches, Simulates, TakesIn, Comes, Accepts, Pends}
 use Rattle.ipc_hub.specs.Relations.Requests.{exit_of}
 use Rattle.ipc_hub.specs.Relations.Rows.{Table, hub_view, stored_view, process_in, goes_on_in}
 use Rattle.ipc_hub.proofs.Changes.{without-matches, process-matches}
@@ -60,11 +60,11 @@ module _ {D : Type 0} (medium : D → Medium) (limits : Limits) where
   comes-further old mid new h now next came m a =
       record {
         matches = record {
-          hub = rw a.waits.confirmed m;
+          hub = rw a.pends.confirmed m;
           counts = omega (
             arith,
-            a.waits.confirmed,
-            a.waits.waiting,
+            a.pends.confirmed,
+            a.pends.waiting,
             came.matches.counts,
             ap length a.adds,
             length-append now.events a.events,
@@ -72,7 +72,7 @@ module _ {D : Type 0} (medium : D → Medium) (limits : Limits) where
         };
         events = came.events ++ a.events;
         adds = a.adds ∙ ap (λ es. es ++ a.events) came.adds ∙ append_assoc h.events came.events a.events;
-        takes = Takes-both medium old.store mid.store new.store came.events a.events came.takes a.waits.takes;
+        takes = Takes-both medium old.store mid.store new.store came.events a.events came.takes a.pends.takes;
       }
 
   -- time passed, and bytes were taken in
@@ -89,14 +89,14 @@ module _ {D : Type 0} (medium : D → Medium) (limits : Limits) where
   pub comes-gone : (old : StoredHub D) (mid new : StoreView D) (table left after : Table) (conn moment : ℕ) (process : Option ℕ) (h : Clients)
       → left ≡ without nat_eq table conn → process ≡ process_in table conn → Comes medium limits old (stored_view mid table) h (tick limits h moment)
       → Simulates (hub_view mid.machine left) (hub_view new.machine after) (λ limits h. leave limits h process moment)
-      → Waits medium mid (exit_of process moment) new → Comes medium limits old (stored_view new after) h (hangup limits h conn moment)
-  comes-gone old mid new table left after conn moment process h gone mine came leaves waits =
+      → Pends medium mid (exit_of process moment) new → Comes medium limits old (stored_view new after) h (hangup limits h conn moment)
+  comes-gone old mid new table left after conn moment process h gone mine came leaves pends =
       let now : Clients = tick limits h moment in
       let gone_now : Clients = record now { clients = without nat_eq now.clients conn } in
       let m : HubMatches limits mid.confirmed (hub_view mid.machine left) gone_now =
       without-matches limits mid.confirmed (hub_view mid.machine table) (hub_view mid.machine left) now conn came.matches.hub refl refl gone in
       let done = comes-further old (stored_view mid table) (stored_view new after) h now (leave limits gone_now process moment) came
       (leaves limits mid.confirmed gone_now m)
-      (record { events = exit_of process moment; adds = leave-adds limits gone_now process moment; waits = waits }) in
+      (record { events = exit_of process moment; adds = leave-adds limits gone_now process moment; pends = pends }) in
       subst (λ (p : Option ℕ). Comes medium limits old (stored_view new after) h (leave limits gone_now p moment))
       (mine ∙ process-matches limits mid.confirmed (hub_view mid.machine table) now conn came.matches.hub) done

@@ -116,6 +116,7 @@ module _ (engine : Machine) (table : Table) (conn : ℕ) (inv : HubInvariant (hu
     record {
       input = first_short [] (omega arith);
       last = λ live'. let never : true ≡ false = live' in cc;
+      over = λ _. refl;
       spare = k.spare;
       size = k.size;
     },

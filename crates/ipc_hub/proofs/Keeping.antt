@@ -1,24 +1,27 @@
 -- What holds of the hub's connections goes on holding when replies are put into their outboxes.
 use Rattle.std.proofs.Common.{◌≡◌, ◌≢◌, ℕ, ◌+◌, ◌≤◌, ◌^◌, true, false, List, [], ◌∷◌, ◌++◌, length, Option, Some, None}
 use Rattle.std.proofs.Common.{refl, sym, ap, subst, ◌∙◌, arith, ◌⊎◌, inl, inr}
-use Rattle.std.specs.Prelude.{nat_eq, option_map, option_and_then, not, unwrap_or, Bool, IfSome}
+use Rattle.std.specs.Prelude.{nat_eq, ◌==◌, option_map, option_and_then, not, unwrap_or, Bool, IfSome}
 use Rattle.std.proofs.lemmas.Bool.{cases_eq}
 use Rattle.std.proofs.lemmas.List.{length-append}
 use Rattle.ipc_base.specs.Table.{value_at, with_value, keys_of, seen_as, EachValue, IsRising}
 use Rattle.ipc_base.specs.declared.limits.Limits.{Limits}
-use Rattle.ipc_base.proofs.CallerLemmas.{choice, each-seen, each-at, each-with, at-map, keys-map, at-with, other-with, keys_of-with_value}
+use Rattle.ipc_base.proofs.CallerLemmas.{choice, each-seen, each-at, each-by_key, each-with, at-map, keys-map, at-with, other-with, keys_of-with_value}
 use Rattle.ipc_wire.specs.Reply.{reply_bytes}
 use Rattle.ipc_wire.specs.Reply.{PlainReply}
 use Rattle.ipc_wire.proofs.CallerLemmas.{length-reply_bytes}
-use Rattle.ipc_engine.specs.Event.{PlainOutcome}
+use Rattle.ipc_engine.specs.Bytes.{asks}
+use Rattle.ipc_engine.specs.Event.{PlainEvent, PlainOutcome}
+use Rattle.ipc_engine.specs.Sound.{IsSound}
 use Rattle.ipc_engine.specs.View.{reply_of}
 use Rattle.ipc_engine.specs.Engine.{Machine}
 use Rattle.ipc_state.specs.State.{State, is_process}
 use Rattle.ipc_hub.specs.Clients.{is_for}
 use Rattle.ipc_hub.specs.View.{ConnectionView, HubView, HasNoFrame, kept}
+use Rattle.ipc_hub.proofs.Requests.{Sends, connected-above}
 use Rattle.ipc_hub.proofs.Rows.{process_of, same-changed}
 use Rattle.ipc_base.specs.Limits.{longest_reply}
-use Rattle.ipc_hub.specs.Relations.Delivery.{last_frame, last_frames, HasRoomFor, pushed, put_for, put_all, HasRoom, HasRoomIn, HaveRoom, AllShort}
+use Rattle.ipc_hub.specs.Relations.Delivery.{last_frame, last_frames, HasRoomFor, pushed, put_for, put_all, HasRoom, HasRoomIn, HasRoomForAll, HaveRoom}
 use Rattle.ipc_hub.specs.Relations.Rows.{Table, hub_view, changed, process_in, goes_on_in}
 use Rattle.ipc_hub.specs.Relations.Invariant.{AreOwn, IsKept, HubInvariant, GoesOn, LeavesOthers, IsNobodys, IsConnected}
 
@@ -31,6 +34,7 @@ kept-pushed limits o v k fits room =
     record {
       input = k.input;
       last = λ live. omega (arith, room live);
+      over = k.over;
       spare = omega (arith, fits);
       size = omega (
         arith,
@@ -67,14 +71,42 @@ put-process o (Some v) =
 put-none : (o : PlainOutcome) (v : ConnectionView) → v.process ≡ None → put_for o v ≡ v
 put-none o v none = rw none refl
 
+-- the first of some replies has room if all have
+room-first : (o : PlainOutcome) (os : List PlainOutcome) (v : ConnectionView) → HasRoomForAll (o ∷ os) v → HasRoomIn o v
+room-first o os v room = by_process v.process refl
+  where
+    by_process : (p : Option ℕ) → v.process ≡ p → is_for o.pid p ≡ true → HasRoom o v
+    by_process None none is = cc
+    by_process (Some pid) some is = let all = rw is at room pid some in omega (arith, all)
+
+-- and then the others have
+room-rest : (o : PlainOutcome) (os : List PlainOutcome) (v : ConnectionView) → HasRoomForAll (o ∷ os) v → HasRoomForAll os (put_for o v)
+room-rest o os v room =
+    choice (HasRoomForAll os) (is_for o.pid v.process) (pushed (reply_of o) v) v
+    (λ is pid mine. let this : (pid == o.pid) ≡ true = rw mine at is in let all = rw this at room pid mine in omega (arith, all))
+    (λ is pid mine. omega (arith, room pid mine))
+
 -- ---- all connections
+
+pub first-each : (o : PlainOutcome) (os : List PlainOutcome) (table : Table) → EachValue (HasRoomForAll (o ∷ os)) table → EachValue (HasRoomIn o) table
+first-each o os [] each = tt
+first-each o os (e ∷ es) each = (room-first o os e.1 each.0, first-each o os es each.1)
+
+pub rest-room : (o : PlainOutcome) (os : List PlainOutcome) (table : Table) → HaveRoom (o ∷ os) table → HaveRoom os (seen_as (put_for o) table)
+rest-room o os table room =
+    record {
+      short = room.short.1;
+      each = each-seen (HasRoomForAll (o ∷ os)) (HasRoomForAll (o ∷ os)) (HasRoomForAll os) table (put_for o) room.each room.each
+          (λ v has _. room-rest o os v has);
+    }
 
 pub put-each : (limits : Limits) (os : List PlainOutcome) (table : Table) → EachValue (IsKept limits) table → HaveRoom os table
     → EachValue (IsKept limits) (put_all os table)
 put-each limits [] table each room = each
 put-each limits (o ∷ os) table each room =
     put-each limits os (seen_as (put_for o) table)
-    (each-seen (IsKept limits) (HasRoomIn o) (IsKept limits) table (put_for o) each room.1.0 (put-kept limits o)) room.1.1
+    (each-seen (IsKept limits) (HasRoomForAll (o ∷ os)) (IsKept limits) table (put_for o) each room.each
+    (λ v k has. put-kept limits o v k (room-first o os v has))) (rest-room o os table room)
 
 pub put-keys : (os : List PlainOutcome) (table : Table) → keys_of (put_all os table) ≡ keys_of table
 put-keys [] table = refl
@@ -92,9 +124,27 @@ put-others (o ∷ os) table conn v is none =
     put-others os (seen_as (put_for o) table) conn v
     (at-map (put_for o) table conn ∙ ap (option_map (put_for o)) is ∙ ap Some (put-none o v none)) none
 
-pub room-short : (os : List PlainOutcome) (table : Table) → HaveRoom os table → AllShort os
-room-short [] table room = tt
-room-short (o ∷ os) table room = (room.0, room-short os (seen_as (put_for o) table) room.1.1)
+-- a connection whose process does not ask is sent nothing, and has room
+pub quiet-for : (limits : Limits) (s : State) (e : PlainEvent) (os : List PlainOutcome) → IsSound limits s → Sends limits s e os → (v : ConnectionView)
+    → IsKept limits v → ((pid : ℕ) → v.process ≡ Some pid → (is_process s pid ≡ true) × (asks s e pid ≡ false)) → HasRoomForAll os v
+quiet-for limits s e os sound sends v k none pid some =
+    let is = none pid some in
+    omega (arith, sends.quiet pid (connected-above limits s pid sound is.0) is.1, k.last (by_end v.ended refl))
+  where
+    by_end : (b : Bool) → v.ended ≡ b → v.ended ≡ false
+    by_end true ended = let never : None ≡ Some pid = sym (k.over ended) ∙ some in cc
+    by_end false live = live
+
+-- so has each, if none asks
+pub quiet-room : (h : HubView) (e : PlainEvent) (os : List PlainOutcome) → IsSound h.limits h.state → Sends h.limits h.state e os → HubInvariant h
+    → ((pid : ℕ) → asks h.state e pid ≡ false) → HaveRoom os h.connections
+quiet-room h e os sound sends inv none =
+    record {
+      short = sends.short;
+      each = each-by_key (HasRoomForAll os) 0 h.connections (2 ^ 32) inv.rising (λ k v is.
+          quiet-for h.limits h.state e os sound sends v (each-at (IsKept h.limits) h.connections k v inv.each is)
+          (λ pid some. (inv.own.connected k pid (ap process_of is ∙ some), none pid)));
+    }
 
 -- ---- the hub
 

@@ -257,14 +257,14 @@ module _ (limits : Limits) where
   -- taking in nothing does nothing
   pub take_in-nothing : (h : Clients) (conn moment : ℕ) → ((c : Client) → client_at h conn ≡ Some c → first c.input ≡ More)
       → take_in limits h conn [] moment [] ≡ h
-  take_in-nothing h conn moment waits =
+  take_in-nothing h conn moment partial =
       elim (over_or_live h conn) [
         | inl done ↦ done _
         | inr l ↦
             let e : Client = record (l.c) { input = [] } in
             take_in-acts h conn moment l.c [] [] l.here l.live
             ∙ ap (λ (t : Stream). settled (emptied h conn l.c) conn moment t [])
-            (ap stream_of (append-nil l.c.input) ∙ stream_begun l.c.input More (waits l.c l.here))
+            (ap stream_of (append-nil l.c.input) ∙ stream_begun l.c.input More (partial l.c l.here))
             ∙ acts (emptied h conn l.c) conn (λ d. with_client (emptied h conn l.c) conn (record d { input = l.c.input })) e
             (at-with h.clients conn e l.c l.here) l.live
             ∙ ap (λ (es : List (ℕ × Client)). record h { clients = es }) (twice h.clients conn e l.c ∙ own h.clients conn l.c l.here)

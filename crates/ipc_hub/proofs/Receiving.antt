@@ -1,5 +1,5 @@
 -- A connection has received bytes, and a whole frame was taken off it: what the hub is then, and what is done next.
-use Rattle.std.proofs.Common.{◌≡◌, ℕ, ◌≤◌, true, List, [], ◌∷◌, ◌++◌, Option, Some, refl, sym, ap, ◌∙◌, subst, arith, inl, inr}
+use Rattle.std.proofs.Common.{◌≡◌, ◌≢◌, ℕ, ◌≤◌, true, false, List, [], ◌∷◌, ◌++◌, Option, Some, refl, sym, ap, ◌∙◌, subst, arith, inl, inr}
 use Rattle.std.specs.Prelude.{nat_eq, option_map, not, IfSome}
 use Rattle.ipc_base.specs.Table.{value_at, with_value, keys_of}
 use Rattle.ipc_base.specs.declared.errno.Errno.TheVariants.{ENOMEM}
@@ -11,6 +11,8 @@ use Rattle.ipc_wire.specs.Stream.PlainFrame.{More}
 use Rattle.ipc_wire.proofs.CallerLemmas.{first_short, length-reply_bytes}
 use Rattle.ipc_disk.specs.Medium.{Image, Medium}
 use Rattle.ipc_store.specs.View.{StoreView}
+use Rattle.ipc_state.specs.State.{is_process}
+use Rattle.ipc_engine.specs.Bytes.{asks}
 use Rattle.ipc_engine.specs.Event.{PlainEvent, PlainOutcome}
 use Rattle.ipc_engine.specs.Step.{Step, step}
 use Rattle.ipc_engine.specs.View.{reply_of}
@@ -21,12 +23,12 @@ use Rattle.ipc_hub.specs.View.{ConnectionView, HubView, HasNoFrame, kept as outb
 use Rattle.ipc_hub.specs.Relations.Rows.{Table, hub_view, changed, process_in, goes_on_in}
 use Rattle.ipc_hub.specs.Relations.Delivery.{last_frame, pushed, put_for, put_all, answered as answered-by, with_answer, HasRoomToAnswer}
 use Rattle.ipc_hub.specs.Relations.Invariant.{IsKept, GoesOn}
-use Rattle.ipc_hub.specs.Relations.Matches.{IsAhead, SimulatesAt, Waits, Accepts}
+use Rattle.ipc_hub.specs.Relations.Matches.{IsAhead, SimulatesAt, Pends, Accepts}
 use Rattle.ipc_hub.specs.Relations.Requests.{Steps, ComesTo, exit_of, taken_off, Received, Took}
 use Rattle.ipc_hub.proofs.Rows.{same_value, process_of}
 use Rattle.ipc_hub.proofs.Keeping.{pushed-some, changed-invariant, changed-keys, pushed-frame, kept-pushed}
 use Rattle.ipc_hub.proofs.Ending.{leave-adds}
-use Rattle.ipc_hub.proofs.Requests.{Answers, request-answers}
+use Rattle.ipc_hub.proofs.Requests.{Answers, Sends, request-answers, request-asks, step-sends}
 use Rattle.ipc_hub.proofs.Answering.{by-told, answer-room, answer-goes-on, serve-matches}
 use Rattle.ipc_hub.proofs.Taking.{Open, bare, mine, emptied_hub, bare-here, emptied-matches, refused-matches}
 use Rattle.ipc_hub.proofs.Taking.{more-taken, fault-taken, served-taken, broken-taken, refused-taken, same-accepts}
@@ -34,7 +36,7 @@ use Rattle.ipc_hub.proofs.Taking.{more-taken, fault-taken, served-taken, broken-
 -- ---- bytes come, and a whole frame is taken off
 
 other-input : (limits : Limits) (v : ConnectionView) (xs : List ℕ) → IsKept limits v → first xs ≡ More → IsKept limits (record v { input = xs })
-other-input limits v xs k more = record { input = more; last = k.last; spare = k.spare; size = k.size }
+other-input limits v xs k more = record { input = more; last = k.last; over = k.over; spare = k.spare; size = k.size }
 
 -- whether or not a frame was whole, what is left is none, and the process is the one that it had
 pub still-kept : {D : Type 0} (medium : D → Medium) (old new : StoreView D) (limits : Limits) (v : ConnectionView) (bytes : List ℕ) (moment : ℕ) (asked : Asked)
@@ -117,7 +119,14 @@ module _ {D : Type 0} {medium : D → Medium} {old new : StoreView D} {before af
   now = step old.machine.limits old.machine.state e
 
   answers : Answers old.machine.limits old.machine.state r.was.process now
-  answers = request-answers old.machine.limits old.machine.state r.was.process r.comes.1.0.request moment e r.passed steps.sound r.comes.1.0.event
+  answers = request-answers old.machine.limits old.machine.state r.was.process r.comes.1.0.request moment e steps.sound r.comes.1.0.event
+
+  sends : Sends old.machine.limits old.machine.state e now.outcomes
+  sends = step-sends old.machine.limits old.machine.state e r.passed steps.sound
+
+  -- no other process asks by it
+  asks-none : (pid : ℕ) → is_process old.machine.state pid ≡ true → r.was.process ≢ Some pid → asks old.machine.state e pid ≡ false
+  asks-none = request-asks old.machine.limits old.machine.state r.was.process r.comes.1.0.request moment e steps.sound r.comes.1.0.event
 
   abbrev mid : HubView
   mid = hub_view old.machine after
@@ -128,7 +137,7 @@ module _ {D : Type 0} {medium : D → Medium} {old new : StoreView D} {before af
   pub served-room : HasRoomToAnswer new.machine.outcomes conn after
   served-room =
       subst (λ (os : List PlainOutcome). HasRoomToAnswer os conn after) (sym steps.outcomes)
-      (answer-room mid conn bare-now now r.still (found' r) r.room answers)
+      (answer-room mid conn bare-now now r.still (found' r) r.live r.room steps.sound e sends asks-none answers)
 
   module _ (last : Table) (answered : last ≡ put_all new.machine.outcomes (with_answer new.machine.outcomes conn after)) where
     told : last ≡ put_all now.outcomes (with_answer now.outcomes conn after)
@@ -149,13 +158,14 @@ module _ {D : Type 0} {medium : D → Medium} {old new : StoreView D} {before af
     served-took =
         record {
           goes_on = goes-further (hub_view old.machine before) mid (hub_view new.machine last) refl r.numbers
-              (answer-goes-on mid conn bare-now now r.still (found' r) r.room answers (hub_view new.machine last) steps.limits steps.state told);
+              (answer-goes-on mid conn bare-now now r.still (found' r) r.live r.room steps.sound e sends asks-none answers (hub_view new.machine last) steps.limits
+              steps.state told);
           bytes = λ limits confirmed h ahead.
               let o = opened r ahead in
-              served-taken o next moment (IsAhead limits confirmed (hub_view new.machine last)) (Accepts medium old new h) r.comes.1.0 r.waits r.few e refl (
+              served-taken o next moment (IsAhead limits confirmed (hub_view new.machine last)) (Accepts medium old new h) r.comes.1.0 r.partial r.few e refl (
                 serve-matches limits confirmed mid (hub_view new.machine last) (emptied_hub o) conn bare-now (bare o) e
-                    (emptied-matches o mid refl refl r.table).matches (found' r) (bare-here o) answers steps.limits steps.state told,
-                record { events = e ∷ []; adds = refl; waits = steps.waits },
+                    (emptied-matches o mid refl refl r.table).matches (found' r) (bare-here o) sends answers steps.limits steps.state told,
+                record { events = e ∷ []; adds = refl; pends = steps.pends },
               );
           answers = λ none. absurd (served-answered none);
         }
@@ -190,7 +200,7 @@ module _ {D : Type 0} {medium : D → Medium} {old new : StoreView D} {before af
         });
         bytes = λ limits confirmed h ahead.
             let o = opened r ahead in
-            refused-taken o next moment (IsAhead limits confirmed (hub_view new.machine last)) (Accepts medium old new h) r.comes.made r.waits r.few
+            refused-taken o next moment (IsAhead limits confirmed (hub_view new.machine last)) (Accepts medium old new h) r.comes.made r.partial r.few
             r.comes.event refl r.comes.takes (
               refused-matches o (hub_view old.machine after) (hub_view new.machine last) r.comes.made.request.serial (emptied-matches o _ refl refl r.table)
                   (ap (λ (s : StoreView D). s.machine.limits) same) (ap (λ (s : StoreView D). s.machine.state) same) (rw r.comes.serial (rw (found' r) refl)),
@@ -209,7 +219,7 @@ module _ {D : Type 0} {medium : D → Medium} {old new : StoreView D} {before af
   pub broken-took : (store : StoreView D) (last : Table) → GoesOn (hub_view new.machine after) (hub_view store.machine last)
       → ((client : Client) → SimulatesAt conn client (hub_view new.machine after) (hub_view store.machine last)
       (λ limits h. break_off limits h conn client serial moment))
-      → Waits medium new (exit_of (process_in after conn) moment) store → (HasNoFrame (hub_view store.machine last) conn → ⊥)
+      → Pends medium new (exit_of (process_in after conn) moment) store → (HasNoFrame (hub_view store.machine last) conn → ⊥)
       → Took medium old store before last conn next moment
   broken-took store last goes ends went some =
       record {
@@ -227,12 +237,12 @@ module _ {D : Type 0} {medium : D → Medium} {old new : StoreView D} {before af
             record {
               events = exit_of client.process moment;
               adds = leave-adds limits (with_client h' conn (over-client client)) client.process moment;
-              waits = rw (r.comes.0, process) at went;
+              pends = rw (r.comes.0, process) at went;
             } in
             elim r.comes.1 [
               | inl fault ↦ fault-taken o next moment (IsAhead limits confirmed (hub_view store.machine last)) (Accepts medium old store h) serial fault
                   (over, adds)
-              | inr asked ↦ broken-taken o next moment (IsAhead limits confirmed (hub_view store.machine last)) (Accepts medium old store h) asked.0 r.waits
+              | inr asked ↦ broken-taken o next moment (IsAhead limits confirmed (hub_view store.machine last)) (Accepts medium old store h) asked.0 r.partial
                   r.few refl (rw asked.1 (over, adds))
             ];
         answers = λ none. absurd (some none);

@@ -21,7 +21,7 @@ use Rattle.ipc_store.specs.View.{StoreView}
 use Rattle.ipc_store.proofs.CallerLemmas.{Takes-none, Takes-both}
 use Rattle.ipc_hub.specs.View.{ConnectionView, HubView, StoredHub}
 use Rattle.ipc_hub.specs.Relations.Delivery.{pushed}
-use Rattle.ipc_hub.specs.Relations.Matches.{ClientMatches, IsAhead, TakesIn, Waits, Accepts}
+use Rattle.ipc_hub.specs.Relations.Matches.{ClientMatches, IsAhead, TakesIn, Pends, Accepts}
 use Rattle.ipc_hub.specs.Relations.Requests.{IsRequest}
 use Rattle.ipc_hub.proofs.Deliveries.{push-matches}
 use Rattle.ipc_hub.proofs.Ending.{change-matches, pair-at}
@@ -142,12 +142,12 @@ module _ {limits : Limits} {confirmed : ℕ} {old : HubView} {h : Clients} {conn
         × Q (break_off limits emptied_hub conn bare serial moment) → Comes-to
     fault-taken serial is = comes-to [] _ (taken [] (Fault serial) is ∙ acts emptied_hub conn _ bare bare-here open_still)
 
-    module _ {made : Option PlainEvent} (asked : IsRequest (first bytes) v.process moment made) (waits : first v.input ≡ More)
+    module _ {made : Option PlainEvent} (asked : IsRequest (first bytes) v.process moment made) (partial : first v.input ≡ More)
         (few : length next ≤ missing v.input) where
       -- nothing is behind a frame that these bytes complete
       nothing-behind : drop asked.used bytes ≡ []
       nothing-behind =
-          drop_all asked.used bytes (omega (arith, whole_last v.input next asked.used asked.request waits few asked.whole))
+          drop_all asked.used bytes (omega (arith, whole_last v.input next asked.used asked.request partial few asked.whole))
 
       -- a request, and what it came to
       request-taken : (refused : Bool) → P (on_request limits emptied_hub conn bare moment asked.request refused)
@@ -183,12 +183,12 @@ module _ {limits : Limits} {confirmed : ℕ} {old : HubView} {h : Clients} {conn
 module _ {D : Type 0} (medium : D → Medium) (law : (d : D) (image : Image) → (medium d).images_since (medium d).moment image → (medium d).images_now image)
   where
     -- no event came
-    pub same-waits : (old new : StoreView D) → new ≡ old → Waits medium old [] new
-    same-waits old new same =
-        subst (Waits medium old []) (sym same) (record { confirmed = refl; waiting = omega arith; takes = Takes-none medium law old })
+    pub same-pends : (old new : StoreView D) → new ≡ old → Pends medium old [] new
+    same-pends old new same =
+        subst (Pends medium old []) (sym same) (record { confirmed = refl; waiting = omega arith; takes = Takes-none medium law old })
 
     pub same-accepts : (old new : StoreView D) (h now : Clients) → now.events ≡ h.events → new ≡ old → Accepts medium old new h now
-    same-accepts old new h now stay same = record { events = []; adds = stay ∙ sym (append-nil h.events); waits = same-waits old new same }
+    same-accepts old new h now stay same = record { events = []; adds = stay ∙ sym (append-nil h.events); pends = same-pends old new same }
 
     -- the hub is as it was, and so is the hub of the definitions
     takes-none : (old : StoredHub D) (conn moment : ℕ) (bytes : List ℕ) → ((limits : Limits) (confirmed : ℕ) (h : Clients) → IsAhead limits confirmed old.hub h
@@ -229,10 +229,10 @@ module _ {D : Type 0} (medium : D → Medium) (law : (d : D) (image : Image) →
         record {
           events = a.events ++ b.events;
           adds = b.adds ∙ ap (λ (es : List PlainEvent). es ++ b.events) a.adds ∙ append_assoc h.events a.events b.events;
-          waits = record {
-            confirmed = b.waits.confirmed ∙ a.waits.confirmed;
-            waiting = omega (arith, a.waits.waiting, b.waits.waiting, length-append a.events b.events);
-            takes = Takes-both medium one two three a.events b.events a.waits.takes b.waits.takes;
+          pends = record {
+            confirmed = b.pends.confirmed ∙ a.pends.confirmed;
+            waiting = omega (arith, a.pends.waiting, b.pends.waiting, length-append a.events b.events);
+            takes = Takes-both medium one two three a.events b.events a.pends.takes b.pends.takes;
           };
         }
 

@@ -17,7 +17,7 @@ ghost use Rattle.ipc_hub.specs.Relations.Rows.{changed, process_in, goes_on_in};
 ghost use Rattle.ipc_hub.specs.Relations.Delivery.{last_frame, closed, pushed, put_all, with_answer};
 ghost use Rattle.ipc_hub.specs.Relations.Delivery.{HasRoomToAnswer, HasRoomFor};
 ghost use Rattle.ipc_hub.specs.Relations.Invariant.{HubInvariant, GoesOn, IsConnected, IsNobodys, LeavesOthers};
-ghost use Rattle.ipc_hub.specs.Relations.Matches.{Adds, Simulates, SimulatesAt, TakesIn, Waits};
+ghost use Rattle.ipc_hub.specs.Relations.Matches.{Adds, Simulates, SimulatesAt, TakesIn, Pends};
 ghost use Rattle.ipc_hub.specs.Relations.Requests.{ComesTo, exit_of, taken_off, Received, Took};
 ghost use Rattle.ipc_image.specs.Records.{HasRecord};
 ghost use Rattle.ipc_store.specs.View.{IsReadyFor};
@@ -72,7 +72,7 @@ pub(crate) fn tick<D: SectorDisk>(
     requires hub { HubInvariant (hub_view store.old.machine (table_of connections.old)) }
     requires ready { IsReadyFor store.old 2 }
     ensures ready { IsReadyFor store.new 1 }
-    ensures accepts { Waits D.medium store.old (Tick moment.0 ∷ []) store.new }
+    ensures accepts { Pends D.medium store.old (Tick moment.0 ∷ []) store.new }
     ensures goes_on { GoesOn (hub_view store.old.machine (table_of connections.old))
         (hub_view store.new.machine (table_of connections.new)) }
     ensures ticks { Simulates (hub_view store.old.machine (table_of connections.old))
@@ -96,7 +96,7 @@ pub(crate) fn leave<D: SectorDisk>(
     requires connected { IsConnected store.old.machine.state (pid_of process) }
     requires nobodys { IsNobodys (table_of connections.old) (pid_of process) }
     requires ready { IsReadyFor store.old 1 }
-    ensures accepts { Waits D.medium store.old (exit_of (pid_of process) moment.0) store.new }
+    ensures accepts { Pends D.medium store.old (exit_of (pid_of process) moment.0) store.new }
     ensures goes_on { GoesOn (hub_view store.old.machine (table_of connections.old))
         (hub_view store.new.machine (table_of connections.new)) }
     ensures leaves { Simulates (hub_view store.old.machine (table_of connections.old))
@@ -199,7 +199,7 @@ fn break_off<D: SectorDisk>(
     requires hub { HubInvariant (hub_view store.old.machine (table_of connections.old)) }
     requires live { goes_on_in (table_of connections.old) conn ≡ true }
     requires ready { IsReadyFor store.old 1 }
-    ensures accepts { Waits D.medium store.old
+    ensures accepts { Pends D.medium store.old
         (exit_of (process_in (table_of connections.old) conn) moment.0) store.new }
     ensures goes_on { GoesOn (hub_view store.old.machine (table_of connections.old))
         (hub_view store.new.machine (table_of connections.new)) }

@@ -134,6 +134,7 @@ impl<D: SectorDisk> Store<D> {
         ensures outcomes { OnOk result (self.new.machine.outcomes
             ≡ (step_on self.old.machine.limits self.old.machine.state (plain_event event.entry)).outcomes) }
         ensures limits { self.new.machine.limits ≡ self.old.machine.limits }
+        ensures passed { OnOk result (ArePassed self.old.machine.limits) }
         ensures was_sound { OnOk result (IsSound self.old.machine.limits self.old.machine.state) }
         ensures waiting { OnOk result (self.new.waiting ≡ self.old.waiting + 1) }
         ensures records { OnOk result (self.new.records

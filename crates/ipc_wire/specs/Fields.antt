@@ -1,6 +1,5 @@
 -- What follows the opcode of a request: numbers of some kinds, and then a rest, to the end of the frame.
 use Rattle.std.specs.Prelude.{◌≡◌, ◌-◌, ◌%◌, ℕ, Bool, nat_le, ◌==◌, ◌&&◌}
-pub use Rattle.ipc_base.specs.Numbers.{AreInRange}
 
 -- no rest, bytes, or whole units of so many bytes
 pub data Rest : Type 0 where

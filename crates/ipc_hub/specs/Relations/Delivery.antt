@@ -6,6 +6,7 @@ use Rattle.std.specs.Prelude.{Option, Some, None, IfSome, nat_eq}
 use Rattle.ipc_base.specs.declared.errno.Errno.TheVariants.{EIO}
 use Rattle.ipc_base.specs.Table.{seen_as, value_at, EachValue}
 use Rattle.ipc_wire.specs.Reply.{PlainReply, reply_bytes, body_bytes}
+use Rattle.ipc_engine.specs.Bytes.{bytes_to}
 use Rattle.ipc_engine.specs.Event.{PlainOutcome}
 use Rattle.ipc_engine.specs.View.{reply_of}
 use Rattle.ipc_hub.specs.Clients.{is_for, last_reply, refusal}
@@ -97,11 +98,14 @@ HasRoom o c = length (reply_bytes (reply_of o)) + last_frames ≤ c.outbox.free
 abbrev pub HasRoomIn : PlainOutcome → ConnectionView → Type 0
 HasRoomIn o c = is_for o.pid c.process ≡ true → HasRoom o c
 
--- so has each of some replies, one after the other
-abbrev pub HaveRoom : List PlainOutcome → Table → Type 0
-HaveRoom [] table = Unit {0}
-HaveRoom (o ∷ os) table =
-    IsShort o × (EachValue (HasRoomIn o) table × HaveRoom os (seen_as (put_for o) table))
+-- so have all those of some replies that are for its process, if it has one
+abbrev pub HasRoomForAll : List PlainOutcome → ConnectionView → Type 0
+HasRoomForAll os c = (pid : ℕ) → c.process ≡ Some pid → bytes_to pid os + last_frames ≤ c.outbox.free
+
+-- so it is of each connection, and no reply is too long for its length field
+pub record HaveRoom (os : List PlainOutcome) (table : Table) : Type 0 where
+  pub short : AllShort os
+  pub each : EachValue (HasRoomForAll os) table
 
 -- the reply to a HELLO has room in the connection that said it
 abbrev pub HasRoomToGreet : Option PlainOutcome → ConnectionView → Type 0

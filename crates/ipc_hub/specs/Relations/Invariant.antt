@@ -18,10 +18,12 @@ pub record AreOwn (s : State) (table : Table) : Type 0 where
       → conn ≡ other
 
 -- The bytes kept of a request are no whole frame. There is room for the frames that may still be the last: both, or
--- one where the server has ended the connection. The longest reply and both have room in an empty outbox.
+-- one where the server has ended the connection, which has no process then. The longest reply and both have room in an
+-- empty outbox.
 pub record IsKept (limits : Limits) (c : ConnectionView) : Type 0 where
   pub input : first c.input ≡ More
   pub last : c.ended ≡ false → last_frames ≤ c.outbox.free
+  pub over : c.ended ≡ true → c.process ≡ None
   pub spare : HasSpare c
   pub size : longest_reply limits + last_frames ≤ length (kept c.outbox) + c.outbox.free
 

@@ -74,9 +74,9 @@ ServesFeed medium old new conn bytes moment =
 
 -- ---- within a call
 
--- Events wait in a store that goes on, and nothing was committed. What a crash leaves at any moment of it is what
+-- Events are pending in a store that goes on, and nothing was committed. What a crash leaves at any moment of it is what
 -- `Takes` says.
-pub record Waits {D : Type 0} (medium : D → Medium) (old : StoreView D) (events : List PlainEvent) (new : StoreView D)
+pub record Pends {D : Type 0} (medium : D → Medium) (old : StoreView D) (events : List PlainEvent) (new : StoreView D)
     : Type 0 where
   pub confirmed : new.confirmed ≡ old.confirmed
   pub waiting : new.waiting ≡ old.waiting + length events
@@ -94,7 +94,7 @@ pub record Adds {D : Type 0} (n : ℕ) (old new : StoreView D) : Type 0 where
 pub record Accepts {D : Type 0} (medium : D → Medium) (old new : StoreView D) (h next : Clients) : Type 0 where
   pub events : List PlainEvent
   pub adds : next.events ≡ h.events ++ events
-  pub waits : Waits medium old events new
+  pub pends : Pends medium old events new
 
 -- the hub matches, and the last event is not confirmed yet
 pub record IsAhead (limits : Limits) (confirmed : ℕ) (v : HubView) (h : Clients) : Type 0 where

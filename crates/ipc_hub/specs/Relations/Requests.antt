@@ -19,20 +19,21 @@ use Rattle.ipc_hub.specs.View.{ConnectionView, HasNoFrame}
 use Rattle.ipc_hub.specs.Relations.Rows.{Table, hub_view, stored_view}
 use Rattle.ipc_hub.specs.Relations.Delivery.{last_frames}
 use Rattle.ipc_hub.specs.Relations.Invariant.{HubInvariant, GoesOn}
-use Rattle.ipc_hub.specs.Relations.Matches.{Waits, TakesIn}
+use Rattle.ipc_hub.specs.Relations.Matches.{Pends, TakesIn}
 
 -- the exit of a process, if there is one
 abbrev pub exit_of : Option ℕ → ℕ → List PlainEvent
 exit_of None moment = []
 exit_of (Some pid) moment = Exit pid moment ∷ []
 
--- the machine of a store took a step, and the event waits
+-- the machine of a store took a step, and the event is pending
 pub record Steps {D : Type 0} (medium : D → Medium) (old new : StoreView D) (e : PlainEvent) : Type 0 where
   pub limits : new.machine.limits ≡ old.machine.limits
   pub state : new.machine.state ≡ (step old.machine.limits old.machine.state e).state
   pub outcomes : new.machine.outcomes ≡ (step old.machine.limits old.machine.state e).outcomes
+  pub passed : ArePassed old.machine.limits
   pub sound : IsSound old.machine.limits old.machine.state
-  pub waits : Waits medium old (e ∷ []) new
+  pub pends : Pends medium old (e ∷ []) new
 
 -- what stands at the front is a request, and makes this event or none
 pub record IsRequest (frame : PlainFrame) (process : Option ℕ) (moment : ℕ) (made : Option PlainEvent)
@@ -85,7 +86,7 @@ pub record Received {D : Type 0} (medium : D → Medium) (old new : StoreView D)
   pub found : value_at nat_eq before conn ≡ Some was
   pub live : was.ended ≡ false
   pub room : longest_reply old.machine.limits + last_frames ≤ was.outbox.free
-  pub waits : first was.input ≡ More
+  pub partial : first was.input ≡ More
   pub few : length bytes ≤ missing was.input
   pub comes : ComesTo medium old new was.process (first (was.input ++ bytes)) moment asked
   pub table : after ≡ with_value nat_eq before conn (taken_off asked (record was { input = was.input ++ bytes }))

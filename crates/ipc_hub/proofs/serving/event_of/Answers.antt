@@ -1,5 +1,5 @@
 use Rattle.std.proofs.Common.{◌<◌, ◌^◌, ap, subst, rules}
-use Rattle.ipc_wire.specs.Fields.{AreInRange}
+use Rattle.ipc_base.specs.Numbers.{AreInRange}
 use Rattle.ipc_wire.specs.Request.{PlainKind, Hello, plain_kind}
 use Rattle.ipc_wire.specs.Table.{parts_of}
 use Rattle.ipc_hub.proofs.serving.event_of.Goals as goal

@@ -1,12 +1,30 @@
-use Rattle.std.proofs.Common.{◌≡◌, [], ◌∷◌, arith, rules}
+use Rattle.std.proofs.Common.{◌≡◌, [], ◌∷◌, map, refl, arith, rules}
+use Rattle.ipc_base.specs.Limits.{ArePassed}
 use Rattle.ipc_state.specs.State.{at_moment}
-use Rattle.ipc_engine.specs.Event.{Tick}
+use Rattle.ipc_engine.specs.Event.{PlainEvent, Tick}
+use Rattle.ipc_engine.specs.Sound.{IsSound}
+use Rattle.ipc_engine.specs.Step.{step}
+use Rattle.ipc_engine.specs.View.{plain_outcome}
 use Rattle.ipc_hub.specs.Clients.{accepted}
 use Rattle.ipc_hub.specs.Relations.Rows.{table_of, hub_view}
 use Rattle.std.proofs.lemmas.List.{length-append}
 use Rattle.ipc_hub.proofs.Deliveries.{accept-matches}
+use Rattle.ipc_hub.proofs.Keeping.{quiet-room}
+use Rattle.ipc_hub.proofs.Requests.{step-sends}
 use Rattle.ipc_store.proofs.CallerLemmas.{ready-less}
 use Rattle.ipc_hub.proofs.serving.tick.Goals as goal
+
+pub deliver-requires : goal.deliver-requires
+deliver-requires g c =
+    let old = hub_view c.args.store.now.machine (table_of c.args.connections.now) in
+    let e : PlainEvent = Tick c.args.moment.0 in
+    let passed : ArePassed old.limits = search rules in
+    let sound : IsSound old.limits old.state = search rules in
+    let are : map plain_outcome c.outcomes.result.now ≡ (step old.limits old.state e).outcomes = search rules in
+    record {
+      room = rw are
+          (quiet-room old e (step old.limits old.state e).outcomes sound (step-sends old.limits old.state e passed sound) c.requires.hub (λ pid. refl));
+    }
 
 pub returns-clause-ticks : goal.returns-clause-ticks
 returns-clause-ticks g c limits confirmed h m =

@@ -15,4 +15,4 @@ returns-clause-ok g c limits h m =
     comes-further medium limits c.args.self.now mid _ h h (tick limits h c.args.moment.0)
     (rw c.self.view_is (comes-same medium limits c.args.self.now c.make_room.new.self h kept c.in_default.ensures.takes))
     (c.tick.ensures.ticks limits _ h here.hub)
-    (record { events = Tick c.args.moment.0 ∷ []; adds = refl; waits = c.tick.ensures.accepts })
+    (record { events = Tick c.args.moment.0 ∷ []; adds = refl; pends = c.tick.ensures.accepts })
