@@ -77,13 +77,13 @@ room-first o os v room = by_process v.process refl
   where
     by_process : (p : Option ℕ) → v.process ≡ p → is_for o.pid p ≡ true → HasRoom o v
     by_process None none is = cc
-    by_process (Some pid) some is = let all = rw is at room pid some in omega (arith, all)
+    by_process (Some pid) some is = let all = rw is at (room pid some) in omega (arith, all)
 
 -- and then the others have
 room-rest : (o : PlainOutcome) (os : List PlainOutcome) (v : ConnectionView) → HasRoomForAll (o ∷ os) v → HasRoomForAll os (put_for o v)
 room-rest o os v room =
     choice (HasRoomForAll os) (is_for o.pid v.process) (pushed (reply_of o) v) v
-    (λ is pid mine. let this : (pid == o.pid) ≡ true = rw mine at is in let all = rw this at room pid mine in omega (arith, all))
+    (λ is pid mine. let this : (pid == o.pid) ≡ true = rw mine at is in let all = rw this at (room pid mine) in omega (arith, all))
     (λ is pid mine. omega (arith, room pid mine))
 
 -- ---- all connections

@@ -62,7 +62,7 @@ step-sends limits s e passed sound =
     record {
       short = all-short limits passed (step limits s e).outcomes (step-fits limits s e sound);
       most = λ pid some. at-most (asks s e pid) (step-bytes limits s e pid sound some);
-      quiet = λ pid some none. rw none at step-bytes limits s e pid sound some;
+      quiet = λ pid some none. rw none at (step-bytes limits s e pid sound some);
     }
   where
     at-most : {n : ℕ} (b : Bool) → n ≤ (if b then longest_reply limits else 0) → n ≤ longest_reply limits

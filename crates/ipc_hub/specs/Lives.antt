@@ -1,5 +1,5 @@
--- What clients may count on, over any number of lives of the server. A life is an open of the device, and calls on a hub
--- over it. The last of these may be stopped at any moment of it, and so may opens before the one that succeeds.
+-- What clients may count on, over any number of lives of the server. A life is an open of the device, and calls on a
+-- hub over it. The last of these may be stopped at any moment of it, and so may opens before the one that succeeds.
 use Rattle.std.specs.Prelude.{◌≡◌, ◌≤◌, ℕ, Bool, List, [], ◌∷◌, ◌++◌, length, drop, Some, All}
 use Rattle.ipc_base.specs.declared.limits.Limits.{Limits}
 use Rattle.ipc_disk.specs.Medium.{Medium}
@@ -30,8 +30,8 @@ pub data ClientCall (limits : Limits) (h : Clients) : Clients → Type 0 where
 -- A call on a hub, and what it makes of the clients. It serves them; or it is about connections alone, and leaves the
 -- store as it is; or what waited could not be made to last, before the call did anything else. Each clause of a call on
 -- a hub gives one of these.
-pub data HubCall {D : Type 0} (medium : D → Medium) (limits : Limits) (old : StoredHub D) (h : Clients) (new : StoredHub D)
-    : Clients → Type 0 where
+pub data HubCall {D : Type 0} (medium : D → Medium) (limits : Limits) (old : StoredHub D) (h : Clients)
+    (new : StoredHub D) : Clients → Type 0 where
   Serves : (next : Clients) → ClientCall limits h next → Comes medium limits old new h next
       → HubCall medium limits old h new next
   Still : (next : Clients) → ClientCall limits h next → next.events ≡ h.events → new.store ≡ old.store
@@ -41,7 +41,8 @@ pub data HubCall {D : Type 0} (medium : D → Medium) (limits : Limits) (old : S
       → HubMatches limits old.store.confirmed new.hub (fail old.store.confirmed h)
       → HubCall medium limits old h new (fail old.store.confirmed h)
 
--- The output of a connection is the bytes of these frames, the first ones of its client, but for those that it has taken.
+-- The output of a connection is the bytes of these frames, the first ones of its client, but for those that it has
+-- taken.
 pub record Shows (hub : HubView) (h : Clients) (conn : ℕ) (frames : List Frame) : Type 0 where
   pub client : Client
   pub found : client_at h conn ≡ Some client
@@ -49,7 +50,8 @@ pub record Shows (hub : HubView) (h : Clients) (conn : ℕ) (frames : List Frame
   pub first : frames ++ others ≡ client.frames
   pub output : output_of hub conn ≡ drop client.consumed (all_bytes frames)
 
--- Calls on a hub over a store that was just opened, one after another, and all frames that were in an output in between.
+-- Calls on a hub over a store that was just opened, one after another, and all frames that were in an output in
+-- between.
 pub data Serving {D : Type 0} (medium : D → Medium) (limits : Limits) (opened : StoreView D)
     : StoredHub D → Clients → List Frame → Type 0 where
   New : (hub : StoredHub D) → hub.store ≡ opened
@@ -62,8 +64,9 @@ pub data Serving {D : Type 0} (medium : D → Medium) (limits : Limits) (opened 
       → Serving medium limits opened last now seen → Shows last.hub now conn frames
       → Serving medium limits opened last now (frames ++ seen)
 
--- A life: the state that its open gave; the events that it accepted, the restart first, and those of the call in which it
--- was stopped among them; how many of them were confirmed when that call began; and the frames that were in an output.
+-- A life: the state that its open gave; the events that it accepted, the restart first, and those of the call in which
+-- it was stopped among them; how many of them were confirmed when that call began; and the frames that were in an
+-- output.
 pub record Life : Type 0 where
   pub opened : State
   pub accepted : List PlainEvent
@@ -79,8 +82,8 @@ life_of opened last then seen = record {
   seen = seen;
 }
 
--- Lives, the last one first, and the store that is opened after them. Each is opened on the disk that the one before has
--- left, after any number of opens that were stopped.
+-- Lives, the last one first, and the store that is opened after them. Each is opened on the disk that the one before
+-- has left, after any number of opens that were stopped.
 pub data Lives {D : Type 0} (medium : D → Medium) (limits : Limits) (disk : D) : List Life → StoreView D → Type 0 where
   First : (from : D) (store : StoreView D) → StoppedOpens medium disk from
       → OpensOn (medium from).contents (medium store.disk) store → Lives medium limits disk [] store

@@ -6,6 +6,7 @@ ghost use Rattle.ipc_disk.specs.Counts.{counted, with_calls};
 ghost use Rattle.ipc_disk.specs.Medium.{Image, IsHonest};
 ghost use Rattle.ipc_disk.specs.Since.{EachImageSince};
 ghost use Rattle.ipc_disk.specs.Standing.{sectors_for};
+ghost use Rattle.ipc_base.specs.Limits.{ArePassed};
 ghost use Rattle.ipc_engine.specs.Sound.{IsSound};
 ghost use Rattle.ipc_state.specs.State.{State};
 ghost use Rattle.ipc_engine.specs.Engine.{IsForProcess, takes_memory};

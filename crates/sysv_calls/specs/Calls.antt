@@ -5,7 +5,8 @@ use Rattle.std.specs.Prelude.{slice_get, unwrap_or, if◌then◌else◌, Ok}
 use Rattle.std.specs.Ordering.{int_eq}
 use Rattle.std.specs.Int.RustNames.{bit_and}
 use Rattle.ipc_base.specs.declared.errno.Errno.{Errno}
-use Rattle.ipc_base.specs.declared.errno.Errno.TheVariants.{EPERM, ENOENT, E2BIG, EAGAIN, EACCES, EEXIST, EINVAL, ENOSPC, ENOMSG}
+use Rattle.ipc_base.specs.declared.errno.Errno.TheVariants.{EPERM, ENOENT, E2BIG, EAGAIN, EACCES, EEXIST, EINVAL}
+use Rattle.ipc_base.specs.declared.errno.Errno.TheVariants.{ENOSPC, ENOMSG}
 use Rattle.ipc_base.specs.declared.identity.Cred.{Cred}
 use Rattle.ipc_base.specs.declared.limits.Limits.{Limits}
 use Rattle.ipc_base.specs.Numbers.{record_bytes}
@@ -134,7 +135,8 @@ abbrev pub msgctl_set : Limits → State → Cred → ℕ → ℕ → ℕ → �
 msgctl_set limits s cred id uid gid mode qbytes = do
   e ← owned s.msg cred id
   refuse EPERM (nat_lt limits.msgmnb qbytes)
-  answer (with_queue s id (holding (permitting e (owned_by e.perm uid gid mode)) (changed e.object qbytes s.clock))) Empty
+  answer
+      (with_queue s id (holding (permitting e (owned_by e.perm uid gid mode)) (changed e.object qbytes s.clock))) Empty
 
 -- IPC_RMID of msgctl(2)
 abbrev pub msgctl_rmid : State → Cred → ℕ → Attempt Done

@@ -1,5 +1,5 @@
--- The buffer in which a call makes the body of its reply: it is handed to the call, and stands in the reply afterwards or
--- is given back.
+-- The buffer in which a call makes the body of its reply: it is handed to the call, and stands in the reply afterwards
+-- or is given back.
 use Rattle.std.specs.Prelude.{◌≡◌, ◌≤◌, ℕ, max, [], Result, Ok, Err, vec_capacity}
 use Rattle.std.specs.Global.{Vec}
 use Rattle.ipc_base.specs.declared.errno.Errno.{Errno}

@@ -78,7 +78,8 @@ pub fn attempt(state: &mut State, pid: Pid, call: &Call<'_>, spare: &mut Vec<u8>
         ≡ defined.attempt state.old.limits state.old.state pid.0 (plain_call call.now) }
     ensures limits { state.new.limits ≡ state.old.limits }
     ensures spare { IsKept state.old.limits spare.new result }
-    ensures no_key { HasSpareKeyOf state.old.room.keys (needs (plain_call call.now)) → HasNoSpareKey state.new.room.keys }
+    ensures no_key { HasSpareKeyOf state.old.room.keys (needs (plain_call call.now))
+        → HasNoSpareKey state.new.room.keys }
 {
     let cred = state.cred(pid);
     match call {

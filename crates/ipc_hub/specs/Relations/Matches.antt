@@ -74,8 +74,8 @@ ServesFeed medium old new conn bytes moment =
 
 -- ---- within a call
 
--- Events are pending in a store that goes on, and nothing was committed. What a crash leaves at any moment of it is what
--- `Takes` says.
+-- Events are pending in a store that goes on, and nothing was committed. What a crash leaves at any moment of it is
+-- what `Takes` says.
 pub record Pends {D : Type 0} (medium : D → Medium) (old : StoreView D) (events : List PlainEvent) (new : StoreView D)
     : Type 0 where
   pub confirmed : new.confirmed ≡ old.confirmed

@@ -1,4 +1,5 @@
 use Rattle.std.proofs.Common.{◌≡◌, [], ◌∷◌, ◌++◌, sym, ap, subst, ◌∙◌, arith}
+use Rattle.ipc_base.specs.Limits.{ArePassed}
 use Rattle.ipc_base.specs.declared.limits.Limits.{Limits}
 use Rattle.ipc_store.specs.Relations.Matches.{AreOnDisk}
 use Rattle.ipc_engine.specs.Engine.{Machine, IsForProcess}
@@ -16,6 +17,9 @@ returns-clause-matches g c =
     rw (sym c.self.view_is) (λ base pending at.
     accepted _ _ base pending at (plain_event c.args.event) c.requires.record for c.step.new.self c.step.ensures.limits
     c.in_default.ensures.state c.push.new.self.records c.push.ensures.records c.push.new.self.count c.push.ensures.count)
+
+pub returns-clause-passed : goal.returns-clause-passed
+returns-clause-passed g c = subst (λ v. ArePassed v.machine.limits) c.self.view_is c.step.ensures.passed
 
 pub returns-then-self-clause-takes : goal.returns-then-self-clause-takes
 returns-then-self-clause-takes g c = (tt, takes-none g.D.SectorDisk.medium g.met.D.SectorDisk.only_now c.args.self.now)

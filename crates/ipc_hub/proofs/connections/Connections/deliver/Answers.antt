@@ -1,0 +1,54 @@
+use Rattle.std.proofs.Common.{◌≡◌, ℕ, ◌+◌, ◌<◌, List, ◌∷◌, map, drop, length, get_or, sym, ap, subst, ◌∙◌, arith, rules}
+use Rattle.std.specs.Vec.{with_items}
+use Rattle.ipc_base.specs.Table.{seen_as, EachValue}
+use Rattle.std.proofs.lemmas.List.{drop_more, with_items_is}
+use Rattle.ipc_engine.specs.declared.event.Outcome.{Outcome}
+use Rattle.ipc_engine.specs.Event.{PlainOutcome}
+use Rattle.ipc_engine.specs.View.{plain_outcome}
+use Rattle.ipc_hub.specs.declared.connection.Connection.{Connection}
+use Rattle.ipc_hub.specs.Relations.Rows.{Table, rows, table_of}
+use Rattle.ipc_hub.specs.Relations.Delivery.{HasRoomIn, HaveRoom, put_all, put_for}
+use Rattle.ipc_hub.proofs.Keeping.{first-each, rest-room}
+use Rattle.ipc_hub.proofs.connections.Connections.deliver.Goals as goal
+
+-- the replies that are left begin with this one
+left : (os : List Outcome) (i : ℕ) (o : Outcome) → i < length os → o ≡ get_or os i o
+    → map plain_outcome (drop i os) ≡ plain_outcome o ∷ map plain_outcome (drop (i + 1) os)
+left os i o within is =
+    ap (map plain_outcome) (drop_more os i o within)
+    ∙ ap (λ (p : Outcome). plain_outcome p ∷ map plain_outcome (drop (i + 1) os)) (sym is)
+
+-- and they have room
+has : (os : List Outcome) (i : ℕ) (o : Outcome) (table : Table) → i < length os → o ≡ get_or os i o
+    → HaveRoom (map plain_outcome (drop i os)) table → HaveRoom (plain_outcome o ∷ map plain_outcome (drop (i + 1) os)) table
+has os i o table within is room = subst (λ (ps : List PlainOutcome). HaveRoom ps table) (left os i o within is) room
+
+pub put-requires-clause-room : goal.put-requires-clause-room
+put-requires-clause-room c =
+    let os = c.args.outcomes.now in
+    let i = c.loop-outcome.outcome-index in
+    let o = c.outcome-item.result in
+    let table = table_of c.loop-outcome.self in
+    let here : c.deref_mut.result.now ≡ c.loop-outcome.self.items.items = search rules in
+    subst (λ (cs : List Connection). EachValue (HasRoomIn (plain_outcome o)) (rows cs)) (sym here)
+    (first-each (plain_outcome o) (map plain_outcome (drop (i + 1) os)) table
+    (has os i o table c.loop-outcome-test.true c.outcome-item.is c.loop-outcome.invariant.room).each)
+
+pub loop-outcome-preserved : goal.loop-outcome-preserved
+loop-outcome-preserved c =
+    let os = c.args.outcomes.now in
+    let i = c.loop-outcome.outcome-index in
+    let o = c.outcome-item.result in
+    let table = table_of c.loop-outcome.self in
+    let rest = map plain_outcome (drop (i + 1) os) in
+    let here : c.deref_mut.result.now ≡ c.loop-outcome.self.items.items = search rules in
+    let now = table_of (record { items = with_items c.loop-outcome.self.items c.put.new.connections }) in
+    let put : now ≡ seen_as (put_for (plain_outcome o)) table =
+    ap rows (with_items_is c.loop-outcome.self.items c.put.new.connections (omega arith)) ∙ c.put.ensures
+    ∙ ap (λ (cs : List Connection). seen_as (put_for (plain_outcome o)) (rows cs)) here in
+    record {
+      room = subst (HaveRoom rest) (sym put)
+          (rest-room (plain_outcome o) rest table (has os i o table c.loop-outcome-test.true c.outcome-item.is c.loop-outcome.invariant.room));
+      all = ap (put_all rest) put
+          ∙ ap (λ (ps : List PlainOutcome). put_all ps table) (sym (left os i o c.loop-outcome-test.true c.outcome-item.is)) ∙ c.loop-outcome.invariant.all;
+    }
