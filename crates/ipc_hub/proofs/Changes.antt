@@ -1,16 +1,16 @@
 -- The calls of the hub over its rows: a connection comes, goes, is released, or has its output consumed, and the disk has failed.
 use Rattle.std.proofs.Common.{◌≡◌, ◌≢◌, ℕ, ◌+◌, ◌<◌, ◌≤◌, ◌^◌, List, [], ◌++◌, length, drop, Option, Some, None, refl, sym, ap, ◌∙◌, subst, arith, inl, false, true}
 use Rattle.std.proofs.Common.{inr, ◌∷◌, append-nil}
-use Rattle.std.specs.Prelude.{nat_eq, option_map, unwrap_or, nat_le}
+use Rattle.std.specs.Prelude.{nat_eq, option_map, unwrap_or, nat_le, is_some, not, ◌==◌, ◌&&◌, ◌||◌}
 use Rattle.std.proofs.lemmas.Bool.{cases_eq}
 use Rattle.std.proofs.lemmas.List.{length-append, drop_all, drop-drop, drop-append-le, length-drop}
 use Rattle.std.proofs.lemmas.List.Elements.{All-weaker, All-cons, All-head, All-tail, All-push}
 use Rattle.ipc_base.specs.Limits.{longest_reply}
-use Rattle.ipc_base.specs.Table.{value_at, with_entry, without, seen_as, ArePaired}
+use Rattle.ipc_base.specs.Table.{value_at, with_entry, without, keys_of, seen_as, ArePaired, IsRising}
 use Rattle.ipc_base.specs.declared.limits.Limits.{Limits}
 use Rattle.ipc_base.proofs.CallerLemmas.{nobody, each-entry, each-without, each-seen, entry-at, entry-other, rising-entry, rising-without, rising-gone}
 use Rattle.ipc_base.proofs.CallerLemmas.{value_at-without, paired-entry, paired-without, paired-seen, at-map, keys-map, choice}
-use Rattle.ipc_base.proofs.CallerLemmas.{test_cases}
+use Rattle.ipc_base.proofs.CallerLemmas.{test_cases, same_keys}
 use Rattle.ipc_wire.proofs.CallerLemmas.{first_short, length-reply_bytes}
 use Rattle.ipc_hub.specs.Clients.{accepted, Frame, Client, Clients, start_client, with_client, all_bytes, confirmed_bytes, consumed_from, shown_at}
 use Rattle.ipc_hub.specs.Clients.{process_at, ended_at, connect, consume, refusal, confirmed_frames, cut_off, fail}
@@ -88,6 +88,28 @@ without-invariant h conn inv =
 
 pub without-nobodys : (h : HubView) (conn : ℕ) → HubInvariant h → IsNobodys (without nat_eq h.connections conn) (process_in h.connections conn)
 without-nobodys h conn inv k pid mine is = let other = process-without h conn k pid inv is in other.0 (inv.own.one k conn pid other.1 mine)
+
+-- ---- numbers
+
+-- a number more is in use
+pub entry-joins : (before : Table) (conn : ℕ) (v : ConnectionView) (other : ℕ) → value_at nat_eq before conn ≡ None
+    → is_some (value_at nat_eq (with_entry before conn v) other) ≡ (other == conn || is_some (value_at nat_eq before other))
+entry-joins before conn v other none =
+    elim (test_cases (nat_eq other conn)) [
+      | inl t ↦ let same : other ≡ conn = grind (arith, nat_tests) in rw t (rw same (ap is_some (entry-at before conn v none)))
+      | inr f ↦ rw f (ap is_some (entry-other before conn other v (λ same. grind (arith, nat_tests))))
+    ]
+
+-- a number is free, when time has passed, and the numbers that are left stay
+pub without-leaves : (before mid left after : Table) (conn other : ℕ) → keys_of mid ≡ keys_of before → left ≡ without nat_eq mid conn
+    → keys_of after ≡ keys_of left → IsRising 0 (keys_of mid) (2 ^ 32)
+    → is_some (value_at nat_eq after other) ≡ (not (other == conn) && is_some (value_at nat_eq before other))
+without-leaves before mid left after conn other passed taken stay rising =
+    same_keys after left other stay ∙ ap (λ (t : Table). is_some (value_at nat_eq t other)) taken ∙
+    elim (test_cases (nat_eq other conn)) [
+      | inl t ↦ let same : other ≡ conn = grind (arith, nat_tests) in rw t (rw same (rising-gone 0 mid (2 ^ 32) conn rising))
+      | inr f ↦ rw f (ap is_some (value_at-without mid conn other (λ same. grind (arith, nat_tests))) ∙ same_keys mid before other passed)
+    ]
 
 -- a connection has the process of its client
 pub process-matches : (limits : Limits) (confirmed : ℕ) (old : HubView) (h : Clients) (conn : ℕ) → HubMatches limits confirmed old h

@@ -2,7 +2,7 @@
 use Rattle.std.proofs.Common.{◌≡◌, ℕ, ◌+◌, ◌-◌, ◌<◌, ◌≤◌, ◌^◌, Bool, true, false, [], ◌∷◌, ◌⊎◌, inl, inr, Ok, Err, refl, sym, ap, ◌∙◌, arith}
 use Rattle.std.specs.Prelude.{if◌then◌else◌, ⊤, Result, OnOk, OnErr, IfErr}
 use Rattle.ipc_base.specs.declared.limits.Limits.{Limits}
-use Rattle.ipc_base.specs.Table.{seen_as, EachValue}
+use Rattle.ipc_base.specs.Table.{keys_of, seen_as, EachValue}
 use Rattle.ipc_base.proofs.CallerLemmas.{keys-map}
 use Rattle.ipc_disk.specs.Counts.{Counts, counted}
 use Rattle.ipc_disk.specs.Medium.{Medium}
@@ -69,6 +69,10 @@ module _ {D : Type 0} (old new : StoreView D) (before after : Table) (same : new
       record { rising = still.rising; goes_on = λ _. still }
   told-stands (Err e) told inv =
       record { rising = rw told.1 (rw (keys-map failed before) inv.rising); goes_on = λ on. let never : true ≡ false = sym told.2 ∙ on in cc }
+
+  pub told-numbers : (done : Result ⊤ CommitError) → Told done → keys_of after ≡ keys_of before
+  told-numbers (Ok _) told = ap keys_of told.0 ∙ keys-map released before
+  told-numbers (Err e) told = ap keys_of told.1 ∙ keys-map failed before
 
   pub told-keeps : (done : Result ⊤ CommitError) → Told done → OnOk done (new.confirmed ≡ old.confirmed + old.waiting) → OnOk done (new.waiting ≡ 0)
       → OnOk done ((limits : Limits) (h : Clients) → StoredMatches limits (stored_view old before) h → StoredMatches limits (stored_view new after) h)

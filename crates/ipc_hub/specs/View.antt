@@ -2,7 +2,7 @@
 use Rattle.std.specs.Prelude.{◌≡◌, ◌<◌, ℕ, Bool, false, nat_eq, List, [], ◌++◌, Option, is_some, option_map}
 use Rattle.std.specs.Prelude.{unwrap_or, IfSome}
 use Rattle.ipc_base.specs.declared.limits.Limits.{Limits}
-use Rattle.ipc_base.specs.Table.{value_at}
+use Rattle.ipc_base.specs.Table.{keys_of, value_at}
 use Rattle.ipc_state.specs.State.{State}
 use Rattle.ipc_store.specs.declared.fault.CommitError.{CommitError}
 use Rattle.ipc_store.specs.declared.fault.CommitError.TheVariants as commit
@@ -57,6 +57,10 @@ connection_of h conn = value_at nat_eq h.connections conn
 
 abbrev pub is_connected : HubView → ℕ → Bool
 is_connected h conn = is_some (connection_of h conn)
+
+-- the numbers of the connections
+abbrev pub numbers_of : HubView → List ℕ
+numbers_of h = keys_of h.connections
 
 -- the bytes that the client of a connection may see; none where no connection has the number
 abbrev pub output_of : HubView → ℕ → List ℕ

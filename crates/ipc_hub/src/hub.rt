@@ -1,6 +1,7 @@
 //! The hub: connections by number, over one store.
 
 ghost use Rattle.std.specs.Prelude.{◌≡◌, ◌<◌, ◌≤◌, ◌↔◌, ℕ, List, [], true, false, length};
+ghost use Rattle.std.specs.Prelude.{◌==◌, ◌&&◌, ◌||◌, not};
 ghost use Rattle.std.specs.Prelude.{drop, take, slice_get, IfOk, IfErr, IsTrue, OnErr, OnOk, Some, Err};
 ghost use Rattle.ipc_base.specs.declared.limits.Limits.{Limits};
 ghost use Rattle.ipc_disk.specs.Medium.{IsHonest};
@@ -8,7 +9,8 @@ ghost use Rattle.ipc_engine.specs.Event.{PlainEvent};
 ghost use Rattle.ipc_store.specs.Histories.{Takes};
 ghost use Rattle.ipc_store.specs.View.{HasTurned, IsReadyFor, Spends};
 ghost use Rattle.ipc_hub.specs.Clients.{Clients, no_clients, connect, hangup, tick, consume, shown_at, ended_at};
-ghost use Rattle.ipc_hub.specs.View.{HasNoFrame, HasStopped, is_connected, output_of, ended_of, of_commit_error};
+ghost use Rattle.ipc_hub.specs.View.{HasNoFrame, HasStopped, is_connected, numbers_of, output_of, ended_of};
+ghost use Rattle.ipc_hub.specs.View.{of_commit_error};
 ghost use Rattle.ipc_hub.specs.Relations.Matches.{HubMatches, StoredMatches, Simulates, Serves, ServesFeed};
 ghost use Rattle.ipc_hub.specs.Relations.Faults.{Halts, Refuses};
 ghost use Rattle.ipc_hub.specs.Relations.Invariant.{SameButSeen};
@@ -72,6 +74,8 @@ impl<D: SectorDisk> Hub<D> {
     /// After a refusal nothing has changed.
     pub fn connect(&mut self, conn: u32) -> Result<(), ConnectError>
         ensures ok { OnOk result (Simulates self.old.hub self.new.hub (λ _ h. connect h conn)) }
+        ensures joins { OnOk result ((other : ℕ) → is_connected self.new.hub other
+            ≡ (other == conn || is_connected self.old.hub other)) }
         ensures store { self.new.store ≡ self.old.store }
         ensures stopped { (result ≡ Err ConnectError.Stopped) ↔ HasStopped self.old }
         ensures in_use { (result ≡ Err ConnectError.InUse)
@@ -94,6 +98,8 @@ impl<D: SectorDisk> Hub<D> {
         requires free { is_connected self.old.hub conn ≡ false }
         requires goes_on { ¬ HasStopped self.old }
         ensures ok { OnOk result (Simulates self.old.hub self.new.hub (λ _ h. connect h conn)) }
+        ensures joins { OnOk result ((other : ℕ) → is_connected self.new.hub other
+            ≡ (other == conn || is_connected self.old.hub other)) }
         ensures store { self.new.store ≡ self.old.store }
         ensures err { OnErr result (self.new ≡ self.old) }
     {
@@ -115,6 +121,7 @@ impl<D: SectorDisk> Hub<D> {
         ensures whole { IfOk result (λ taken. HasNoFrame self.new.hub conn → taken ≡ length piece.now) }
         ensures starts { HasNoFrame self.old.hub conn → 0 < length piece.now → IfOk result (λ taken. 0 < taken) }
         ensures dropped { ended_of self.old.hub conn ≡ true → IfOk result (λ taken. taken ≡ length piece.now) }
+        ensures numbers { numbers_of self.new.hub ≡ numbers_of self.old.hub }
         ensures refused { IfErr result (λ e. Refuses D.medium D.counts self.old self.new conn e) }
         ensures stopped { HasStopped self.old → result ≡ Err ServeError.Stopped }
         ensures unknown { ¬ HasStopped self.old → is_connected self.old.hub conn ≡ false
@@ -138,6 +145,9 @@ impl<D: SectorDisk> Hub<D> {
     /// The client is gone, at a moment: its process leaves, its frames are dropped, its number is free.
     pub fn hangup(&mut self, conn: u32, moment: Moment) -> Result<(), ServeError>
         ensures ok { OnOk result (Serves D.medium self.old self.new (λ limits h. hangup limits h conn moment.0)) }
+        ensures leaves { OnOk result ((other : ℕ) → is_connected self.new.hub other
+            ≡ (not (other == conn) && is_connected self.old.hub other)) }
+        ensures stays { OnErr result (numbers_of self.new.hub ≡ numbers_of self.old.hub) }
         ensures refused { IfErr result (λ e. Refuses D.medium D.counts self.old self.new conn e) }
         ensures stopped { HasStopped self.old → result ≡ Err ServeError.Stopped }
         ensures unknown { ¬ HasStopped self.old → is_connected self.old.hub conn ≡ false
@@ -162,6 +172,7 @@ impl<D: SectorDisk> Hub<D> {
     /// Time passes: the clock is the greatest moment so far.
     pub fn tick(&mut self, moment: Moment) -> Result<(), CommitError>
         ensures ok { OnOk result (Serves D.medium self.old self.new (λ limits h. tick limits h moment.0)) }
+        ensures numbers { numbers_of self.new.hub ≡ numbers_of self.old.hub }
         ensures refused { IfErr result (λ e. Halts D.medium D.counts self.old self.new e) }
         ensures stopped { HasStopped self.old → result ≡ Err CommitError.Stopped }
         ensures spends { OnOk result (Spends D.counts 2 self.old.store self.new.store) }
@@ -177,6 +188,7 @@ impl<D: SectorDisk> Hub<D> {
     fn pass(&mut self, moment: Moment) -> Result<(), CommitError>
         requires { ¬ HasStopped self.old }
         ensures ok { OnOk result (Serves D.medium self.old self.new (λ limits h. tick limits h moment.0)) }
+        ensures numbers { numbers_of self.new.hub ≡ numbers_of self.old.hub }
         ensures ready { OnOk result (IsReadyFor self.new.store 1) }
         ensures later { OnOk result (0 < self.new.store.waiting) }
         ensures same { OnOk result (SameButSeen self.old.hub self.new.hub) }
@@ -199,6 +211,7 @@ impl<D: SectorDisk> Hub<D> {
             → StoredMatches limits self.new h) }
         ensures takes { Takes D.medium self.old.store [] self.new.store }
         ensures all { OnOk result (self.new.hub.connections ≡ seen_as released self.old.hub.connections) }
+        ensures numbers { numbers_of self.new.hub ≡ numbers_of self.old.hub }
         ensures confirmed { OnOk result (self.new.store.confirmed
             ≡ self.old.store.confirmed + self.old.store.waiting) }
         ensures waiting { OnOk result (self.new.store.waiting ≡ 0) }
@@ -223,6 +236,7 @@ impl<D: SectorDisk> Hub<D> {
             → StoredMatches limits self.new h) }
         ensures takes { Takes D.medium self.old.store [] self.new.store }
         ensures all { OnOk result (self.new.hub.connections ≡ seen_as released self.old.hub.connections) }
+        ensures numbers { numbers_of self.new.hub ≡ numbers_of self.old.hub }
         ensures confirmed { OnOk result (self.new.store.confirmed
             ≡ self.old.store.confirmed + self.old.store.waiting) }
         ensures waiting { OnOk result (self.new.store.waiting ≡ 0) }
@@ -255,6 +269,7 @@ impl<D: SectorDisk> Hub<D> {
         ensures ok { OnOk result ((limits : Limits) (h : Clients) → StoredMatches limits self.old h
             → StoredMatches limits self.new h) }
         ensures takes { OnOk result (Takes D.medium self.old.store [] self.new.store) }
+        ensures numbers { numbers_of self.new.hub ≡ numbers_of self.old.hub }
         ensures ready { OnOk result (IsReadyFor self.new.store 2) }
         ensures same { OnOk result (SameButSeen self.old.hub self.new.hub) }
         ensures refused { IfErr result (λ e. Halts D.medium D.counts self.old self.new e) }
@@ -298,6 +313,7 @@ impl<D: SectorDisk> Hub<D> {
         requires { count ≤ length (output_of self.old.hub conn) }
         ensures ok { Simulates self.old.hub self.new.hub (λ _ h. consume h conn count) }
         ensures output { output_of self.new.hub conn ≡ drop count (output_of self.old.hub conn) }
+        ensures numbers { numbers_of self.new.hub ≡ numbers_of self.old.hub }
         ensures store { self.new.store ≡ self.old.store }
     {
         self.connections.consume(conn, count);

@@ -1,5 +1,6 @@
 use Rattle.std.proofs.Common.{rules, ◌≡◌, ℕ, false, None, refl, sym, ap, ◌∙◌, subst}
-use Rattle.std.specs.Prelude.{nat_eq, is_some}
+use Rattle.std.specs.Prelude.{nat_eq, is_some, ◌==◌, ◌||◌}
+use Rattle.ipc_hub.specs.View.{is_connected}
 use Rattle.ipc_base.specs.Limits.{longest_reply}
 use Rattle.ipc_base.specs.Table.{value_at, with_entry}
 use Rattle.ipc_base.proofs.CallerLemmas.{nobody}
@@ -7,7 +8,7 @@ use Rattle.ipc_engine.specs.Engine.{Machine}
 use Rattle.ipc_hub.specs.Relations.Matches.{HubMatches}
 use Rattle.ipc_hub.specs.Relations.Invariant.{IsNew, HubInvariant}
 use Rattle.ipc_hub.specs.Relations.Rows.{Table, view_of, table_of, hub_view}
-use Rattle.ipc_hub.proofs.Changes.{entry-invariant, entry-matches}
+use Rattle.ipc_hub.proofs.Changes.{entry-invariant, entry-joins, entry-matches}
 use Rattle.ipc_hub.proofs.Committing.{going}
 use Rattle.ipc_hub.proofs.hub.Hub.add.Goals as goal
 
@@ -42,3 +43,13 @@ returns-clause-ok g c limits confirmed h m =
     entry-matches limits confirmed (hub_view c.self.inside.store.machine (table_of c.self.inside.connections))
     (hub_view c.self.inside.store.machine (table_of c.insert.new.self)) h c.args.conn (view_of new) c.longest_reply-reply.result
     (subst (λ v. HubMatches limits confirmed v h) (sym (ap (λ v. v.hub) c.self.view_is)) m) refl refl (rw number at c.in_ok-insert.ensures.ok) is
+
+pub returns-clause-joins : goal.returns-clause-joins
+returns-clause-joins g c other =
+    let new = c.in_ok-connection.connection in
+    let number : new.number ≡ c.args.conn = search rules in
+    let added : table_of c.insert.new.self ≡ with_entry (table_of c.self.inside.connections) c.args.conn (view_of new) =
+    rw number at c.in_ok-insert.ensures.ok in
+    rw added (entry-joins (table_of c.self.inside.connections) c.args.conn (view_of new) other
+    (free c.args.conn (ap (λ v. v.hub.connections) c.self.view_is) c.requires.free))
+    ∙ ap (λ v. other == c.args.conn || is_connected v.hub other) c.self.view_is

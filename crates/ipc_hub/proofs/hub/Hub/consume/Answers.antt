@@ -1,7 +1,9 @@
 use Rattle.std.proofs.Common.{drop, sym, ap, ◌∙◌, refl}
-use Rattle.ipc_hub.specs.View.{output_of}
+use Rattle.ipc_hub.specs.View.{numbers_of, output_of}
+use Rattle.ipc_hub.specs.Relations.Delivery.{consumed}
 use Rattle.ipc_hub.specs.Relations.Rows.{table_of, hub_view, stored_view}
 use Rattle.ipc_hub.proofs.Changes.{consumed-stands, consumed-output, consume-matches}
+use Rattle.ipc_hub.proofs.Keeping.{changed-keys}
 use Rattle.ipc_hub.proofs.hub.Hub.consume.Goals as goal
 
 pub consume-requires-clause-within : goal.consume-requires-clause-within
@@ -21,3 +23,8 @@ pub returns-clause-output : goal.returns-clause-output
 returns-clause-output g c =
     rw c.consume.ensures (consumed-output (table_of c.self.inside.connections) c.args.conn c.args.count)
     ∙ ap (λ v. drop c.args.count (output_of v.hub c.args.conn)) c.self.view_is
+
+pub returns-clause-numbers : goal.returns-clause-numbers
+returns-clause-numbers g c =
+    rw c.consume.ensures (changed-keys (consumed c.args.count) c.args.conn (table_of c.self.inside.connections))
+    ∙ ap (λ v. numbers_of v.hub) c.self.view_is

@@ -1,4 +1,5 @@
-use Rattle.std.proofs.Common.{sym, ap, take, arith}
+use Rattle.std.proofs.Common.{sym, ap, ◌∙◌, take, arith}
+use Rattle.ipc_hub.specs.View.{numbers_of}
 use Rattle.ipc_hub.specs.Relations.Rows.{table_of, stored_view}
 use Rattle.ipc_hub.proofs.Coming.{comes-fed, still-empty, still-ended}
 use Rattle.ipc_hub.proofs.hub.Hub.feed.Goals as goal
@@ -18,3 +19,7 @@ pub returns-clause-dropped : goal.returns-clause-dropped
 returns-clause-dropped g c over =
     c.take_in-taken.ensures.dropped
     (rw (sym c.self-2.view_is) at (still-ended c.args.self.now.hub c.pass.new.self.hub c.in_default.ensures.same c.args.conn over))
+
+pub returns-clause-numbers : goal.returns-clause-numbers
+returns-clause-numbers g c =
+    c.take_in-taken.ensures.goes_on.numbers ∙ ap (λ v. numbers_of v.hub) c.self-2.view_is ∙ c.pass.ensures.numbers

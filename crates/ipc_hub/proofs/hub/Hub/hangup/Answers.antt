@@ -2,7 +2,8 @@ use Rattle.std.proofs.Common.{ap, ◌∙◌, arith}
 use Rattle.ipc_store.proofs.CallerLemmas.{ready-goes-on}
 use Rattle.ipc_hub.specs.Relations.Invariant.{HubInvariant}
 use Rattle.ipc_hub.specs.Relations.Rows.{table_of, hub_view}
-use Rattle.ipc_hub.proofs.Changes.{without-invariant, without-nobodys}
+use Rattle.ipc_hub.specs.View.{numbers_of}
+use Rattle.ipc_hub.proofs.Changes.{without-invariant, without-leaves, without-nobodys}
 use Rattle.ipc_hub.proofs.Coming.{comes-gone}
 use Rattle.ipc_hub.proofs.hub.Hub.hangup.Given.{Over}
 use Rattle.ipc_hub.proofs.hub.Hub.hangup.Goals.{After-remove-process}
@@ -31,3 +32,9 @@ returns-clause-ok g c limits h m =
     comes-gone g.D.SectorDisk.medium limits c.args.self.now c.self-2.inside.store c.leave.new.store (table_of c.self-2.inside.connections)
     (table_of c.remove-process.new.self) (table_of c.leave.new.connections) c.args.conn c.args.moment.0 _ h c.remove-process.ensures.left
     c.remove-process.ensures.process (rw c.self-2.view_is (c.in_default.ensures.ok limits h m)) c.leave.ensures.leaves c.leave.ensures.accepts
+
+pub returns-clause-leaves : goal.returns-clause-leaves
+returns-clause-leaves g c other =
+    without-leaves c.args.self.now.hub.connections (table_of c.self-2.inside.connections) (table_of c.remove-process.new.self)
+    (table_of c.leave.new.connections) c.args.conn other (ap (λ v. numbers_of v.hub) c.self-2.view_is ∙ c.pass.ensures.numbers)
+    c.remove-process.ensures.left c.leave.ensures.goes_on.numbers c.self-2.invariant.rising

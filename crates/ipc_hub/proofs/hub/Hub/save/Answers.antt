@@ -1,7 +1,8 @@
-use Rattle.std.proofs.Common.{sym}
+use Rattle.std.proofs.Common.{sym, ap, ◌∙◌}
 use Rattle.ipc_store.proofs.CallerLemmas.{Takes-none}
+use Rattle.ipc_hub.specs.View.{numbers_of}
 use Rattle.ipc_hub.specs.Relations.Rows.{table_of}
-use Rattle.ipc_hub.proofs.Committing.{going-told, told-spare, told-stands, told-keeps, told-halts}
+use Rattle.ipc_hub.proofs.Committing.{going-told, told-spare, told-stands, told-numbers, told-keeps, told-halts}
 use Rattle.ipc_hub.proofs.hub.Hub.save.Goals as goal
 
 pub returns-then-has_stopped-clause-takes : goal.returns-then-has_stopped-clause-takes
@@ -24,6 +25,12 @@ returns-clause-ok g c =
     (told-keeps c.self.inside.store c.save-done.new.self (table_of c.self.inside.connections) (table_of c.tell.new.self)
     c.save-done.ensures.machine (going-told _ _ c.self.view_is c.if-has_stopped.ensures.1) c.save-done.result
     (c.tell.ensures.ok, c.tell.ensures.err, c.save-done.ensures.stops) c.save-done.ensures.confirmed c.save-done.ensures.waiting)
+
+pub returns-clause-numbers : goal.returns-clause-numbers
+returns-clause-numbers g c =
+    told-numbers c.self.inside.store c.save-done.new.self (table_of c.self.inside.connections) (table_of c.tell.new.self)
+    c.save-done.ensures.machine (going-told _ _ c.self.view_is c.if-has_stopped.ensures.1) c.save-done.result
+    (c.tell.ensures.ok, c.tell.ensures.err, c.save-done.ensures.stops) ∙ ap (λ v. numbers_of v.hub) c.self.view_is
 
 pub returns-clause-takes : goal.returns-clause-takes
 returns-clause-takes g c = rw (sym c.self.view_is) c.save-done.ensures.takes
