@@ -34,7 +34,7 @@ ghost use Rattle.ipc_engine.specs.View.{plain_event, plain_outcome, step_of};
 
 use crate::event::{Event, Outcome};
 use crate::fault::StateFault;
-use crate::listing::{Row, list_queues};
+use crate::listing::{Row, list_objects};
 use ipc_base::{Cred, Errno, Limits, Pid};
 use ipc_state::State;
 use ipc_wire::{Body, RequestKind};
@@ -126,11 +126,11 @@ impl Engine {
         &self.state
     }
 
-    /// A row for each object, by rising identifier. Refused for want of memory.
+    /// A row for each object, kind by kind, by rising identifier. Refused for want of memory.
     pub fn list(&self, alloc: Global) -> Result<Vec<Row>, AllocError>
         ensures { IfOk result (λ rows. rows.items ≡ rows_of self.now.state) }
     {
-        list_queues(alloc, self.state.queues())
+        list_objects(alloc, self.state.queues(), self.state.sets())
     }
 
     /// The limits that it keeps, which have passed their check; by them the state is sound.

@@ -108,6 +108,7 @@ pub fn restart_keeps_objects()
     ensures next_pid { (limits : Limits) (s : State)
         → (step limits s Restart).state.processes.next ≡ s.processes.next }
     ensures queues { (limits : Limits) (s : State) → (step limits s Restart).state.msg ≡ s.msg }
+    ensures sets { (limits : Limits) (s : State) → (step limits s Restart).state.sem ≡ s.sem }
 {}
 
 /// A restart twice is a restart once.

@@ -19,6 +19,7 @@ use Rattle.ipc_base.specs.declared.errno.Errno.{Errno}
 use Rattle.ipc_base.specs.declared.identity.Cred.{Cred}
 use Rattle.ipc_base.specs.declared.limits.Limits.{Limits}
 use Rattle.sysv_msg.specs.Queue.{Queue, Kept, new_queue}
+use Rattle.sysv_sem.specs.Set.{Set}
 use Rattle.ipc_wire.specs.Reply.{PlainBody}
 use Rattle.ipc_state.specs.declared.keyed.Entry.{Entry}
 use Rattle.ipc_perm.specs.declared.perm.Perm.{Perm}
@@ -27,7 +28,7 @@ use Rattle.ipc_state.specs.Numbered.{Numbered, entry_of, with_entry, without_ent
 use Rattle.ipc_state.specs.Keyed.{Keyed, holding, permitting, keyed, AreKeyed, AreNamed}
 use Rattle.ipc_state.specs.declared.processes.Process.{Process}
 use Rattle.ipc_state.specs.State.{State, start, at_moment, has_all_processes, with_process, exit, restart, queue_of, with_queue, with_new_queue}
-use Rattle.ipc_state.specs.Sound.{HasSoundParts, IsSoundQueue, FitsBody}
+use Rattle.ipc_state.specs.Sound.{HasSoundParts, IsSoundQueue, IsSoundSet, AreSoundSets, FitsBody}
 use Rattle.ipc_state.specs.Finish.{Finish, Attempt, Done, ended, answer, refuse, ◌orelse◌, ◌>>◌, ◌>>=◌, if_some}
 use Rattle.ipc_state.proofs.Numbering.{none_yet-numbered, with_new-numbered, without_entry-numbered, cleared-numbered}
 use Rattle.ipc_state.proofs.Keying as keying
@@ -47,17 +48,25 @@ module _ (limits : Limits) where
   -- a state with another part that is sound is sound
   pub set-processes : (s : State) (processes : Numbered Process) → HasSoundParts limits s → AreNumbered limits.processes processes
       → HasSoundParts limits (record s { processes = processes })
-  set-processes s processes h good = record { processes = good; msg = h.msg }
+  set-processes s processes h good = record { processes = good; msg = h.msg; sem = h.sem }
 
   pub set-msg : (s : State) (msg : Keyed Queue) → HasSoundParts limits s → AreKeyed limits.msgmni (IsSoundQueue limits) msg
       → HasSoundParts limits (record s { msg = msg })
-  set-msg s msg h good = record { processes = h.processes; msg = good }
+  set-msg s msg h good = record { processes = h.processes; msg = good; sem = h.sem }
+
+  pub set-sem : (s : State) (sem : Keyed Set) → HasSoundParts limits s → AreSoundSets limits sem → HasSoundParts limits (record s { sem = sem })
+  set-sem s sem h good = record { processes = h.processes; msg = h.msg; sem = good }
 
   pub start-sound : HasSoundParts limits start
-  start-sound = record { processes = none_yet-numbered limits.processes; msg = keying.none_yet-keyed limits.msgmni (IsSoundQueue limits) }
+  start-sound =
+      record {
+        processes = none_yet-numbered limits.processes;
+        msg = keying.none_yet-keyed limits.msgmni (IsSoundQueue limits);
+        sem = record { keyed = keying.none_yet-keyed limits.semmni (IsSoundSet limits); count = omega arith };
+      }
 
   pub begin-sound : (s : State) (moment : ℕ) → HasSoundParts limits s → HasSoundParts limits (at_moment s moment)
-  begin-sound s moment h = record { processes = h.processes; msg = h.msg }
+  begin-sound s moment h = record { processes = h.processes; msg = h.msg; sem = h.sem }
 
   pub exit-sound : (s : State) (pid : ℕ) → HasSoundParts limits s → HasSoundParts limits (exit s pid)
   exit-sound s pid h = set-processes s _ h (without_entry-numbered limits.processes s.processes pid h.processes)

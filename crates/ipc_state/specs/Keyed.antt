@@ -1,5 +1,5 @@
--- Objects that may have a key (sysvipc(7)): each has an identifier, a key, and who may use it. A key names one object at
--- most; IPC_PRIVATE, which is 0, names none, and any number of objects may have it.
+-- Objects that may have a key (sysvipc(7)): each has an identifier, a key, and who may use it. A key names one object
+-- at most; IPC_PRIVATE, which is 0, names none, and any number of objects may have it.
 use Rattle.std.specs.Prelude.{◌≡◌, ◌≢◌, ℕ, ℤ, pos, ◌<◌, if◌then◌else◌, List, map, Option, Some, None, All}
 use Rattle.std.specs.Ordering.{int_eq}
 use Rattle.ipc_base.specs.Table.{value_at, keys_of, IsRising}

@@ -12,7 +12,7 @@ abbrev pub with_msg : Held → HeldObjects Kept → Held
 with_msg held o =
     record held {
       state = record held.state { msg = queues_of o };
-      room = record { process = held.room.process; queue = o.place; keys = o.keys; texts = texts_of o };
+      room = record held.room { queue = o.place; keys = o.keys; texts = texts_of o };
     }
 
 abbrev pub lends_msg : MutBor Held → MutBor (HeldObjects Kept) → Fml

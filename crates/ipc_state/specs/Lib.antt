@@ -9,4 +9,5 @@ pub mod Tables
 pub mod Restored
 pub mod Lends
 pub mod LendsMsg
+pub mod LendsSem
 pub mod Finish

@@ -1,6 +1,7 @@
 -- The state with a part more that was read. A state is rebuilt part by part, and is sound only as a whole.
 use Rattle.std.specs.Prelude.{ℕ}
 use Rattle.sysv_msg.specs.Queue.{Queue}
+use Rattle.sysv_sem.specs.Set.{Set}
 use Rattle.ipc_state.specs.declared.keyed.Entry.{Entry}
 use Rattle.ipc_state.specs.declared.processes.Process.{Process}
 use Rattle.ipc_state.specs.declared.state.Numbers.{Numbers}
@@ -14,6 +15,7 @@ with_numbers s n =
       clock = n.clock.0;
       processes = record { next = n.next_pid; entries = s.processes.entries };
       msg = record { next = n.next_queue; entries = s.msg.entries };
+      sem = record { next = n.next_set; entries = s.sem.entries };
     }
 
 -- with a process at the end
@@ -23,3 +25,7 @@ with_last_process s pid p = record s { processes = with_last s.processes pid p }
 -- with a queue at the end
 abbrev pub with_last_queue : State → ℕ → Entry Queue → State
 with_last_queue s id e = record s { msg = with_last s.msg id e }
+
+-- with a semaphore set at the end
+abbrev pub with_last_set : State → ℕ → Entry Set → State
+with_last_set s id e = record s { sem = with_last s.sem id e }

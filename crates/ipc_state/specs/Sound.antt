@@ -1,13 +1,15 @@
--- What holds of each part of the state by itself, after every event: numbers rise and are never given twice, no limit is
--- passed, each key is the key of one object that is there, and no queue holds more than it may. What holds between parts
--- is told where calls are put together.
-use Rattle.std.specs.Prelude.{◌^◌, ◌<◌, ◌≤◌, pos, int_lt, length, All, IsTrue}
+-- What holds of each part of the state by itself, after every event: numbers rise and are never given twice, no limit
+-- is passed, each key is the key of one object that is there, and no object holds more than it may. What holds between
+-- parts is told where calls are put together.
+use Rattle.std.specs.Prelude.{◌≡◌, ℕ, ◌^◌, ◌<◌, ◌≤◌, pos, int_lt, length, All, sum_by, IsTrue}
 use Rattle.ipc_base.specs.declared.limits.Limits.{Limits}
 use Rattle.ipc_base.specs.Limits.{longest_body}
 use Rattle.ipc_wire.specs.Reply.{PlainBody, body_bytes}
 use Rattle.sysv_msg.specs.Queue.{Queue, PlainMessage, byte_count}
+use Rattle.sysv_sem.specs.Operation.{most_value}
+use Rattle.sysv_sem.specs.Set.{Set}
 use Rattle.ipc_state.specs.Numbered.{AreNumbered}
-use Rattle.ipc_state.specs.Keyed.{AreKeyed}
+use Rattle.ipc_state.specs.Keyed.{Keyed, AreKeyed}
 use Rattle.ipc_state.specs.State.{State}
 
 -- a message has a type above 0 and at most msgmax bytes
@@ -28,10 +30,28 @@ pub record HasNumbers (q : Queue) : Type 0 where
   pub count : length q.messages < 2 ^ 32
   pub qbytes : q.qbytes < 2 ^ 32
 
+-- a set has at least one semaphore and at most semmsl; each has a value of at most 32767, and somebody, or nobody, who
+-- changed it last
+pub record IsSoundSet (limits : Limits) (s : Set) : Type 0 where
+  pub some : 0 < length s.values
+  pub few : length s.values ≤ limits.semmsl
+  pub values : All (λ v. v ≤ most_value) s.values
+  pub pids : length s.pids ≡ length s.values
+
+-- how many semaphores the sets have together
+abbrev pub semaphore_count : Keyed Set → ℕ
+semaphore_count o = sum_by (λ e. length e.1.object.values) o.entries
+
+-- each set is sound, and together they have at most semmns semaphores
+pub record AreSoundSets (limits : Limits) (o : Keyed Set) : Type 0 where
+  pub keyed : AreKeyed limits.semmni (IsSoundSet limits) o
+  pub count : semaphore_count o ≤ limits.semmns
+
 -- each part is sound
 pub record HasSoundParts (limits : Limits) (s : State) : Type 0 where
   pub processes : AreNumbered limits.processes s.processes
   pub msg : AreKeyed limits.msgmni (IsSoundQueue limits) s.msg
+  pub sem : AreSoundSets limits s.sem
 
 -- the body of a reply is no longer than the longest one
 abbrev pub FitsBody : Limits → PlainBody → Type 0

@@ -5,6 +5,7 @@ use Rattle.std.specs.Prelude.{is_some, unwrap_or}
 use Rattle.ipc_base.specs.declared.identity.Cred.{Cred}
 use Rattle.ipc_base.specs.declared.limits.Limits.{Limits}
 use Rattle.sysv_msg.specs.Queue.{Queue, new_queue}
+use Rattle.sysv_sem.specs.Set.{Set}
 use Rattle.ipc_state.specs.declared.keyed.Entry.{Entry}
 use Rattle.ipc_perm.specs.declared.perm.Perm.{Perm}
 use Rattle.ipc_state.specs.declared.processes.Process.{Process}
@@ -18,10 +19,12 @@ pub record State : Type 0 where
   pub processes : Numbered Process
   -- the message queues
   pub msg : Keyed Queue
+  -- the semaphore sets
+  pub sem : Keyed Set
 
 -- nothing has happened yet
 abbrev pub start : State
-start = record { clock = 0; processes = none_yet; msg = none_yet }
+start = record { clock = 0; processes = none_yet; msg = none_yet; sem = none_yet }
 
 -- the state as the moment comes
 abbrev pub at_moment : State → ℕ → State

@@ -6,6 +6,7 @@ mod keys;
 mod numbered;
 mod processes;
 mod queues;
+mod sets;
 mod state;
 
 pub use keyed::{Entry, IPC_PRIVATE, Keyed};

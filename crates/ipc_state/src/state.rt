@@ -13,6 +13,7 @@ use ipc_base::{Limits, Moment};
 use std::alloc::Global;
 use std::marker::Model;
 use sysv_msg::MsgQueue;
+use sysv_sem::SemSet;
 
 /// The state between two events. A contract sees its limits, the state of the definitions, and the room
 /// that is reserved. It lends its objects, and so it need not be sound: whoever keeps it says so.
@@ -23,6 +24,7 @@ pub struct State {
     pub(crate) clock: Moment,
     pub(crate) processes: Numbered<Process>,
     pub(crate) msg: Keyed<MsgQueue>,
+    pub(crate) sem: Keyed<SemSet>,
 }
 
 impl Model for State {
@@ -38,12 +40,19 @@ impl Model for State {
 
     ghost view = { λ s. record {
       limits = s.limits;
-      state = record { clock = s.clock.0; processes = numbered_of s.processes; msg = queues_of s.msg };
+      state = record {
+        clock = s.clock.0;
+        processes = numbered_of s.processes;
+        msg = queues_of s.msg;
+        sem = s.sem.objects;
+      };
       room = record {
         process = has_place s.processes;
         queue = s.msg.place;
         keys = s.msg.keys;
         texts = texts_of s.msg;
+        set = s.sem.place;
+        set_keys = s.sem.keys;
       };
     } };
 
@@ -56,6 +65,7 @@ pub struct Numbers {
     pub clock: Moment,
     pub next_pid: u32,
     pub next_queue: u32,
+    pub next_set: u32,
 }
 
 impl State {
@@ -71,6 +81,7 @@ impl State {
             clock: Moment(0),
             processes: Numbered::new(alloc),
             msg: Keyed::new(alloc),
+            sem: Keyed::new(alloc),
         }
     }
 
@@ -104,12 +115,15 @@ impl State {
         self.clock = numbers.clock;
         self.processes.set_next(numbers.next_pid);
         self.msg.set_next(numbers.next_queue);
+        self.sem.set_next(numbers.next_set);
     }
 
     /// Whether each part is sound.
     pub fn is_sound(&self) -> bool
         ensures { IsTrue result ↔ HasSoundParts self.now.limits self.now.state }
     {
-        self.processes.are_numbered(self.limits.processes) && self.are_queues_sound()
+        self.processes.are_numbered(self.limits.processes)
+            && self.are_queues_sound()
+            && self.are_sets_sound()
     }
 }

@@ -8,4 +8,4 @@ mod trial;
 
 pub use laws::{done_performs_each, done_stays_in_range};
 pub use operation::{Operation, Trial, Verdict};
-pub use set::{SemSet, SemStat};
+pub use set::{SemSet, SemStat, Semaphore};

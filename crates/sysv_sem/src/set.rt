@@ -1,7 +1,7 @@
 //! A semaphore set.
 
 ghost use Rattle.std.specs.Prelude.{◌≡◌, ◌<◌, ◌≤◌, ℕ, ℤ, List, Some, length};
-ghost use Rattle.std.specs.Prelude.{IfOk, All, slice_index, slice_get};
+ghost use Rattle.std.specs.Prelude.{IfOk, OnOk, OnErr, All, slice_index, slice_get, [], ◌∷◌, ◌++◌};
 ghost use Rattle.sysv_sem.specs.Operation.{most_value, outcome, trial_of, Done};
 ghost use Rattle.sysv_sem.specs.Trial.{AreAdjustments, ArePrepared, CanBeDone};
 
@@ -21,8 +21,15 @@ pub struct SemStat {
     pub ctime: Moment,
 }
 
-/// A semaphore set: of each semaphore its value, of at most 32767, and who changed it last. After `new`
-/// no call takes memory.
+/// A semaphore of a set: its value, of at most 32767, and who changed it last, 0 for nobody.
+#[derive(Clone, Copy, Debug, PartialEq, Eq)]
+pub struct Semaphore {
+    pub value: u16,
+    pub pid: Pid,
+}
+
+/// A semaphore set: of each semaphore its value, of at most 32767, and who changed it last. But for `new`
+/// and `restore`, no call takes memory.
 #[derive(Drop)]
 pub struct SemSet {
     values: Vec<u16>,
@@ -51,6 +58,7 @@ impl Model for SemSet {
 
 impl SemSet {
     ghost use Rattle.sysv_sem.specs.Set.{new_set, carried, with_value, with_values, after_exit, stat_of};
+    ghost use Rattle.sysv_sem.specs.Set.{set_of, semaphores_of, with_semaphore};
 
     /// A set of so many semaphores, each of value 0. Refused for want of memory.
     pub fn new(alloc: Global, nsems: usize, ctime: Moment) -> Result<SemSet, AllocError>
@@ -62,6 +70,32 @@ impl SemSet {
             otime: Moment(0),
             ctime,
         })
+    }
+
+    /// A set without semaphores whose times are known. It takes no memory.
+    pub fn restored(alloc: Global, otime: Moment, ctime: Moment) -> SemSet
+        ensures { result ≡ set_of [] otime.0 ctime.0 }
+    {
+        SemSet {
+            values: Vec::new(alloc),
+            pids: Vec::new(alloc),
+            otime,
+            ctime,
+        }
+    }
+
+    /// Adds a semaphore that was read, at the end. Refused for want of memory, the set is as before.
+    pub fn restore(&mut self, semaphore: Semaphore) -> Result<(), AllocError>
+        requires { semaphore.value ≤ most_value }
+        ensures set { OnOk result (self.new ≡ with_semaphore self.old semaphore) }
+        ensures semaphores { OnOk result (semaphores_of self.new ≡ semaphores_of self.old ++ semaphore ∷ []) }
+        ensures err { OnErr result (self.new ≡ self.old) }
+    {
+        self.values.reserve(1)?;
+        self.pids.reserve(1)?;
+        self.values.push_reserved(semaphore.value);
+        self.pids.push_reserved(semaphore.pid);
+        Ok(())
     }
 
     /// What a list of operations meets; nothing is changed. Of the semaphore that each names, it is

@@ -23,13 +23,20 @@ returns-clause-state c =
       clock = t.clock.0;
       processes = numbered_of t.processes;
       msg = record { next = o.next + 1; entries = (queues_of t.msg).entries ++ (o.next, f) ∷ [] };
+      sem = t.sem.objects;
     } in
-    ap (λ (n : Keyed Kept). let s : State = record { clock = t.clock.0; processes = numbered_of t.processes; msg = numbered_map (entry_map queue_in) n } in s)
+    ap (λ (n : Keyed Kept). let s : State = record {
+      clock = t.clock.0;
+      processes = numbered_of t.processes;
+      msg = numbered_map (entry_map queue_in) n;
+      sem = t.sem.objects;
+    } in s)
     c.add.ensures.objects
     ∙ (ap (λ (es : List (ℕ × Entry Queue)). let s : State = record {
       clock = t.clock.0;
       processes = numbered_of t.processes;
       msg = record { next = o.next + 1; entries = es };
+      sem = t.sem.objects;
     } in s) (map-append (λ (f : ℕ × Entry Kept). (f.0, entry_map queue_in f.1)) o.entries _)
     ∙ (ap (λ (key : ℤ). with_it (made key c.new-object.result.queue)) e
     ∙ (ap (λ (q : Queue). with_it (made c.args.key q)) c.new-object.ensures.queue
