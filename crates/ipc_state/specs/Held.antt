@@ -7,9 +7,9 @@ use Rattle.ipc_base.specs.declared.limits.Limits.{Limits}
 use Rattle.ipc_base.specs.Table.{value_at, with_value}
 use Rattle.ipc_state.specs.State.{State}
 
--- whether there is room for one process more, and for one queue; the directory of the queues' keys, with those that have
--- room there; for each queue, by identifier, of how many bytes the message is that it has room for; whether there is
--- room for one semaphore set more; the directory of the sets' keys
+-- whether there is room for one process more, and for one queue; the directory of the queues' keys, with those that
+-- have room there; for each queue, by identifier, of how many bytes the message is that it has room for; whether there
+-- is room for one semaphore set more; the directory of the sets' keys
 pub record Room : Type 0 where
   pub process : Bool
   pub queue : Bool
