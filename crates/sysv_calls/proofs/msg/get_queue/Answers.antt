@@ -15,27 +15,28 @@ use Rattle.ipc_state.specs.Numbered.{is_full}
 use Rattle.ipc_state.proofs.CallerLemmas.{held-keyed, held-full, held-positive, next-positive}
 use Rattle.sysv_calls.specs.Calls.{accessible, is_exclusive, may_make}
 use Rattle.sysv_calls.proofs.Reaching.{reached-refused, let-in}
+use Rattle.sysv_calls.proofs.msg.get_queue.Goals.{After-of_key}
 use Rattle.sysv_calls.proofs.msg.get_queue.Goals as goal
+
+-- what the key names
+names : (c : After-of_key) → keyed c.args.state.now.state.msg c.args.key ≡ option_map (λ (id : Id). id.0) c.of_key.result
+names c =
+    let old = c.args.state.now in
+    let positive = held-positive c.msg.result.now old.state.msg c.msg.ensures.queues old.limits c.requires.sound.msg in
+    sym (held-keyed c.msg.result.now old.state.msg c.msg.ensures.queues c.args.key)
+    ∙ (ap (keyed c.msg.result.now.objects) (sym (to_z-of_z w32 c.args.key c.ranges.key)) ∙ sym (c.of_key.ensures.keyed positive))
 
 pub returns-then-is_exclusive-clause-finish : goal.returns-then-is_exclusive-clause-finish
 returns-then-is_exclusive-clause-finish c =
     let old = c.args.state.now in
-    let n : to_z w32 (of_z w32 c.args.key) ≡ c.args.key = to_z-of_z w32 c.args.key c.ranges.key in
-    let positive = held-positive c.msg.result.now old.state.msg c.msg.ensures.queues old.limits c.requires.sound.msg in
-    let used : keyed old.state.msg c.args.key ≡ Some c.in-Some.id.0 =
-    sym (held-keyed c.msg.result.now old.state.msg c.msg.ensures.queues c.args.key)
-    ∙ (ap (keyed c.msg.result.now.objects) (sym n) ∙ (sym (c.of_key.ensures.keyed positive) ∙ ap (option_map (λ (id : Id). id.0)) c.in-Some.is)) in
+    let used : keyed old.state.msg c.args.key ≡ Some c.in-Some.id.0 = names (goal.at.returns-then-is_exclusive-clause-finish c).After-of_key ∙ ap (option_map (λ (id : Id). id.0)) c.in-Some.is in
     let exclusive : is_exclusive c.args.flags.0 ≡ true = sym c.is_exclusive.ensures ∙ c.if-is_exclusive.true in
     rw used (rw exclusive refl)
 
 pub returns-in_err-accessible-clause-finish : goal.returns-in_err-accessible-clause-finish
 returns-in_err-accessible-clause-finish c =
     let old = c.args.state.now in
-    let n : to_z w32 (of_z w32 c.args.key) ≡ c.args.key = to_z-of_z w32 c.args.key c.ranges.key in
-    let positive = held-positive c.msg.result.now old.state.msg c.msg.ensures.queues old.limits c.requires.sound.msg in
-    let used : keyed old.state.msg c.args.key ≡ Some c.in-Some.id.0 =
-    sym (held-keyed c.msg.result.now old.state.msg c.msg.ensures.queues c.args.key)
-    ∙ (ap (keyed c.msg.result.now.objects) (sym n) ∙ (sym (c.of_key.ensures.keyed positive) ∙ ap (option_map (λ (id : Id). id.0)) c.in-Some.is)) in
+    let used : keyed old.state.msg c.args.key ≡ Some c.in-Some.id.0 = names (goal.at.returns-in_err-accessible-clause-finish c).After-of_key ∙ ap (option_map (λ (id : Id). id.0)) c.in-Some.is in
     let shared : is_exclusive c.args.flags.0 ≡ false = sym c.is_exclusive.ensures ∙ c.if-is_exclusive.false in
     let is : c.from_residual.result ≡ Err c.in_err-accessible.field-0.0 = search rules in
     let got = c.accessible.ensures ∙ ap (accessible c.msg-in-Some.result.now.objects c.args.cred c.in-Some.id.0) c.asked_by.ensures in
@@ -46,11 +47,7 @@ returns-in_err-accessible-clause-finish c =
 pub returns-in-Some-clause-finish : goal.returns-in-Some-clause-finish
 returns-in-Some-clause-finish c =
     let old = c.args.state.now in
-    let n : to_z w32 (of_z w32 c.args.key) ≡ c.args.key = to_z-of_z w32 c.args.key c.ranges.key in
-    let positive = held-positive c.msg.result.now old.state.msg c.msg.ensures.queues old.limits c.requires.sound.msg in
-    let used : keyed old.state.msg c.args.key ≡ Some c.in-Some.id.0 =
-    sym (held-keyed c.msg.result.now old.state.msg c.msg.ensures.queues c.args.key)
-    ∙ (ap (keyed c.msg.result.now.objects) (sym n) ∙ (sym (c.of_key.ensures.keyed positive) ∙ ap (option_map (λ (id : Id). id.0)) c.in-Some.is)) in
+    let used : keyed old.state.msg c.args.key ≡ Some c.in-Some.id.0 = names (goal.at.returns-in-Some-clause-finish c).After-of_key ∙ ap (option_map (λ (id : Id). id.0)) c.in-Some.is in
     let shared : is_exclusive c.args.flags.0 ≡ false = sym c.is_exclusive.ensures ∙ c.if-is_exclusive.false in
     let got = c.accessible.ensures ∙ ap (accessible c.msg-in-Some.result.now.objects c.args.cred c.in-Some.id.0) c.asked_by.ensures in
     let is = let-in c.in-Some.id.0 EACCES (λ perm. not (may c.args.cred perm (asked_by c.args.flags.0))) old.state.msg c.msg-in-Some.result.now
@@ -61,10 +58,7 @@ pub returns-then-not-may_make-clause-finish : goal.returns-then-not-may_make-cla
 returns-then-not-may_make-clause-finish c =
     let old = c.args.state.now in
     let n : to_z w32 (of_z w32 c.args.key) ≡ c.args.key = to_z-of_z w32 c.args.key c.ranges.key in
-    let positive = held-positive c.msg.result.now old.state.msg c.msg.ensures.queues old.limits c.requires.sound.msg in
-    let unused : keyed old.state.msg c.args.key ≡ None =
-    sym (held-keyed c.msg.result.now old.state.msg c.msg.ensures.queues c.args.key)
-    ∙ (ap (keyed c.msg.result.now.objects) (sym n) ∙ (sym (c.of_key.ensures.keyed positive) ∙ ap (option_map (λ (id : Id). id.0)) c.in_default.is)) in
+    let unused : keyed old.state.msg c.args.key ≡ None = names (goal.at.returns-then-not-may_make-clause-finish c).After-of_key ∙ ap (option_map (λ (id : Id). id.0)) c.in_default.is in
     let makes : may_make c.args.key c.args.flags.0 ≡ false =
     ap (λ (z : ℤ). may_make z c.args.flags.0) (sym n) ∙ (sym c.may_make.ensures ∙ c.if-not-may_make.true) in
     rw unused (rw makes refl)
@@ -73,10 +67,7 @@ pub returns-then-is_full-clause-finish : goal.returns-then-is_full-clause-finish
 returns-then-is_full-clause-finish c =
     let old = c.args.state.now in
     let n : to_z w32 (of_z w32 c.args.key) ≡ c.args.key = to_z-of_z w32 c.args.key c.ranges.key in
-    let positive = held-positive c.msg.result.now old.state.msg c.msg.ensures.queues old.limits c.requires.sound.msg in
-    let unused : keyed old.state.msg c.args.key ≡ None =
-    sym (held-keyed c.msg.result.now old.state.msg c.msg.ensures.queues c.args.key)
-    ∙ (ap (keyed c.msg.result.now.objects) (sym n) ∙ (sym (c.of_key.ensures.keyed positive) ∙ ap (option_map (λ (id : Id). id.0)) c.in_default.is)) in
+    let unused : keyed old.state.msg c.args.key ≡ None = names (goal.at.returns-then-is_full-clause-finish c).After-of_key ∙ ap (option_map (λ (id : Id). id.0)) c.in_default.is in
     let makes : may_make c.args.key c.args.flags.0 ≡ true =
     ap (λ (z : ℤ). may_make z c.args.flags.0) (sym n) ∙ (sym c.may_make.ensures ∙ c.if-not-may_make.false) in
     let full : is_full old.limits.msgmni old.state.msg ≡ true =
@@ -88,10 +79,7 @@ pub add_queue-requires-clause-key : goal.add_queue-requires-clause-key
 add_queue-requires-clause-key c some =
     let old = c.args.state.now in
     let n : to_z w32 (of_z w32 c.args.key) ≡ c.args.key = to_z-of_z w32 c.args.key c.ranges.key in
-    let positive = held-positive c.msg.result.now old.state.msg c.msg.ensures.queues old.limits c.requires.sound.msg in
-    let unused : keyed old.state.msg c.args.key ≡ None =
-    sym (held-keyed c.msg.result.now old.state.msg c.msg.ensures.queues c.args.key)
-    ∙ (ap (keyed c.msg.result.now.objects) (sym n) ∙ (sym (c.of_key.ensures.keyed positive) ∙ ap (option_map (λ (id : Id). id.0)) c.in_default.is)) in
+    let unused : keyed old.state.msg c.args.key ≡ None = names (goal.at.add_queue-requires-clause-key c).After-of_key ∙ ap (option_map (λ (id : Id). id.0)) c.in_default.is in
     subst (λ (z : ℤ). is_vacant old.room.keys z ≡ true) (sym n) (c.requires.room.vacant (subst (λ (z : ℤ). z ≢ pos 0) n some) unused)
 
 pub add_queue-requires-clause-number : goal.add_queue-requires-clause-number
@@ -101,10 +89,7 @@ pub returns-clause-finish : goal.returns-clause-finish
 returns-clause-finish c =
     let old = c.args.state.now in
     let n : to_z w32 (of_z w32 c.args.key) ≡ c.args.key = to_z-of_z w32 c.args.key c.ranges.key in
-    let positive = held-positive c.msg.result.now old.state.msg c.msg.ensures.queues old.limits c.requires.sound.msg in
-    let unused : keyed old.state.msg c.args.key ≡ None =
-    sym (held-keyed c.msg.result.now old.state.msg c.msg.ensures.queues c.args.key)
-    ∙ (ap (keyed c.msg.result.now.objects) (sym n) ∙ (sym (c.of_key.ensures.keyed positive) ∙ ap (option_map (λ (id : Id). id.0)) c.in_default.is)) in
+    let unused : keyed old.state.msg c.args.key ≡ None = names (goal.at.returns-clause-finish c).After-of_key ∙ ap (option_map (λ (id : Id). id.0)) c.in_default.is in
     let makes : may_make c.args.key c.args.flags.0 ≡ true =
     ap (λ (z : ℤ). may_make z c.args.flags.0) (sym n) ∙ (sym c.may_make.ensures ∙ c.if-not-may_make.false) in
     let full : is_full old.limits.msgmni old.state.msg ≡ false =

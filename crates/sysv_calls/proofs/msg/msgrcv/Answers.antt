@@ -11,8 +11,16 @@ use Rattle.ipc_state.specs.Keyed.{Keyed, holding}
 use Rattle.ipc_state.specs.Numbered.{with_entry, last_number}
 use Rattle.ipc_state.specs.State.{State}
 use Rattle.sysv_calls.specs.Calls.{read, except, has, is_too_long, message_at}
-use Rattle.sysv_calls.proofs.Reaching.{reached-refused, opened}
+use Rattle.sysv_calls.proofs.Reaching.{Opened, reached-refused, opened}
+use Rattle.sysv_calls.proofs.msg.msgrcv.Goals.{After-get_mut}
 use Rattle.sysv_calls.proofs.msg.msgrcv.Goals as goal
+
+-- the queue that is lent to a caller that was let in
+lent : (c : After-get_mut) → Opened c.args.id.0 EACCES (λ perm. not (may c.args.cred perm read)) c.args.state.now.state.msg c.msg_mut.result.now c.get_mut.result
+lent c =
+    opened c.args.id.0 EACCES (λ perm. not (may c.args.cred perm read)) c.args.state.now.state.msg c.msg.result.now c.msg.ensures.queues
+    c.accessible.result c.accessible.ensures c.in_ok-accessible.field-0 c.in_ok-accessible.was
+    c.msg_mut.result.now c.msg_mut.ensures.queues c.get_mut.result c.get_mut.ensures.object
 
 -- the message at a place
 found_at : (q : Queue) (at : ℕ) (m : PlainMessage) → slice_get q.messages at ≡ Some m → message_at q at ≡ m
@@ -29,26 +37,20 @@ returns-in_err-accessible-clause-finish c =
 
 pub unwrap-queue-requires : goal.unwrap-queue-requires
 unwrap-queue-requires c =
-    let t = opened c.args.id.0 EACCES (λ perm. not (may c.args.cred perm read)) c.args.state.now.state.msg c.msg.result.now c.msg.ensures.queues
-    c.accessible.result c.accessible.ensures c.in_ok-accessible.field-0 c.in_ok-accessible.was
-    c.msg_mut.result.now c.msg_mut.ensures.queues c.get_mut.result c.get_mut.ensures.object in
+    let t = lent (goal.at.unwrap-queue-requires c).After-get_mut in
     t.some
 
 pub returns-in_default-clause-finish : goal.returns-in_default-clause-finish
 returns-in_default-clause-finish c =
     let old = c.args.state.now in
     let k = c.unwrap-queue.result.now in
-    let t = opened c.args.id.0 EACCES (λ perm. not (may c.args.cred perm read)) c.args.state.now.state.msg c.msg.result.now c.msg.ensures.queues
-    c.accessible.result c.accessible.ensures c.in_ok-accessible.field-0 c.in_ok-accessible.was
-    c.msg_mut.result.now c.msg_mut.ensures.queues c.get_mut.result c.get_mut.ensures.object in
+    let t = lent (goal.at.returns-in_default-clause-finish c).After-get_mut in
     let small : nat_lt last_number c.args.size ≡ false = search rules in
     let object = t.object c.unwrap-queue.result c.unwrap-queue.ensures in
     let n : to_z w64 (of_z w64 c.args.mtype) ≡ c.args.mtype = to_z-of_z w64 c.args.mtype c.ranges.mtype in
     let excepts : c.contains.result ≡ has c.args.flags.0 except = search rules in
     let none : pick t.entry.object.messages c.args.mtype (has c.args.flags.0 except) ≡ None =
-    ap (λ (q : Queue). pick q.messages c.args.mtype (has c.args.flags.0 except)) (sym object)
-    ∙ (ap (λ (b : _). pick k.queue.messages c.args.mtype b) (sym excepts)
-    ∙ (ap (λ (z : ℤ). pick k.queue.messages z c.contains.result) (sym n) ∙ (sym c.select.ensures.picked ∙ c.in_default.is))) in
+    sym (λ i. pick (object i).messages (n i) (excepts i)) ∙ (sym c.select.ensures.picked ∙ c.in_default.is) in
     ap (λ (m : Keyed Queue). refused (record old.state { msg = m }) ENOMSG) (t.same k (c.get_mut.follows.lender k) (c.get_mut.follows.holds k) object)
     ∙ rw small (rw t.is (rw none refl))
 
@@ -57,17 +59,13 @@ returns-then-is_too_long-clause-finish c =
     let old = c.args.state.now in
     let k = c.unwrap-queue.result.now in
     let at = c.in-Some.at in
-    let t = opened c.args.id.0 EACCES (λ perm. not (may c.args.cred perm read)) c.args.state.now.state.msg c.msg.result.now c.msg.ensures.queues
-    c.accessible.result c.accessible.ensures c.in_ok-accessible.field-0 c.in_ok-accessible.was
-    c.msg_mut.result.now c.msg_mut.ensures.queues c.get_mut.result c.get_mut.ensures.object in
+    let t = lent (goal.at.returns-then-is_too_long-clause-finish c).After-get_mut in
     let small : nat_lt last_number c.args.size ≡ false = search rules in
     let object = t.object c.unwrap-queue.result c.unwrap-queue.ensures in
     let n : to_z w64 (of_z w64 c.args.mtype) ≡ c.args.mtype = to_z-of_z w64 c.args.mtype c.ranges.mtype in
     let excepts : c.contains.result ≡ has c.args.flags.0 except = search rules in
     let picked : pick t.entry.object.messages c.args.mtype (has c.args.flags.0 except) ≡ Some at =
-    ap (λ (q : Queue). pick q.messages c.args.mtype (has c.args.flags.0 except)) (sym object)
-    ∙ (ap (λ (b : _). pick k.queue.messages c.args.mtype b) (sym excepts)
-    ∙ (ap (λ (z : ℤ). pick k.queue.messages z c.contains.result) (sym n) ∙ (sym c.select.ensures.picked ∙ c.in-Some.is))) in
+    sym (λ i. pick (object i).messages (n i) (excepts i)) ∙ (sym c.select.ensures.picked ∙ c.in-Some.is) in
     let is : message_at t.entry.object at ≡ plain c.message.result.now =
     ap (λ (q : Queue). message_at q at) (sym object) ∙ found_at k.queue at _ c.message.ensures in
     let here : is_too_long c.args.flags.0 c.args.size (length c.message.result.now.text.items) ≡ true = search rules in
@@ -83,17 +81,13 @@ returns-clause-finish c =
     let at = c.in-Some.at in
     let got = c.take-message.result in
     let left = c.take-message.new.self in
-    let t = opened c.args.id.0 EACCES (λ perm. not (may c.args.cred perm read)) c.args.state.now.state.msg c.msg.result.now c.msg.ensures.queues
-    c.accessible.result c.accessible.ensures c.in_ok-accessible.field-0 c.in_ok-accessible.was
-    c.msg_mut.result.now c.msg_mut.ensures.queues c.get_mut.result c.get_mut.ensures.object in
+    let t = lent (goal.at.returns-clause-finish c).After-get_mut in
     let small : nat_lt last_number c.args.size ≡ false = search rules in
     let object = t.object c.unwrap-queue.result c.unwrap-queue.ensures in
     let n : to_z w64 (of_z w64 c.args.mtype) ≡ c.args.mtype = to_z-of_z w64 c.args.mtype c.ranges.mtype in
     let excepts : c.contains.result ≡ has c.args.flags.0 except = search rules in
     let picked : pick t.entry.object.messages c.args.mtype (has c.args.flags.0 except) ≡ Some at =
-    ap (λ (q : Queue). pick q.messages c.args.mtype (has c.args.flags.0 except)) (sym object)
-    ∙ (ap (λ (b : _). pick k.queue.messages c.args.mtype b) (sym excepts)
-    ∙ (ap (λ (z : ℤ). pick k.queue.messages z c.contains.result) (sym n) ∙ (sym c.select.ensures.picked ∙ c.in-Some.is))) in
+    sym (λ i. pick (object i).messages (n i) (excepts i)) ∙ (sym c.select.ensures.picked ∙ c.in-Some.is) in
     let is : message_at t.entry.object at ≡ plain c.message.result.now =
     ap (λ (q : Queue). message_at q at) (sym object) ∙ found_at k.queue at _ c.message.ensures in
     let got_is : message_at t.entry.object at ≡ plain got =
@@ -104,8 +98,7 @@ returns-clause-finish c =
     let f : to_z w64 (of_z w64 got.mtype) ≡ got.mtype = to_z-of_z w64 got.mtype got.typed in
     let new : State = record old.state { msg = with_entry old.state.msg c.args.id.0 (holding t.entry (taken t.entry.object at c.args.pid.0 old.state.clock)) } in
     let takes : left.queue ≡ taken t.entry.object at c.args.pid.0 old.state.clock =
-    c.take-message.ensures.queue
-    ∙ (ap (taken k.queue at c.args.pid.0) c.clock-now.ensures ∙ ap (λ (q : Queue). taken q at c.args.pid.0 old.state.clock) object) in
+    c.take-message.ensures.queue ∙ (λ i. taken (object i) at c.args.pid.0 (c.clock-now.ensures i)) in
     ap (λ (m : Keyed Queue). done (record old.state { msg = m }) (Message (to_z w64 (of_z w64 got.mtype)) c.truncate.new.self.items))
     (t.left left (c.get_mut.follows.lender left) (c.get_mut.follows.holds left) ∙ ap (λ (q : Queue). with_entry old.state.msg c.args.id.0 (holding t.entry q)) takes)
     ∙ (ap (λ (z : ℤ). done new (Message z c.truncate.new.self.items)) f
@@ -116,23 +109,17 @@ returns-clause-finish c =
 pub returns-in_default-clause-keys : goal.returns-in_default-clause-keys
 returns-in_default-clause-keys c =
     let left = c.unwrap-queue.result.now in
-    let t = opened c.args.id.0 EACCES (λ perm. not (may c.args.cred perm read)) c.args.state.now.state.msg c.msg.result.now c.msg.ensures.queues
-    c.accessible.result c.accessible.ensures c.in_ok-accessible.field-0 c.in_ok-accessible.was
-    c.msg_mut.result.now c.msg_mut.ensures.queues c.get_mut.result c.get_mut.ensures.object in
+    let t = lent (goal.at.returns-in_default-clause-keys c).After-get_mut in
     t.keys left (c.get_mut.follows.lender left) (c.get_mut.follows.holds left) ∙ c.msg_mut.ensures.keys
 
 pub returns-then-is_too_long-clause-keys : goal.returns-then-is_too_long-clause-keys
 returns-then-is_too_long-clause-keys c =
     let left = c.unwrap-queue.result.now in
-    let t = opened c.args.id.0 EACCES (λ perm. not (may c.args.cred perm read)) c.args.state.now.state.msg c.msg.result.now c.msg.ensures.queues
-    c.accessible.result c.accessible.ensures c.in_ok-accessible.field-0 c.in_ok-accessible.was
-    c.msg_mut.result.now c.msg_mut.ensures.queues c.get_mut.result c.get_mut.ensures.object in
+    let t = lent (goal.at.returns-then-is_too_long-clause-keys c).After-get_mut in
     t.keys left (c.get_mut.follows.lender left) (c.get_mut.follows.holds left) ∙ c.msg_mut.ensures.keys
 
 pub returns-clause-keys : goal.returns-clause-keys
 returns-clause-keys c =
     let left = c.take-message.new.self in
-    let t = opened c.args.id.0 EACCES (λ perm. not (may c.args.cred perm read)) c.args.state.now.state.msg c.msg.result.now c.msg.ensures.queues
-    c.accessible.result c.accessible.ensures c.in_ok-accessible.field-0 c.in_ok-accessible.was
-    c.msg_mut.result.now c.msg_mut.ensures.queues c.get_mut.result c.get_mut.ensures.object in
+    let t = lent (goal.at.returns-clause-keys c).After-get_mut in
     t.keys left (c.get_mut.follows.lender left) (c.get_mut.follows.holds left) ∙ c.msg_mut.ensures.keys
