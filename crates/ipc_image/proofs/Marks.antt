@@ -1,5 +1,5 @@
 -- Lists of things in saved objects: one of them by its place, and how many bytes the first ones have.
-use Rattle.std.proofs.Common.{◌≡◌, ℕ, ◌+◌, ◌<◌, ◌≤◌, List, [], ◌∷◌, ◌++◌, length, map, take, drop, get_or, Some, refl, ap, sym, subst, ◌∙◌, arith}
+use Rattle.std.proofs.Common.{◌≡◌, ℕ, zero, suc, ◌-◌, ◌+◌, ◌<◌, ◌≤◌, List, [], ◌∷◌, ◌++◌, length, map, take, drop, get_or, Some, refl, ap, sym, subst, ◌∙◌, arith}
 use Rattle.std.specs.Prelude.{All, option_map}
 use Rattle.std.proofs.lemmas.List.{length-append, flat_map_more, take_more, take-append-drop}
 use Rattle.std.proofs.lemmas.List.Elements.{All-get_or}
@@ -16,6 +16,19 @@ row-at row ys i a within is = slice_get-map row ys i ∙ ap (option_map row) (sl
 -- what holds of each holds of it
 pub each-at : {X : Type 0} (P : X → Type 0) (xs : List X) (i : ℕ) (x : X) → All P xs → slice_get xs i ≡ Some x → P x
 each-at P xs i x each is = subst P (get_or_from_slice_get xs i x x is) (All-get_or P xs i x (slice_get_within xs i x is) each)
+
+-- what stands in the first of two lists, and in the second
+pub found-first : {X : Type 0} (xs ys : List X) (i : ℕ) (x : X) → slice_get xs i ≡ Some x → slice_get (xs ++ ys) i ≡ Some x
+found-first [] ys i x is = absurd cc
+found-first (y ∷ xs) ys zero x is = is
+found-first (y ∷ xs) ys (suc i) x is = found-first xs ys i x is
+
+pub found-second : {X : Type 0} (xs ys : List X) (i : ℕ) (x : X) → length xs ≤ i → slice_get ys (i - length xs) ≡ Some x → slice_get (xs ++ ys) i ≡ Some x
+found-second [] ys i x le is = let whole : i - 0 ≡ i = omega arith in ap (slice_get ys) (sym whole) ∙ is
+found-second (y ∷ xs) ys zero x le is = absurd (omega arith)
+found-second (y ∷ xs) ys (suc i) x le is =
+    let less : i - length xs ≡ suc i - length (y ∷ xs) = omega arith in
+    found-second xs ys i x (omega arith) (ap (slice_get ys) less ∙ is)
 
 module _ {X : Type 0} (bytes_of : X → List ℕ) (xs : List X) (k : ℕ) where
   -- one more

@@ -1,5 +1,5 @@
 -- Objects of a kind, read one after another; and that they are known by their bytes.
-use Rattle.std.proofs.Common.{◌≡◌, ◌≢◌, ◌<◌, ◌^◌, ◌+◌, ℕ, zero, suc, List, [], ◌∷◌, ◌++◌, drop, map, Option, Some, None, refl, sym, ap, ◌∙◌, arith}
+use Rattle.std.proofs.Common.{◌≡◌, ◌≢◌, ◌<◌, ◌^◌, ◌+◌, ℕ, zero, suc, List, [], ◌∷◌, ◌++◌, drop, map, Option, Some, None, refl, sym, ap, subst, ◌∙◌, ◌≤◌, arith}
 use Rattle.std.specs.Prelude.{All, option_map, slice_get}
 use Rattle.std.proofs.Math.Seq.{drop-cons}
 use Rattle.std.proofs.lemmas.List.{append_assoc, map-append}
@@ -75,17 +75,28 @@ module _ {X : Type 0} (first : ℕ) (bytes_of : X → List ℕ) (Fits : X → Ty
       let head : (n, b) ≡ object z = cc in
       never z.1 (All-head (FitsIn Fits) z zs fit).1 (ap (λ (p : ℕ × List ℕ). p.1) head)
 
-  -- two lists of things with the same objects
-  pub objects_one : ((x y : X) → Fits x → Fits y → bytes_of x ≡ bytes_of y → x ≡ y) → (xs ys : List (ℕ × X)) → All (FitsIn Fits) xs
-      → All (FitsIn Fits) ys → map object xs ≡ map object ys → xs ≡ ys
-  objects_one one [] [] fit also same = refl
-  objects_one one [] (y ∷ ys) fit also same = absurd cc
-  objects_one one (x ∷ xs) [] fit also same = absurd cc
-  objects_one one (x ∷ xs) (y ∷ ys) fit also same =
+  -- two lists of things with the same objects, whatever objects of other kinds follow
+  pub objects_one : ((x y : X) → Fits x → Fits y → bytes_of x ≡ bytes_of y → x ≡ y) → (xs ys : List (ℕ × X)) (more others : PlainObjects)
+      → All (FitsIn Fits) xs → All (FitsIn Fits) ys → IsOther first more → IsOther first others → map object xs ++ more ≡ map object ys ++ others
+      → (xs ≡ ys) × (more ≡ others)
+  objects_one one [] ys more others fit also other another same = by_list ys also same
+    where
+      by_list : (ys : List (ℕ × X)) → All (FitsIn Fits) ys → more ≡ map object ys ++ others → ([] ≡ ys) × (more ≡ others)
+      by_list [] also same = (refl, same)
+      by_list (y ∷ ys) also same = absurd (subst (IsOther first) same other y.0 (All-head (FitsIn Fits) y ys also).0 refl)
+  objects_one one (x ∷ xs) [] more others fit also other another same =
+      absurd (subst (IsOther first) (sym same) another x.0 (All-head (FitsIn Fits) x xs fit).0 refl)
+  objects_one one (x ∷ xs) (y ∷ ys) more others fit also other another same =
       let head : object x ≡ object y = cc in
       let id : x.0 ≡ y.0 = omega (arith, ap (λ (p : ℕ × List ℕ). p.0) head) in
       let thing =
       one x.1 y.1 (All-head (FitsIn Fits) x xs fit).1 (All-head (FitsIn Fits) y ys also).1 (ap (λ (p : ℕ × List ℕ). p.1) head) in
-      let tail : map object xs ≡ map object ys = cc in
-      let rest = objects_one one xs ys (All-tail (FitsIn Fits) x xs fit) (All-tail (FitsIn Fits) y ys also) tail in
-      ap (λ (n : ℕ). (n, x.1) ∷ xs) id ∙ ap (λ (z : X). (y.0, z) ∷ xs) thing ∙ ap (λ (l : List (ℕ × X)). y ∷ l) rest
+      let tail : map object xs ++ more ≡ map object ys ++ others = cc in
+      let rest = objects_one one xs ys more others (All-tail (FitsIn Fits) x xs fit) (All-tail (FitsIn Fits) y ys also) other another tail in
+      (ap (λ (n : ℕ). (n, x.1) ∷ xs) id ∙ ap (λ (z : X). (y.0, z) ∷ xs) thing ∙ ap (λ (l : List (ℕ × X)). y ∷ l) rest.0, rest.1)
+
+-- the objects of a later kind are of another one
+pub later-kind : {X : Type 0} (first next : ℕ) (bytes_of : X → List ℕ) (xs : List (ℕ × X)) → first + 2 ^ 32 ≤ next
+    → IsOther first (map (object_in next bytes_of) xs)
+later-kind first next bytes_of [] le = tt
+later-kind first next bytes_of (x ∷ xs) le = λ id few same. omega (arith, le, few, same)

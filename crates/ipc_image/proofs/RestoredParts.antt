@@ -1,4 +1,4 @@
--- The bytes of a queue, what its numbers make of it, and that queues and clocks are told apart.
+-- The bytes of a queue and of a semaphore set, what its numbers make of it, and that they and clocks are told apart.
 use Rattle.std.proofs.Common.{◌≡◌, ℕ, ℤ, List, [], ◌∷◌, ◌++◌, length, map, get_or, refl, sym, ◌∙◌, ap, subst}
 use Rattle.std.specs.Prelude.{All, FitsSigned}
 use Rattle.std.specs.List.{flat_map}
@@ -8,6 +8,9 @@ use Rattle.std.proofs.lemmas.List.{length-map}
 use Rattle.std.proofs.lemmas.List.Elements.{All-map, All-weaker}
 use Rattle.std.proofs.lemmas.List.Folds.{flat_map-map}
 use Rattle.sysv_msg.specs.Queue.{Queue, PlainMessage}
+use Rattle.sysv_sem.specs.declared.set.Semaphore.{Semaphore}
+use Rattle.sysv_sem.specs.Set.{Set, semaphores_of, set_of}
+use Rattle.sysv_sem.proofs.CallerLemmas.{set-known, semaphores-known, semaphores-long}
 use Rattle.ipc_state.specs.declared.keyed.Entry.{Entry}
 use Rattle.ipc_state.specs.State.{State}
 use Rattle.ipc_base.specs.Numbers.{fields_bytes, FitFields}
@@ -15,6 +18,9 @@ use Rattle.ipc_base.proofs.CallerLemmas.{fields_one, listed, numbers_are}
 use Rattle.ipc_image.specs.Shape.{IsTree, tree_bytes}
 use Rattle.ipc_image.specs.Saved.{clock_sizes, clock_numbers, message_shape, message_tree, message_bytes, FitsMessage}
 use Rattle.ipc_image.specs.Saved.{queue_sizes, queue_numbers, queue_shape, queue_tree, queue_bytes, FitsQueue}
+use Rattle.ipc_image.specs.Saved.{semaphore_shape, semaphore_numbers, semaphore_bytes, FitsSemaphore}
+use Rattle.ipc_image.specs.Saved.{set_sizes, set_numbers, set_shape, set_tree, set_bytes, FitsSet}
+use Rattle.ipc_image.specs.SavedParts.{semaphore_from, set_from, set_in}
 use Rattle.ipc_image.specs.SavedParts.{message_from, message_of, with_messages, entry_from, queue_of}
 use Rattle.ipc_image.proofs.Shapes.{each_back}
 
@@ -61,6 +67,48 @@ pub rebuilt_queue : (q r : Queue) (ms : List PlainMessage) → r.messages ≡ q.
 rebuilt_queue q r ms added others =
     ap (with_messages r) added ∙ ap (λ (v : Queue). with_messages v (q.messages ++ ms)) others
 
+-- the same of a semaphore set
+pub set_spelled : (e : Entry Set) → set_bytes e ≡ fields_bytes set_sizes (set_numbers e) ++ flat_map semaphore_bytes (semaphores_of e.object)
+set_spelled e =
+    ap (λ (l : List ℕ). fields_bytes set_sizes (set_numbers e) ++ l)
+    (flat_map-map (tree_bytes semaphore_shape) semaphore_numbers (semaphores_of e.object))
+
+pub set_tree_known : (e : Entry Set) → FitsSet e → IsTree set_shape (set_tree e) × (set_in (set_tree e) ≡ e)
+set_tree_known e fit =
+    let xs : List Semaphore = semaphores_of e.object in (
+      (
+        fit.numbers,
+        refl,
+        length-map xs semaphore_numbers ∙ semaphores-long e.object.values e.object.pids fit.pids,
+        All-map (IsTree semaphore_shape) semaphore_numbers xs
+            (All-weaker FitsSemaphore (λ x. IsTree semaphore_shape (semaphore_numbers x)) (λ x f. f.1) xs fit.semaphores),
+      ),
+      ap (λ (k : ℤ). set_from (set_numbers e) k (map semaphore_from (map semaphore_numbers xs))) (to_z-of_z w32 e.key fit.key)
+          ∙ ap (set_from (set_numbers e) e.key) (each_back semaphore_numbers semaphore_from xs (λ k d within. refl))
+          ∙ ap (λ (s : Set). let f : Entry Set = record { key = e.key; perm = e.perm; object = s } in f) (set-known e.object fit.pids),
+    )
+
+pub set_found : (ns bytes rest : List ℕ) (key : ℤ) (xs : List Semaphore) → FitFields set_sizes ns
+    → bytes ≡ fields_bytes set_sizes ns ++ rest → FitsSigned w32 key → cast_unsigned w32 key ≡ get_or ns 0 0
+    → length xs ≡ get_or ns 8 0 → All FitsSemaphore xs → rest ≡ flat_map semaphore_bytes xs
+    → FitsSet (set_from ns key xs) × (bytes ≡ set_bytes (set_from ns key xs))
+set_found ns bytes rest key xs fit is fits spelled count each read =
+    let e : Entry Set = set_from ns key xs in
+    let middle : List ℕ = listed 7 1 ns in
+    let known : semaphores_of e.object ≡ xs = semaphores-known xs (get_or ns 6 0) (get_or ns 7 0) in
+    let same : ns ≡ set_numbers e =
+    numbers_are set_sizes ns fit ∙ ap (λ (n : ℕ). n ∷ listed 8 1 ns) (sym spelled)
+    ∙ ap (λ (n : ℕ). cast_unsigned w32 key ∷ (middle ++ n ∷ [])) (sym count ∙ sym (length-map xs (λ (x : Semaphore). x.value))) in (
+      record {
+        key = fits;
+        numbers = subst (FitFields set_sizes) same fit;
+        semaphores = subst (All FitsSemaphore) (sym known) each;
+        pids = length-map xs (λ (x : Semaphore). x.pid) ∙ sym (length-map xs (λ (x : Semaphore). x.value));
+      },
+      is ∙ ap (λ (l : List ℕ). fields_bytes set_sizes ns ++ l) (read ∙ ap (flat_map semaphore_bytes) (sym known))
+          ∙ ap (λ (l : List ℕ). fields_bytes set_sizes l ++ flat_map semaphore_bytes (semaphores_of e.object)) same ∙ sym (set_spelled e),
+    )
+
 -- a state with its clock and its next numbers alone
 abbrev pub emptied : State → State
 emptied s =
@@ -68,6 +116,7 @@ emptied s =
       clock = s.clock;
       processes = record { next = s.processes.next; entries = [] };
       msg = record { next = s.msg.next; entries = [] };
+      sem = record { next = s.sem.next; entries = [] };
     }
 
 -- states with the same clock's object have the same clock and next numbers
@@ -79,5 +128,6 @@ clock_one s t fit also same =
       clock = get_or ns 0 0;
       processes = record { next = get_or ns 1 0; entries = [] };
       msg = record { next = get_or ns 2 0; entries = [] };
+      sem = record { next = get_or ns 3 0; entries = [] };
     } in
     ap made first.0

@@ -1,10 +1,10 @@
 -- The state as objects: how many bytes each has, that they are objects, and that they fit where they are kept.
-use Rattle.std.proofs.Common.{◌≡◌, ℕ, zero, suc, ◌+◌, ◌*◌, ◌^◌, ◌<◌, ◌≤◌, List, [], ◌∷◌, length, map, Some, refl, sym, ap, subst, ◌∙◌, arith}
+use Rattle.std.proofs.Common.{◌≡◌, ℕ, zero, suc, ◌+◌, ◌*◌, ◌^◌, ◌<◌, ◌≤◌, List, [], ◌∷◌, ◌++◌, length, map, Some, refl, sym, ap, subst, ◌∙◌, arith}
 use Rattle.std.specs.Prelude.{All, sum_by, option_map}
-use Rattle.std.proofs.lemmas.List.{length-map, length-append}
+use Rattle.std.proofs.lemmas.List.{append-nil, length-map, length-append}
 use Rattle.std.proofs.lemmas.List.Concat.{flat_map-cons}
-use Rattle.std.proofs.lemmas.List.Elements.{All-cons, All-head, All-tail, All-map, All-nil, All-weaker}
-use Rattle.std.proofs.lemmas.List.Sums.{sum_by-cons, sum_by-le, sum_by_from}
+use Rattle.std.proofs.lemmas.List.Elements.{All-append, All-cons, All-map, All-nil, All-weaker}
+use Rattle.std.proofs.lemmas.List.Sums.{sum_by-append, sum_by-cons, sum_by-le, sum_by_from}
 use Rattle.std.proofs.lemmas.Nat.{mul-le}
 use Rattle.std.proofs.lemmas.Option.{slice_get-map}
 use Rattle.std.specs.List.{flat_map, slice_get}
@@ -18,15 +18,19 @@ use Rattle.sysv_msg.specs.Queue.{Queue, PlainMessage, Kept, byte_count, stat_of}
 use Rattle.sysv_msg.specs.declared.queue.QueueStat.{QueueStat}
 use Rattle.ipc_state.specs.declared.numbered.Item.{Item}
 use Rattle.ipc_state.specs.declared.keyed.Entry.{Entry}
-use Rattle.ipc_state.specs.Sound.{IsSoundQueue, HasNumbers}
-use Rattle.ipc_state.proofs.CallerLemmas.{queue-numbers}
+use Rattle.ipc_state.specs.Sound.{IsSoundQueue, IsSoundSet, HasNumbers}
+use Rattle.sysv_sem.specs.declared.set.Semaphore.{Semaphore}
+use Rattle.sysv_sem.specs.Set.{Set, semaphores_of}
+use Rattle.sysv_sem.proofs.CallerLemmas.{semaphores-long}
+use Rattle.ipc_state.proofs.CallerLemmas.{All-seen, queue-numbers}
 use Rattle.ipc_engine.specs.Sound.{IsSound}
 use Rattle.ipc_state.specs.State.{State, start}
-use Rattle.ipc_state.specs.Tables.{queue_row}
+use Rattle.ipc_state.specs.Tables.{item_row, queue_row}
 use Rattle.ipc_base.specs.Numbers.{fields_bytes}
 use Rattle.ipc_image.specs.Saved.{clock_sizes, clock_numbers, count_bytes, process_bytes, processes_bytes, message_bytes}
-use Rattle.ipc_image.specs.Saved.{queue_bytes, queue_object, saved, HasAllPlaces}
-use Rattle.ipc_image.proofs.RestoredParts.{queue_spelled}
+use Rattle.ipc_image.specs.Kind.{object_in}
+use Rattle.ipc_image.specs.Saved.{queue_bytes, queue_object, semaphore_bytes, set_bytes, set_object, saved, HasAllPlaces}
+use Rattle.ipc_image.proofs.RestoredParts.{queue_spelled, set_spelled}
 use Rattle.ipc_image.specs.Sizes.{sectors, process_sectors, area_of}
 
 -- ---- how many bytes each has
@@ -52,12 +56,32 @@ queue-long e = omega (arith, ap length (queue_spelled e), length-messages e.obje
 pub queue_counts : (e : Entry Queue) (s : QueueStat) → s ≡ stat_of e.object → length (queue_bytes e) ≡ 64 + (12 * s.qnum + s.bytes)
 queue_counts e s is = omega (arith, queue-long e, ap (λ (t : QueueStat). t.qnum) is, ap (λ (t : QueueStat). t.bytes) is)
 
+pub length-semaphores : (xs : List Semaphore) → length (flat_map semaphore_bytes xs) ≡ 6 * length xs
+length-semaphores [] = refl
+length-semaphores (x ∷ xs) =
+    ap length (flat_map-cons semaphore_bytes x xs) ∙ length-append (semaphore_bytes x) (flat_map semaphore_bytes xs)
+    ∙ omega (arith, length-semaphores xs)
+
+pub set-long : (e : Entry Set) → length e.object.pids ≡ length e.object.values → length (set_bytes e) ≡ 44 + 6 * length e.object.values
+set-long e same =
+    omega (arith, ap length (set_spelled e), length-semaphores (semaphores_of e.object), semaphores-long e.object.values e.object.pids same)
+
 -- ---- which object is which
 
+-- the things that have objects of their own
+abbrev pub things : State → PlainObjects
+things s = map queue_object s.msg.entries ++ map set_object s.sem.entries
+
 module _ (s : State) where
-  pub saved-count : length (saved s) ≡ 4 + length s.msg.entries
+  pub saved-count : length (saved s) ≡ 4 + (length s.msg.entries + length s.sem.entries)
   unfolding saved
-  saved-count = omega (arith, length-map s.msg.entries queue_object)
+  saved-count =
+      omega (
+        arith,
+        length-append (map queue_object s.msg.entries) (map set_object s.sem.entries),
+        length-map s.msg.entries queue_object,
+        length-map s.sem.entries set_object,
+      )
 
   pub saved-clock : slice_get (saved s) 0 ≡ Some (0, fields_bytes clock_sizes (clock_numbers s))
   unfolding saved
@@ -84,105 +108,139 @@ module _ (s : State) where
   saved-number (suc (suc (suc zero))) few = refl
   saved-number (suc (suc (suc (suc i)))) few = absurd (omega arith)
 
-  -- a queue's object
-  pub saved-queue : (i j : ℕ) (e : Item (Entry Kept)) → i ≡ 4 + j → slice_get s.msg.entries j ≡ Some (queue_row e)
-      → slice_get (saved s) i ≡ Some (queue_object (queue_row e))
+  -- an object after the four
+  pub saved-thing : (i j : ℕ) (o : ℕ × List ℕ) → i ≡ 4 + j → slice_get (things s) j ≡ Some o → slice_get (saved s) i ≡ Some o
   unfolding saved
-  saved-queue i j e place found =
+  saved-thing i j o place found =
       let deep : i ≡ suc (suc (suc (suc j))) = omega arith in
-      ap (slice_get (saved s)) deep ∙ slice_get-map queue_object s.msg.entries j ∙ ap (option_map queue_object) found
+      ap (slice_get (saved s)) deep ∙ found
 
-  -- what holds of the four and of each queue holds of all
+  -- what holds of the four, of each queue and of each set holds of all
   each-saved : (P : ℕ × List ℕ → Type 0) → P (0, fields_bytes clock_sizes (clock_numbers s)) → P (1, processes_bytes s.processes.entries)
-      → P (2, count_bytes 0) → P (3, count_bytes 0) → All (λ e. P (queue_object e)) s.msg.entries → All P (saved s)
+      → P (2, count_bytes 0) → P (3, count_bytes 0) → All (λ e. P (queue_object e)) s.msg.entries → All (λ e. P (set_object e)) s.sem.entries
+      → All P (saved s)
   unfolding saved
-  each-saved P clock processes waiting adjustments each =
-      let queues : List (ℕ × List ℕ) = map queue_object s.msg.entries in
-      let two : List (ℕ × List ℕ) = (2, count_bytes 0) ∷ (3, count_bytes 0) ∷ queues in
+  each-saved P clock processes waiting adjustments each others =
+      let two : List (ℕ × List ℕ) = (2, count_bytes 0) ∷ (3, count_bytes 0) ∷ things s in
       All-cons P _ ((1, processes_bytes s.processes.entries) ∷ two) clock
       (All-cons P _ two processes
-      (All-cons P _ ((3, count_bytes 0) ∷ queues) waiting
-      (All-cons P _ queues adjustments (All-map P queue_object s.msg.entries each))))
+      (All-cons P _ ((3, count_bytes 0) ∷ things s) waiting
+      (All-cons P _ (things s) adjustments
+      (All-append P (map queue_object s.msg.entries) (map set_object s.sem.entries) (All-map P queue_object s.msg.entries each)
+      (All-map P set_object s.sem.entries others)))))
 
 -- ---- they are objects
 
-queue-numbers-rise : (low high : ℕ) (es : List (ℕ × Entry Queue)) → IsRising low (keys_of es) high
-    → IsRising (2 ^ 32 + low) (keys_of (map queue_object es)) (2 ^ 32 + high)
-queue-numbers-rise low high [] rising = omega arith
-queue-numbers-rise low high (e ∷ es) rising =
-    let next : 2 ^ 32 + (e.0 + 1) ≡ 2 ^ 32 + e.0 + 1 = omega arith in (
+-- the numbers of the objects of a kind rise, and those of what follows them
+objects-rise : {X : Type 0} (first : ℕ) (bytes_of : X → List ℕ) (low high top : ℕ) (es : List (ℕ × X)) (more : PlainObjects)
+    → IsRising low (keys_of es) high → IsRising (first + high) (keys_of more) top
+    → IsRising (first + low) (keys_of (map (object_in first bytes_of) es ++ more)) top
+objects-rise first bytes_of low high top [] more rising rest = rising-lower (first + low) (first + high) (keys_of more) top (omega (arith, rising)) rest
+objects-rise first bytes_of low high top (e ∷ es) more rising rest =
+    let next : first + (e.0 + 1) ≡ first + e.0 + 1 = omega arith in (
       omega (arith, rising.0),
-      subst (λ (n : ℕ). IsRising n (keys_of (map queue_object es)) (2 ^ 32 + high)) next
-          (queue-numbers-rise (e.0 + 1) high es rising.1),
+      subst (λ (n : ℕ). IsRising n (keys_of (map (object_in first bytes_of) es ++ more)) top) next
+          (objects-rise first bytes_of (e.0 + 1) high top es more rising.1 rest),
     )
+
+-- the sectors of the objects of a kind
+kind-sectors : {X : Type 0} (first most bytes : ℕ) (bytes_of : X → List ℕ) (es : List (ℕ × X)) → All (λ e. length (bytes_of e.1) ≤ bytes) es
+    → length es ≤ most → sum_by (λ o. sectors (length o.1)) (map (object_in first bytes_of) es) ≤ most * sectors bytes
+kind-sectors first most bytes bytes_of es short few =
+    let of : ℕ × List ℕ → ℕ = λ o. sectors (length o.1) in
+    let objects : PlainObjects = map (object_in first bytes_of) es in
+    let each : All (λ o. of o ≤ sectors bytes) objects =
+    All-map (λ (o : ℕ × List ℕ). of o ≤ sectors bytes) (object_in first bytes_of) es
+    (All-weaker (λ e. length (bytes_of e.1) ≤ bytes) (λ e. of (object_in first bytes_of e) ≤ sectors bytes) (λ e short. omega (arith, short)) es short) in
+    let all : length objects ≤ most = omega (arith, few, length-map es (object_in first bytes_of)) in
+    omega (arith, sum_by-le of (sectors bytes) objects each, mul-le (length objects) (sectors bytes) most (sectors bytes) all (omega arith))
 
 module _ (limits : Limits) (s : State) (passed : ArePassed limits) (sound : IsSound limits s) where
   -- each number of a queue that is kept fits in a field of four bytes
   pub rows-numbers : (rows : List (Item (Entry Kept))) → map queue_row rows ≡ s.msg.entries → All (λ e. HasNumbers e.value.object.queue) rows
-  rows-numbers rows are = by_rows rows (subst (All (λ (e : ℕ × Entry Queue). IsSoundQueue limits e.1.object)) (sym are) sound.parts.msg.each)
-    where
-      by_rows : (es : List (Item (Entry Kept))) → All (λ (e : ℕ × Entry Queue). IsSoundQueue limits e.1.object) (map queue_row es)
-          → All (λ e. HasNumbers e.value.object.queue) es
-      by_rows [] each = All-nil _
-      by_rows (e ∷ es) each =
-          let P : ℕ × Entry Queue → Type 0 = λ (f : ℕ × Entry Queue). IsSoundQueue limits f.1.object in
-          All-cons (λ (f : Item (Entry Kept)). HasNumbers f.value.object.queue) e es
-          (queue-numbers limits e.value.object.queue passed (All-head P (queue_row e) (map queue_row es) each))
-          (by_rows es (All-tail P (queue_row e) (map queue_row es) each))
+  rows-numbers rows are =
+      let P : ℕ × Entry Queue → Type 0 = λ e. HasNumbers e.1.object in
+      All-seen P queue_row rows (subst (All P) (sym are)
+      (All-weaker (λ (e : ℕ × Entry Queue). IsSoundQueue limits e.1.object) P (λ e good. queue-numbers limits e.1.object passed good)
+      s.msg.entries sound.parts.msg.each))
+
+  -- and the count of the semaphores of a set
+  pub sets-numbers : (rows : List (Item (Entry Set))) → map item_row rows ≡ s.sem.entries → All (λ e. length e.value.object.values < 2 ^ 32) rows
+  sets-numbers rows are =
+      let b = passed-bounds limits passed in
+      let P : ℕ × Entry Set → Type 0 = λ e. length e.1.object.values < 2 ^ 32 in
+      All-seen P item_row rows (subst (All P) (sym are)
+      (All-weaker (λ (e : ℕ × Entry Set). IsSoundSet limits e.1.object) P (λ e good. omega (arith, good.few, b.semmsl))
+      s.sem.entries sound.parts.sem.keyed.each))
 
   queues-short : All (λ e. length (queue_bytes e.1) ≤ 64 + 13 * limits.msgmnb) s.msg.entries
   queues-short =
       All-weaker (λ (e : ℕ × Entry Queue). IsSoundQueue limits e.1.object) (λ e. length (queue_bytes e.1) ≤ 64 + 13 * limits.msgmnb)
       (λ e good. omega (arith, queue-long e.1, good.count, good.bytes)) s.msg.entries sound.parts.msg.each
 
+  sets-short : All (λ e. (44 ≤ length (set_bytes e.1)) × (length (set_bytes e.1) ≤ 44 + 6 * limits.semmsl)) s.sem.entries
+  sets-short =
+      All-weaker (λ (e : ℕ × Entry Set). IsSoundSet limits e.1.object)
+      (λ e. (44 ≤ length (set_bytes e.1)) × (length (set_bytes e.1) ≤ 44 + 6 * limits.semmsl))
+      (λ e good. let long = set-long e.1 good.pids in (omega (arith, long), omega (arith, long, good.few))) s.sem.entries sound.parts.sem.keyed.each
+
   numbers-rise : IsRising 0 (keys_of (saved s)) (2 ^ 64)
   unfolding saved
   numbers-rise =
-      let queues = queue-numbers-rise 1 s.msg.next s.msg.entries sound.parts.msg.numbered.numbers in
-      let rest = rising-lower 4 (2 ^ 32 + 1) (keys_of (map queue_object s.msg.entries)) (2 ^ 64) (omega arith)
-      (rising-weaker (2 ^ 32 + 1) (keys_of (map queue_object s.msg.entries)) (2 ^ 32 + s.msg.next) (2 ^ 64)
-      (omega (arith, sound.parts.msg.numbered.next)) queues) in
-      (omega arith, (omega arith, (omega arith, (omega arith, rest))))
+      let n : ℕ = 2 * 2 ^ 32 + s.sem.next in
+      let bound : n ≤ 2 ^ 64 = omega (arith, sound.parts.sem.keyed.numbered.next) in
+      let sets : IsRising (2 * 2 ^ 32 + 1) (keys_of (map set_object s.sem.entries)) (2 ^ 64) =
+      subst (λ (os : PlainObjects). IsRising (2 * 2 ^ 32 + 1) (keys_of os) (2 ^ 64)) (append-nil (map set_object s.sem.entries))
+      (objects-rise (2 * 2 ^ 32) set_bytes 1 s.sem.next (2 ^ 64) s.sem.entries [] sound.parts.sem.keyed.numbered.numbers bound) in
+      let after = rising-lower (2 ^ 32 + s.msg.next) (2 * 2 ^ 32 + 1) (keys_of (map set_object s.sem.entries)) (2 ^ 64)
+      (omega (arith, sound.parts.msg.numbered.next)) sets in
+      let all = objects-rise (2 ^ 32) queue_bytes 1 s.msg.next (2 ^ 64) s.msg.entries (map set_object s.sem.entries)
+      sound.parts.msg.numbered.numbers after in
+      (omega arith, (omega arith, (omega arith, (omega arith, rising-lower 4 (2 ^ 32 + 1) (keys_of (things s)) (2 ^ 64) (omega arith) all))))
 
   pub saved-are : AreObjects (saved s)
   saved-are =
       let b = passed-bounds limits passed in
       let Some-bytes : ℕ × List ℕ → Type 0 = λ o. 0 < length o.1 in
       let Few-bytes : ℕ × List ℕ → Type 0 = λ o. length o.1 < 2 ^ 64 in
+      let IsShort : ℕ × Entry Set → Type 0 = λ e. (44 ≤ length (set_bytes e.1)) × (length (set_bytes e.1) ≤ 44 + 6 * limits.semmsl) in
       record {
         numbers = numbers-rise;
         some = each-saved s Some-bytes (omega arith) (omega (arith, processes-long s.processes.entries)) (omega arith) (omega arith)
             (All-weaker (λ (e : ℕ × Entry Queue). length (queue_bytes e.1) ≤ 64 + 13 * limits.msgmnb) (λ e. Some-bytes (queue_object e))
-            (λ e short. omega (arith, queue-long e.1)) s.msg.entries queues-short);
+            (λ e short. omega (arith, queue-long e.1)) s.msg.entries queues-short)
+            (All-weaker IsShort (λ e. Some-bytes (set_object e)) (λ e short. omega (arith, short.0)) s.sem.entries sets-short);
         lengths = each-saved s Few-bytes (omega arith)
             (omega (arith, processes-long s.processes.entries, sound.parts.processes.count, b.processes.1)) (omega arith) (omega arith)
             (All-weaker (λ (e : ℕ × Entry Queue). length (queue_bytes e.1) ≤ 64 + 13 * limits.msgmnb) (λ e. Few-bytes (queue_object e))
-            (λ e short. omega (arith, short, b.msgmnb.1)) s.msg.entries queues-short);
-        count = omega (arith, saved-count s, sound.parts.msg.numbered.count, b.msgmni);
+            (λ e short. omega (arith, short, b.msgmnb.1)) s.msg.entries queues-short)
+            (All-weaker IsShort (λ e. Few-bytes (set_object e)) (λ e short. omega (arith, short.1, b.semmsl)) s.sem.entries sets-short);
+        count = omega (arith, saved-count s, sound.parts.msg.numbered.count, b.msgmni, sound.parts.sem.keyed.numbered.count, b.semmni);
       }
 
   -- ---- they fit
 
-  object-sectors : object_sectors (saved s) ≤ process_sectors limits + limits.msgmni * sectors (64 + 13 * limits.msgmnb)
+  object-sectors : object_sectors (saved s)
+      ≤ process_sectors limits + limits.msgmni * sectors (64 + 13 * limits.msgmnb) + limits.semmni * sectors (44 + 6 * limits.semmsl)
   unfolding saved
   object-sectors =
       let of : ℕ × List ℕ → ℕ = λ o. sectors (length o.1) in
-      let most : ℕ = sectors (64 + 13 * limits.msgmnb) in
-      let queues : PlainObjects = map queue_object s.msg.entries in
-      let each : All (λ o. of o ≤ most) queues =
-      All-map (λ (o : ℕ × List ℕ). of o ≤ most) queue_object s.msg.entries
-      (All-weaker (λ (e : ℕ × Entry Queue). length (queue_bytes e.1) ≤ 64 + 13 * limits.msgmnb) (λ e. of (queue_object e) ≤ most)
-      (λ e short. omega (arith, short)) s.msg.entries queues-short) in
-      let all : sum_by of queues ≤ limits.msgmni * most =
-      let few : length queues ≤ limits.msgmni = omega (arith, sound.parts.msg.numbered.count, length-map s.msg.entries queue_object) in
-      omega (arith, sum_by-le of most queues each, mul-le (length queues) most limits.msgmni most few (omega arith)) in
+      let queues = kind-sectors (2 ^ 32) limits.msgmni (64 + 13 * limits.msgmnb) queue_bytes s.msg.entries queues-short sound.parts.msg.numbered.count in
+      let sets = kind-sectors (2 * 2 ^ 32) limits.semmni (44 + 6 * limits.semmsl) set_bytes s.sem.entries
+      (All-weaker (λ (e : ℕ × Entry Set). (44 ≤ length (set_bytes e.1)) × (length (set_bytes e.1) ≤ 44 + 6 * limits.semmsl))
+      (λ e. length (set_bytes e.1) ≤ 44 + 6 * limits.semmsl) (λ e short. short.1) s.sem.entries sets-short) sound.parts.sem.keyed.numbered.count in
       let processes : 16 * length s.processes.entries ≤ limits.processes * (16 + 16 * limits.descriptors) =
       omega (arith, mul-le (length s.processes.entries) 16 limits.processes (16 + 16 * limits.descriptors) sound.parts.processes.count (omega arith)) in
       let first : ℕ = sectors 32 + sectors (length (processes_bytes s.processes.entries)) + sectors 4 + sectors 4 in
-      omega (arith, sum_by_from of first queues, processes-long s.processes.entries)
+      omega (
+        arith,
+        sum_by_from of first (things s),
+        sum_by-append of (map queue_object s.msg.entries) (map set_object s.sem.entries),
+        processes-long s.processes.entries,
+      )
 
   pub saved-fit : Fit (area_of limits) (saved s)
-  saved-fit = omega (arith, object-sectors, saved-count s, sound.parts.msg.numbered.count)
+  saved-fit = omega (arith, object-sectors, saved-count s, sound.parts.msg.numbered.count, sound.parts.sem.keyed.numbered.count)
 
 -- ---- the state to which nothing has happened
 
@@ -192,6 +250,7 @@ start-places = record {
   count = omega arith;
   processes = All-nil _;
   queues = All-nil _;
+  sets = All-nil _;
 }
 
 pub start-are : AreObjects (saved start)
@@ -199,7 +258,7 @@ unfolding saved
 start-are =
     record {
       numbers = (omega arith, (omega arith, (omega arith, (omega arith, omega arith))));
-      some = each-saved start (λ o. 0 < length o.1) (omega arith) (omega arith) (omega arith) (omega arith) (All-nil _);
-      lengths = each-saved start (λ o. length o.1 < 2 ^ 64) (omega arith) (omega arith) (omega arith) (omega arith) (All-nil _);
+      some = each-saved start (λ o. 0 < length o.1) (omega arith) (omega arith) (omega arith) (omega arith) (All-nil _) (All-nil _);
+      lengths = each-saved start (λ o. length o.1 < 2 ^ 64) (omega arith) (omega arith) (omega arith) (omega arith) (All-nil _) (All-nil _);
       count = omega arith;
     }

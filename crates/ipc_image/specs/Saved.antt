@@ -1,31 +1,35 @@
 -- The state as objects, each of them some bytes under a number: what a checkpoint keeps. There are four that every
--- state has, and one for each queue. Kinds that are still to come have their place: their next number is 1, and no
--- process has a descriptor, no call waits, and no semaphore is adjusted.
-use Rattle.std.specs.Prelude.{◌≡◌, ◌+◌, ◌<◌, ◌^◌, ℕ, List, [], ◌∷◌, ◌++◌}
+-- state has, one for each queue, and one for each semaphore set. Kinds that are still to come have their place: their
+-- next number is 1, and no process has a descriptor, no call waits, and no semaphore is adjusted.
+use Rattle.std.specs.Prelude.{◌≡◌, ◌+◌, ◌*◌, ◌<◌, ◌≤◌, ◌^◌, ℕ, List, [], ◌∷◌, ◌++◌}
 use Rattle.std.specs.Prelude.{length, map, All, FitsSigned}
 use Rattle.std.specs.Int.{w32, w64, cast_unsigned}
 use Rattle.std.specs.List.{flat_map}
 use Rattle.ipc_base.specs.declared.limits.Limits.{Limits}
 use Rattle.ipc_base.specs.Objects.{PlainObjects}
 use Rattle.sysv_msg.specs.Queue.{Queue, PlainMessage}
+use Rattle.sysv_sem.specs.Operation.{most_value}
+use Rattle.sysv_sem.specs.declared.set.Semaphore.{Semaphore}
+use Rattle.sysv_sem.specs.Set.{Set, semaphores_of}
 use Rattle.ipc_state.specs.declared.keyed.Entry.{Entry}
 use Rattle.ipc_state.specs.declared.processes.Process.{Process}
 use Rattle.ipc_engine.specs.Sound.{IsSound}
 use Rattle.ipc_state.specs.State.{State}
 use Rattle.ipc_base.specs.declared.field.Size.{Size}
-use Rattle.ipc_base.specs.declared.field.Size.TheVariants.{Four, Eight}
+use Rattle.ipc_base.specs.declared.field.Size.TheVariants.{Two, Four, Eight}
 use Rattle.ipc_base.specs.Numbers.{fields_bytes, FitFields}
 use Rattle.ipc_image.specs.Kind.{object_in, FitsIn}
 use Rattle.ipc_image.specs.Shape.{Shape, Fields, Texts, Listing, Tree, IsTree, bytes_in}
 
 -- ---- the four that every state has
 
--- the clock, the next pid, and the next number of each of five kinds: message queues, and four that are to come
+-- the clock, the next pid, and the next number of each of five kinds: message queues, semaphore sets, and three that
+-- are to come
 abbrev pub clock_sizes : List Size
 clock_sizes = Eight ∷ Four ∷ Four ∷ Four ∷ Four ∷ Four ∷ Four ∷ []
 
 abbrev pub clock_numbers : State → List ℕ
-clock_numbers s = s.clock ∷ s.processes.next ∷ s.msg.next ∷ 1 ∷ 1 ∷ 1 ∷ 1 ∷ []
+clock_numbers s = s.clock ∷ s.processes.next ∷ s.msg.next ∷ s.sem.next ∷ 1 ∷ 1 ∷ 1 ∷ []
 
 abbrev pub count_bytes : ℕ → List ℕ
 count_bytes n = fields_bytes (Four ∷ []) (n ∷ [])
@@ -99,13 +103,52 @@ queue_number id = 2 ^ 32 + id
 abbrev pub queue_object : ℕ × Entry Queue → ℕ × List ℕ
 queue_object = object_in (2 ^ 32) queue_bytes
 
+-- ---- semaphore sets
+
+-- key, uid, gid, cuid, cgid, mode, otime, ctime, and how many semaphores
+abbrev pub set_sizes : List Size
+set_sizes = Four ∷ Four ∷ Four ∷ Four ∷ Four ∷ Four ∷ Eight ∷ Eight ∷ Four ∷ []
+
+abbrev pub set_numbers : Entry Set → List ℕ
+set_numbers e =
+    cast_unsigned w32 e.key ∷ e.perm.uid ∷ e.perm.gid ∷ e.perm.cuid ∷ e.perm.cgid ∷ e.perm.mode
+    ∷ e.object.otime ∷ e.object.ctime ∷ length e.object.values ∷ []
+
+-- a semaphore: its value, and who changed it last
+abbrev pub semaphore_sizes : List Size
+semaphore_sizes = Two ∷ Four ∷ []
+
+abbrev pub semaphore_shape : Shape
+semaphore_shape = Fields semaphore_sizes
+
+abbrev pub semaphore_numbers : Semaphore → List ℕ
+semaphore_numbers x = x.value ∷ x.pid.0 ∷ []
+
+abbrev pub semaphore_bytes : Semaphore → List ℕ
+semaphore_bytes = bytes_in semaphore_shape semaphore_numbers
+
+-- a set, and each of its semaphores
+abbrev pub set_shape : Shape
+set_shape = Listing set_sizes [] 8 semaphore_shape
+
+abbrev pub set_tree : Entry Set → Tree set_shape
+set_tree e = (set_numbers e, [], map semaphore_numbers (semaphores_of e.object))
+
+abbrev pub set_bytes : Entry Set → List ℕ
+set_bytes = bytes_in set_shape set_tree
+
+-- its object
+abbrev pub set_object : ℕ × Entry Set → ℕ × List ℕ
+set_object = object_in (2 * 2 ^ 32) set_bytes
+
 -- ---- all of it
 
--- the objects: the clock, the processes, the waiting calls, the adjustments, and the queues by identifier
+-- the objects: the clock, the processes, the waiting calls, the adjustments, the queues by identifier, and the semaphore
+-- sets by identifier
 unfoldable pub saved : State → PlainObjects
 saved s =
     (0, fields_bytes clock_sizes (clock_numbers s)) ∷ (1, processes_bytes s.processes.entries)
-    ∷ (2, count_bytes 0) ∷ (3, count_bytes 0) ∷ map queue_object s.msg.entries
+    ∷ (2, count_bytes 0) ∷ (3, count_bytes 0) ∷ map queue_object s.msg.entries ++ map set_object s.sem.entries
 
 -- ---- each number has its place
 
@@ -121,6 +164,16 @@ pub record FitsQueue (e : Entry Queue) : Type 0 where
   pub numbers : FitFields queue_sizes (queue_numbers e)
   pub messages : All FitsMessage e.object.messages
 
+-- of a set and its semaphores
+abbrev pub FitsSemaphore : Semaphore → Type 0
+FitsSemaphore x = (x.value ≤ most_value) × IsTree semaphore_shape (semaphore_numbers x)
+
+pub record FitsSet (e : Entry Set) : Type 0 where
+  pub key : FitsSigned w32 e.key
+  pub numbers : FitFields set_sizes (set_numbers e)
+  pub semaphores : All FitsSemaphore (semaphores_of e.object)
+  pub pids : length e.object.pids ≡ length e.object.values
+
 -- and of its identifier
 abbrev pub HasPlaces : ℕ × Entry Queue → Type 0
 HasPlaces = FitsIn FitsQueue
@@ -131,6 +184,7 @@ pub record HasAllPlaces (s : State) : Type 0 where
   pub count : length s.processes.entries < 2 ^ 32
   pub processes : All FitsProcess s.processes.entries
   pub queues : All HasPlaces s.msg.entries
+  pub sets : All (FitsIn FitsSet) s.sem.entries
 
 -- the objects stand for a sound state
 pub record StandForState (limits : Limits) (s : State) (objects : PlainObjects) : Type 0 where

@@ -10,9 +10,15 @@ use Rattle.ipc_state.specs.declared.keyed.Entry.{Entry}
 use Rattle.ipc_state.specs.State.{State}
 use Rattle.ipc_perm.specs.declared.perm.Perm.{Perm}
 use Rattle.ipc_state.specs.declared.numbered.Item.{Item}
-use Rattle.ipc_base.specs.declared.identity.Moment.{Moment}
+use Rattle.ipc_state.specs.declared.state.Numbers.{Numbers}
+use Rattle.sysv_sem.specs.declared.set.Semaphore.{Semaphore}
+use Rattle.sysv_sem.specs.Set.{Set, set_of}
+use Rattle.ipc_image.specs.declared.state_objects.Thing.{Thing}
+use Rattle.ipc_image.specs.declared.state_objects.Thing.TheVariants as thing
 use Rattle.ipc_state.specs.Tables.{item_row, queue_row}
-use Rattle.ipc_image.specs.Saved.{process_bytes, message_bytes, queue_shape, HasPlaces}
+use Rattle.ipc_image.specs.Kind.{FitsIn}
+use Rattle.ipc_image.specs.Saved.{process_bytes, message_bytes, queue_shape, queue_bytes, queue_object, HasPlaces}
+use Rattle.ipc_image.specs.Saved.{set_shape, set_object, FitsSet}
 use Rattle.ipc_image.specs.Shape.{Tree}
 
 -- each number of a kind has its place
@@ -25,10 +31,6 @@ IsWideStat s =
     (s.stime.0 < 2 ^ 64) × (s.rtime.0 < 2 ^ 64) × (s.ctime.0 < 2 ^ 64)
     × (s.lspid.0 < 2 ^ 32) × (s.lrpid.0 < 2 ^ 32)
 
--- the identifier of a queue that is kept has its place, and so has each of its numbers
-abbrev pub IsWideQueue : Item (Entry Kept) → Type 0
-IsWideQueue e = HasPlaces (queue_row e)
-
 -- the bytes of the first of some things
 abbrev pub first_bytes : {X : Type 0} → (X → List ℕ) → ℕ → List X → List ℕ
 first_bytes bytes_of n xs = flat_map bytes_of (take n xs)
@@ -36,6 +38,26 @@ first_bytes bytes_of n xs = flat_map bytes_of (take n xs)
 -- the mark has the bytes of the first of them
 abbrev pub IsMarkIn : {X : Type 0} → (X → List ℕ) → List X → Mark → Type 0
 IsMarkIn bytes_of xs m = m.bytes ≡ length (first_bytes bytes_of m.parts xs)
+
+-- the object of what has one
+abbrev pub object_of : Thing → ℕ × List ℕ
+object_of (thing.Queue q) = queue_object (queue_row q.now)
+object_of (thing.Set e) = set_object (item_row e.now)
+
+-- it stands at a place after the four: the queues first
+abbrev pub StandsAt : State → ℕ → Thing → Type 0
+StandsAt s at (thing.Queue q) = slice_get s.msg.entries at ≡ Some (queue_row q.now)
+StandsAt s at (thing.Set e) = length s.msg.entries ≤ at
+
+-- each of its numbers has its place, and its bytes can be counted
+abbrev pub FitsThing : Thing → Type 0
+FitsThing (thing.Queue q) = HasPlaces (queue_row q.now) × (length (queue_bytes (queue_row q.now).1) < 2 ^ 64)
+FitsThing (thing.Set e) = FitsIn FitsSet (item_row e.now)
+
+-- the mark is of its messages
+abbrev pub IsMarkOfThing : Thing → Mark → Type 0
+IsMarkOfThing (thing.Queue q) m = IsMarkIn message_bytes (queue_row q.now).1.object.messages m
+IsMarkOfThing (thing.Set e) m = Unit {0}
 
 -- it is a mark of the i-th object; those of objects without a list are never looked at
 pub record IsMarkOf (s : State) (i : ℕ) (m : Mark) : Type 0 where
@@ -56,6 +78,10 @@ message_of t = message_from t.1 (cast_signed w64 (slice_index t.0 0))
 -- a state without its processes
 abbrev pub without_processes : State → State
 without_processes s = record s { processes = record { next = s.processes.next; entries = [] } }
+
+-- a state without its semaphore sets
+abbrev pub without_sets : State → State
+without_sets s = record s { sem = record { next = s.sem.next; entries = [] } }
 
 -- a state without its queues
 abbrev pub without_queues : State → State
@@ -91,11 +117,34 @@ entry_from ns key messages =
 abbrev pub queue_of : Tree queue_shape → Entry Queue
 queue_of t = entry_from t.0 (cast_signed w32 (slice_index t.0 0)) (map message_of t.2)
 
--- the state that has these tables
-abbrev pub seen_state : Moment → ℕ → ℕ → List (Item Process) → List (Item (Entry Kept)) → State
-seen_state clock next_pid next_queue processes queues =
+-- the semaphore with these numbers
+abbrev pub semaphore_from : List ℕ → Semaphore
+semaphore_from ns = record { value = slice_index ns 0; pid = record { 0 = slice_index ns 1 } }
+
+-- the semaphore set with these numbers, this key and these semaphores
+abbrev pub set_from : List ℕ → ℤ → List Semaphore → Entry Set
+set_from ns key semaphores =
     record {
-      clock = clock.0;
-      processes = record { next = next_pid; entries = map item_row processes };
-      msg = record { next = next_queue; entries = map queue_row queues };
+      key = key;
+      perm = record {
+        uid = slice_index ns 1;
+        gid = slice_index ns 2;
+        cuid = slice_index ns 3;
+        cgid = slice_index ns 4;
+        mode = slice_index ns 5;
+      };
+      object = set_of semaphores (slice_index ns 6) (slice_index ns 7);
+    }
+
+abbrev pub set_in : Tree set_shape → Entry Set
+set_in t = set_from t.0 (cast_signed w32 (slice_index t.0 0)) (map semaphore_from t.2)
+
+-- the state that has these tables
+abbrev pub seen_state : Numbers → List (Item Process) → List (Item (Entry Kept)) → List (Item (Entry Set)) → State
+seen_state n processes queues sets =
+    record {
+      clock = n.clock.0;
+      processes = record { next = n.next_pid; entries = map item_row processes };
+      msg = record { next = n.next_queue; entries = map queue_row queues };
+      sem = record { next = n.next_set; entries = map item_row sets };
     }

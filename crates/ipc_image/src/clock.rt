@@ -1,6 +1,6 @@
 //! The clock's object: the clock, and the next number of each kind.
 
-ghost use Rattle.std.specs.Prelude.{◌≡◌, ◌≢◌, [], ◌∷◌, IfSome, IfNone};
+ghost use Rattle.std.specs.Prelude.{◌≡◌, ◌≢◌, ◌↔◌, [], ◌∷◌, IsTrue, IfSome, IfNone, slice_index};
 ghost use Rattle.ipc_base.specs.Numbers.{fields_bytes, FitFields};
 ghost use Rattle.ipc_state.specs.State.{State as PlainState};
 ghost use Rattle.ipc_image.specs.Relations.Restored.{IsClockOf};
@@ -13,17 +13,17 @@ use ipc_base::{Field, Moment, take_fields};
 use ipc_state::Numbers;
 
 /// The clock, the next pid, and the next number of each kind; kinds that are to come begin at 1.
-pub(crate) fn put_clock(window: &mut Window, clock: Moment, next_pid: u32, next_queue: u32)
+pub(crate) fn put_clock(window: &mut Window, numbers: Numbers)
     ensures { window.new ≡ passed (fields_bytes clock_sizes
-        (clock.0 ∷ next_pid ∷ next_queue ∷ 1 ∷ 1 ∷ 1 ∷ 1 ∷ [])) window.old }
+        (numbers.clock.0 ∷ numbers.next_pid ∷ numbers.next_queue ∷ numbers.next_set ∷ 1 ∷ 1 ∷ 1 ∷ [])) window.old }
 {
     put_fields(
         window,
         &[
-            Field::U64(clock.0),
-            Field::U32(next_pid),
-            Field::U32(next_queue),
-            Field::U32(1),
+            Field::U64(numbers.clock.0),
+            Field::U32(numbers.next_pid),
+            Field::U32(numbers.next_queue),
+            Field::U32(numbers.next_set),
             Field::U32(1),
             Field::U32(1),
             Field::U32(1),
@@ -39,12 +39,21 @@ pub(crate) fn read_clock(bytes: &[u8]) -> Option<Numbers>
 {
     let sizes = [EIGHT, FOUR, FOUR, FOUR, FOUR, FOUR, FOUR];
     let (numbers, rest) = take_fields(bytes, &sizes)?;
-    if !rest.is_empty() || numbers[3..] != [1; 4] {
+    if !rest.is_empty() || !are_to_come(&numbers) {
         return None;
     }
     Some(Numbers {
         clock: Moment(numbers[0]),
         next_pid: numbers[1] as u32,
         next_queue: numbers[2] as u32,
+        next_set: numbers[3] as u32,
     })
+}
+
+// Whether the next numbers of the kinds that are to come are 1.
+fn are_to_come(numbers: &[u64; 7]) -> bool
+    ensures { IsTrue result ↔ (slice_index numbers.now 4 ≡ 1) × (slice_index numbers.now 5 ≡ 1)
+        × (slice_index numbers.now 6 ≡ 1) }
+{
+    numbers[4] == 1 && numbers[5] == 1 && numbers[6] == 1
 }

@@ -8,6 +8,8 @@ ghost use Rattle.ipc_image.specs.Window.{passed};
 use crate::window::Window;
 use ipc_base::{Field, Size, take_fields};
 
+pub(crate) const TWO: Size = Size::Two;
+
 pub(crate) const FOUR: Size = Size::Four;
 
 pub(crate) const EIGHT: Size = Size::Eight;

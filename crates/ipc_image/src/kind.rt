@@ -10,7 +10,7 @@ ghost use Rattle.ipc_image.specs.Kind.{object_in, FitsIn, IsOther};
 
 use ipc_base::{Id, ObjectMap, Objects};
 use ipc_engine::StateFault;
-use ipc_state::State;
+use ipc_state::{Item, State};
 use std::alloc::{AllocError, Global};
 
 /// A thing that has an object of its own.
@@ -39,6 +39,14 @@ pub(crate) trait Kind {
     ghost FIRST: { ℕ };
 
     const FIRST: u64;
+
+    /// What is known of a sound one.
+    ghost IsSmall: { Plain → Type 0 };
+
+    /// Reads each of its numbers, so that each has its place.
+    fn read_numbers(&self)
+        requires { IsSmall (plain self.now) }
+        ensures { Fits (plain self.now) };
 
     /// Reads all of an object.
     fn read(alloc: Global, bytes: &[u8]) -> Result<Self, StateFault>
@@ -88,4 +96,15 @@ fn id_of_number(number: u64, first: u64) -> Option<Id>
     let id = number.checked_sub(first)?;
     let id = u32::try_from(id).ok()?;
     Some(Id(id))
+}
+
+/// Reads each number of these, and nothing else is done.
+pub(crate) fn read_all<T: Kind>(items: &[Item<T>])
+    requires { All (λ e. T.IsSmall (T.plain e.value)) items.now }
+    ensures { All (λ e. FitsIn T.Fits (e.number, T.plain e.value)) items.now }
+{
+    for item in items {
+        let _id = item.number;
+        item.value.read_numbers();
+    }
 }

@@ -13,6 +13,7 @@ mod queue;
 mod records;
 mod restoring;
 mod saved;
+mod set;
 mod sizes;
 mod state_objects;
 mod superblock;

@@ -8,6 +8,7 @@ ghost use Rattle.ipc_base.specs.declared.limits.Limits.{Limits};
 ghost use Rattle.ipc_base.specs.Numbers.{fields_bytes, FitFields};
 ghost use Rattle.sysv_msg.specs.Queue.{plain, Queue, PlainMessage, empty_queue};
 ghost use Rattle.ipc_state.specs.declared.keyed.Entry.{Entry as PlainEntry};
+ghost use Rattle.ipc_state.specs.Sound.{HasNumbers};
 ghost use Rattle.ipc_state.specs.State.{State as PlainState};
 ghost use Rattle.ipc_state.specs.Tables.{queue_entry};
 ghost use Rattle.ipc_image.specs.Saved.{message_shape, message_tree, message_bytes, FitsMessage};
@@ -19,6 +20,7 @@ ghost use Rattle.ipc_image.specs.Window.{passed};
 use crate::fields::{EIGHT, FOUR, put_fields, put_row};
 use crate::kind::Kind;
 use crate::saved::{Saved, put_list, read_list};
+use crate::widths::{read_perm, read_stat};
 use crate::window::Window;
 use ipc_base::{Field, Id, Mark, Moment, Pid, take_fields};
 use ipc_engine::StateFault;
@@ -98,6 +100,14 @@ impl Kind for Entry<MsgQueue> {
     ghost FIRST = { 2 ^ 32 };
 
     const FIRST: u64 = 1 << 32;
+
+    ghost IsSmall = { λ e. HasNumbers e.object };
+
+    fn read_numbers(&self) {
+        let _key = self.key;
+        read_perm(self.perm);
+        read_stat(self.object.stat());
+    }
 
     fn read(alloc: Global, bytes: &[u8]) -> Result<Entry<MsgQueue>, StateFault> {
         let sizes = [

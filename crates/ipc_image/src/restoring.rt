@@ -14,6 +14,7 @@ use ipc_engine::{Engine, StateFault};
 use ipc_state::{Entry, Item, Process, State};
 use std::alloc::Global;
 use sysv_msg::MsgQueue;
+use sysv_sem::SemSet;
 
 /// How many objects every state has: the clock, the processes, the waiting calls, the adjustments.
 pub(crate) const ALWAYS: u32 = 4;
@@ -65,6 +66,7 @@ fn restore(state: &mut State, alloc: Global, objects: &ObjectMap) -> Result<(), 
     state.restore_numbers(numbers);
     read_counted::<Item<Process>>(state, processes)?;
     let next = restore_kind::<Entry<MsgQueue>>(state, alloc, objects, ALWAYS)?;
+    let next = restore_kind::<Entry<SemSet>>(state, alloc, objects, next)?;
     if next < objects.count() {
         return Err(StateFault::Unsound);
     }

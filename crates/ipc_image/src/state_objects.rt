@@ -5,9 +5,8 @@ ghost use Rattle.ipc_base.specs.declared.limits.Limits.{Limits};
 ghost use Rattle.ipc_base.specs.Limits.{ArePassed};
 ghost use Rattle.ipc_base.specs.Objects.{Fit};
 ghost use Rattle.ipc_state.specs.State.{start};
-ghost use Rattle.ipc_state.specs.Tables.{queue_entry, queue_row};
-ghost use Rattle.ipc_image.specs.Saved.{saved, queue_number, queue_bytes, FitsQueue, StandForState};
-ghost use Rattle.ipc_image.specs.SavedParts.{IsMarkOf};
+ghost use Rattle.ipc_image.specs.Saved.{saved, StandForState};
+ghost use Rattle.ipc_image.specs.SavedParts.{IsMarkOf, IsMarkOfThing, FitsThing, StandsAt, object_of};
 ghost use Rattle.ipc_image.specs.Sizes.{area_of};
 ghost use Rattle.ipc_image.specs.Window.{passed};
 
@@ -16,26 +15,37 @@ use crate::fields::put_count;
 use crate::queue::{put_queue, queue_len};
 use crate::restoring::ALWAYS;
 use crate::saved::{START, put_counted};
+use crate::set::{put_set, set_len};
 use crate::widths::read_state;
 use crate::window::Window;
 use ipc_base::{Mark, Moment, Objects};
 use ipc_engine::Engine;
-use ipc_state::{Entry, Item, Process};
+use ipc_state::{Entry, Item, Numbers, Process};
 use std::marker::Model;
 use sysv_msg::MsgQueue;
+use sysv_sem::SemSet;
 
 /// The number of a queue's object is this one and its identifier.
 const QUEUES: u64 = 1 << 32;
 
-/// The objects of a state: four that every state has, and one for each queue. A contract sees the
-/// state. Each object counts as changed.
+/// And that of a semaphore set's object this one and its identifier.
+const SETS: u64 = 2 << 32;
+
+/// The objects of a state: four that every state has, one for each queue, and one for each semaphore
+/// set. A contract sees the state. Each object counts as changed.
 #[derive(Drop)]
 pub struct StateObjects<'a> {
-    clock: Moment,
-    next_pid: u32,
-    next_queue: u32,
+    numbers: Numbers,
     processes: &'a [Item<Process>],
     queues: &'a [Item<Entry<MsgQueue>>],
+    sets: &'a [Item<Entry<SemSet>>],
+}
+
+/// What has an object of its own.
+#[derive(Clone, Copy)]
+pub(crate) enum Thing<'a> {
+    Queue(&'a Item<Entry<MsgQueue>>),
+    Set(&'a Item<Entry<SemSet>>),
 }
 
 impl<'a> Model for StateObjects<'a> {
@@ -46,11 +56,11 @@ impl<'a> Model for StateObjects<'a> {
 
     ghost Value = { PlainState };
 
-    ghost view = { λ o. seen_state o.clock o.next_pid o.next_queue o.processes.now o.queues.now };
+    ghost view = { λ o. seen_state o.numbers o.processes.now o.queues.now o.sets.now };
 
     ghost invariant = { λ o.
-        HasAllPlaces (seen_state o.clock o.next_pid o.next_queue o.processes.now o.queues.now)
-        × AreObjects (saved (seen_state o.clock o.next_pid o.next_queue o.processes.now o.queues.now)) };
+        HasAllPlaces (seen_state o.numbers o.processes.now o.queues.now o.sets.now)
+        × AreObjects (saved (seen_state o.numbers o.processes.now o.queues.now o.sets.now)) };
 }
 
 /// The state of the machine as objects. It takes no memory. They stand for that state, and fit where
@@ -63,11 +73,15 @@ pub fn objects_of<'a>(engine: &'a Engine) -> StateObjects<'a>
     let state = engine.state();
     read_state(state);
     StateObjects {
-        clock: state.clock(),
-        next_pid: state.next_pid(),
-        next_queue: state.next_queue(),
+        numbers: Numbers {
+            clock: state.clock(),
+            next_pid: state.next_pid(),
+            next_queue: state.next_queue(),
+            next_set: state.next_set(),
+        },
         processes: state.processes(),
         queues: state.queues(),
+        sets: state.sets(),
     }
 }
 
@@ -77,11 +91,15 @@ pub fn start_objects() -> StateObjects<'static>
     ensures fit { (limits : Limits) → ArePassed limits → Fit (area_of limits) (saved start) }
 {
     StateObjects {
-        clock: Moment(0),
-        next_pid: 1,
-        next_queue: 1,
+        numbers: Numbers {
+            clock: Moment(0),
+            next_pid: 1,
+            next_queue: 1,
+            next_set: 1,
+        },
         processes: &[],
         queues: &[],
+        sets: &[],
     }
 }
 
@@ -93,14 +111,17 @@ impl<'a> Objects for StateObjects<'a> {
     ghost marks = { λ s i m. IsMarkOf s i m };
 
     fn count(&self) -> u32 {
-        ALWAYS + self.queues.len() as u32
+        ALWAYS + self.queues.len() as u32 + self.sets.len() as u32
     }
 
     fn number(&self, i: u32) -> u64 {
         if i < ALWAYS {
             return u64::from(i);
         }
-        QUEUES + u64::from(queue_at(self, i).number)
+        match thing_at(self, i) {
+            Thing::Queue(queue) => QUEUES + u64::from(queue.number),
+            Thing::Set(set) => SETS + u64::from(set.number),
+        }
     }
 
     fn changed(&self, i: u32) -> bool {
@@ -112,7 +133,7 @@ impl<'a> Objects for StateObjects<'a> {
             0 => 32,
             1 => 4 + 16 * self.processes.len() as u64,
             2 | 3 => 4,
-            _ => queue_len(&queue_at(self, i).value),
+            _ => thing_len(&thing_at(self, i)),
         }
     }
 
@@ -127,17 +148,43 @@ impl<'a> Objects for StateObjects<'a> {
     }
 }
 
-// The queue whose object is the i-th.
-fn queue_at<'a, 'b>(objects: &'b StateObjects<'a>, i: u32) -> &'a Item<Entry<MsgQueue>>
-    requires queue { 4 ≤ i }
+// What has the i-th object.
+fn thing_at<'a, 'b>(objects: &'b StateObjects<'a>, i: u32) -> Thing<'a>
+    requires thing { 4 ≤ i }
     requires object { i < length (saved objects.now) }
-    ensures object { slice_get (saved objects.now) i
-        ≡ Some (queue_number result.now.number, queue_bytes (queue_entry result.now.value)) }
-    ensures entry { slice_get objects.now.msg.entries (i - 4) ≡ Some (queue_row result.now) }
-    ensures fits { FitsQueue (queue_entry result.now.value) }
-    ensures short { length (queue_bytes (queue_entry result.now.value)) < 2 ^ 64 }
+    ensures object { slice_get (saved objects.now) i ≡ Some (object_of result) }
+    ensures stands { StandsAt objects.now (i - 4) result }
+    ensures fits { FitsThing result }
 {
-    &objects.queues[(i - ALWAYS) as usize]
+    let at = (i - ALWAYS) as usize;
+    if at < objects.queues.len() {
+        return Thing::Queue(&objects.queues[at]);
+    }
+    Thing::Set(&objects.sets[at - objects.queues.len()])
+}
+
+// How many bytes its object has.
+fn thing_len(thing: &Thing<'_>) -> u64
+    requires { FitsThing thing.now }
+    ensures { result ≡ length (object_of thing.now).1 }
+{
+    match thing {
+        Thing::Queue(queue) => queue_len(&queue.value),
+        Thing::Set(set) => set_len(&set.value),
+    }
+}
+
+// Its object passes the window. The mark is of its parts.
+fn put_thing(window: &mut Window, thing: &Thing<'_>, mark: &mut Mark)
+    requires fits { FitsThing thing.now }
+    requires mark { IsMarkOfThing thing.now mark.old }
+    ensures passed { window.new ≡ passed (object_of thing.now).1 window.old }
+    ensures mark { IsMarkOfThing thing.now mark.new }
+{
+    match thing {
+        Thing::Queue(queue) => put_queue(window, &queue.value, mark),
+        Thing::Set(set) => put_set(window, &set.value),
+    }
 }
 
 // The i-th object passes the window.
@@ -149,9 +196,9 @@ fn put_object(window: &mut Window, objects: &StateObjects<'_>, i: u32, mark: &mu
     ensures mark { IsMarkOf objects.now i mark.new }
 {
     match i {
-        0 => put_clock(window, objects.clock, objects.next_pid, objects.next_queue),
+        0 => put_clock(window, objects.numbers),
         1 => put_counted(window, objects.processes, mark),
         2 | 3 => put_count(window, 0),
-        _ => put_queue(window, &queue_at(objects, i).value, mark),
+        _ => put_thing(window, &thing_at(objects, i), mark),
     }
 }

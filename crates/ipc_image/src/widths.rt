@@ -5,15 +5,16 @@
 ghost use Rattle.std.specs.Prelude.{All};
 ghost use Rattle.ipc_base.specs.Limits.{ArePassed};
 ghost use Rattle.ipc_base.specs.Numbers.{FitFields};
-ghost use Rattle.ipc_state.specs.Sound.{HasNumbers};
 ghost use Rattle.ipc_state.specs.Tables.{item_row};
 ghost use Rattle.ipc_engine.specs.Sound.{IsSound};
 ghost use Rattle.ipc_image.specs.Saved.{clock_sizes, clock_numbers, FitsProcess, HasAllPlaces};
-ghost use Rattle.ipc_image.specs.SavedParts.{IsWidePerm, IsWideStat, IsWideQueue};
+ghost use Rattle.ipc_image.specs.SavedParts.{IsWidePerm, IsWideStat};
 
+use crate::kind::read_all;
 use ipc_perm::Perm;
 use ipc_state::{Entry, Item, Process, State};
 use sysv_msg::{MsgQueue, QueueStat};
+use sysv_sem::SemSet;
 
 /// Reads each number of a state.
 pub(crate) fn read_state(state: &State)
@@ -23,7 +24,8 @@ pub(crate) fn read_state(state: &State)
 {
     read_clock(state);
     read_processes(state.processes());
-    read_queues(state.queues());
+    read_all::<Entry<MsgQueue>>(state.queues());
+    read_all::<Entry<SemSet>>(state.sets());
 }
 
 fn read_clock(state: &State)
@@ -32,6 +34,7 @@ fn read_clock(state: &State)
     let _clock = state.clock().0;
     let _next_pid = state.next_pid();
     let _next_queue = state.next_queue();
+    let _next_set = state.next_set();
 }
 
 fn read_processes(processes: &[Item<Process>])
@@ -50,30 +53,10 @@ fn read_process(process: &Item<Process>)
     let _gid = process.value.cred.gid;
 }
 
-fn read_queues(queues: &[Item<Entry<MsgQueue>>])
-    requires { All (λ e. HasNumbers e.value.object.queue) queues.now }
-    ensures { All IsWideQueue queues.now }
-{
-    for entry in queues {
-        read_queue(entry);
-    }
-}
-
-fn read_queue(queue: &Item<Entry<MsgQueue>>)
-    requires { HasNumbers queue.now.value.object.queue }
-    ensures { IsWideQueue queue.now }
-{
-    let _id = queue.number;
-    let entry = &queue.value;
-    let _key = entry.key;
-    read_perm(entry.perm);
-    read_stat(entry.object.stat());
-}
-
-fn read_perm(perm: Perm)
+pub(crate) fn read_perm(perm: Perm)
     ensures { IsWidePerm perm }
 {}
 
-fn read_stat(stat: QueueStat)
+pub(crate) fn read_stat(stat: QueueStat)
     ensures { IsWideStat stat }
 {}

@@ -34,6 +34,7 @@ use Rattle.ipc_state.proofs.Numbering.{none_yet-numbered, with_new-numbered, wit
 use Rattle.ipc_state.proofs.Keying as keying
 use Rattle.ipc_state.proofs.Places.{seen-with, seen-without, keys-map}
 use Rattle.ipc_state.proofs.SoundQueues as queues
+pub use Rattle.ipc_state.proofs.Keying.{All-seen}
 pub use Rattle.ipc_state.proofs.Numbering.{neither}
 pub use Rattle.ipc_state.proofs.SoundQueues.{queue-numbers, sent-sound, taken-sound, changed-sound}
 

@@ -1,5 +1,5 @@
 -- The parts of a state, and the state that they make.
-use Rattle.std.proofs.Common.{◌≡◌, ◌∙◌, ◌++◌, [], length, drop, map, sym, ap, arith}
+use Rattle.std.proofs.Common.{◌≡◌, ◌∙◌, ◌++◌, ◌^◌, ◌*◌, [], length, drop, map, sym, ap, arith}
 use Rattle.std.specs.Prelude.{Err}
 use Rattle.std.proofs.lemmas.List.{append-nil, length-drop, drop_all}
 use Rattle.ipc_base.specs.declared.limits.Limits.{Limits}
@@ -7,9 +7,11 @@ use Rattle.ipc_base.specs.Numbers.{fields_bytes}
 use Rattle.ipc_base.specs.Objects.{PlainObjects}
 use Rattle.ipc_state.specs.Restored.{with_numbers}
 use Rattle.ipc_state.specs.State.{State, start}
-use Rattle.ipc_image.specs.Relations.Restored.{with_processes, with_queues}
-use Rattle.ipc_image.specs.Saved.{clock_sizes, clock_numbers, count_bytes, processes_bytes, queue_object, saved}
-use Rattle.ipc_image.proofs.WholeState.{parts_of, same_object, all_restored, processes_added, queues_added}
+use Rattle.ipc_image.specs.Relations.Restored.{with_processes, with_queues, with_sets}
+use Rattle.ipc_image.specs.Kind.{IsOther}
+use Rattle.ipc_image.specs.Saved.{clock_sizes, clock_numbers, count_bytes, processes_bytes, queue_object, set_bytes, set_object, saved}
+use Rattle.ipc_image.proofs.ReadKinds.{later-kind}
+use Rattle.ipc_image.proofs.WholeState.{parts_of, same_object, all_restored, processes_added, queues_added, sets_added}
 use Rattle.ipc_image.proofs.restoring.restore.Goals as goal
 use Rattle.ipc_image.proofs.restoring.restore.Goals.{then-not-is_none_counted-via-then-not-is_none_counted}
 use Rattle.ipc_image.proofs.restoring.restore.Goals.{then-not-is_none_counted-via-else-not-is_none_counted+then-not-is_none_counted-2}
@@ -62,20 +64,31 @@ returns-in_err-read_counted-clause-damaged c is s all are =
     c.in-Some-object_numbered.ensures.some (parts_of s c.args.objects.now are).processes in
     c.in_err-read_counted.ensures.damaged (ap (λ e. Err e) (sym why.1)) s.processes.entries all.count all.processes same
 
--- the queues are all that is left
-queues_of : (s : State) (objects : PlainObjects) → objects ≡ saved s → drop 4 objects ≡ map queue_object s.msg.entries ++ []
-queues_of s objects are = (parts_of s objects are).queues ∙ sym (append-nil (map queue_object s.msg.entries))
+-- the sets follow the queues, and are all that is left then
+sets_of : (s : State) → map set_object s.sem.entries ≡ map set_object s.sem.entries ++ []
+sets_of s = sym (append-nil (map set_object s.sem.entries))
+
+other : (s : State) → IsOther (2 ^ 32) (map set_object s.sem.entries)
+other s = later-kind (2 ^ 32) (2 * 2 ^ 32) set_bytes s.sem.entries (omega arith)
 
 pub returns-in_err-next-clause-damaged : goal.returns-in_err-next-clause-damaged
 returns-in_err-next-clause-damaged c is s all are =
     let why = rw is at c.from_residual-in_err-next.ensures in
-    c.in_err-next.ensures.damaged (ap (λ e. Err e) (sym why.1)) s.msg.entries [] tt all.queues (queues_of s c.args.objects.now are)
+    c.in_err-next.ensures.damaged (ap (λ e. Err e) (sym why.1)) s.msg.entries (map set_object s.sem.entries) (other s) all.queues
+    (parts_of s c.args.objects.now are).things
+
+pub returns-in_err-next-2-clause-damaged : goal.returns-in_err-next-2-clause-damaged
+returns-in_err-next-2-clause-damaged c is s all are =
+    let why = rw is at c.from_residual-in_err-next-2.ensures in
+    let left = c.in_ok-next.ensures.whole s.msg.entries _ (other s) (parts_of s c.args.objects.now are).things all.queues in
+    c.in_err-next-2.ensures.damaged (ap (λ e. Err e) (sym why.1)) s.sem.entries [] tt all.sets (left ∙ sets_of s)
 
 pub returns-then-next-count-clause-damaged : goal.returns-then-next-count-clause-damaged
 returns-then-next-count-clause-damaged c is s all are =
     let objects = c.args.objects.now in
-    let none = c.in_ok-next.ensures.whole s.msg.entries [] tt (queues_of s objects are) all.queues in
-    absurd (omega (arith, ap length none, length-drop c.in_ok-next.next objects, c.if-next-count.true, c.count.ensures.count))
+    let left = c.in_ok-next.ensures.whole s.msg.entries _ (other s) (parts_of s objects are).things all.queues in
+    let none = c.in_ok-next-2.ensures.whole s.sem.entries [] tt (left ∙ sets_of s) all.sets in
+    absurd (omega (arith, ap length none, length-drop c.in_ok-next-2.next objects, c.if-next-count.true, c.count.ensures.count))
 
 pub returns-clause-ok : goal.returns-clause-ok
 returns-clause-ok c =
@@ -85,16 +98,20 @@ returns-clause-ok c =
     let from : one ≡ with_numbers start n = c.restore_numbers.ensures.state ∙ ap (λ (s : State). with_numbers s n) c.requires in
     let ps = c.in_ok-read_counted.ensures.ok in
     let es = c.in_ok-next.ensures.ok in
+    let fs = c.in_ok-next-2.ensures.ok in
     let two : State = c.read_counted.new.into.state in
     let three : State = c.restore_kind.new.state.state in
-    let is : three ≡ with_queues (with_processes (with_numbers start n) ps.0) es.0 =
-    queues_added two three es.0 es.3 (ap (λ (o : State × Limits). o.0) es.4)
+    let four : State = c.restore_kind-2.new.state.state in
+    let is : four ≡ with_sets (with_queues (with_processes (with_numbers start n) ps.0) es.0) fs.0 =
+    sets_added three four fs.0 fs.3 (ap (λ (o : State × Limits). o.0) fs.4)
+    ∙ ap (λ (s : State). with_sets s fs.0) (queues_added two three es.0 es.3 (ap (λ (o : State × Limits). o.0) es.4)
     ∙ ap (λ (s : State). with_queues s es.0) (processes_added one two ps.0 ps.4 (ap (λ (o : State × Limits). o.0) ps.5)
-    ∙ ap (λ (s : State). with_processes s ps.0) from) in
-    let past : drop c.in_ok-next.next objects ≡ [] = drop_all c.in_ok-next.next objects (omega (arith, c.if-next-count.false, c.count.ensures.count)) in
-    let queues : drop 4 objects ≡ map queue_object es.0 =
-    es.2 ∙ ap (λ (l : PlainObjects). map queue_object es.0 ++ l) past ∙ append-nil (map queue_object es.0) in
-    all_restored objects n ps.0 es.0 three c.in-Some.clock.now c.in-Some-object_numbered.processes.now
+    ∙ ap (λ (s : State). with_processes s ps.0) from)) in
+    let past : drop c.in_ok-next-2.next objects ≡ [] = drop_all c.in_ok-next-2.next objects (omega (arith, c.if-next-count.false, c.count.ensures.count)) in
+    let sets : drop c.in_ok-next.next objects ≡ map set_object fs.0 =
+    fs.2 ∙ ap (λ (l : PlainObjects). map set_object fs.0 ++ l) past ∙ append-nil (map set_object fs.0) in
+    all_restored objects n ps.0 es.0 fs.0 four c.in-Some.clock.now c.in-Some-object_numbered.processes.now
     c.in-Some-object_numbered-2.calls.now c.in-Some-object_numbered-3.adjustments.now c.in-Some.ensures.some c.in-Some-object_numbered.ensures.some
     c.in-Some-object_numbered-2.ensures.some c.in-Some-object_numbered-3.ensures.some (c.is_none_counted.ensures.0 c.if-not-is_none_counted.false)
-    (c.is_none_counted-else-not-is_none_counted.ensures.0 c.if-not-is_none_counted-2.false) c.in-Some-read_clock.ensures.some ps.1 ps.2 ps.3 es.1 queues is
+    (c.is_none_counted-else-not-is_none_counted.ensures.0 c.if-not-is_none_counted-2.false) c.in-Some-read_clock.ensures.some ps.1 ps.2 ps.3 es.1 fs.1
+    (es.2 ∙ ap (λ (l : PlainObjects). map queue_object es.0 ++ l) sets) is

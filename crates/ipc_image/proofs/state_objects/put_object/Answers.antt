@@ -1,11 +1,14 @@
-use Rattle.std.proofs.Common.{ℕ, List, Some, map, ap, sym, subst, arith, ◌∙◌}
+use Rattle.std.proofs.Common.{ℕ, ◌-◌, ◌≤◌, List, Some, map, ap, sym, subst, arith, ◌∙◌}
 use Rattle.std.specs.Prelude.{option_map}
-use Rattle.std.proofs.lemmas.Option.{same_Some}
+use Rattle.std.proofs.lemmas.Option.{same_Some, slice_get_within}
 use Rattle.sysv_msg.specs.Queue.{Queue}
 use Rattle.ipc_state.specs.declared.keyed.Entry.{Entry}
 use Rattle.ipc_state.specs.State.{State}
 use Rattle.ipc_state.specs.Tables.{item_row, queue_row}
-use Rattle.ipc_image.specs.SavedParts.{IsMarkIn}
+use Rattle.ipc_base.specs.declared.objects.Mark.{Mark}
+use Rattle.ipc_image.specs.declared.state_objects.Thing.{Thing}
+use Rattle.ipc_image.specs.declared.state_objects.Thing.TheVariants as thing
+use Rattle.ipc_image.specs.SavedParts.{IsMarkIn, IsMarkOf, IsMarkOfThing, StandsAt}
 use Rattle.ipc_base.specs.Numbers.{fields_bytes}
 use Rattle.ipc_image.specs.Saved.{clock_sizes, clock_numbers, process_bytes, processes_bytes, message_bytes}
 use Rattle.ipc_image.specs.Window.{Shown, passed}
@@ -43,10 +46,26 @@ returns-in-2-clause-passed c =
     ap (option_map (after c.args.window.now)) (saved-none c.args.objects.now c.args.i (omega arith) (omega arith)) ∙ ap Some (sym c.put_count.ensures)
 
 pub returns-in_default-clause-passed : goal.returns-in_default-clause-passed
-returns-in_default-clause-passed c = ap (option_map (after c.args.window.now)) c.queue_at.ensures.object ∙ ap Some (sym c.put_queue.ensures.passed)
+returns-in_default-clause-passed c = ap (option_map (after c.args.window.now)) c.thing_at.ensures.object ∙ ap Some (sym c.put_thing.ensures.passed)
 
-pub put_queue-requires-clause-mark : goal.put_queue-requires-clause-mark
-put_queue-requires-clause-mark c = c.requires.mark.messages (omega arith) (queue_row c.queue_at.result.now) c.queue_at.ensures.entry
+-- the mark of a place is of what stands there
+mark_at : (s : State) (i : ℕ) (m : Mark) (t : Thing) → 4 ≤ i → StandsAt s (i - 4) t → IsMarkOf s i m → IsMarkOfThing t m
+mark_at s i m (thing.Queue q) le stands of = of.messages le (queue_row q.now) stands
+mark_at s i m (thing.Set e) le past of = tt
+
+mark_of : (s : State) (i : ℕ) (m : Mark) (t : Thing) → 4 ≤ i → StandsAt s (i - 4) t → IsMarkOfThing t m → IsMarkOf s i m
+mark_of s i m (thing.Queue q) le stands is = record {
+  processes = λ one. absurd (omega (arith, one));
+  messages = λ le e found.
+      subst (λ (f : ℕ × Entry Queue). IsMarkIn message_bytes f.1.object.messages m) (same_Some (queue_row q.now) e (sym stands ∙ found)) is;
+}
+mark_of s i m (thing.Set e) le past is = record {
+  processes = λ one. absurd (omega (arith, one));
+  messages = λ le f found. absurd (omega (arith, past, slice_get_within s.msg.entries (i - 4) f found));
+}
+
+pub put_thing-requires-clause-mark : goal.put_thing-requires-clause-mark
+put_thing-requires-clause-mark c = mark_at c.args.objects.now c.args.i c.args.mark.now c.thing_at.result (omega arith) c.thing_at.ensures.stands c.requires.mark
 
 pub returns-in-1-clause-mark : goal.returns-in-1-clause-mark
 returns-in-1-clause-mark c = record {
@@ -55,9 +74,5 @@ returns-in-1-clause-mark c = record {
 }
 
 pub returns-in_default-clause-mark : goal.returns-in_default-clause-mark
-returns-in_default-clause-mark c = record {
-  processes = λ is. absurd (omega (arith, is));
-  messages = λ le e found.
-      subst (λ (f : ℕ × Entry Queue). IsMarkIn message_bytes f.1.object.messages c.put_queue.new.mark)
-      (same_Some (queue_row c.queue_at.result.now) e (sym c.queue_at.ensures.entry ∙ found)) c.put_queue.ensures.mark;
-}
+returns-in_default-clause-mark c =
+    mark_of c.args.objects.now c.args.i c.put_thing.new.mark c.thing_at.result (omega arith) c.thing_at.ensures.stands c.put_thing.ensures.mark

@@ -3,13 +3,18 @@ use Rattle.std.specs.Prelude.{All}
 use Rattle.std.proofs.lemmas.List.Elements.{All-map}
 use Rattle.ipc_base.proofs.CallerLemmas.{passed-bounds}
 use Rattle.ipc_state.specs.Tables.{item_row, queue_row}
-use Rattle.ipc_image.specs.Saved.{FitsProcess, HasPlaces}
-use Rattle.ipc_image.proofs.SavedObjects.{rows-numbers}
+use Rattle.ipc_image.specs.Kind.{FitsIn}
+use Rattle.ipc_image.specs.Saved.{FitsProcess, FitsSet, HasPlaces}
+use Rattle.ipc_image.proofs.SavedObjects.{rows-numbers, sets-numbers}
 use Rattle.ipc_image.proofs.widths.read_state.Goals as goal
 
-pub read_queues-requires : goal.read_queues-requires
-read_queues-requires c =
+pub read_all-requires : goal.read_all-requires
+read_all-requires c =
     rows-numbers c.args.state.now.limits c.args.state.now.state c.requires.passed c.requires.sound c.queues.result.now c.queues.ensures
+
+pub read_all-requires-2 : goal.read_all-requires-2
+read_all-requires-2 c =
+    sets-numbers c.args.state.now.limits c.args.state.now.state c.requires.passed c.requires.sound c.sets.result.now c.sets.ensures
 
 pub returns : goal.returns
 returns c =
@@ -18,5 +23,6 @@ returns c =
       clock = c.read_clock.ensures;
       count = omega (arith, b.processes.1, c.requires.sound.parts.processes.count);
       processes = subst (All FitsProcess) c.processes.ensures (All-map FitsProcess item_row c.processes.result.now c.read_processes.ensures);
-      queues = subst (All HasPlaces) c.queues.ensures (All-map HasPlaces queue_row c.queues.result.now c.read_queues.ensures);
+      queues = subst (All HasPlaces) c.queues.ensures (All-map HasPlaces queue_row c.queues.result.now c.read_all.ensures);
+      sets = subst (All (FitsIn FitsSet)) c.sets.ensures (All-map (FitsIn FitsSet) item_row c.sets.result.now c.read_all-2.ensures);
     }
