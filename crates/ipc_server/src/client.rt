@@ -108,7 +108,8 @@ impl<S> Client<S> {
     /// that it may see was written.
     pub fn note_end<D: SectorDisk>(&mut self, hub: &Hub<D>)
         ensures { self.new ≡ record self.old {
-            over = is_gone hub.now.hub (view_of self.old) || self.old.failed } }
+          over = is_gone hub.now.hub (view_of self.old) || self.old.failed;
+        } }
     {
         let ended = hub.ended(self.conn) && hub.output(self.conn).is_empty();
         self.over = self.over || ended || self.failed;
