@@ -2,4 +2,7 @@
 pub mod Acts
 pub mod Fault
 pub mod Goes
+pub mod Parts
+pub mod Rows
 pub mod Turns
+pub mod View

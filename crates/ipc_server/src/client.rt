@@ -1,10 +1,13 @@
 //! The client of a connection: its socket, and what was read of it.
 
-ghost use Rattle.std.specs.Prelude.{◌≡◌, ◌==◌, ◌&&◌, ◌||◌, not, true, false, length, []};
+ghost use Rattle.std.specs.Prelude.{◌≡◌, ◌<◌, ◌+◌, ◌==◌, ◌&&◌, ◌||◌, not, true, false};
+ghost use Rattle.std.specs.Prelude.{length, []};
 ghost use Rattle.std.specs.Prelude.{IfErr, IfOk, OnOk};
 ghost use Rattle.std.specs.Io.KnownBytes.{Keeps, prepend_known};
-ghost use Rattle.ipc_hub.specs.View.{output_of, ended_of};
+ghost use Rattle.ipc_hub.specs.View.{numbers_of, output_of, ended_of};
 ghost use Rattle.ipc_server.specs.Goes.{Goes, Hears, Sends, Tells, Breaks};
+ghost use Rattle.ipc_server.specs.Rows.{view_of};
+ghost use Rattle.ipc_server.specs.View.{WasRead, is_gone, most_reads};
 
 use bytes::BytesMut;
 use ipc_base::Moment;
@@ -19,8 +22,11 @@ use std::io::{ErrorKind, Read, Write};
 /// The most bytes that one read may give.
 const PIECE: usize = 4096;
 
-/// The most reads of a client in one turn, and the most writes each time that it is written to.
-const MOST_CALLS: usize = 16;
+/// The most reads of a client in one turn.
+const MOST_READS: usize = 16;
+
+/// The most writes to a client, each time that it is written to.
+const MOST_WRITES: usize = 16;
 
 /// The socket of a connection, and what is known of it. Its reads and writes do not block.
 #[derive(Drop)]
@@ -31,11 +37,16 @@ pub(crate) struct Client<S> {
     piece: BytesMut,
     /// A read may give something: none has said since that it would block.
     readable: bool,
+    /// How many reads of it were made in the last turn that has read it.
+    reads: usize,
     /// The socket took no more bytes when it was last written to.
     full: bool,
     /// The system was asked to tell when the socket has room again.
     asked: bool,
-    /// The end of its input was read, or its socket has failed.
+    /// A write to its socket has failed. It is over once a turn parts with those that are gone.
+    failed: bool,
+    /// Its connection is to be hung up: the end of its input was read, its socket has failed, or the
+    /// server has ended it and all that it may see was written.
     over: bool,
 }
 
@@ -55,8 +66,10 @@ impl<S> Client<S> {
             socket,
             piece: BytesMut::with_capacity(alloc, PIECE)?,
             readable: true,
+            reads: 0,
             full: false,
             asked: false,
+            failed: false,
             over: false,
         })
     }
@@ -78,19 +91,28 @@ impl<S> Client<S> {
     /// Whether it may have something for the hub already. One that does not read what it is sent has
     /// to wait.
     pub fn is_waiting(&self) -> bool
-        ensures { result ≡ (not self.now.over && not self.now.full
+        ensures { result ≡ (not self.now.over && not self.now.failed && not self.now.full
             && (self.now.readable || not (length self.now.piece.items == 0))) }
     {
-        !self.over && !self.full && (self.readable || !self.piece.is_empty())
+        !self.over && !self.failed && !self.full && (self.readable || !self.piece.is_empty())
     }
 
-    /// Whether its connection is to be hung up: it is over, or the server has ended it and all that
-    /// it may see was written.
-    pub fn is_gone<D: SectorDisk>(&self, hub: &Hub<D>) -> bool
-        ensures { result ≡ (self.now.over || (ended_of hub.now.hub self.now.conn
-            && (length (output_of hub.now.hub self.now.conn) == 0))) }
+    /// Whether its connection is to be hung up.
+    pub fn is_over(&self) -> bool
+        ensures { result ≡ self.now.over }
     {
-        self.over || (hub.ended(self.conn) && hub.output(self.conn).is_empty())
+        self.over
+    }
+
+    /// Its connection is to be hung up if its socket has failed, or if the server has ended it and all
+    /// that it may see was written.
+    pub fn note_end<D: SectorDisk>(&mut self, hub: &Hub<D>)
+        ensures { self.new ≡ record self.old {
+          over = is_gone hub.now.hub (view_of self.old) || self.old.failed;
+        } }
+    {
+        let ended = hub.ended(self.conn) && hub.output(self.conn).is_empty();
+        self.over = self.over || ended || self.failed;
     }
 }
 
@@ -131,9 +153,12 @@ impl<S: Read> Client<S> {
             (prepend_known self.new.piece.items (S.remaining self.new.socket))) }
         ensures breaks { IfErr result (λ e. Breaks D.medium D.counts moment.0 hub.old hub.new e) }
         ensures conn { self.new.conn ≡ self.old.conn }
+        ensures numbers { numbers_of hub.new.hub ≡ numbers_of hub.old.hub }
+        ensures read { OnOk result (self.new.over ≡ false → WasRead (view_of self.new)) }
     {
+        self.reads = 0;
         self.feed(hub, moment)?;
-        for _ in 0..MOST_CALLS {
+        while self.reads < MOST_READS {
             if !self.readable || self.over || !self.piece.is_empty() {
                 return Ok(());
             }
@@ -145,11 +170,14 @@ impl<S: Read> Client<S> {
 
     // Reads once. Nothing waits to be taken.
     fn read(&mut self)
-        requires { self.old.piece.items ≡ [] }
+        requires nothing { self.old.piece.items ≡ [] }
+        requires few { self.old.reads < most_reads }
         ensures same { Keeps (S.remaining self.old.socket)
             (prepend_known self.new.piece.items (S.remaining self.new.socket)) }
         ensures conn { self.new.conn ≡ self.old.conn }
+        ensures reads { self.new.reads ≡ self.old.reads + 1 }
     {
+        self.reads += 1;
         self.piece.clear();
         match self.piece.read_from(&mut self.socket) {
             Ok(0) => self.over = true,
@@ -169,6 +197,8 @@ impl<S: Read> Client<S> {
             (prepend_known self.new.piece.items (S.remaining self.new.socket))) }
         ensures breaks { IfErr result (λ e. Breaks D.medium D.counts moment.0 hub.old hub.new e) }
         ensures conn { self.new.conn ≡ self.old.conn }
+        ensures reads { self.new.reads ≡ self.old.reads }
+        ensures numbers { numbers_of hub.new.hub ≡ numbers_of hub.old.hub }
     {
         if self.piece.is_empty() {
             return Ok(());
@@ -190,10 +220,11 @@ impl<S: Write> Client<S> {
         // The socket is written what the client could see, in order, each byte once.
         ensures tells { Tells (S.contents self.old.socket) (S.contents self.new.socket)
             (output_of hub.old.hub self.old.conn) (output_of hub.new.hub self.old.conn) }
-        ensures conn { self.new.conn ≡ self.old.conn }
+        ensures same { view_of self.new ≡ view_of self.old }
+        ensures numbers { numbers_of hub.new.hub ≡ numbers_of hub.old.hub }
     {
         self.full = false;
-        for _ in 0..MOST_CALLS {
+        for _ in 0..MOST_WRITES {
             let output = hub.output(self.conn);
             if output.is_empty() {
                 return;
@@ -207,7 +238,7 @@ impl<S: Write> Client<S> {
                         return;
                     }
                     _ => {
-                        self.over = true;
+                        self.failed = true;
                         return;
                     }
                 },

@@ -1,13 +1,19 @@
 //! What is done with all clients, in rising number.
 
-ghost use Rattle.std.specs.Prelude.{◌≡◌, IfErr, OnOk};
+ghost use Rattle.std.specs.Prelude.{◌≡◌, ◌==◌, ◌&&◌, ℕ, not, false, IfErr, OnErr, OnOk};
+ghost use Rattle.ipc_hub.specs.View.{StoredHub, is_connected, numbers_of};
 ghost use Rattle.ipc_server.specs.Goes.{Goes, Sends, Breaks};
+ghost use Rattle.ipc_server.specs.Parts.{HangsUp, Parts};
+ghost use Rattle.ipc_server.specs.Rows.{clients_of, EachBelow, IsServing, KeepsClients, StandsIn};
+ghost use Rattle.ipc_server.specs.View.{EachClient, WasRead, is_gone};
 
 use crate::client::Client;
 use ipc_base::Moment;
 use ipc_disk::SectorDisk;
 use ipc_hub::{Hub, ServeError};
 use ipc_store::CommitError;
+use mio::event::Source;
+use mio::{Registry, Token};
 use slab::Slab;
 use std::io::{Read, Write};
 
@@ -21,10 +27,17 @@ pub(crate) fn serve_all<D: SectorDisk, S: Read + Write + Drop>(
     ensures goes { OnOk result (Goes D.medium moment.0 hub.old hub.new) }
     ensures settled { OnOk result (hub.new.store.waiting ≡ 0) }
     ensures breaks { IfErr result (λ e. Breaks D.medium D.counts moment.0 hub.old hub.new e) }
+    ensures serving { IsServing hub.old.hub clients.old → IsServing hub.new.hub clients.new }
+    ensures read { IsServing hub.old.hub clients.old
+        → OnOk result (EachClient WasRead (clients_of clients.new)) }
+    ensures parted { IsServing hub.old.hub clients.old → OnOk result ((written : StoredHub D)
+        × (Goes D.medium moment.0 hub.old written) × (Parts D.medium moment.0 written hub.new)
+        × EachClient (λ c. is_gone written.hub c ≡ false) (clients_of clients.new)) }
 {
     take_in_all(hub, clients, moment)?;
     hub.release()?;
     put_out_all(hub, clients);
+    note_ends(hub, clients);
     part_with_gone(hub, clients, moment)?;
     hub.release()?;
     put_out_all(hub, clients);
@@ -39,6 +52,10 @@ fn take_in_all<D: SectorDisk, S: Read>(
 ) -> Result<(), CommitError>
     ensures goes { OnOk result (Goes D.medium moment.0 hub.old hub.new) }
     ensures breaks { IfErr result (λ e. Breaks D.medium D.counts moment.0 hub.old hub.new e) }
+    ensures numbers { numbers_of hub.new.hub ≡ numbers_of hub.old.hub }
+    ensures keeps { KeepsClients clients.old clients.new }
+    ensures read { OnOk result (EachBelow clients.new.capacity (λ c. c.over ≡ false → WasRead c)
+        (clients_of clients.new)) }
 {
     for key in 0..clients.capacity() {
         if let Some(client) = clients.get_mut(key) {
@@ -50,11 +67,28 @@ fn take_in_all<D: SectorDisk, S: Read>(
 
 /// Writes to the clients what they may see.
 pub(crate) fn put_out_all<D: SectorDisk, S: Write>(hub: &mut Hub<D>, clients: &mut Slab<Client<S>>)
-    ensures { Sends hub.old hub.new }
+    ensures sends { Sends hub.old hub.new }
+    ensures numbers { numbers_of hub.new.hub ≡ numbers_of hub.old.hub }
+    ensures same { clients_of clients.new ≡ clients_of clients.old }
+    ensures capacity { clients.new.capacity ≡ clients.old.capacity }
 {
     for key in 0..clients.capacity() {
         if let Some(client) = clients.get_mut(key) {
             client.put_out(hub);
+        }
+    }
+}
+
+// Notes which clients are gone, all of them before the first is parted with.
+fn note_ends<D: SectorDisk, S>(hub: &Hub<D>, clients: &mut Slab<Client<S>>)
+    ensures keeps { KeepsClients clients.old clients.new }
+    ensures stands { StandsIn (clients_of clients.old) (clients_of clients.new) }
+    ensures gone { EachBelow clients.new.capacity
+        (λ c. c.over ≡ false → is_gone hub.now.hub c ≡ false) (clients_of clients.new) }
+{
+    for key in 0..clients.capacity() {
+        if let Some(client) = clients.get_mut(key) {
+            client.note_end(hub);
         }
     }
 }
@@ -65,14 +99,19 @@ fn part_with_gone<D: SectorDisk, S: Drop>(
     clients: &mut Slab<Client<S>>,
     moment: Moment,
 ) -> Result<(), CommitError>
-    ensures goes { OnOk result (Goes D.medium moment.0 hub.old hub.new) }
+    ensures hangs_up { OnOk result (HangsUp D.medium moment.0 hub.old hub.new) }
     ensures breaks { IfErr result (λ e. Breaks D.medium D.counts moment.0 hub.old hub.new e) }
+    ensures serving { IsServing hub.old.hub clients.old → IsServing hub.new.hub clients.new }
+    ensures capacity { clients.new.capacity ≡ clients.old.capacity }
+    ensures stands { StandsIn (clients_of clients.old) (clients_of clients.new) }
+    ensures left { OnOk result (EachBelow clients.new.capacity (λ c. c.over ≡ false)
+        (clients_of clients.new)) }
 {
     for key in 0..clients.capacity() {
         let Some(client) = clients.get(key) else {
             continue;
         };
-        if client.is_gone(hub) {
+        if client.is_over() {
             hang_up(hub, client.conn(), moment)?;
             clients.try_remove(key);
         }
@@ -82,8 +121,11 @@ fn part_with_gone<D: SectorDisk, S: Drop>(
 
 // Hangs up a connection.
 fn hang_up<D: SectorDisk>(hub: &mut Hub<D>, conn: u32, moment: Moment) -> Result<(), CommitError>
-    ensures goes { OnOk result (Goes D.medium moment.0 hub.old hub.new) }
+    ensures hangs_up { OnOk result (HangsUp D.medium moment.0 hub.old hub.new) }
     ensures breaks { IfErr result (λ e. Breaks D.medium D.counts moment.0 hub.old hub.new e) }
+    ensures leaves { OnOk result ((other : ℕ) → is_connected hub.new.hub other
+        ≡ (not (other == conn) && is_connected hub.old.hub other)) }
+    ensures stays { OnErr result (numbers_of hub.new.hub ≡ numbers_of hub.old.hub) }
 {
     match hub.hangup(conn, moment) {
         Ok(()) => Ok(()),
@@ -91,5 +133,25 @@ fn hang_up<D: SectorDisk>(hub: &mut Hub<D>, conn: u32, moment: Moment) -> Result
         Err(ServeError::Unknown) => Ok(()),
         Err(ServeError::Device) => Err(CommitError::Device),
         Err(ServeError::Stopped) => Err(CommitError::Stopped),
+    }
+}
+
+/// The system says of a client, if one has the key, that a read may give something.
+pub(crate) fn wake<S>(clients: &mut Slab<Client<S>>, key: usize)
+    ensures { KeepsClients clients.old clients.new }
+{
+    if let Some(client) = clients.get_mut(key) {
+        client.wake();
+    }
+}
+
+/// Has the system tell when the sockets that are full have room again.
+pub(crate) fn ask_for_room<S: Source>(clients: &mut Slab<Client<S>>, registry: &Registry)
+    ensures { KeepsClients clients.old clients.new }
+{
+    for key in 0..clients.capacity() {
+        if let Some(client) = clients.get_mut(key) {
+            client.ask_for_room(registry, Token(key));
+        }
     }
 }

@@ -1,13 +1,15 @@
 //! The server: a hub, the sockets of its connections, and the socket on which new ones come.
 
-ghost use Rattle.std.specs.Prelude.{◌≡◌, ℕ, IfErr, IfOk, OnOk, Err};
-ghost use Rattle.ipc_disk.specs.Medium.{IsHonest};
-ghost use Rattle.ipc_hub.specs.View.{HasStopped, StoredHub};
+ghost use Rattle.std.specs.Prelude.{◌≡◌, ℕ, [], IfErr, IfOk, OnOk, Err};
+ghost use Rattle.ipc_hub.specs.View.{HasStopped};
 ghost use Rattle.ipc_server.specs.Goes.{Goes, GoesRound, Breaks, BreaksOff};
+ghost use Rattle.ipc_server.specs.Parts.{HasParted};
+ghost use Rattle.ipc_server.specs.Rows.{KeepsClients};
+ghost use Rattle.ipc_server.specs.View.{EachClient, HaveConnections, WasRead};
 
 use crate::client::Client;
 use crate::fault::{ServeFault, ServerError};
-use crate::rounds::{put_out_all, serve_all};
+use crate::rounds::{ask_for_room, put_out_all, serve_all, wake};
 use ipc_base::Moment;
 use ipc_disk::SectorDisk;
 use ipc_hub::Hub;
@@ -33,7 +35,7 @@ const LISTENER: Token = Token(usize::MAX);
 /// How many milliseconds a wait may take, if there is nothing to do already.
 const LONGEST_WAIT: u64 = 100;
 
-/// A server on a Unix socket. A contract sees its hub.
+/// A server on a Unix socket. A contract sees its hub, and its clients by the number of their connection.
 #[derive(Drop)]
 pub struct Server<D: SectorDisk> {
     hub: Hub<D>,
@@ -50,9 +52,15 @@ pub struct Server<D: SectorDisk> {
 }
 
 impl<D: SectorDisk> Model for Server<D> {
-    ghost Value = { StoredHub D };
+    ghost use Rattle.ipc_server.specs.View.{ServerView};
 
-    ghost view = { λ s. s.hub };
+    ghost Value = { ServerView D };
+
+    ghost use Rattle.ipc_server.specs.Rows.{clients_of, IsServing};
+
+    ghost view = { λ s. record { hub = s.hub; clients = clients_of s.clients } };
+
+    ghost invariant = { λ s. IsServing s.hub.hub s.clients };
 }
 
 /// What was to be served, and why it is not.
@@ -85,6 +93,23 @@ fn watch<R: Net + AllocGlobal>(
     }
 }
 
+// Notes what the system has told: that a read of a client may give something, or that connections may
+// wait.
+fn hear<S>(events: &Events, clients: &mut Slab<Client<S>>, told: &mut bool)
+    ensures { KeepsClients clients.old clients.new }
+{
+    for event in events {
+        let Token(key) = event.token();
+        if event.is_readable() || event.is_read_closed() || event.is_error() {
+            if event.token() == LISTENER {
+                *told = true;
+            } else {
+                wake(clients, key);
+            }
+        }
+    }
+}
+
 impl<D: SectorDisk> Server<D> {
     /// A server of a hub without connections, which are those that come on the socket.
     pub fn new<R: Net + AllocGlobal>(
@@ -92,7 +117,8 @@ impl<D: SectorDisk> Server<D> {
         hub: Hub<D>,
         listener: UnixListener,
     ) -> Result<Server<D>, Unserved<D>>
-        ensures ok { IfOk result (λ server. server ≡ hub) }
+        requires { hub.hub.connections ≡ [] }
+        ensures ok { IfOk result (λ server. server.hub ≡ hub) }
         ensures err { IfErr result (λ unserved. unserved.hub ≡ hub) }
     {
         let mut listener = listener;
@@ -119,12 +145,19 @@ impl<D: SectorDisk> Server<D> {
     /// the clients have written, makes all of it last at once, writes what the clients may see, and
     /// parts with those that are gone.
     pub fn turn(&mut self, moment: Moment) -> Result<(), ServeFault>
-        ensures ok { OnOk result (GoesRound D.medium moment.0 self.old self.new) }
+        ensures ok { OnOk result (GoesRound D.medium moment.0 self.old.hub self.new.hub) }
         // All of it lasts.
-        ensures settled { OnOk result (self.new.store.waiting ≡ 0) }
+        ensures settled { OnOk result (self.new.hub.store.waiting ≡ 0) }
+        // Each client has its connection, and no other connection is there.
+        ensures connected { HaveConnections self.new.hub.hub self.new.clients }
+        // Of each client nothing may be read, or a piece of it is kept, or its reads are used.
+        ensures read { OnOk result (EachClient WasRead self.new.clients) }
+        // None of the clients that are left is gone.
+        ensures parted { OnOk result
+            (HasParted D.medium moment.0 self.old.hub self.new.hub self.new.clients) }
         ensures err { IfErr result (λ fault.
-            BreaksOff D.medium D.counts moment.0 self.old self.new fault) }
-        ensures stopped { HasStopped self.old → result ≡ Err ServeFault.Stopped }
+            BreaksOff D.medium D.counts moment.0 self.old.hub self.new.hub fault) }
+        ensures stopped { HasStopped self.old.hub → result ≡ Err ServeFault.Stopped }
     {
         if self.hub.has_stopped() {
             return Err(ServeFault::Stopped);
@@ -139,10 +172,14 @@ impl<D: SectorDisk> Server<D> {
 
     // What a turn does after the wait.
     fn go_round(&mut self, moment: Moment) -> Result<(), CommitError>
-        ensures goes { OnOk result (GoesRound D.medium moment.0 self.old self.new) }
-        ensures settled { OnOk result (self.new.store.waiting ≡ 0) }
+        ensures goes { OnOk result (GoesRound D.medium moment.0 self.old.hub self.new.hub) }
+        ensures settled { OnOk result (self.new.hub.store.waiting ≡ 0) }
+        ensures connected { HaveConnections self.new.hub.hub self.new.clients }
+        ensures read { OnOk result (EachClient WasRead self.new.clients) }
+        ensures parted { OnOk result
+            (HasParted D.medium moment.0 self.old.hub self.new.hub self.new.clients) }
         ensures breaks { IfErr result (λ e.
-            Breaks D.medium D.counts moment.0 self.old self.new e) }
+            Breaks D.medium D.counts moment.0 self.old.hub self.new.hub e) }
     {
         self.hub.tick(moment)?;
         self.crowded = self.admit();
@@ -151,37 +188,18 @@ impl<D: SectorDisk> Server<D> {
 
     // Waits until a socket is ready, or not at all if there is something to do already.
     fn wait(&mut self) -> Result<(), ServeFault>
-        ensures same { self.new ≡ self.old }
+        ensures same { self.new.hub ≡ self.old.hub }
+        ensures connected { HaveConnections self.new.hub.hub self.new.clients }
         ensures err { IfErr result (λ fault. fault ≡ ServeFault.Socket) }
     {
-        self.ask_for_room();
+        ask_for_room(&mut self.clients, self.poll.registry());
         let longest = if self.is_busy() { 0 } else { LONGEST_WAIT };
         let longest = Duration::from_millis(longest);
         if self.poll.poll(&mut self.events, Some(longest)).is_err() {
             return Err(ServeFault::Socket);
         }
-        for event in &self.events {
-            let Token(key) = event.token();
-            if event.is_readable() || event.is_read_closed() || event.is_error() {
-                if event.token() == LISTENER {
-                    self.told = true;
-                } else if let Some(client) = self.clients.get_mut(key) {
-                    client.wake();
-                }
-            }
-        }
+        hear(&self.events, &mut self.clients, &mut self.told);
         Ok(())
-    }
-
-    // Has the system tell when the sockets that are full have room again.
-    fn ask_for_room(&mut self)
-        ensures { self.new ≡ self.old }
-    {
-        for key in 0..self.clients.capacity() {
-            if let Some(client) = self.clients.get_mut(key) {
-                client.ask_for_room(self.poll.registry(), Token(key));
-            }
-        }
     }
 
     // Whether a client may have something already, or a new one has come. The system tells of a new one
@@ -202,7 +220,7 @@ impl<D: SectorDisk> Server<D> {
     // there may be more. If an accept fails otherwise than that it would block, as without a
     // descriptor, connections may wait still, and the system does not tell of them again.
     fn admit(&mut self) -> bool
-        ensures { (moment : ℕ) → Goes D.medium moment self.old self.new }
+        ensures { (moment : ℕ) → Goes D.medium moment self.old.hub self.new.hub }
     {
         if !self.told {
             return false;
@@ -221,7 +239,7 @@ impl<D: SectorDisk> Server<D> {
 
     // Takes a new connection, or closes it if something that it needs is refused.
     fn take_client(&mut self, socket: UnixStream)
-        ensures { (moment : ℕ) → Goes D.medium moment self.old self.new }
+        ensures { (moment : ℕ) → Goes D.medium moment self.old.hub self.new.hub }
     {
         let mut socket = socket;
         let key = self.clients.vacant_key();

@@ -1,5 +1,7 @@
 //! The server on a Unix socket: what its clients read turn by turn, and what a turn makes last.
 
+ghost use Rattle.std.specs.Prelude.{◌≡◌, [], IfOk};
+
 use crate::{ServeFault, Server};
 use ipc_base::{Limits, Moment};
 use ipc_disk::{FileDisk, FuseDisk, MemoryDisk, SectorDisk};
@@ -70,7 +72,9 @@ pub(crate) fn device(alloc: Global) -> Result<MemoryDisk, Fail> {
 pub(crate) type Opened<D> = Box<Hub<D>>;
 
 /// A hub over a device that is to open.
-pub(crate) fn opened<D: SectorDisk + Drop>(alloc: Global, disk: D) -> Result<Opened<D>, Fail> {
+pub(crate) fn opened<D: SectorDisk + Drop>(alloc: Global, disk: D) -> Result<Opened<D>, Fail>
+    ensures { IfOk result (λ hub. hub.value.hub.connections ≡ []) }
+{
     match Store::open(alloc, disk) {
         Ok(store) => Ok(Box::new(alloc, Hub::new(alloc, store))?),
         Err(unopened) => Err(Fail::new(unopened.error)),
@@ -108,7 +112,9 @@ fn started<D: SectorDisk + Drop>(
     test: &str,
     hub: Opened<D>,
     count: u32,
-) -> Result<(Box<Server<D>>, Vec<UnixStream>), Fail> {
+) -> Result<(Box<Server<D>>, Vec<UnixStream>), Fail>
+    requires { hub.value.hub.connections ≡ [] }
+{
     let path = path_of(rt, test)?;
     let listener = UnixListener::bind(rt, path.as_path())?;
     let clients = connected(rt, &path, count);

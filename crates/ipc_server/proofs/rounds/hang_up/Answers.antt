@@ -1,6 +1,5 @@
-use Rattle.std.proofs.Common.{refl}
-use Rattle.ipc_server.specs.Acts.Act.{HangsUp}
-use Rattle.ipc_server.proofs.Going.{goes-one, goes-none, breaks-at}
+use Rattle.ipc_server.proofs.Going.{goes-none, breaks-at}
+use Rattle.ipc_server.proofs.Parting.{hangs-none, hangs-one, none-leaves}
 use Rattle.ipc_server.proofs.rounds.hang_up.Goals as goal
 
 pub returns-in-Err-Device-clause-breaks : goal.returns-in-Err-Device-clause-breaks
@@ -15,11 +14,16 @@ returns-in-Err-Stopped-clause-breaks g c =
     (goes-none g.D.SectorDisk.medium g.met.D.SectorDisk.only_now c.args.moment.0 c.args.hub.now)
     (rw c.in-Err-Stopped.field-0-is at c.in-Err-Stopped.ensures.refused)
 
-pub returns-in-Ok-clause-goes : goal.returns-in-Ok-clause-goes
-returns-in-Ok-clause-goes g c =
-    goes-one g.D.SectorDisk.medium c.args.moment.0 c.args.hub.now c.hangup.new.self (HangsUp c.args.conn c.args.moment.0) refl tt c.in-Ok.ensures.ok
+pub returns-in-Ok-clause-hangs_up : goal.returns-in-Ok-clause-hangs_up
+returns-in-Ok-clause-hangs_up g c =
+    hangs-one g.D.SectorDisk.medium c.args.moment.0 c.args.hub.now c.hangup.new.self c.args.conn c.in-Ok.ensures.ok
 
-pub returns-in-Err-Unknown-clause-goes : goal.returns-in-Err-Unknown-clause-goes
-returns-in-Err-Unknown-clause-goes g c =
+pub returns-in-Err-Unknown-clause-hangs_up : goal.returns-in-Err-Unknown-clause-hangs_up
+returns-in-Err-Unknown-clause-hangs_up g c =
     rw (rw c.in-Err-Unknown.field-0-is at c.in-Err-Unknown.ensures.refused).2
-    (goes-none g.D.SectorDisk.medium g.met.D.SectorDisk.only_now c.args.moment.0 c.args.hub.now)
+    (hangs-none g.D.SectorDisk.medium c.args.moment.0 c.args.hub.now)
+
+pub returns-in-Err-Unknown-clause-leaves : goal.returns-in-Err-Unknown-clause-leaves
+returns-in-Err-Unknown-clause-leaves g c =
+    let refused = rw c.in-Err-Unknown.field-0-is at c.in-Err-Unknown.ensures.refused in
+    rw refused.2 (none-leaves c.args.hub.now.hub c.args.conn refused.1)

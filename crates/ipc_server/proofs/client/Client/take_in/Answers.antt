@@ -9,17 +9,19 @@ pub returns-in_err-feed-2-clause-breaks : goal.returns-in_err-feed-2-clause-brea
 returns-in_err-feed-2-clause-breaks g c =
     let q = err_from_is_err_and c.from_residual-in_err-feed-2.result c.from_residual-in_err-feed-2.ensures.1 in
     let med = g.D.SectorDisk.medium in
-    rw (q.1, q.2) (breaks-later med g.D.SectorDisk.counts c.args.moment.0 c.args.hub.now c.loop.hub c.feed-in-loop.new.hub _
-    (hears-goes med c.args.self.now.conn c.args.moment.0 _ _ _ _ c.loop.invariant.hears) c.in_err-feed-2.ensures.breaks)
+    rw (q.1, q.2) (breaks-later med g.D.SectorDisk.counts c.args.moment.0 c.args.hub.now c.loop-self.hub c.feed-in-loop-self.new.hub _
+    (hears-goes med c.args.self.now.conn c.args.moment.0 _ _ _ _ c.loop-self.invariant.hears) c.in_err-feed-2.ensures.breaks)
 
-pub loop-preserved : goal.loop-preserved
-loop-preserved g c =
-    let empty : length c.loop.self.piece.items ≡ 0 = grind (arith, nat_tests, c.if-not-is_empty.ensures) in
-    let same = c.read.ensures.conn ∙ c.loop.invariant.conn in
+pub loop-self-preserved : goal.loop-self-preserved
+loop-self-preserved g c =
+    let empty : length c.loop-self.self.piece.items ≡ 0 = grind (arith, nat_tests, c.if-not-is_empty.ensures) in
+    let same = c.read.ensures.conn ∙ c.loop-self.invariant.conn in
     record {
-      conn = c.feed-in-loop.ensures.conn ∙ same;
-      hears = hears-both g.D.SectorDisk.medium c.args.self.now.conn c.args.moment.0 c.args.hub.now c.loop.hub c.feed-in-loop.new.hub _ _ _
-          c.loop.invariant.hears (hears-kept g.D.SectorDisk.medium c.args.self.now.conn c.args.moment.0 c.loop.hub c.feed-in-loop.new.hub _ _ _
-          (empty-kept c.loop.self.piece.items (g.S.Read.remaining c.loop.self.socket) _ empty c.read.ensures.same)
+      conn = c.feed-in-loop-self.ensures.conn ∙ same;
+      reads = omega arith;
+      numbers = c.feed-in-loop-self.ensures.numbers ∙ c.loop-self.invariant.numbers;
+      hears = hears-both g.D.SectorDisk.medium c.args.self.now.conn c.args.moment.0 c.args.hub.now c.loop-self.hub c.feed-in-loop-self.new.hub _ _ _
+          c.loop-self.invariant.hears (hears-kept g.D.SectorDisk.medium c.args.self.now.conn c.args.moment.0 c.loop-self.hub c.feed-in-loop-self.new.hub _ _ _
+          (empty-kept c.loop-self.self.piece.items (g.S.Read.remaining c.loop-self.self.socket) _ empty c.read.ensures.same)
           (rw same at c.in_ok-feed-2.ensures.hears));
     }

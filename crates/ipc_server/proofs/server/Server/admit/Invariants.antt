@@ -3,4 +3,4 @@ use Rattle.ipc_server.specs.Goes.{Goes}
 use Rattle.ipc_server.proofs.server.Server.admit.Given as goal
 
 abbrev pub invariant-loop : goal.invariant-loop
-invariant-loop g l = (moment : ℕ) → Goes g.D.SectorDisk.medium moment l.fn.self l.self
+invariant-loop g l = (moment : ℕ) → Goes g.D.SectorDisk.medium moment l.fn.self.hub l.self.hub

@@ -1,11 +1,25 @@
-use Rattle.std.proofs.Common.{sym}
+use Rattle.std.proofs.Common.{sym, ap}
 use Rattle.ipc_server.proofs.Going.{breaks-off, breaks-sent}
+use Rattle.ipc_server.proofs.Standing.{keeps-same, serving-kept}
 use Rattle.ipc_server.proofs.server.Server.turn.Goals as goal
 
 pub returns-in-Err-clause-err : goal.returns-in-Err-clause-err
 returns-in-Err-clause-err g c =
     let med = g.D.SectorDisk.medium in
     let counts = g.D.SectorDisk.counts in
-    rw c.from.ensures (breaks-off med counts c.args.moment.0 c.args.self.now c.put_out_all.new.hub c.in-Err.error
-    (breaks-sent med counts c.args.moment.0 c.args.self.now c.self-2.inside.hub c.put_out_all.new.hub c.in-Err.error
-    (rw (c.wait.ensures.same, sym c.self-2.view_is) at c.in-Err.ensures.breaks) c.put_out_all.ensures))
+    rw c.from.ensures (breaks-off med counts c.args.moment.0 c.args.self.now.hub c.put_out_all.new.hub c.in-Err.error
+    (breaks-sent med counts c.args.moment.0 c.args.self.now.hub c.self-2.inside.hub c.put_out_all.new.hub c.in-Err.error
+    (rw (c.wait.ensures.same, sym (ap (λ v. v.hub) c.self-2.view_is)) at c.in-Err.ensures.breaks) c.put_out_all.ensures.sends))
+
+pub invariant_of-self : goal.invariant_of-self
+invariant_of-self g c =
+    serving-kept c.self-2.inside.hub.hub c.put_out_all.new.hub.hub c.self-2.inside.clients c.put_out_all.new.clients c.put_out_all.ensures.numbers
+    (keeps-same c.self-2.inside.clients c.put_out_all.new.clients c.put_out_all.ensures.same c.put_out_all.ensures.capacity) c.self-2.invariant
+
+pub returns-in-Err-clause-connected : goal.returns-in-Err-clause-connected
+returns-in-Err-clause-connected g c = (
+    serving-kept c.self-2.inside.hub.hub c.put_out_all.new.hub.hub c.self-2.inside.clients c.put_out_all.new.clients c.put_out_all.ensures.numbers
+    (keeps-same c.self-2.inside.clients c.put_out_all.new.clients c.put_out_all.ensures.same c.put_out_all.ensures.capacity) c.self-2.invariant).connected
+
+pub returns-clause-ok : goal.returns-clause-ok
+returns-clause-ok g c = rw c.wait.ensures.same at c.in_default.ensures.goes

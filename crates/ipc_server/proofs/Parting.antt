@@ -1,0 +1,57 @@
+-- The end of a turn: connections are hung up, that is made to last, and clients are sent what they may see.
+use Rattle.std.proofs.Common.{◌≡◌, ℕ, [], false, refl, inl, inr, arith}
+use Rattle.std.specs.Prelude.{nat_eq, not, ◌==◌, ◌&&◌}
+use Rattle.std.proofs.lemmas.Bool.Decides.{nat_tests}
+use Rattle.ipc_base.proofs.CallerLemmas.{test_cases}
+use Rattle.ipc_disk.specs.Medium.{Image, Medium}
+use Rattle.ipc_server.specs.Acts.Act.{HangsUp as to_hang_up}
+use Rattle.ipc_base.specs.declared.limits.Limits.{Limits}
+use Rattle.ipc_store.specs.Histories.{Takes}
+use Rattle.ipc_server.specs.Goes.{Goes, Sends}
+use Rattle.ipc_server.specs.Parts.{HangsUp, Parts}
+use Rattle.ipc_server.specs.Parts.HangsUp.{None as no_call, More as one_call}
+use Rattle.ipc_hub.specs.Clients.{Clients, hangup}
+use Rattle.ipc_hub.specs.Relations.Matches.{Serves, StoredMatches}
+use Rattle.ipc_hub.specs.View.{HubView, StoredHub, is_connected}
+use Rattle.ipc_server.proofs.Going.{goes-both, goes-none, goes-one, goes-released, goes-sent}
+
+-- a number that is free already is freed by nothing
+pub none-leaves : (hub : HubView) (conn : ℕ) → is_connected hub conn ≡ false → (other : ℕ)
+    → is_connected hub other ≡ (not (other == conn) && is_connected hub other)
+none-leaves hub conn free other =
+    elim (test_cases (nat_eq other conn)) [
+      | inl t ↦ let same : other ≡ conn = grind (arith, nat_tests) in rw t (rw same free)
+      | inr f ↦ rw f refl
+    ]
+
+module _ {D : Type 0} (medium : D → Medium) (moment : ℕ) where
+  pub hangs-none : (hub : StoredHub D) → HangsUp medium moment hub hub
+  hangs-none hub = no_call
+
+  pub hangs-one : (old new : StoredHub D) (conn : ℕ) → Serves medium old new (λ limits h. hangup limits h conn moment) → HangsUp medium moment old new
+  hangs-one old new conn serves = one_call old new conn no_call serves
+
+  pub hangs-both : (old mid new : StoredHub D) → HangsUp medium moment old mid → HangsUp medium moment mid new → HangsUp medium moment old new
+  hangs-both old mid _ one no_call = one
+  hangs-both old mid new one (one_call last _ conn before serves) = one_call last new conn (hangs-both old mid last one before) serves
+
+  module _ (law : (d : D) (image : Image) → (medium d).images_since (medium d).moment image → (medium d).images_now image) where
+    pub hangs-goes : (old new : StoredHub D) → HangsUp medium moment old new → Goes medium moment old new
+    hangs-goes old _ no_call = goes-none medium law moment old
+    hangs-goes old new (one_call last _ conn before serves) =
+        goes-both medium moment old last new (hangs-goes old last before) (goes-one medium moment last new (to_hang_up conn moment) refl tt serves)
+
+    -- these are calls on a hub
+    pub parts-goes : (old new : StoredHub D) → Parts medium moment old new → Goes medium moment old new
+    parts-goes old new parts =
+        goes-both medium moment old parts.parted new (hangs-goes old parts.parted parts.hangs_up)
+        (goes-both medium moment parts.parted parts.lasting new (goes-released medium moment parts.parted parts.lasting parts.releases.same parts.releases.takes)
+        (goes-sent medium law moment parts.lasting new parts.sends))
+
+    -- what was fed was made to last, and the clients were written to
+    pub goes-written : (old fed lasting new : StoredHub D) → Goes medium moment old fed
+        → ((limits : Limits) (h : Clients) → StoredMatches limits fed h → StoredMatches limits lasting h) → Takes medium fed.store [] lasting.store
+        → Sends lasting new → Goes medium moment old new
+    goes-written old fed lasting new goes same takes sends =
+        goes-both medium moment old fed new goes
+        (goes-both medium moment fed lasting new (goes-released medium moment fed lasting same takes) (goes-sent medium law moment lasting new sends))

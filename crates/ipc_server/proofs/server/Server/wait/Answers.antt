@@ -1,0 +1,25 @@
+use Rattle.std.proofs.Common.{refl}
+use Rattle.ipc_server.proofs.Standing.{keeps-both, serving-kept}
+use Rattle.ipc_server.proofs.server.Server.wait.Goals as goal
+
+pub invariant_of-self : goal.invariant_of-self
+invariant_of-self g c =
+    serving-kept c.self.inside.hub.hub c.self.inside.hub.hub c.self.inside.clients c.ask_for_room.new.clients refl c.ask_for_room.ensures c.self.invariant
+
+pub invariant_of-self-then-is_err : goal.invariant_of-self-then-is_err
+invariant_of-self-then-is_err g c =
+    serving-kept c.self.inside.hub.hub c.self.inside.hub.hub c.self.inside.clients c.ask_for_room.new.clients refl c.ask_for_room.ensures c.self.invariant
+
+pub returns-then-is_err-clause-connected : goal.returns-then-is_err-clause-connected
+returns-then-is_err-clause-connected g c = (
+    serving-kept c.self.inside.hub.hub c.self.inside.hub.hub c.self.inside.clients c.ask_for_room.new.clients refl c.ask_for_room.ensures c.self.invariant).connected
+
+pub invariant_of-self-2 : goal.invariant_of-self-2
+invariant_of-self-2 g c =
+    serving-kept c.self.inside.hub.hub c.self.inside.hub.hub c.self.inside.clients c.hear.new.clients refl
+    (keeps-both c.self.inside.clients c.ask_for_room.new.clients c.hear.new.clients c.ask_for_room.ensures c.hear.ensures) c.self.invariant
+
+pub returns-clause-connected : goal.returns-clause-connected
+returns-clause-connected g c = (
+    serving-kept c.self.inside.hub.hub c.self.inside.hub.hub c.self.inside.clients c.hear.new.clients refl
+    (keeps-both c.self.inside.clients c.ask_for_room.new.clients c.hear.new.clients c.ask_for_room.ensures c.hear.ensures) c.self.invariant).connected

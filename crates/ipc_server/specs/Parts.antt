@@ -1,0 +1,38 @@
+-- How a turn parts with the clients that are gone.
+use Rattle.std.specs.Prelude.{◌≡◌, ℕ, false, List, [], Option}
+use Rattle.ipc_base.specs.declared.limits.Limits.{Limits}
+use Rattle.ipc_disk.specs.Medium.{Medium}
+use Rattle.ipc_store.specs.Histories.{Takes}
+use Rattle.ipc_hub.specs.Clients.{Clients, hangup}
+use Rattle.ipc_hub.specs.View.{StoredHub}
+use Rattle.ipc_hub.specs.Relations.Matches.{Serves, StoredMatches}
+use Rattle.ipc_server.specs.Goes.{GoesRound, Sends}
+use Rattle.ipc_server.specs.View.{ClientView, EachClient, is_gone}
+
+-- Connections were hung up, one after another, and nothing else was done.
+pub data HangsUp {D : Type 0} (medium : D → Medium) (moment : ℕ) (old : StoredHub D) : StoredHub D → Type 0 where
+  None : HangsUp medium moment old old
+  More : (last next : StoredHub D) (conn : ℕ) → HangsUp medium moment old last
+      → Serves medium last next (λ limits h. hangup limits h conn moment) → HangsUp medium moment old next
+
+-- What was accepted was made to last.
+pub record Releases {D : Type 0} (medium : D → Medium) (old new : StoredHub D) : Type 0 where
+  pub same : (limits : Limits) (h : Clients) → StoredMatches limits old h → StoredMatches limits new h
+  pub takes : Takes medium old.store [] new.store
+
+-- The end of a round: connections were hung up, that was made to last, and clients were sent what they may see.
+pub record Parts {D : Type 0} (medium : D → Medium) (moment : ℕ) (old new : StoredHub D) : Type 0 where
+  pub parted : StoredHub D
+  pub hangs_up : HangsUp medium moment old parted
+  pub lasting : StoredHub D
+  pub releases : Releases medium parted lasting
+  pub sends : Sends lasting new
+
+-- None of the clients that a turn leaves was gone when the clients had been written to: none is over, and each that the
+-- server has ended had something to see then. From there on the turn has only parted with the others.
+pub record HasParted {D : Type 0} (medium : D → Medium) (moment : ℕ) (old new : StoredHub D)
+    (left : List (Option ClientView)) : Type 0 where
+  pub written : StoredHub D
+  pub goes : GoesRound medium moment old written
+  pub none_gone : EachClient (λ client. is_gone written.hub client ≡ false) left
+  pub parts : Parts medium moment written new

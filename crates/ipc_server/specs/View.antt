@@ -1,0 +1,46 @@
+-- What a caller sees of a server: its hub, and its clients by the number of their connection.
+use Rattle.std.specs.Prelude.{◌≡◌, ℕ, Bool, true, false, ◌&&◌, ◌||◌, ◌==◌, List, [], length, Option, Some, None, is_some}
+use Rattle.std.specs.Prelude.{slice_index_or}
+use Rattle.ipc_hub.specs.View.{HubView, StoredHub, is_connected, output_of, ended_of}
+
+pub record ClientView : Type 0 where
+  -- the number of its connection
+  pub conn : ℕ
+  -- its bytes that were read, and that the hub has not taken
+  pub piece : List ℕ
+  -- a read may give something: none has said since that it would block
+  pub readable : Bool
+  -- how many reads of it were made in the last turn that has read it
+  pub reads : ℕ
+  -- its connection is to be hung up: the end of its input was read, or its socket has failed
+  pub over : Bool
+
+pub record ServerView (D : Type 0) : Type 0 where
+  pub hub : StoredHub D
+  -- the client of each number from 0 on, or none
+  pub clients : List (Option ClientView)
+
+-- the most reads of a client in one turn
+abbrev pub most_reads : ℕ
+most_reads = 16
+
+-- the client that has the number
+abbrev pub client_of : List (Option ClientView) → ℕ → Option ClientView
+client_of clients number = slice_index_or clients number None
+
+-- each client is such a one
+abbrev pub EachClient : (ClientView → Type 0) → List (Option ClientView) → Type 0
+EachClient P clients = (number : ℕ) (client : ClientView) → client_of clients number ≡ Some client → P client
+
+-- Each client has its connection in the hub, under its own number, and no other connection is there.
+pub record HaveConnections (hub : HubView) (clients : List (Option ClientView)) : Type 0 where
+  pub own : (number : ℕ) (client : ClientView) → client_of clients number ≡ Some client → client.conn ≡ number
+  pub same : (number : ℕ) → is_connected hub number ≡ is_some (client_of clients number)
+
+-- A client was read: if a read may give something still, then a piece of what was read is kept, or its reads are used.
+abbrev pub WasRead : ClientView → Type 0
+WasRead client = client.readable ≡ true → client.piece ≡ [] → client.reads ≡ most_reads
+
+-- A client is gone if it is over, or if the server has ended its connection and all that it may see was written.
+abbrev pub is_gone : HubView → ClientView → Bool
+is_gone hub client = client.over || (ended_of hub client.conn && (length (output_of hub client.conn) == 0))
