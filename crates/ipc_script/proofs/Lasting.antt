@@ -1,5 +1,5 @@
 -- What calls, one after another, do to the history of a store.
-use Rattle.std.proofs.Common.{◌≡◌, ⊎_elim, ℕ, List, Option, [], ◌++◌, sym, subst, ap, ◌∙◌}
+use Rattle.std.proofs.Common.{◌≡◌, ⊎_elim, inl, ℕ, List, Option, [], ◌++◌, sym, subst, ap, ◌∙◌}
 use Rattle.std.specs.Prelude.{⊤, Result, Ok, Err}
 use Rattle.ipc_base.specs.declared.limits.Limits.{Limits}
 use Rattle.ipc_disk.specs.Counts.{Counts}
@@ -20,6 +20,7 @@ use Rattle.ipc_script.specs.declared.fault.ScriptFault.TheVariants.{NoMemory, In
 use Rattle.ipc_script.specs.declared.fault.ScriptFault.TheVariants.{NotFormatted, Version, Damaged}
 use Rattle.ipc_script.specs.declared.fault.ScriptFault.TheVariants.{TooLong, BadLine, InUse, Unknown}
 use Rattle.ipc_script.specs.Leaves.{Leaves, UnlessDisk}
+use Rattle.ipc_script.specs.Stops.LivesOn.{One}
 use Rattle.ipc_script.specs.Relations.Lasts.{Lasts, Settled, Settles, Empties}
 use Rattle.ipc_script.proofs.FaultCases.{by_fault}
 
@@ -111,4 +112,11 @@ pub leaves-same : {D : Type 0} (medium : D → Medium)
     (limits : Limits) (h : Clients) (script : List ℕ) (before after : Option (List ℕ)) (store : StoreView D) (disk : D) (e : ScriptFault)
     → disk ≡ store.disk → Leaves medium limits h script before after store disk (Err e)
 leaves-same medium law limits h script before after store disk e same =
-    record { closed = store; handed = same; lasts = lasts-none medium law store; settled = settled-same store e; state = tt }
+    record {
+      closed = store;
+      lives = One store (lasts-none medium law store);
+      handed = inl same;
+      one = λ stops. (lasts-none medium law store, same);
+      settled = settled-same store e;
+      state = tt;
+    }

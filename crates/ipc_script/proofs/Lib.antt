@@ -18,6 +18,8 @@ pub mod Lasting
 pub mod LineForms
 pub mod ScriptLines
 pub mod OpenedAgain
+pub mod Stopping
+pub mod Going
 pub mod DumpText
 mod LineLengths
 mod NumbersSpent

@@ -9,7 +9,8 @@ use Rattle.ipc_script.specs.declared.fault.ScriptFault.{ScriptFault}
 use Rattle.ipc_script.specs.declared.fault.ScriptFault.TheVariants.{NoMemory, Input, Output, Device}
 use Rattle.ipc_script.specs.declared.fault.ScriptFault.TheVariants.{NotFormatted, Version, Damaged}
 use Rattle.ipc_script.specs.declared.fault.ScriptFault.TheVariants.{TooLong, BadLine, InUse, Unknown}
-use Rattle.ipc_script.specs.Script.{Cut, script_run, script_after}
+use Rattle.ipc_script.specs.Script.{Cut, HasNoStop, script_run, script_after}
+use Rattle.ipc_script.specs.Stops.{IsHanded, LivesOn}
 use Rattle.ipc_script.specs.Relations.Lasts.{Lasts, Settled}
 
 -- this holds, unless the fault is the disk's
@@ -31,18 +32,20 @@ abbrev pub EndsSettled : {D : Type 0} → StoreView D → StoreView D → Result
 EndsSettled old new (Ok _) = Settled old new
 EndsSettled old new (Err e) = UnlessDisk e (Settled old new)
 
--- What a run leaves on the disk that it hands back, which was that of this store. The store that was
--- closed at its end has taken some events, those of the lines that were run. So a crash at any moment of
--- the run leaves what was acknowledged before it, and some of the other events, from the first on; and
--- that stands on the disk at its end. If nothing waited before, all of them stand there, unless the disk
--- failed. If all lines were run, they lead to the state to which the lines lead, for the same cut of each
--- line as what was written.
+-- What a run leaves on the disk that it hands back, which was that of this store: lives of it, one more than there were
+-- lines `stop`. The store that was closed at the end of each has taken some events, those of the lines that were run in
+-- it. So a crash at any moment of a life leaves what was acknowledged before it, and some of the other events, from the
+-- first on; and at a stop nothing waited, so that the next life begins with all that the one before has taken. If no
+-- line is `stop`, there is one life, and its disk is handed back. If nothing waited before, all events stand there,
+-- unless the disk failed. If all lines were run, they lead to the state to which the lines lead, for the same cut of
+-- each line as what was written.
 pub record Leaves {D : Type 0} (medium : D → Medium) (limits : Limits) (h : Clients) (script : List ℕ)
     (before after : Option (List ℕ)) (store : StoreView D) (disk : D) (result : Result ⊤ ScriptFault)
     : Type 0 where
   pub closed : StoreView D
-  pub handed : disk ≡ closed.disk
-  pub lasts : Lasts medium store closed
+  pub lives : LivesOn medium store closed
+  pub handed : IsHanded medium closed disk
+  pub one : HasNoStop script → Lasts medium store closed × (disk ≡ closed.disk)
   pub settled : EndsSettled store closed result
   pub state : OnOk result ((cuts : List Cut) × Appends before after (script_run limits h script cuts).text
-      × (closed.machine.state ≡ (script_after limits h script cuts).state))
+      × (closed.machine.state ≡ (script_after limits h script cuts).state) × (disk ≡ closed.disk))

@@ -2,5 +2,6 @@ pub mod Fault
 pub mod Leaves
 pub mod Line
 pub mod Script
+pub mod Stops
 pub mod Dump
 pub mod Relations

@@ -4,6 +4,7 @@
 mod digits;
 mod fault;
 mod input;
+mod laws;
 mod line;
 mod listing;
 mod reopening;
@@ -11,5 +12,6 @@ mod report;
 mod script;
 
 pub use fault::ScriptFault;
+pub use laws::a_stop_takes_nothing_back;
 pub use listing::{DumpError, dump};
 pub use script::run_script;

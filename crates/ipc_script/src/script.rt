@@ -13,7 +13,7 @@ ghost use Rattle.ipc_hub.specs.Relations.Matches.{StoredMatches};
 ghost use Rattle.ipc_script.specs.Leaves.{Leaves};
 ghost use Rattle.ipc_script.specs.Line.{longest_script};
 ghost use Rattle.ipc_script.specs.Line.PlainLine.{Data, Stop};
-ghost use Rattle.ipc_script.specs.Script.{Run, Runs, MayStop, HasNoStop, WritesMore, IsYoung};
+ghost use Rattle.ipc_script.specs.Script.{Run, Runs, MayStop, WritesMore, IsYoung};
 ghost use Rattle.ipc_script.specs.Script.{DiskFailed};
 ghost use Rattle.ipc_script.specs.Script.{is_open, line_done, opened as opened_run};
 ghost use Rattle.ipc_script.specs.Relations.Lasts.{Lasts, Settled, Settles};
@@ -58,7 +58,7 @@ pub fn run_script<D: SectorDisk, R: Read, W: Write>(
         × (IsYoung store → MayStop (D.medium store.disk) script → IfErr result.0 (λ e.
         DiskFailed e (D.counts store.disk).failures (D.counts result.1).failures))
         × ((events : List PlainEvent) → length events ≡ store.confirmed + store.waiting →
-        HasNoStop script → Leaves D.medium store.machine.limits
+        MayStop (D.medium store.disk) script → Leaves D.medium store.machine.limits
         (no_clients store.machine.state events) script
         (W.contents writer.old) (W.contents writer.new) store result.1 result.0) }
 {
@@ -81,7 +81,7 @@ fn run_lines<D: SectorDisk, W: Write>(
         SimulatesScript limits h script.now
         (W.contents writer.old) (W.contents writer.new) result.0 }
     ensures leaves { (limits : Limits) (h : Clients) → StoredMatches limits hub h → h.clients ≡ [] →
-        HasNoStop script.now → Leaves D.medium limits h script.now
+        MayStop (D.medium hub.store.disk) script.now → Leaves D.medium limits h script.now
         (W.contents writer.old) (W.contents writer.new) hub.store result.1 result.0 }
     ensures disk { HasNumbers (8 * length script.now) hub.store →
         MayStop (D.medium hub.store.disk) script.now →

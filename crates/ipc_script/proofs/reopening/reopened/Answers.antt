@@ -1,13 +1,18 @@
 -- The store is closed when nothing waits, and its disk is opened again.
-use Rattle.std.proofs.Common.{◌≡◌, ⊎_elim, ℕ, ◌<◌, ◌^◌, List, length, sym, ap, subst, ◌∙◌, arith}
+use Rattle.std.proofs.Common.{◌≡◌, ⊎_elim, inl, inr, ℕ, ◌<◌, ◌^◌, List, [], length, sym, ap, subst, ◌∙◌, arith}
 use Rattle.ipc_disk.specs.Counts.{counted}
 use Rattle.ipc_disk.specs.Medium.{IsHonest}
+use Rattle.ipc_disk.specs.Since.{EachImageSince}
 use Rattle.ipc_engine.specs.Event.{PlainEvent}
 use Rattle.ipc_state.specs.State.{State}
 use Rattle.ipc_store.proofs.CallerLemmas.{ready-goes-on}
-use Rattle.ipc_store.specs.Relations.Matches.{StoreMatches}
+use Rattle.ipc_store.specs.Histories.{OpensOn, Takes}
+use Rattle.ipc_store.specs.Relations.Matches.{OpensTo, StoreMatches}
 use Rattle.ipc_store.specs.View.{numbers_used}
+use Rattle.ipc_script.specs.Relations.Lasts.{Lasts}
+use Rattle.ipc_script.proofs.Lasting.{lasts-halted}
 use Rattle.ipc_script.proofs.NumbersSpent.{halted-by}
+use Rattle.ipc_script.proofs.Stopping.{unless-any}
 use Rattle.ipc_script.proofs.OpenedAgain.{reopens, stood, root}
 use Rattle.ipc_script.proofs.reopening.reopened.Given.{Over}
 use Rattle.ipc_script.proofs.reopening.reopened.Goals.{After-close-3}
@@ -49,6 +54,52 @@ returns-in-Ok-clause-ok g c limits h m honest =
     reopens g.D.SectorDisk.medium c.close-2.result c.in-Ok.store c.close-3.result c.close-3.ensures.disk (fits g d honest) (still g d honest) (none g d)
     (there g d honest) (c.in-Ok.ensures.ok (here g d honest)) limits h c.release.new.self c.new.result (c.in_default.ensures.ok limits h m)
     c.close-2.ensures.limits c.close-2.ensures.state c.in-Ok.ensures.confirmed c.new.ensures.matches
+
+-- the store that is closed takes what waited
+came : (g : Over) (c : After-close-3 g) → Lasts g.D.SectorDisk.medium c.args.hub.store c.close-2.result
+came g c = (
+  [],
+  subst (λ s. Takes g.D.SectorDisk.medium c.args.hub.store [] s) (sym c.close-2.ensures.store) c.release.ensures.takes,
+)
+
+pub returns-in-Ok-clause-stops : goal.returns-in-Ok-clause-stops
+returns-in-Ok-clause-stops g c honest =
+    let d = (goal.at.returns-in-Ok-clause-stops g c).After-close-3 in
+    let med = g.D.SectorDisk.medium in
+    let is = here g d honest in
+    let next = c.in-Ok.store in
+    rw c.new.ensures.store (
+      c.close-2.result,
+      came g d,
+      record {
+        goes_on = ap (λ s. s.stopped) c.close-2.ensures.store
+            ∙ ready-goes-on c.release.new.self.store 2 (omega arith) c.in_default.ensures.ready;
+        empty = none g d;
+        honest = still g d honest;
+        crash = subst (λ x. EachImageSince (med x) (med next.disk) (OpensTo (med x))) c.close-3.ensures.disk (c.in-Ok.ensures.any_moment is).0;
+        opens = subst (λ x. OpensOn (med x).contents (med next.disk) next) c.close-3.ensures.disk (c.in-Ok.ensures.ok is);
+      },
+    )
+
+pub returns-in-Err-clause-left : goal.returns-in-Err-clause-left
+returns-in-Err-clause-left g c = λ honest. (
+  c.release.new.self.store,
+  lasts-halted g.D.SectorDisk.medium g.met.D.SectorDisk.only_now g.D.SectorDisk.counts c.args.hub c.release.new.self c.in-Err.field-0
+      c.in-Err.ensures.refused,
+  inl (c.close-in-Err.ensures.disk ∙ ap (λ s. s.disk) c.close.ensures.store),
+  tt,
+)
+
+pub returns-in-Err-open-clause-left : goal.returns-in-Err-open-clause-left
+returns-in-Err-open-clause-left g c honest =
+    let d = (goal.at.returns-in-Err-open-clause-left g c).After-close-3 in
+    let med = g.D.SectorDisk.medium in (
+      c.close-2.result,
+      came g d,
+      inr (subst (λ x. EachImageSince (med x) (med c.in-Err-open.field-0.disk) (OpensTo (med x))) c.close-3.ensures.disk
+          (c.in-Err-open.ensures.any_moment (here g d honest)).1),
+      unless-any _ _ (none g d),
+    )
 
 pub returns-in-Ok-clause-spends : goal.returns-in-Ok-clause-spends
 returns-in-Ok-clause-spends g c honest has =

@@ -14,6 +14,7 @@ use Rattle.ipc_script.proofs.ScriptLines.{run_begun, run_more, run_stopped, run_
 use Rattle.ipc_script.proofs.ScriptLines.{no-stop-here, no-stop-behind, run_came}
 use Rattle.ipc_hub.specs.Clients.{Clients}
 use Rattle.ipc_script.proofs.Lasting.{lasts-none, lasts-both, settles-after, settled-unless}
+use Rattle.ipc_script.proofs.Stopping.{unless, lives-none, lives-more, lives-stop}
 use Rattle.ipc_script.proofs.WrittenText.{part_none, grown_none}
 use Rattle.ipc_script.proofs.LineLengths.{cost-fits}
 use Rattle.ipc_script.proofs.NumbersSpent.{spends-none, spends-both, left-behind, failed-behind}
@@ -27,7 +28,8 @@ lines-init g c = record {
   spends = λ has may. spends-none has;
   none = λ stops. stops;
   lasts = λ limits h matches none stops. lasts-none g.D.SectorDisk.medium g.met.D.SectorDisk.only_now c.args.hub.store;
-  settled = λ stops waits. waits;
+  lives = λ limits h matches none may. lives-none g.D.SectorDisk.medium c.args.hub.store g.met.D.SectorDisk.only_now;
+  settled = λ may waits. waits;
   runs = λ limits h matches none may. rw c.new-opened.ensures.items (run_begun limits h c.args.script.now c.args.hub _ matches none);
 }
 
@@ -88,7 +90,14 @@ lines-preserved-in-Ok g c =
           spends-both _ before (c.in-Ok.ensures.spends honest here) (omega (arith, c.lines.invariant.left, c.first_line.ensures.shorter));
       none = λ stops. no-stop-behind rest text behind c.first_line.ensures.lines (c.lines.invariant.none stops);
       lasts = λ limits h matches none stops. absurd (no-stop-here rest text behind c.first_line.ensures.lines (c.lines.invariant.none stops) stop);
-      settled = λ stops. absurd (no-stop-here rest text behind c.first_line.ensures.lines (c.lines.invariant.none stops) stop);
+      lives = λ limits h matches none may.
+          let honest = may-here rest text behind c.first_line.ensures.lines old (c.lines.invariant.may may) stop in
+          let again = c.in-Ok.ensures.stops honest in
+          lives-stop g.D.SectorDisk.medium c.args.hub.store g.met.D.SectorDisk.only_now c.lines.hub.store again.0 c.in-Ok.next.store
+          (c.lines.invariant.lives limits h matches none may) again.1 again.2;
+      settled = λ may waits.
+          let honest = may-here rest text behind c.first_line.ensures.lines old (c.lines.invariant.may may) stop in
+          (c.in-Ok.ensures.stops honest).2.opens.found.2.waits.count;
       runs = λ limits h matches none may.
           let p = c.lines.invariant.runs limits h matches none may in
           let honest = may-here rest text behind c.first_line.ensures.lines old (c.lines.invariant.may may) stop in
@@ -117,7 +126,11 @@ lines-preserved g c = record {
       let p = c.lines.invariant.runs limits h matches none (inl stops) in
       lasts-both g.D.SectorDisk.medium c.args.hub.store c.lines.hub.store c.run_line.new.hub.store
       (c.lines.invariant.lasts limits h matches none stops) (c.run_line.ensures.lasts limits p.now p.at);
-  settled = λ stops waits. c.in_default-run_line.ensures.settles (c.lines.invariant.settled stops waits);
+  lives = λ limits h matches none may.
+      let p = c.lines.invariant.runs limits h matches none may in
+      lives-more g.D.SectorDisk.medium c.args.hub.store c.lines.hub.store c.run_line.new.hub.store
+      (c.lines.invariant.lives limits h matches none may) (c.run_line.ensures.lasts limits p.now p.at);
+  settled = λ may waits. c.in_default-run_line.ensures.settles (c.lines.invariant.settled may waits);
   runs = λ limits h matches none may.
       let p = c.lines.invariant.runs limits h matches none may in
       let n = c.lines.number + 1 in
@@ -160,47 +173,74 @@ returns-in-Err-run_line-clause-disk g c has may =
 
 -- what is left: of a text that is no line, of a line that was not run, and at the end
 pub returns-in_default-clause-leaves : goal.returns-in_default-clause-leaves
-returns-in_default-clause-leaves g c = λ limits h matches none stops. record {
-  closed = c.lines.hub.store;
-  handed = c.close-in_default.ensures.disk ∙ ap (λ s. s.disk) c.close.ensures.store;
-  lasts = c.lines.invariant.lasts limits h matches none stops;
-  settled = c.lines.invariant.settled stops;
-  state = tt;
-}
+returns-in_default-clause-leaves g c = λ limits h matches none may.
+    let handed = c.close-in_default.ensures.disk ∙ ap (λ s. s.disk) c.close.ensures.store in
+    record {
+      closed = c.lines.hub.store;
+      lives = c.lines.invariant.lives limits h matches none may;
+      handed = inl handed;
+      one = λ stops. (c.lines.invariant.lasts limits h matches none stops, handed);
+      settled = c.lines.invariant.settled may;
+      state = tt;
+    }
 
+-- a device that was not opened again
 pub returns-in-Err-clause-leaves : goal.returns-in-Err-clause-leaves
-returns-in-Err-clause-leaves g c = λ limits h matches none stops.
-    let stop : line_of c.first_line.result.0.now ≡ Some Stop = sym c.line_of.ensures ∙ ap (option_map plain_line) (c.in-Some.is ∙ ap Some c.in-Stop.is) in
-    absurd (no-stop-here c.lines.rest.now c.first_line.result.0.now c.first_line.result.1.now c.first_line.ensures.lines (c.lines.invariant.none stops) stop)
+returns-in-Err-clause-leaves g c = λ limits h matches none may.
+    let rest = c.lines.rest.now in
+    let text = c.first_line.result.0.now in
+    let behind = c.first_line.result.1.now in
+    let stop : line_of text ≡ Some Stop = sym c.line_of.ensures ∙ ap (option_map plain_line) (c.in-Some.is ∙ ap Some c.in-Stop.is) in
+    let honest = may-here rest text behind c.first_line.ensures.lines (g.D.SectorDisk.medium c.lines.hub.store.disk) (c.lines.invariant.may may) stop in
+    let left = c.in-Err.ensures.left honest in
+    record {
+      closed = left.0;
+      lives = lives-more g.D.SectorDisk.medium c.args.hub.store c.lines.hub.store left.0 (c.lines.invariant.lives limits h matches none may) left.1;
+      handed = left.2;
+      one = λ stops. absurd (no-stop-here rest text behind c.first_line.ensures.lines (c.lines.invariant.none stops) stop);
+      settled = unless c.in-Err.fault _ _ (λ empty _. empty) left.3;
+      state = tt;
+    }
 
 pub returns-in-Err-run_line-clause-leaves : goal.returns-in-Err-run_line-clause-leaves
-returns-in-Err-run_line-clause-leaves g c = λ limits h matches none stops.
-    let p = c.lines.invariant.runs limits h matches none (inl stops) in
+returns-in-Err-run_line-clause-leaves g c = λ limits h matches none may.
+    let p = c.lines.invariant.runs limits h matches none may in
+    let lasts = c.run_line.ensures.lasts limits p.now p.at in
+    let handed = c.close-in-Err-run_line-2.ensures.disk ∙ ap (λ s. s.disk) c.close-in-Err-run_line.ensures.store in
     record {
       closed = c.run_line.new.hub.store;
-      handed = c.close-in-Err-run_line-2.ensures.disk ∙ ap (λ s. s.disk) c.close-in-Err-run_line.ensures.store;
-      lasts = lasts-both g.D.SectorDisk.medium c.args.hub.store c.lines.hub.store c.run_line.new.hub.store
-          (c.lines.invariant.lasts limits h matches none stops) (c.run_line.ensures.lasts limits p.now p.at);
+      lives = lives-more g.D.SectorDisk.medium c.args.hub.store c.lines.hub.store c.run_line.new.hub.store
+          (c.lines.invariant.lives limits h matches none may) lasts;
+      handed = inl handed;
+      one = λ stops. (
+        lasts-both g.D.SectorDisk.medium c.args.hub.store c.lines.hub.store c.run_line.new.hub.store
+            (c.lines.invariant.lasts limits h matches none stops) lasts,
+        handed,
+      );
       settled = settled-unless c.args.hub.store c.run_line.new.hub.store c.in-Err-run_line.fault
           (settles-after c.args.hub.store c.lines.hub.store c.run_line.new.hub.store c.in-Err-run_line.fault
-          (c.lines.invariant.settled stops) c.in-Err-run_line.ensures.settles);
+          (c.lines.invariant.settled may) c.in-Err-run_line.ensures.settles);
       state = tt;
     }
 
 pub returns-clause-leaves : goal.returns-clause-leaves
-returns-clause-leaves g c = λ limits h matches none stops. record {
-  closed = c.lines.hub.store;
-  handed = c.close-3.ensures.disk ∙ ap (λ s. s.disk) c.close-2.ensures.store;
-  lasts = c.lines.invariant.lasts limits h matches none stops;
-  settled = c.lines.invariant.settled stops;
-  state =
-      let p = c.lines.invariant.runs limits h matches none (inl stops) in
-      let empty : length c.lines.rest.now ≡ 0 = none-left _ c.lines-test.ensures in
-      let came = run_came limits h c.args.script.now (c.lines.number + 1) c.lines.hub c.lines.opened.items c.lines.rest.now _ _ p
-      (no_lines c.lines.rest.now empty) in (
-        came.0,
-        came.1,
-        ap (λ s. s.machine.state) (sym c.close-2.ensures.store) ∙ c.close-2.ensures.state ∙ p.at.run.matches.hub.state
-            ∙ ap (λ (k : Clients). k.state) (sym came.2),
-      );
-}
+returns-clause-leaves g c = λ limits h matches none may.
+    let handed = c.close-3.ensures.disk ∙ ap (λ s. s.disk) c.close-2.ensures.store in
+    record {
+      closed = c.lines.hub.store;
+      lives = c.lines.invariant.lives limits h matches none may;
+      handed = inl handed;
+      one = λ stops. (c.lines.invariant.lasts limits h matches none stops, handed);
+      settled = c.lines.invariant.settled may;
+      state =
+          let p = c.lines.invariant.runs limits h matches none may in
+          let empty : length c.lines.rest.now ≡ 0 = none-left _ c.lines-test.ensures in
+          let all = run_came limits h c.args.script.now (c.lines.number + 1) c.lines.hub c.lines.opened.items c.lines.rest.now _ _ p
+          (no_lines c.lines.rest.now empty) in (
+            all.0,
+            all.1,
+            ap (λ s. s.machine.state) (sym c.close-2.ensures.store) ∙ c.close-2.ensures.state ∙ p.at.run.matches.hub.state
+                ∙ ap (λ (k : Clients). k.state) (sym all.2),
+            handed,
+          );
+    }

@@ -4,6 +4,7 @@ use Rattle.ipc_hub.specs.Clients.{Clients}
 use Rattle.ipc_hub.specs.Relations.Matches.{StoredMatches}
 use Rattle.ipc_store.specs.View.{Spends}
 use Rattle.ipc_script.specs.Script.{MayStop, HasNoStop}
+use Rattle.ipc_script.specs.Stops.{LivesOn}
 use Rattle.ipc_script.specs.Relations.Lasts.{Lasts, Settled}
 use Rattle.ipc_script.specs.Relations.Numbers.{HasNumbers}
 use Rattle.ipc_script.proofs.ScriptLines.{PartlyRun}
@@ -21,7 +22,9 @@ invariant-lines g l = record {
   none : HasNoStop l.fn.script → HasNoStop l.rest;
   lasts : (limits : Limits) (h : Clients) → StoredMatches limits l.fn.hub h → h.clients ≡ [] → HasNoStop l.fn.script
       → Lasts g.D.SectorDisk.medium l.fn.hub.store l.hub.store;
-  settled : HasNoStop l.fn.script → Settled l.fn.hub.store l.hub.store;
+  lives : (limits : Limits) (h : Clients) → StoredMatches limits l.fn.hub h → h.clients ≡ []
+      → MayStop (g.D.SectorDisk.medium l.fn.hub.store.disk) l.fn.script → LivesOn g.D.SectorDisk.medium l.fn.hub.store l.hub.store;
+  settled : MayStop (g.D.SectorDisk.medium l.fn.hub.store.disk) l.fn.script → Settled l.fn.hub.store l.hub.store;
   runs : (limits : Limits) (h : Clients) → StoredMatches limits l.fn.hub h → h.clients ≡ []
       → MayStop (g.D.SectorDisk.medium l.fn.hub.store.disk) l.fn.script
       → PartlyRun limits h l.fn.script (l.number + 1) l.hub l.opened.items l.rest (g.W.Write.contents l.fn.writer) (g.W.Write.contents l.writer);

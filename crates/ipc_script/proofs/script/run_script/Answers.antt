@@ -1,7 +1,7 @@
 use Rattle.std.proofs.Common.{length, refl, sym, ap, subst, Err, arith}
 use Rattle.ipc_hub.specs.Clients.{no_clients}
 use Rattle.ipc_script.specs.declared.fault.ScriptFault.{ScriptFault}
-use Rattle.ipc_script.specs.Script.{MayStop, HasNoStop}
+use Rattle.ipc_script.specs.Script.{MayStop}
 use Rattle.ipc_script.proofs.Lasting.{leaves-same}
 use Rattle.ipc_script.proofs.NumbersSpent.{not-the-readers}
 use Rattle.ipc_script.proofs.ScriptLines.{script_done, not_read}
@@ -33,8 +33,9 @@ returns-in-Ok g c =
       λ young may. rw c.new.ensures.store at (c.run_lines.ensures.disk)
           (record { goes_on = young.goes_on; left = omega (arith, young.numbers, c.in-Ok.ensures.bounded, ap length c.deref.ensures.value) })
           (subst (MayStop (g.D.SectorDisk.medium c.args.store.disk)) (sym c.deref.ensures.value) may),
-      λ events count stops.
+      λ events count may.
           let left = c.run_lines.ensures.leaves machine.limits (no_clients machine.state events) (c.new.ensures.matches events count) refl
-          (subst HasNoStop (sym c.deref.ensures.value) stops) in
+          (subst (λ s. MayStop (g.D.SectorDisk.medium s.disk) c.deref.result.now) (sym c.new.ensures.store)
+          (subst (MayStop (g.D.SectorDisk.medium c.args.store.disk)) (sym c.deref.ensures.value) may)) in
           rw (c.new.ensures.store, c.deref.ensures.value) at left,
     )

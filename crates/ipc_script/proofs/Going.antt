@@ -1,0 +1,100 @@
+-- The history of a device over lives of it.
+use Rattle.std.proofs.Common.{◌≡◌, ◌++◌, true, false, List, [], ◌∷◌, length, inl, inr, refl, sym, ap, subst, ◌∙◌, arith, append_assoc, append-nil}
+use Rattle.ipc_base.specs.declared.limits.Limits.{Limits}
+use Rattle.ipc_disk.specs.Medium.{Image, Medium}
+use Rattle.ipc_engine.specs.Event.{PlainEvent, Restart}
+use Rattle.ipc_store.specs.Histories.{History, accepted, acknowledged, reopened, state_after, GoesOn, Keeps, OpensOn}
+use Rattle.ipc_store.specs.Image.{StandsFor}
+use Rattle.ipc_store.specs.Lives.{StandsAfter}
+use Rattle.ipc_store.specs.View.{StoreView}
+use Rattle.ipc_store.proofs.CallerLemmas.{StoreMatches-stands}
+use Rattle.ipc_script.specs.Stops.{GoesOnFrom, IsReopened, LivesOn}
+use Rattle.ipc_script.specs.Stops.LivesOn.{One, Stop}
+use Rattle.ipc_script.specs.Relations.Lasts.{Lasts}
+
+no-events : (es : List PlainEvent) → length es ≡ 0 → es ≡ []
+no-events [] none = refl
+no-events (e ∷ es) none = absurd (omega arith)
+
+module _ {D : Type 0} (medium : D → Medium) where
+  -- the disk of a store that goes on, in which nothing waits
+  rests-on : (store : StoreView D) (h : History) → GoesOn (medium store.disk) store h → store.waiting ≡ 0
+      → StandsAfter store.machine.limits (accepted h) (medium store.disk)
+  rests-on store h goes empty =
+      let none : h.waiting ≡ [] = no-events h.waiting (sym goes.waits.count ∙ empty) in
+      let all : accepted h ≡ acknowledged h = ap (λ (es : List PlainEvent). acknowledged h ++ es) none ∙ append-nil (acknowledged h) in
+      record {
+        honest = goes.device.honest;
+        stands = λ image now. subst (λ (es : List PlainEvent). StandsFor store.machine.limits (state_after store.machine.limits es) image) (sym all)
+            (StoreMatches-stands (medium store.disk) store (state_after store.machine.limits (acknowledged h)) h.waiting goes image now);
+      }
+
+  rests : (store : StoreView D) (h : History) → Keeps (medium store.disk) store h → store.stopped ≡ false → store.waiting ≡ 0
+      → StandsAfter store.machine.limits (accepted h) (medium store.disk)
+  rests store h keeps goes_on empty =
+      elim keeps.stands [
+        | inl goes ↦ rests-on store h goes empty
+        | inr halted ↦ let bad : true ≡ false = sym halted.stopped ∙ goes_on in cc
+      ]
+
+  begun : (store : StoreView D) (before : History) → Keeps (medium store.disk) store before → GoesOnFrom medium before store
+  begun store before keeps = record {
+    after = before;
+    keeps = keeps;
+    more = [];
+    accepts = sym (append-nil (accepted before));
+    confirmed = [];
+    acknowledges = sym (append-nil (acknowledged before));
+    rests = rests store before keeps;
+  }
+
+  -- a life goes on
+  goes-more : (before : History) (mid new : StoreView D) → GoesOnFrom medium before mid → Lasts medium mid new → GoesOnFrom medium before new
+  goes-more before mid new so_far next =
+      let was : History = so_far.after in
+      let moves = next.1 was so_far.keeps in
+      let now : History = moves.after in
+      let others : List PlainEvent = moves.follows.more in
+      record {
+        after = now;
+        keeps = moves.keeps;
+        more = so_far.more ++ next.0;
+        accepts = moves.follows.accepts ∙ ap (λ (es : List PlainEvent). es ++ next.0) so_far.accepts
+            ∙ append_assoc (accepted before) so_far.more next.0;
+        confirmed = so_far.confirmed ++ others;
+        acknowledges = ap (λ (es : List PlainEvent). es ++ now.confirmed) moves.follows.found
+            ∙ (ap (λ (es : List PlainEvent). was.found ++ es) moves.follows.confirms
+            ∙ (sym (append_assoc was.found was.confirmed others)
+            ∙ (ap (λ (es : List PlainEvent). es ++ others) so_far.acknowledges
+            ∙ append_assoc (acknowledged before) so_far.confirmed others)));
+        rests = rests new now moves.keeps;
+      }
+
+  module _ (finds : (limits : Limits) (events : List PlainEvent) (disk : D) (opened : StoreView D) → StandsAfter limits events (medium disk)
+      → OpensOn (medium disk).contents (medium opened.disk) opened → Keeps (medium opened.disk) opened (reopened events)) where
+    -- a life ends, and the next begins
+    goes-again : (before : History) (closed opened : StoreView D) → GoesOnFrom medium before closed → IsReopened medium closed opened
+        → GoesOnFrom medium before opened
+    goes-again before closed opened so_far stop =
+        let was : History = so_far.after in
+        let one : List PlainEvent = Restart ∷ [] in
+        let keeps : Keeps (medium opened.disk) opened (reopened (accepted was)) =
+        finds closed.machine.limits (accepted was) closed.disk opened (so_far.rests stop.goes_on stop.empty) stop.opens in
+        record {
+          after = reopened (accepted was);
+          keeps = keeps;
+          more = so_far.more ++ one;
+          accepts = append-nil (accepted was ++ one) ∙ (ap (λ (es : List PlainEvent). es ++ one) so_far.accepts
+              ∙ append_assoc (accepted before) so_far.more one);
+          confirmed = so_far.confirmed ++ (was.waiting ++ one);
+          acknowledges = append_assoc (acknowledged was) was.waiting one
+              ∙ (ap (λ (es : List PlainEvent). es ++ (was.waiting ++ one)) so_far.acknowledges
+              ∙ append_assoc (acknowledged before) so_far.confirmed (was.waiting ++ one));
+          rests = rests opened (reopened (accepted was)) keeps;
+        }
+
+    pub goes-on : (before : History) (old new : StoreView D) → Keeps (medium old.disk) old before → LivesOn medium old new
+        → GoesOnFrom medium before new
+    goes-on before old new keeps (One _ lasts) = goes-more before old new (begun old before keeps) lasts
+    goes-on before old new keeps (Stop closed opened _ first stop lasts) =
+        goes-more before opened new (goes-again before closed opened (goes-on before old closed keeps first) stop) lasts
