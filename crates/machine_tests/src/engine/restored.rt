@@ -58,6 +58,7 @@ fn add(alloc: Global, state: &mut State, part: Part) -> Result<(), AllocError> {
                 clock: Moment(9),
                 next_pid,
                 next_queue,
+                next_set: 1,
             });
             Ok(())
         }
