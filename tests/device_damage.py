@@ -16,11 +16,13 @@ from device_layout import (
     QUEUE_KIND,
     RESTART,
     SECTOR,
+    SET_KIND,
     SMALL,
     START,
     Device,
     Limits,
     Queue,
+    Set,
     batch,
     clock,
     connect,
@@ -63,6 +65,7 @@ from device_runs import (
     refuses,
     restarted,
     row,
+    row_of_set,
     saved,
 )
 
@@ -279,11 +282,15 @@ def answers(image: bytes, name: str) -> None:
 
 
 def listing(objects: list[tuple[int, bytes]]) -> str:
-    """The queues of these objects, with fields from their places."""
+    """The queues and the sets of these objects, with fields from their places."""
     lines = []
     for number, data in objects[4:]:
         key = int.from_bytes(data[:4], "big", signed=True)
         uid, gid, mode, count = (int.from_bytes(data[at : at + 4], "big") for at in (4, 8, 20, 60))
+        if number >= SET_KIND:
+            semaphores = ((0, 0),) * int.from_bytes(data[40:44], "big")
+            lines.append(row_of_set(number - SET_KIND, Set(key, semaphores, (uid, gid), mode=mode)))
+            continue
         total = len(data) - 64 - 12 * count
         messages = ((1, bytes(total)),) + (count - 1) * ((1, b""),) if count else ()
         lines.append(row(number - QUEUE_KIND, Queue(key, messages, (uid, gid), mode=mode)))
@@ -389,23 +396,31 @@ def holding(objects: Objects) -> Device:
 
 
 def objects_with(
-    number: int = 9, at: int = 0, byte: int = 0, last: int = QUEUE_KIND + 1
+    number: int = 9,
+    at: int = 0,
+    byte: int = 0,
+    queue: int = QUEUE_KIND + 1,
+    last: int = SET_KIND + 1,
 ) -> Objects:
-    """Process 1 and its queue, with a byte of an object changed, and this number for the queue."""
-    objects = state(clock(9, 2, 2), processes((1, 1000, 100)), {1: SAVED_QUEUE})
+    """Process 1, its queue and its semaphore set, with a byte of an object changed, and these numbers."""
+    objects = state(clock(9, 2, 2, 2), processes((1, 1000, 100)), {1: SAVED_QUEUE}, {1: SAVED_SET})
     changed = []
     for index, (name, data) in enumerate(objects):
         if index == number:
             data = data[:at] + bytes([byte]) + data[at + 1 :]
-        changed.append((last if index == 4 else name, data))
+        changed.append(({4: queue, 5: last}.get(index, name), data))
     return changed
 
+
+# Two semaphores: 2, which process 1 changed last, and 0, which nobody has changed.
+SAVED_SET = Set(99, ((2, 1), (0, 0)), times=(8, 7))
 
 # The object, the byte in it, and its value.
 NO_STATE: tuple[tuple[int, int, int], ...] = (
     (0, 11, 1),  # the next pid is that of the process
     (0, 15, 1),  # the next identifier is that of the queue
-    (0, 19, 2),  # a kind that is to come has had an object
+    (0, 19, 1),  # the next identifier is that of the set
+    (0, 23, 2),  # a kind that is to come has had an object
     (1, 3, 2),  # one process more than there are
     (1, 7, 2),  # a process with the next pid
     (1, 19, 1),  # a descriptor
@@ -418,6 +433,11 @@ NO_STATE: tuple[tuple[int, int, int], ...] = (
     (4, 71, 0),  # a message of type 0
     (4, 75, 1),  # a byte left over
     (4, 75, 3),  # a text past the end
+    (5, 22, 3),  # a mode of ten bits
+    (5, 43, 1),  # one semaphore less than there are
+    (5, 43, 3),  # one semaphore more
+    (5, 43, 0),  # no semaphore
+    (5, 44, 0x80),  # a value of 32770
 )
 
 
@@ -443,6 +463,18 @@ def unsound() -> Iterator[tuple[str, Objects]]:
         "ten bits of mode": {1: Queue(5, mode=0o1000)},
     }.items():
         yield name, state(at_nine, processes(), queues)
+    for name, sets in {
+        "two sets of one key": {1: Set(5), 2: Set(5)},
+        "three sets": {1: Set(0), 2: Set(0), 3: Set(0)},
+        "set 0": {0: Set(5)},
+        "a set of no semaphore": {1: Set(5, ())},
+        "a set of five semaphores": {1: Set(5, 5 * ((0, 0),))},
+        "a value of 32768": {1: Set(5, ((0, 0), (32768, 0)))},
+        "a set with ten bits of mode": {1: Set(5, mode=0o1000)},
+    }.items():
+        yield name, state(clock(9, 9, 9, 9), processes(), {}, sets)
+    for one_set in (0, LAST_NUMBER + 2):
+        yield f"next set {one_set}", state(clock(0, 1, 1, one_set), processes(), {})
     for pid, queue in ((0, 1), (LAST_NUMBER + 2, 1), (1, 0), (1, LAST_NUMBER + 2)):
         yield f"next numbers {pid} and {queue}", state(clock(0, pid, queue), processes(), {})
     for index, data in ((0, clock(0, 1, 1) + NONE), (1, NONE + b"\0"), (2, b"\0"), (3, bytes(5))):
@@ -451,18 +483,22 @@ def unsound() -> Iterator[tuple[str, Objects]]:
     for index in range(4):
         yield f"no object {index}", START[:index] + START[index + 1 :]
     yield "an object more", [*START, (4, NONE)]
-    yield "an object of a later kind", [*START, (2 * QUEUE_KIND + 1, NONE)]
+    yield "an object of a later kind", [*START, (3 * QUEUE_KIND + 1, NONE)]
     yield "no object", []
 
 
 def no_states() -> Iterator[Check]:
-    yield partial(opens, holding(objects_with()).image, SAVED_LISTED, "objects as they are")
+    listed = SAVED_LISTED + row_of_set(1, SAVED_SET)
+    yield partial(opens, holding(objects_with()).image, listed, "objects as they are")
     for row_of in NO_STATE:
         image = holding(objects_with(*row_of)).image
         yield partial(refuses, image, "damaged sector 1", f"object, byte and value {row_of}")
-    for last in (4, QUEUE_KIND + 2, 2 * QUEUE_KIND + 1):
+    for queue in (4, QUEUE_KIND + 2, SET_KIND):
+        image = holding(objects_with(queue=queue)).image
+        yield partial(refuses, image, "damaged sector 1", f"number {queue} of a queue")
+    for last in (QUEUE_KIND + 2, SET_KIND, SET_KIND + 2, 3 * QUEUE_KIND + 1):
         image = holding(objects_with(last=last)).image
-        yield partial(refuses, image, "damaged sector 1", f"number {last} of a queue")
+        yield partial(refuses, image, "damaged sector 1", f"number {last} of a set")
     for name, objects in unsound():
         yield partial(refuses, holding(objects).image, "damaged sector 1", name)
 

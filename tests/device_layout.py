@@ -16,6 +16,7 @@ BATCH_MOST = 32768
 LAST_NUMBER = 2147483647
 LAST_EPOCH = 2**64 - 1
 QUEUE_KIND = 4294967296
+SET_KIND = 2 * QUEUE_KIND
 NONE = bytes(4)
 
 # ---- limits and sizes
@@ -144,8 +145,8 @@ def msgrcv(serial: int, queue: int, size: int = 64, mtype: int = 0) -> bytes:
 # ---- objects of a state
 
 
-def clock(moment: int, next_pid: int, next_queue: int) -> bytes:
-    return struct.pack(">QIIIIII", moment, next_pid, next_queue, 1, 1, 1, 1)
+def clock(moment: int, next_pid: int, next_queue: int, next_set: int = 1) -> bytes:
+    return struct.pack(">QIIIIII", moment, next_pid, next_queue, next_set, 1, 1, 1)
 
 
 def processes(*them: tuple[int, int, int]) -> bytes:
@@ -173,11 +174,33 @@ class Queue(NamedTuple):
         )
 
 
+class Set(NamedTuple):
+    """A semaphore set: of each semaphore its value and its sempid."""
+
+    key: int
+    semaphores: tuple[tuple[int, int], ...] = ((0, 0),)
+    owner: tuple[int, int] = (1000, 100)
+    creator: tuple[int, int] = (1000, 100)
+    mode: int = 0o600
+    times: tuple[int, int] = (0, 0)
+
+    def data(self) -> bytes:
+        return (
+            struct.pack(">iIIIII", self.key, *self.owner, *self.creator, self.mode)
+            + struct.pack(">QQI", *self.times, len(self.semaphores))
+            + b"".join(struct.pack(">HI", *semaphore) for semaphore in self.semaphores)
+        )
+
+
 def state(
-    the_clock: bytes, the_processes: bytes, queues: dict[int, Queue]
+    the_clock: bytes,
+    the_processes: bytes,
+    queues: dict[int, Queue],
+    sets: dict[int, Set] | None = None,
 ) -> list[tuple[int, bytes]]:
     parts = [(0, the_clock), (1, the_processes), (2, NONE), (3, NONE)]
-    return parts + [(QUEUE_KIND + number, queue.data()) for number, queue in queues.items()]
+    parts += [(QUEUE_KIND + number, queue.data()) for number, queue in queues.items()]
+    return parts + [(SET_KIND + number, one.data()) for number, one in (sets or {}).items()]
 
 
 START = state(clock(0, 1, 1), processes(), {})
@@ -274,13 +297,13 @@ def read_objects(image: bytes, limits: Limits) -> tuple[int, int, list[tuple[int
     return epoch, which, objects
 
 
-def read_clock(data: bytes) -> tuple[int, int]:
-    """The next pid and the next queue."""
+def read_clock(data: bytes) -> tuple[int, int, int]:
+    """The next pid, the next queue and the next semaphore set."""
     demand(len(data) == 32, ROOT)
-    _, pid, queue, *others = struct.unpack(">QIIIIII", data)
-    demand(0 < pid <= LAST_NUMBER + 1 and 0 < queue <= LAST_NUMBER + 1, ROOT)
-    demand(others == [1, 1, 1, 1], ROOT)
-    return pid, queue
+    _, pid, queue, one_set, *others = struct.unpack(">QIIIIII", data)
+    demand(all(0 < number <= LAST_NUMBER + 1 for number in (pid, queue, one_set)), ROOT)
+    demand(others == [1, 1, 1], ROOT)
+    return pid, queue, one_set
 
 
 def read_processes(data: bytes, limits: Limits, next_pid: int) -> set[int]:
@@ -311,16 +334,32 @@ def read_queue(data: bytes, limits: Limits) -> int:
     return key
 
 
+def read_set(data: bytes, limits: Limits) -> tuple[int, int]:
+    """Its key, and how many semaphores it has."""
+    demand(len(data) >= 44, ROOT)
+    key, mode, count = struct.unpack(">i16xI16xI", data[:44])
+    demand(mode < 0o1000 and 0 < count <= limits.semmsl and len(data) == 44 + 6 * count, ROOT)
+    values = [value for value, _ in struct.iter_unpack(">HI", data[44:])]
+    demand(max(values) <= 32767, ROOT)
+    return key, count
+
+
 def read_state(objects: list[tuple[int, bytes]], limits: Limits) -> tuple[int, set[int]]:
     """The next pid, and the processes that are connected."""
     demand([number for number, _ in objects[:4]] == [0, 1, 2, 3], ROOT)
-    next_pid, next_queue = read_clock(objects[0][1])
+    next_pid, next_queue, next_set = read_clock(objects[0][1])
     pids = read_processes(objects[1][1], limits, next_pid)
     demand(objects[2][1] == NONE and objects[3][1] == NONE, ROOT)
-    queues = objects[4:]
-    demand(len(queues) <= limits.msgmni, ROOT)
+    queues = [one for one in objects[4:] if one[0] < SET_KIND]
+    sets = objects[4 + len(queues) :]
+    demand(len(queues) <= limits.msgmni and len(sets) <= limits.semmni, ROOT)
     demand(all(0 < number - QUEUE_KIND < next_queue for number, _ in queues), ROOT)
     keys = [key for _, data in queues if (key := read_queue(data, limits))]
+    demand(len(keys) == len(set(keys)), ROOT)
+    demand(all(0 < number - SET_KIND < next_set for number, _ in sets), ROOT)
+    found = [read_set(data, limits) for _, data in sets]
+    demand(sum(count for _, count in found) <= limits.semmns, ROOT)
+    keys = [key for key, _ in found if key]
     demand(len(keys) == len(set(keys)), ROOT)
     return next_pid, pids
 

@@ -18,6 +18,7 @@ from device_layout import (
     Device,
     Fault,
     Queue,
+    Set,
     batch,
     header,
     read,
@@ -129,6 +130,12 @@ def row(number: int, queue: Queue) -> str:
     total = sum(len(text) for _, text in queue.messages)
     owner = f"{queue.mode:04o} {queue.owner[0]:10} {queue.owner[1]:10}"
     return f"msg {number:10} {queue.key:11} {owner} {total:10} {len(queue.messages):10}\n"
+
+
+def row_of_set(number: int, one: Set) -> str:
+    """The line of a semaphore set in a listing."""
+    owner = f"{one.mode:04o} {one.owner[0]:10} {one.owner[1]:10}"
+    return f"sem {number:10} {one.key:11} {owner} {len(one.semaphores):10}\n"
 
 
 def sends(moment: int, connection: int, *frames: bytes) -> str:

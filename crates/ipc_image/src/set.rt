@@ -1,6 +1,6 @@
 //! A semaphore set's object: its numbers, and its semaphores.
 
-ghost use Rattle.std.specs.Prelude.{◌≡◌, ◌<◌, ◌*◌, ◌^◌, [], ℕ, All, length, pos};
+ghost use Rattle.std.specs.Prelude.{◌≡◌, ◌<◌, ◌*◌, ◌^◌, [], ℕ, length, pos};
 ghost use Rattle.std.proofs.Common.{refl};
 ghost use Rattle.ipc_base.specs.declared.limits.Limits.{Limits};
 ghost use Rattle.ipc_base.specs.Numbers.{fields_bytes, FitFields};
@@ -174,16 +174,12 @@ fn put_set_numbers(window: &mut Window, entry: &Entry<SemSet>)
 }
 
 fn put_semaphores(window: &mut Window, values: &[u16], pids: &[Pid])
-    requires count { length pids.now ≡ length values.now }
-    requires fit { All FitsSemaphore (semaphores_in values.now pids.now) }
+    requires { length pids.now ≡ length values.now }
     ensures { window.new ≡ passed (flat_map semaphore_bytes (semaphores_in values.now pids.now)) window.old }
 {
     for at in 0..values.len() {
-        let semaphore = Semaphore {
-            value: values[at],
-            pid: pids[at],
-        };
-        semaphore.put(window);
+        let semaphore = [Field::U16(values[at]), Field::U32(pids[at].0)];
+        put_fields(window, &semaphore);
     }
 }
 

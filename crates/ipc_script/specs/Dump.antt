@@ -3,7 +3,7 @@ use Rattle.std.specs.Prelude.{ℕ, ℤ, ◌-◌, false, List, ◌++◌, length, 
 use Rattle.std.specs.List.{flat_map}
 use Rattle.std.specs.Fmt.{decimal, signed_decimal, digits}
 use Rattle.ipc_engine.specs.declared.listing.Row.{Row}
-use Rattle.ipc_engine.specs.declared.listing.Row.TheVariants.{Msg}
+use Rattle.ipc_engine.specs.declared.listing.Row.TheVariants.{Msg, Sem}
 
 -- A text at the right end of so many places: spaces stand before it. A text that is longer stands
 -- as it is.
@@ -22,12 +22,17 @@ key_text key = right_in 11 (signed_decimal key)
 abbrev pub mode_text : ℕ → List ℕ
 mode_text mode = let octal = digits 8 false mode in replicate (4 - length octal) 48 ++ octal
 
--- A queue: its identifier, key, mode, owner and group, and how many bytes and messages it holds.
+-- A queue: its identifier, key, mode, owner and group, and how many bytes and messages it holds. A semaphore set: its
+-- identifier, key, mode, owner and group, and how many semaphores it has.
 abbrev pub row_line : Row → List ℕ
 row_line (Msg id key mode uid gid bytes messages) =
     codes "msg " ++ number_text id.0 ++ codes " " ++ key_text key
     ++ codes " " ++ mode_text mode ++ codes " " ++ number_text uid ++ codes " " ++ number_text gid
     ++ codes " " ++ number_text bytes ++ codes " " ++ number_text messages ++ codes "\n"
+row_line (Sem id key mode uid gid nsems) =
+    codes "sem " ++ number_text id.0 ++ codes " " ++ key_text key
+    ++ codes " " ++ mode_text mode ++ codes " " ++ number_text uid ++ codes " " ++ number_text gid
+    ++ codes " " ++ number_text nsems ++ codes "\n"
 
 -- the line of each row
 abbrev pub dump_text : List Row → List ℕ

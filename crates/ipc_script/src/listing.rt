@@ -5,7 +5,7 @@ ghost use Rattle.std.specs.Io.KnownBytes.{Appends};
 ghost use Rattle.ipc_engine.specs.Listing.{rows_of};
 ghost use Rattle.ipc_script.specs.Dump.{dump_text, row_line as row_text};
 ghost use Rattle.ipc_script.specs.Dump.{number_text, key_text, mode_text};
-ghost use Rattle.ipc_script.specs.Relations.Columns.{msg_text};
+ghost use Rattle.ipc_script.specs.Relations.Columns.{msg_text, sem_text};
 ghost use Rattle.ipc_script.specs.Script.{WritesPart};
 ghost use Rattle.ipc_script.specs.declared.listing.DumpError.TheVariants.{NoMemory};
 
@@ -37,8 +37,9 @@ impl From<AllocError> for DumpError {
     }
 }
 
-/// Writes a line for each object of the machine, by rising identifier, as ipcs(1) lists them: `msg`,
-/// and then its identifier, key, mode, owner, group, bytes of text and messages.
+/// Writes a line for each object of the machine, as ipcs(1) lists them, the message queues first and each
+/// kind by rising identifier: `msg` or `sem`, and then its identifier, key, mode, owner and group; of a
+/// queue its bytes of text and its messages, of a semaphore set how many semaphores it has.
 pub fn dump<D: SectorDisk, W: Write>(
     alloc: Global,
     store: &Store<D>,
@@ -51,7 +52,7 @@ pub fn dump<D: SectorDisk, W: Write>(
 {
     let rows = store.engine().list(alloc)?;
     for row in rows.iter() {
-        let line = line_of(row).to_string(alloc)?;
+        let line = line_of(alloc, row)?;
         if write_all(writer, line.as_bytes()).is_err() {
             return Err(DumpError::Output);
         }
@@ -119,9 +120,32 @@ impl fmt::Display for MsgLine {
     }
 }
 
-/// The line of an object.
-fn line_of(row: &Row) -> MsgLine
-    ensures { msg_text result ≡ row_text row.now }
+/// The line of a semaphore set.
+#[derive(Clone, Copy)]
+struct SemLine {
+    id: Number,
+    key: Key,
+    mode: Mode,
+    uid: Number,
+    gid: Number,
+    nsems: Number,
+}
+
+impl fmt::Display for SemLine {
+    ghost output = { λ line. Some (sem_text line) };
+
+    fn fmt<W: fmt::Write>(&self, f: &mut fmt::Formatter<W>) -> fmt::Result {
+        write!(
+            f,
+            "sem {} {} {} {} {} {}\n",
+            self.id, self.key, self.mode, self.uid, self.gid, self.nsems
+        )
+    }
+}
+
+/// The line of an object. Refused for want of memory.
+fn line_of(alloc: Global, row: &Row) -> Result<String, AllocError>
+    ensures { IfOk result (λ line. string_bytes line ≡ row_text row.now) }
 {
     match *row {
         Row::Msg {
@@ -140,6 +164,23 @@ fn line_of(row: &Row) -> MsgLine
             gid: Number(u128::from(gid)),
             bytes: Number(bytes),
             messages: Number(messages as u128),
-        },
+        }
+        .to_string(alloc),
+        Row::Sem {
+            id,
+            key,
+            mode,
+            uid,
+            gid,
+            nsems,
+        } => SemLine {
+            id: Number(u128::from(id.0)),
+            key: Key(key),
+            mode: Mode(mode),
+            uid: Number(u128::from(uid)),
+            gid: Number(u128::from(gid)),
+            nsems: Number(nsems as u128),
+        }
+        .to_string(alloc),
     }
 }

@@ -31,13 +31,15 @@ semaphores-long [] pids same = refl
 semaphores-long (v ∷ values) [] same = absurd (omega (arith, same))
 semaphores-long (v ∷ values) (p ∷ pids) same = ap (λ n. suc n) (semaphores-long values pids (omega (arith, same)))
 
--- what holds of each value holds of each semaphore
-pub semaphores-each : (P : ℕ → Type 0) (values : List ℕ) (pids : List Pid) → All P values → All (λ (x : Semaphore). P x.value) (semaphores_in values pids)
-semaphores-each P [] pids each = All-nil _
-semaphores-each P (v ∷ values) [] each = All-nil _
-semaphores-each P (v ∷ values) (p ∷ pids) each =
-    All-cons (λ (x : Semaphore). P x.value) (record { value = v; pid = p }) (semaphores_in values pids) (All-head P v values each)
-    (semaphores-each P values pids (All-tail P v values each))
+-- what holds of each value and of each pid holds of each semaphore
+pub semaphores-each : (P : ℕ → Type 0) (Q : Pid → Type 0) (values : List ℕ) (pids : List Pid) → All P values → All Q pids
+    → All (λ (x : Semaphore). P x.value × Q x.pid) (semaphores_in values pids)
+semaphores-each P Q [] pids each others = All-nil _
+semaphores-each P Q (v ∷ values) [] each others = All-nil _
+semaphores-each P Q (v ∷ values) (p ∷ pids) each others =
+    All-cons (λ (x : Semaphore). P x.value × Q x.pid) (record { value = v; pid = p }) (semaphores_in values pids)
+    (All-head P v values each, All-head Q p pids others)
+    (semaphores-each P Q values pids (All-tail P v values each) (All-tail Q p pids others))
 
 -- a set is what its semaphores and its times make
 pub set-known : (s : Set) → length s.pids ≡ length s.values → set_of (semaphores_of s) s.otime s.ctime ≡ s

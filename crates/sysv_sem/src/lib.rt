@@ -7,5 +7,5 @@ mod set;
 mod trial;
 
 pub use laws::{done_performs_each, done_stays_in_range};
-pub use operation::{Operation, Trial, Verdict};
+pub use operation::{MOST_VALUE, Operation, Trial, Verdict};
 pub use set::{SemSet, SemStat, Semaphore};

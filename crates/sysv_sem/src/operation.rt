@@ -10,7 +10,7 @@ use ipc_base::{Errno, SemFlags};
 
 /// The most that a semaphore's value may be, SEMVMX of semctl(2), and the most that an adjustment may be
 /// above or below 0.
-pub(crate) const MOST_VALUE: u16 = 32767;
+pub const MOST_VALUE: u16 = 32767;
 
 /// An operation on a semaphore, of this number in its set. See semop(2).
 #[derive(Clone, Copy, Debug, PartialEq, Eq)]

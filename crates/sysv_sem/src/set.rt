@@ -1,6 +1,6 @@
 //! A semaphore set.
 
-ghost use Rattle.std.specs.Prelude.{◌≡◌, ◌<◌, ◌≤◌, ℕ, ℤ, List, Some, length};
+ghost use Rattle.std.specs.Prelude.{◌≡◌, ◌<◌, ◌≤◌, ◌^◌, ℕ, ℤ, List, Some, length};
 ghost use Rattle.std.specs.Prelude.{IfOk, OnOk, OnErr, All, slice_index, slice_get, [], ◌∷◌, ◌++◌};
 ghost use Rattle.sysv_sem.specs.Operation.{most_value, outcome, trial_of, Done};
 ghost use Rattle.sysv_sem.specs.Trial.{AreAdjustments, ArePrepared, CanBeDone};
@@ -189,6 +189,13 @@ impl SemSet {
         &self.pids
     }
 
+    /// Reads who changed each semaphore last: each is a number of four bytes.
+    pub fn read_pids(&self)
+        ensures { All (λ p. p.0 < 2 ^ 32) self.now.pids }
+    {
+        read_each(&self.pids);
+    }
+
     /// Its numbers.
     pub fn stat(&self) -> SemStat
         ensures { result ≡ stat_of self.now }
@@ -200,3 +207,15 @@ impl SemSet {
         }
     }
 }
+
+fn read_each(pids: &[Pid])
+    ensures { All (λ p. p.0 < 2 ^ 32) pids.now }
+{
+    for pid in pids {
+        read_pid(*pid);
+    }
+}
+
+fn read_pid(pid: Pid)
+    ensures { pid.0 < 2 ^ 32 }
+{}

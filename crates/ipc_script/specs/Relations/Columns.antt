@@ -1,9 +1,13 @@
 -- The line of a listing, from the columns of the code.
 use Rattle.std.specs.Prelude.{ℕ, List}
-use Rattle.ipc_engine.specs.declared.listing.Row.TheVariants.{Msg}
+use Rattle.ipc_engine.specs.declared.listing.Row.TheVariants.{Msg, Sem}
 use Rattle.ipc_script.specs.declared.listing.MsgLine.{MsgLine}
+use Rattle.ipc_script.specs.declared.listing.SemLine.{SemLine}
 use Rattle.ipc_script.specs.Dump.{row_line}
 
 abbrev pub msg_text : MsgLine → List ℕ
 msg_text line =
     row_line (Msg (record { 0 = line.id.0 }) line.key.0 line.mode.0 line.uid.0 line.gid.0 line.bytes.0 line.messages.0)
+
+abbrev pub sem_text : SemLine → List ℕ
+sem_text line = row_line (Sem (record { 0 = line.id.0 }) line.key.0 line.mode.0 line.uid.0 line.gid.0 line.nsems.0)

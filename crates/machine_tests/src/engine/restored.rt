@@ -8,6 +8,7 @@ use ipc_state::{Entry, Numbers, Process, State};
 use std::alloc::{AllocError, Global};
 use std::test::Fail;
 use sysv_msg::{MsgQueue, QueueNumbers, QueueStat};
+use sysv_sem::{MOST_VALUE, SemSet, SemStat, Semaphore};
 
 const CRED: Cred = Cred {
     uid: 1000,
@@ -34,13 +35,17 @@ const NUMBERS: QueueNumbers = QueueNumbers {
 /// A message: its type and its text.
 type Sent = (i64, &'static [u8]);
 
+/// A semaphore: its value, and the pid that changed it last.
+type Changed = (u16, u32);
+
 /// A part of a state.
 #[derive(Clone, Copy)]
 enum Part {
-    /// The next process and the next queue.
+    /// The next process and the next queue; the next semaphore set is 3.
     Next(u32, u32),
     Process(u32),
     Queue(u32, i32, Perm, QueueNumbers, &'static [Sent]),
+    Set(u32, i32, Perm, &'static [Changed]),
 }
 
 fn queue_with(alloc: Global, numbers: QueueNumbers, sent: &[Sent]) -> Result<MsgQueue, AllocError> {
@@ -51,6 +56,17 @@ fn queue_with(alloc: Global, numbers: QueueNumbers, sent: &[Sent]) -> Result<Msg
     Ok(queue)
 }
 
+fn set_with(alloc: Global, changed: &[Changed]) -> Result<SemSet, AllocError> {
+    let mut set = SemSet::restored(alloc, Moment(8), Moment(7));
+    for (value, pid) in changed {
+        set.restore(Semaphore {
+            value: (*value).min(MOST_VALUE),
+            pid: Pid(*pid),
+        })?;
+    }
+    Ok(set)
+}
+
 fn add(alloc: Global, state: &mut State, part: Part) -> Result<(), AllocError> {
     match part {
         Part::Next(next_pid, next_queue) => {
@@ -58,6 +74,7 @@ fn add(alloc: Global, state: &mut State, part: Part) -> Result<(), AllocError> {
                 clock: Moment(9),
                 next_pid,
                 next_queue,
+                next_set: 3,
             });
             Ok(())
         }
@@ -65,6 +82,10 @@ fn add(alloc: Global, state: &mut State, part: Part) -> Result<(), AllocError> {
         Part::Queue(id, key, perm, numbers, sent) => {
             let object = queue_with(alloc, numbers, sent)?;
             state.restore_queue(Id(id), Entry { key, perm, object })
+        }
+        Part::Set(id, key, perm, changed) => {
+            let object = set_with(alloc, changed)?;
+            state.restore_set(Id(id), Entry { key, perm, object })
         }
     }
 }
@@ -90,12 +111,13 @@ fn engine_of(alloc: Global, parts: &[Part]) -> Result<Engine, StateFault> {
     }
 }
 
-/// Two processes, and a queue with one message.
-const SMALL: [Part; 4] = [
+/// Two processes, a queue with one message, and a set of two semaphores.
+const SMALL: [Part; 5] = [
     Part::Next(4, 2),
     Part::Process(1),
     Part::Process(3),
     Part::Queue(1, 1234, PERM, NUMBERS, &[(5, b"hi")]),
+    Part::Set(2, -9, PERM, &[(32767, 3), (0, 0)]),
 ];
 
 const STAT: QueueStat = QueueStat {
@@ -140,12 +162,32 @@ fn has_the_queue(state: &State) -> bool {
         && has_the_message(&entry.object)
 }
 
+fn has_the_set(state: &State) -> bool {
+    let [item] = state.sets() else {
+        return false;
+    };
+    let entry = &item.value;
+    let stat = SemStat {
+        nsems: 2,
+        otime: Moment(8),
+        ctime: Moment(7),
+    };
+    item.number == 2
+        && entry.key == -9
+        && entry.perm == PERM
+        && entry.object.stat() == stat
+        && entry.object.values() == [32767, 0].as_slice()
+        && entry.object.pids() == [Pid(3), Pid(0)].as_slice()
+}
+
 #[test]
 fn reads_what_was_added(rt: HostRuntime) -> Result<(), Fail> {
     let engine = engine_of(rt.alloc(), &SMALL).ok().ok_or("no engine")?;
     assert_eq!(rt; numbers_of(engine.state()), (Moment(9), 4, 2));
     assert!(rt; has_the_processes(engine.state()));
     assert!(rt; has_the_queue(engine.state()));
+    assert!(rt; has_the_set(engine.state()));
+    assert_eq!(rt; engine.state().next_set(), 3);
     Ok(())
 }
 
@@ -166,8 +208,19 @@ const LARGE: QueueNumbers = QueueNumbers {
     lrpid: Pid(1),
 };
 
-/// States that are not sound. The limits are 4 processes, 2 queues, 64 bytes a message and 128 a queue.
-const NOT_SOUND: [&[Part]; 21] = [
+/// States that are not sound. The limits are 4 processes, 2 queues, 64 bytes a message and 128 a queue, 2 semaphore
+/// sets, and 4 semaphores a set.
+const NOT_SOUND: [&[Part]; 27] = [
+    &[Part::Next(1, 1), Part::Set(1, 5, PERM, &[])],
+    &[Part::Next(1, 1), Part::Set(1, 5, PERM, &[(0, 0); 5])],
+    &[Part::Next(1, 1), Part::Set(0, 5, PERM, &[(0, 0)])],
+    &[Part::Next(1, 1), Part::Set(3, 5, PERM, &[(0, 0)])],
+    &[Part::Next(1, 1), Part::Set(1, 5, WIDE, &[(0, 0)])],
+    &[
+        Part::Next(1, 1),
+        Part::Set(1, 5, PERM, &[(0, 0)]),
+        Part::Set(2, 5, PERM, &[(0, 0)]),
+    ],
     &[Part::Next(0, 1)],
     &[Part::Next(1, 0)],
     &[Part::Next(2147483649, 1)],
@@ -245,8 +298,13 @@ fn refuses_states_that_are_not_sound(rt: HostRuntime) {
 }
 
 /// Sound states at the edge of what they may be: the last numbers, private keys twice, as many processes as the limit
-/// says, and a queue with as many bytes.
-const AT_THE_EDGE: [&[Part]; 4] = [
+/// says, a queue with as many bytes, and sets with as many semaphores.
+const AT_THE_EDGE: [&[Part]; 5] = [
+    &[
+        Part::Next(1, 1),
+        Part::Set(1, 0, PERM, &[(32767, 1); 4]),
+        Part::Set(2, 0, PERM, &[(0, 2147483647); 4]),
+    ],
     &[
         Part::Next(2147483648, 2147483648),
         Part::Process(2147483647),
@@ -304,8 +362,16 @@ fn goes_on_from_a_rebuilt_state(rt: HostRuntime) -> Result<(), Fail> {
         bytes: 2,
         messages: 1,
     };
+    let set = Row::Sem {
+        id: Id(2),
+        key: -9,
+        mode: 0o600,
+        uid: 1000,
+        gid: 100,
+        nsems: 2,
+    };
     let rows = list(&engine, rt.alloc())?;
-    assert_eq!(rt; rows.as_slice(), [row].as_slice());
+    assert_eq!(rt; rows.as_slice(), [row, set].as_slice());
     let lines: [Line; 1] = [(Ask::Receive(1, 8, 0), Answer::Message(5, b"hi"))];
     talk(&rt, &mut engine, Pid(3), &lines)?;
     Ok(())

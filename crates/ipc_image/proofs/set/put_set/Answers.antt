@@ -1,21 +1,13 @@
-use Rattle.std.proofs.Common.{◌≡◌, ◌∙◌, ap, subst, sym, List, ℕ}
-use Rattle.std.specs.Prelude.{All}
+use Rattle.std.proofs.Common.{◌≡◌, ◌∙◌, ap, sym, List, ℕ}
 use Rattle.std.specs.List.{flat_map}
 use Rattle.ipc_base.specs.Numbers.{fields_bytes}
 use Rattle.sysv_sem.specs.Set.{semaphores_in, semaphores_of}
 use Rattle.sysv_sem.specs.declared.set.Semaphore.{Semaphore}
-use Rattle.ipc_image.specs.Saved.{set_sizes, set_numbers, semaphore_bytes, FitsSemaphore}
+use Rattle.ipc_image.specs.Saved.{set_sizes, set_numbers, semaphore_bytes}
 use Rattle.ipc_image.specs.Window.{passed}
 use Rattle.ipc_image.proofs.RestoredParts.{set_spelled}
 use Rattle.ipc_image.proofs.Windows.{passed-both}
 use Rattle.ipc_image.proofs.set.put_set.Goals as goal
-
-pub put_semaphores-requires-clause-fit : goal.put_semaphores-requires-clause-fit
-put_semaphores-requires-clause-fit c =
-    let e = c.args.entry.now in
-    let same : semaphores_of e.object ≡ semaphores_in c.values.result.now c.pids.result.now =
-    ap (λ (vs : List ℕ). semaphores_in vs e.object.pids) (sym c.values.ensures.values) ∙ ap (semaphores_in c.values.result.now) (sym c.pids.ensures.pids) in
-    subst (All FitsSemaphore) same c.requires.semaphores
 
 pub returns : goal.returns
 returns c =

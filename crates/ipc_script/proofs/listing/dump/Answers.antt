@@ -31,7 +31,7 @@ returns-then-is_err-clause-err g c =
     let same : rows ≡ rows_of c.args.store.now.machine.state = search rules in
     let part = of_err c.write_all.result c.if-is_err.ensures.value c.write_all.ensures.err in
     rw (← same) (listed_part rows c.loop-row.row-index _ inside _ _ _ c.loop-row.invariant
-    (rw (c.as_bytes.ensures.value ∙ (c.in_ok-line.ensures.ok ∙ c.line_of.ensures)) at part))
+    (rw (c.as_bytes.ensures.value ∙ c.in_ok-line.ensures) at part))
 
 pub loop-row-preserved : goal.loop-row-preserved
 loop-row-preserved g c =
@@ -39,4 +39,4 @@ loop-row-preserved g c =
     let inside : c.loop-row.row-index < length rows = omega arith in
     let line = of_ok c.write_all.result c.if-is_err.ensures.value c.write_all.ensures.ok in
     listed_more rows c.loop-row.row-index _ inside _ _ _ c.loop-row.invariant
-    (rw (c.as_bytes.ensures.value ∙ (c.in_ok-line.ensures.ok ∙ c.line_of.ensures)) at line)
+    (rw (c.as_bytes.ensures.value ∙ c.in_ok-line.ensures) at line)

@@ -38,6 +38,14 @@ ended g c honest is =
     (λ some. c.in-Ok.ensures.current honest (subst (λ v. 0 < used_of v.journal) over some)
     ∙ sym (ap (λ v. journal_epoch v.journal) over))
 
+pub returns-in-Ok-restart-clause-no_failure : goal.returns-in-Ok-restart-clause-no_failure
+returns-in-Ok-restart-clause-no_failure g c =
+    let failures = ap (λ v. (g.D.SectorDisk.counts v.disk).failures) c.new-store.ensures in
+    ⊎_elim (λ device. absurd cc) (λ same. (same ∙ failures ∙ ⊎_elim (λ device. absurd cc) (λ kept. kept) c.in-Ok.ensures.no_failure, tt)) c.in-Ok-restart.ensures.no_failure
+
+pub returns-in-Err-restart-clause-not_formatted : goal.returns-in-Err-restart-clause-not_formatted
+returns-in-Err-restart-clause-not_formatted g c = λ is honest. ⊎_elim (λ device. absurd cc) (λ end. absurd cc) c.in-Err-restart.ensures.faults
+
 pub returns-in-Err-clause-any_moment : goal.returns-in-Err-clause-any_moment
 returns-in-Err-clause-any_moment g c = λ honest. (tt, only_read _ _ (c.read_device.ensures.reads honest) (g.met.D.SectorDisk.only_now c.args.disk))
 
