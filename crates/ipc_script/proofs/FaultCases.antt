@@ -57,3 +57,17 @@ world_only W TooLong w = absurd w
 world_only W (BadLine number) w = absurd w
 world_only W (InUse number) w = absurd w
 world_only W (Unknown number) w = absurd w
+
+-- what holds in each case
+pub by_any : (W : Type 0) (e : ScriptFault) → ByFault e W W W → W
+by_any W NoMemory w = w
+by_any W Input w = absurd w
+by_any W Output w = w
+by_any W Device w = w
+by_any W NotFormatted w = w
+by_any W (Version found) w = w
+by_any W (Damaged sector) w = w
+by_any W TooLong w = w
+by_any W (BadLine number) w = w
+by_any W (InUse number) w = w
+by_any W (Unknown number) w = w

@@ -1,13 +1,19 @@
 -- The history of a device over lives of it.
-use Rattle.std.proofs.Common.{◌≡◌, ◌++◌, true, false, List, [], ◌∷◌, length, inl, inr, refl, sym, ap, subst, ◌∙◌, arith, append_assoc, append-nil}
+use Rattle.std.proofs.Common.{◌≡◌, ◌++◌, ℕ, true, false, List, [], ◌∷◌, length, inl, inr, refl, sym, ap, subst, ◌∙◌, arith, append_assoc, append-nil}
 use Rattle.ipc_base.specs.declared.limits.Limits.{Limits}
 use Rattle.ipc_disk.specs.Medium.{Image, Medium}
+use Rattle.ipc_disk.specs.Since.{EachImageSince}
 use Rattle.ipc_engine.specs.Event.{PlainEvent, Restart}
-use Rattle.ipc_store.specs.Histories.{History, accepted, acknowledged, reopened, state_after, GoesOn, Keeps, OpensOn}
+use Rattle.ipc_store.specs.Histories.{History, accepted, acknowledged, reopened, state_after, GoesOn, Keeps, OpensOn, StandsForPrefix, Takes}
 use Rattle.ipc_store.specs.Image.{StandsFor}
 use Rattle.ipc_store.specs.Lives.{StandsAfter}
 use Rattle.ipc_store.specs.View.{StoreView}
 use Rattle.ipc_store.proofs.CallerLemmas.{StoreMatches-stands}
+use Rattle.ipc_hub.specs.Clients.{Clients}
+use Rattle.ipc_script.specs.ByLines.{HasRunLines, KeepsLines}
+use Rattle.ipc_script.specs.ByLines.HasRunLines.{None as none_run, Line, Again}
+use Rattle.ipc_script.specs.Script.{Run}
+use Rattle.ipc_script.proofs.Stopping.{lives-none, lives-more, lives-stop}
 use Rattle.ipc_script.specs.Stops.{GoesOnFrom, IsReopened, LivesOn}
 use Rattle.ipc_script.specs.Stops.LivesOn.{One, Stop}
 use Rattle.ipc_script.specs.Relations.Lasts.{Lasts}
@@ -34,6 +40,14 @@ module _ {D : Type 0} (medium : D → Medium) where
   rests store h keeps goes_on empty =
       elim keeps.stands [
         | inl goes ↦ rests-on store h goes empty
+        | inr halted ↦ let bad : true ≡ false = sym halted.stopped ∙ goes_on in cc
+      ]
+
+  -- no event of its history waits
+  none-waits : (store : StoreView D) (h : History) → Keeps (medium store.disk) store h → store.stopped ≡ false → store.waiting ≡ 0 → h.waiting ≡ []
+  none-waits store h keeps goes_on empty =
+      elim keeps.stands [
+        | inl goes ↦ no-events h.waiting (sym goes.waits.count ∙ empty)
         | inr halted ↦ let bad : true ≡ false = sym halted.stopped ∙ goes_on in cc
       ]
 
@@ -98,3 +112,42 @@ module _ {D : Type 0} (medium : D → Medium) where
     goes-on before old new keeps (One _ lasts) = goes-more before old new (begun old before keeps) lasts
     goes-on before old new keeps (Stop closed opened _ first stop lasts) =
         goes-more before opened new (goes-again before closed opened (goes-on before old closed keeps first) stop) lasts
+
+    -- ---- line by line
+
+    module _ (law : (d : D) (image : Image) → (medium d).images_since (medium d).moment image → (medium d).images_now image) (limits : Limits)
+        (h : Clients) (old : StoreView D) where
+      -- lines are lives
+      lives-of : (number : ℕ) (lines : List (List ℕ)) (last : StoreView D) (r : Run) (text : List ℕ)
+          → HasRunLines medium limits old h number lines last r text → LivesOn medium old last
+      lives-of _ _ _ _ _ none_run = lives-none medium old law
+      lives-of _ _ next _ _ (Line number lines line last _ r text cut p before is took settled) =
+          lives-more medium old last next (lives-of number lines last r text before) took
+      lives-of _ _ opened _ text (Again number lines line last closed _ r _ before is took again) =
+          lives-stop medium old law last closed opened (lives-of number lines last r text before) took again
+
+      -- nothing waits after any of them
+      settled-of : (number : ℕ) (lines : List (List ℕ)) (last : StoreView D) (r : Run) (text : List ℕ)
+          → HasRunLines medium limits old h number lines last r text → old.waiting ≡ 0 → last.waiting ≡ 0
+      settled-of _ _ _ _ _ none_run empty = empty
+      settled-of _ _ next _ _ (Line number lines line last _ r text cut p before is took settled) empty =
+          settled (settled-of number lines last r text before empty)
+      settled-of _ _ opened _ text (Again number lines line last closed _ r _ before is took again) empty = again.opens.found.2.waits.count
+
+      pub keeps-lines : (last next : StoreView D) (before : History) (number : ℕ) (lines : List (List ℕ)) (r : Run) (text : List ℕ)
+          (events : List PlainEvent) → Keeps (medium old.disk) old before → old.waiting ≡ 0
+          → HasRunLines medium limits old h number lines last r text → last.stopped ≡ false → Takes medium last events next
+          → KeepsLines medium before last events next
+      keeps-lines last next before number lines r text events keeps empty runs goes_on takes =
+          let here = goes-on before old last keeps (lives-of number lines last r text runs) in
+          let was : History = here.after in
+          let none : was.waiting ≡ [] = none-waits last was here.keeps goes_on (settled-of number lines last r text runs empty) in
+          let all : acknowledged was ≡ accepted before ++ here.more =
+          sym (ap (λ (es : List PlainEvent). acknowledged was ++ es) none ∙ append-nil (acknowledged was)) ∙ here.accepts in
+          record {
+            more = here.more;
+            crash = subst (λ (es : List PlainEvent). EachImageSince (medium last.disk) (medium next.disk)
+                (StandsForPrefix last.machine.limits es events)) all
+                (subst (λ (es : List PlainEvent). EachImageSince (medium last.disk) (medium next.disk)
+                (StandsForPrefix last.machine.limits (acknowledged was) (es ++ events))) none (takes was here.keeps).crash);
+          }

@@ -1,5 +1,5 @@
 -- What calls, one after another, do to the history of a store.
-use Rattle.std.proofs.Common.{◌≡◌, ⊎_elim, inl, ℕ, List, Option, [], ◌++◌, sym, subst, ap, ◌∙◌}
+use Rattle.std.proofs.Common.{◌≡◌, ⊎_elim, inl, ℕ, List, Option, [], ◌++◌, refl, sym, subst, ap, ◌∙◌}
 use Rattle.std.specs.Prelude.{⊤, Result, Ok, Err}
 use Rattle.ipc_base.specs.declared.limits.Limits.{Limits}
 use Rattle.ipc_disk.specs.Counts.{Counts}
@@ -20,6 +20,9 @@ use Rattle.ipc_script.specs.declared.fault.ScriptFault.TheVariants.{NoMemory, In
 use Rattle.ipc_script.specs.declared.fault.ScriptFault.TheVariants.{NotFormatted, Version, Damaged}
 use Rattle.ipc_script.specs.declared.fault.ScriptFault.TheVariants.{TooLong, BadLine, InUse, Unknown}
 use Rattle.ipc_script.specs.Leaves.{Leaves, UnlessDisk}
+use Rattle.ipc_script.specs.ByLines.HasRunLines.{None as none_run}
+use Rattle.ipc_script.specs.Line.{lines_of}
+use Rattle.ipc_script.specs.Script.{WritesMore, start_run}
 use Rattle.ipc_script.specs.Stops.LivesOn.{One}
 use Rattle.ipc_script.specs.Relations.Lasts.{Lasts, Settled, Settles, Empties}
 use Rattle.ipc_script.proofs.FaultCases.{by_fault}
@@ -110,11 +113,23 @@ settled-same store (Unknown number) = λ none. none
 pub leaves-same : {D : Type 0} (medium : D → Medium)
     (law : (d : D) (image : Image) → (medium d).images_since (medium d).moment image → (medium d).images_now image)
     (limits : Limits) (h : Clients) (script : List ℕ) (before after : Option (List ℕ)) (store : StoreView D) (disk : D) (e : ScriptFault)
-    → disk ≡ store.disk → Leaves medium limits h script before after store disk (Err e)
-leaves-same medium law limits h script before after store disk e same =
+    → disk ≡ store.disk → WritesMore before after [] → Leaves medium limits h script before after store disk (Err e)
+leaves-same medium law limits h script before after store disk e same more =
     record {
       closed = store;
       lives = One store (lasts-none medium law store);
+      by_lines = record {
+        number = 1;
+        lines = [];
+        rest = lines_of script;
+        all = refl;
+        last = store;
+        run = start_run h;
+        text = [];
+        runs = none_run;
+        written = more;
+        ends = lasts-none medium law store;
+      };
       handed = inl same;
       one = λ stops. (lasts-none medium law store, same);
       settled = settled-same store e;

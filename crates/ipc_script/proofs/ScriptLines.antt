@@ -23,18 +23,24 @@ use Rattle.ipc_script.specs.Line.{longest_script, PlainLine, Open, Data, End, Ti
 use Rattle.ipc_script.specs.Script.{Run, Cut, Progress, Outcome, start_run, text_done, first_cut, goes_on, run_lines, is_open, opened, report}
 use Rattle.ipc_script.specs.Script.{after_line, run_after, script_after}
 use Rattle.ipc_script.specs.Script.{MayStop, HasNoStop, stopped, fed_in_pieces, script_run, lines_run, WritesPart, WritesMore, EndsAs, BreaksOff, Halts, Runs}
+use Rattle.ipc_store.specs.View.{StoreView}
+use Rattle.ipc_script.specs.ByLines.{EndsAfter, HasRunLines}
+use Rattle.ipc_script.specs.ByLines.HasRunLines.{None as none_run, Again as line_again}
+use Rattle.ipc_script.specs.Stops.{IsReopened}
+use Rattle.ipc_script.specs.Relations.Lasts.{Lasts}
 use Rattle.ipc_script.specs.Relations.Input.{IsReadFault, ReadsTooMuch}
 use Rattle.ipc_script.specs.Relations.Matches.{RunMatchesBetween, opened_of}
-use Rattle.ipc_script.specs.Relations.Simulation.{SimulatesScript, text_of}
-use Rattle.ipc_script.proofs.WrittenText.{part_none, part_after, part_more}
+use Rattle.ipc_script.specs.Relations.Simulation.{LineStops, SimulatesScript, text_of}
+use Rattle.ipc_script.proofs.FaultCases.{by_fault, by_any}
+use Rattle.ipc_script.proofs.WrittenText.{part_none, part_after, part_more, grown_by, grown_part}
 
 -- after a text, what comes
 abbrev pub later : List ℕ → Outcome → Outcome
 later text o = record { text = text ++ o.text; fault = o.fault }
 
 -- some lines are run, and some are left
-pub record PartlyRun {D : Type 0} (limits : Limits) (h : Clients) (script : List ℕ) (number : ℕ) (hub : StoredHub D) (opened : List Opened)
-    (rest : List ℕ) (before after : Option (List ℕ)) : Type 0 where
+pub record PartlyRun {D : Type 0} (limits : Limits) (h : Clients) (script : List ℕ) (medium : D → Medium) (old : StoreView D) (number : ℕ)
+    (hub : StoredHub D) (opened : List Opened) (rest : List ℕ) (before after : Option (List ℕ)) : Type 0 where
   pub now : Run
   pub first : List (List ℕ)
   pub lines : lines_of script ≡ first ++ lines_of rest
@@ -46,6 +52,7 @@ pub record PartlyRun {D : Type 0} (limits : Limits) (h : Clients) (script : List
       → run_lines limits 1 (start_run h) (first ++ lines) (done ++ more) ≡ later text (run_lines limits number now lines more)
   pub comes : (lines : List (List ℕ)) (more : List Cut)
       → run_after limits 1 (start_run h) (first ++ lines) (done ++ more) ≡ run_after limits number now lines more
+  pub lived : HasRunLines medium limits old h number first hub.store now text
 
 -- a beginning of what a line writes begins what it and the next lines write
 goes_part : (a b : Option (List ℕ)) (result : Result Progress ScriptFault) (next : Run → Outcome) → WritesPart a b (text_of result)
@@ -67,9 +74,10 @@ starts limits h hub matches none =
       quiet = λ n. rw none tt;
     }
 
-module _ {D : Type 0} (limits : Limits) (h : Clients) (script : List ℕ) where
-  pub run_begun : (hub : StoredHub D) (w : Option (List ℕ)) → StoredMatches limits hub h → h.clients ≡ [] → PartlyRun limits h script 1 hub [] script w w
-  run_begun hub w matches none =
+module _ {D : Type 0} (limits : Limits) (h : Clients) (script : List ℕ) (medium : D → Medium) (old : StoreView D) where
+  pub run_begun : (hub : StoredHub D) (w : Option (List ℕ)) → StoredMatches limits hub h → h.clients ≡ [] → hub.store ≡ old
+      → PartlyRun limits h script medium old 1 hub [] script w w
+  run_begun hub w matches none same =
       record {
         now = start_run h;
         first = [];
@@ -80,10 +88,11 @@ module _ {D : Type 0} (limits : Limits) (h : Clients) (script : List ℕ) where
         written = Appends-nil w;
         runs = λ lines more. refl;
         comes = λ lines more. refl;
+        lived = rw same none_run;
       }
 
   module _ (number : ℕ) (hub : StoredHub D) (opened : List Opened) (rest : List ℕ) (w0 w1 : Option (List ℕ))
-      (p : PartlyRun limits h script number hub opened rest w0 w1) where
+      (p : PartlyRun limits h script medium old number hub opened rest w0 w1) where
     -- the whole script, by what is left
     ran : (more : List Cut) → run_lines limits 1 (start_run h) (lines_of script) (p.done ++ more)
         ≡ later p.text (run_lines limits number p.now (lines_of rest) more)
@@ -93,8 +102,9 @@ module _ {D : Type 0} (limits : Limits) (h : Clients) (script : List ℕ) where
     pub run_more : (line behind : List ℕ) → lines_of rest ≡ line ∷ lines_of behind → (cut : Cut) (q : Progress)
         → text_done limits number p.now (line_of line) cut ≡ Ok q
         → (next : StoredHub D) (changed : List Opened) (w2 : Option (List ℕ)) → RunMatchesBetween limits next changed q.run → Appends w1 w2 q.text
-        → PartlyRun limits h script (number + 1) next changed behind w0 w2
-    run_more line behind lines cut q is next changed w2 at wrote =
+        → HasRunLines medium limits old h (number + 1) (p.first ++ line ∷ []) next.store q.run (p.text ++ q.text)
+        → PartlyRun limits h script medium old (number + 1) next changed behind w0 w2
+    run_more line behind lines cut q is next changed w2 at wrote lived =
         record {
           now = q.run;
           first = p.first ++ line ∷ [];
@@ -115,14 +125,34 @@ module _ {D : Type 0} (limits : Limits) (h : Clients) (script : List ℕ) where
               ∙ (ap (run_after limits 1 (start_run h) (p.first ++ line ∷ others)) (append_assoc p.done (cut ∷ []) more)
               ∙ (p.comes (line ∷ others) (cut ∷ more)
               ∙ ap (λ r. after_line r p.now (λ now. run_after limits (number + 1) now others more)) is));
+          lived = lived;
         }
 
     -- the server was dropped, and its device opened again
     pub run_stopped : (line behind : List ℕ) → lines_of rest ≡ line ∷ lines_of behind → line_of line ≡ Some Stop → (next : StoredHub D)
-        → StoredMatches limits next (no_clients (restart p.now.hub.state) (Restart ∷ [])) → PartlyRun limits h script (number + 1) next [] behind w0 w1
-    run_stopped line behind lines is next matches =
+        → StoredMatches limits next (no_clients (restart p.now.hub.state) (Restart ∷ [])) → (closed : StoreView D) → Lasts medium hub.store closed
+        → IsReopened medium closed next.store → PartlyRun limits h script medium old (number + 1) next [] behind w0 w1
+    run_stopped line behind lines is next matches closed took again =
         run_more line behind lines [] (record { text = []; run = stopped p.now }) (ap (λ (o : Option PlainLine). text_done limits number p.now o []) is)
         next [] w1 (starts limits (no_clients (restart p.now.hub.state) (Restart ∷ [])) next matches refl) (Appends-nil w1)
+        (subst (HasRunLines medium limits old h (number + 1) (p.first ++ line ∷ []) next.store (stopped p.now)) (sym (append-nil p.text))
+        (line_again number p.first line hub.store closed next.store p.now p.text p.lived is took again))
+
+    -- what was run so far, and what the store took then
+    pub ends_after : (closed : StoreView D) (w2 : Option (List ℕ)) → Lasts medium hub.store closed → WritesMore w1 w2 []
+        → EndsAfter medium limits h script w0 w2 old closed
+    ends_after closed w2 took more = record {
+      number = number;
+      lines = p.first;
+      rest = lines_of rest;
+      all = p.lines;
+      last = hub.store;
+      run = p.now;
+      text = p.text;
+      runs = p.lived;
+      written = (more.0, Appends-trans w0 w1 w2 p.text more.0 p.written more.1);
+      ends = took;
+    }
 
     -- the disk failed in a line: what was written goes on
     pub run_halted : (w2 : Option (List ℕ)) → WritesMore w1 w2 [] → Halts limits h script w0 w2
@@ -192,6 +222,13 @@ module _ {D : Type 0} (limits : Limits) (h : Clients) (script : List ℕ) where
         ∙ (p.comes (lines_of rest) []
         ∙ ap (λ (ls : List (List ℕ)). run_after limits number p.now ls []) none)) in
         (p.done, subst (Appends w0 w1) (sym (append-nil p.text) ∙ sym (ap (λ (o : Outcome). o.text) ends)) p.written, ap (λ (r : Run). r.hub) all)
+
+-- whatever a line that is not run wrote, nothing was taken back
+pub stops_grown : (done : Cut → Result Progress ScriptFault) (a b : Option (List ℕ)) (e : ScriptFault) → LineStops done a b e → WritesMore a b []
+stops_grown done a b e stops =
+    by_any (WritesMore a b []) e
+    (by_fault _ (WritesMore a b []) _ (WritesMore a b []) _ (WritesMore a b []) e (λ part. grown_part a b _ part.1) (λ more. more)
+    (λ refused. grown_by a b [] refused.1) stops)
 
 -- ---- lines that are `stop`
 

@@ -1,7 +1,5 @@
 -- Lives of a device, one after another.
-use Rattle.std.proofs.Common.{◌≡◌, ◌++◌, ℕ, List, [], ◌∷◌, length, refl, sym, ap, subst, ◌∙◌, arith, append_assoc, append-nil}
 use Rattle.ipc_disk.specs.Medium.{Image, Medium}
-use Rattle.ipc_engine.specs.Event.{PlainEvent, Restart}
 use Rattle.ipc_store.specs.View.{StoreView}
 use Rattle.ipc_script.specs.declared.fault.ScriptFault.{ScriptFault}
 use Rattle.ipc_script.specs.declared.fault.ScriptFault.TheVariants.{NoMemory, Input, Output, Device}

@@ -1,3 +1,4 @@
+pub mod ByLines
 pub mod Fault
 pub mod Leaves
 pub mod Line

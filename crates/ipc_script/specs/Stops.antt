@@ -19,7 +19,8 @@ pub record IsReopened {D : Type 0} (medium : D → Medium) (closed opened : Stor
   pub crash : EachImageSince (medium closed.disk) (medium opened.disk) (OpensTo (medium closed.disk))
   pub opens : OpensOn (medium closed.disk).contents (medium opened.disk) opened
 
--- Lives of a device: the store of each takes events, those of its lines, and the next is opened on the disk that it leaves.
+-- Lives of a device: the store of each takes events, those of its lines, and the next is opened on the disk that it
+-- leaves.
 pub data LivesOn {D : Type 0} (medium : D → Medium) (old : StoreView D) : StoreView D → Type 0 where
   One : (new : StoreView D) → Lasts medium old new → LivesOn medium old new
   Stop : (closed opened new : StoreView D) → LivesOn medium old closed → IsReopened medium closed opened

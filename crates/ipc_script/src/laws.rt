@@ -1,7 +1,13 @@
 //! What follows from what a run promises. A call of it does nothing; its contract is the law.
 
-ghost use Rattle.ipc_store.specs.Histories.{History, Keeps};
+ghost use Rattle.std.specs.Prelude.{◌≡◌, ℕ, false, List};
+ghost use Rattle.ipc_base.specs.declared.limits.Limits.{Limits};
+ghost use Rattle.ipc_engine.specs.Event.{PlainEvent};
+ghost use Rattle.ipc_hub.specs.Clients.{Clients};
+ghost use Rattle.ipc_store.specs.Histories.{History, Keeps, Takes};
 ghost use Rattle.ipc_store.specs.View.{StoreView};
+ghost use Rattle.ipc_script.specs.ByLines.{HasRunLines, KeepsLines};
+ghost use Rattle.ipc_script.specs.Script.{Run};
 ghost use Rattle.ipc_script.specs.Stops.{GoesOnFrom, LivesOn};
 
 use ipc_disk::SectorDisk;
@@ -14,6 +20,20 @@ use ipc_store::an_open_finds_what_stands_there;
 pub fn a_stop_takes_nothing_back<D: SectorDisk>()
     ensures { (old new : StoreView D) (before : History) → Keeps (D.medium old.disk) old before
         → LivesOn D.medium old new → GoesOnFrom D.medium before new }
+{
+    an_open_finds_what_stands_there::<D>();
+}
+
+/// A machine that is stopped at any moment of a line leaves the lines before, whose text was written:
+/// the disk stands for the state after all that was accepted before the script and in those lines,
+/// and some of the events of the line, from the first on. So it is if nothing waited before the
+/// script, and if the store goes on when the line begins.
+pub fn lines_that_were_run_stay<D: SectorDisk>()
+    ensures { (limits : Limits) (h : Clients) (old last next : StoreView D) (before : History) (number : ℕ)
+        (lines : List (List ℕ)) (r : Run) (text : List ℕ) (events : List PlainEvent)
+        → Keeps (D.medium old.disk) old before → old.waiting ≡ 0
+        → HasRunLines D.medium limits old h number lines last r text → last.stopped ≡ false
+        → Takes D.medium last events next → KeepsLines D.medium before last events next }
 {
     an_open_finds_what_stands_there::<D>();
 }

@@ -12,6 +12,6 @@ mod report;
 mod script;
 
 pub use fault::ScriptFault;
-pub use laws::a_stop_takes_nothing_back;
+pub use laws::{a_stop_takes_nothing_back, lines_that_were_run_stay};
 pub use listing::{DumpError, dump};
 pub use script::run_script;

@@ -1,4 +1,4 @@
-use Rattle.std.proofs.Common.{◌≡◌, ◌+◌, [], inl, length, Option, Some, Result, sym, ap, subst, ◌∙◌, arith}
+use Rattle.std.proofs.Common.{◌≡◌, ◌+◌, [], inl, refl, length, Option, Some, Result, sym, ap, subst, ◌∙◌, arith}
 use Rattle.std.specs.Bool.{◌==◌}
 use Rattle.std.specs.Prelude.{option_map, ℕ, true}
 use Rattle.std.proofs.KnownBytes.{Appends-nil}
@@ -8,10 +8,11 @@ use Rattle.ipc_script.specs.declared.fault.ScriptFault.TheVariants.{BadLine}
 use Rattle.ipc_script.specs.Line.{PlainLine, Stop, line_of}
 use Rattle.ipc_script.specs.Relations.Lines.{plain_line}
 use Rattle.ipc_script.specs.Script.{Cut, Progress, WritesPart, line_done, text_done}
+use Rattle.ipc_script.specs.ByLines.HasRunLines.{Line}
 use Rattle.ipc_script.specs.Relations.Simulation.{text_of}
 use Rattle.ipc_script.proofs.FaultCases.{by_fault}
 use Rattle.ipc_script.proofs.ScriptLines.{run_begun, run_more, run_stopped, run_refused, run_broken, run_halted, run_ended, no_lines, may-here, may-behind}
-use Rattle.ipc_script.proofs.ScriptLines.{no-stop-here, no-stop-behind, run_came}
+use Rattle.ipc_script.proofs.ScriptLines.{no-stop-here, no-stop-behind, run_came, ends_after, stops_grown}
 use Rattle.ipc_hub.specs.Clients.{Clients}
 use Rattle.ipc_script.proofs.Lasting.{lasts-none, lasts-both, settles-after, settled-unless}
 use Rattle.ipc_script.proofs.Stopping.{unless, lives-none, lives-more, lives-stop}
@@ -30,13 +31,14 @@ lines-init g c = record {
   lasts = λ limits h matches none stops. lasts-none g.D.SectorDisk.medium g.met.D.SectorDisk.only_now c.args.hub.store;
   lives = λ limits h matches none may. lives-none g.D.SectorDisk.medium c.args.hub.store g.met.D.SectorDisk.only_now;
   settled = λ may waits. waits;
-  runs = λ limits h matches none may. rw c.new-opened.ensures.items (run_begun limits h c.args.script.now c.args.hub _ matches none);
+  runs = λ limits h matches none may. rw c.new-opened.ensures.items
+      (run_begun limits h c.args.script.now g.D.SectorDisk.medium c.args.hub.store c.args.hub _ matches none refl);
 }
 
 pub returns-in_default-clause-runs : goal.returns-in_default-clause-runs
 returns-in_default-clause-runs g c = λ limits h matches none may.
     let p = c.lines.invariant.runs limits h matches none may in
-    run_refused limits h c.args.script.now (c.lines.number + 1) c.lines.hub c.lines.opened.items c.lines.rest.now _ _ p
+    run_refused limits h c.args.script.now g.D.SectorDisk.medium c.args.hub.store (c.lines.number + 1) c.lines.hub c.lines.opened.items c.lines.rest.now _ _ p
     c.first_line.result.0.now c.first_line.result.1.now c.first_line.ensures.lines (BadLine (c.lines.number + 1))
     (λ cut. ap (λ (o : Option PlainLine). text_done limits (c.lines.number + 1) p.now o cut) (sym c.line_of.ensures
     ∙ ap (option_map plain_line) c.in_default.is)) _ (Appends-nil _)
@@ -46,10 +48,11 @@ returns-in-Err-clause-runs g c = λ limits h matches none may.
     let p = c.lines.invariant.runs limits h matches none may in
     let n = c.lines.number + 1 in
     by_fault _ _ _ _ _ _ c.in-Err.fault
-    (λ _. run_broken limits h c.args.script.now n c.lines.hub c.lines.opened.items c.lines.rest.now _ _ p
+    (λ _. run_broken limits h c.args.script.now g.D.SectorDisk.medium c.args.hub.store n c.lines.hub c.lines.opened.items c.lines.rest.now _ _ p
     c.first_line.result.0.now c.first_line.result.1.now c.first_line.ensures.lines [] _
     (part_none _ (text_of (text_done limits n p.now (line_of c.first_line.result.0.now) []))))
-    (λ _. run_halted limits h c.args.script.now n c.lines.hub c.lines.opened.items c.lines.rest.now _ _ p _ (grown_none _))
+    (λ _. run_halted limits h c.args.script.now g.D.SectorDisk.medium c.args.hub.store n
+    c.lines.hub c.lines.opened.items c.lines.rest.now _ _ p _ (grown_none _))
     (λ never. absurd never) c.in-Err.ensures.err
 
 pub returns-in-Err-run_line-clause-runs : goal.returns-in-Err-run_line-clause-runs
@@ -62,11 +65,11 @@ returns-in-Err-run_line-clause-runs g c = λ limits h matches none may.
     ap (λ (o : Option PlainLine). text_done limits n p.now o cut) (sym c.line_of.ensures ∙ ap (option_map plain_line) c.in-Some.is) in
     let then = g.W.Write.contents c.lines.writer in
     by_fault _ _ _ _ _ _ e
-    (λ part. run_broken limits h c.args.script.now n c.lines.hub c.lines.opened.items c.lines.rest.now _ _ p
+    (λ part. run_broken limits h c.args.script.now g.D.SectorDisk.medium c.args.hub.store n c.lines.hub c.lines.opened.items c.lines.rest.now _ _ p
     c.first_line.result.0.now c.first_line.result.1.now c.first_line.ensures.lines part.0 _
     (subst (λ (r : Result Progress ScriptFault). WritesPart then (g.W.Write.contents c.run_line.new.writer) (text_of r)) (sym (is part.0)) part.1))
-    (run_halted limits h c.args.script.now n c.lines.hub c.lines.opened.items c.lines.rest.now _ _ p _)
-    (λ a. run_refused limits h c.args.script.now n c.lines.hub c.lines.opened.items c.lines.rest.now _ _ p
+    (run_halted limits h c.args.script.now g.D.SectorDisk.medium c.args.hub.store n c.lines.hub c.lines.opened.items c.lines.rest.now _ _ p _)
+    (λ a. run_refused limits h c.args.script.now g.D.SectorDisk.medium c.args.hub.store n c.lines.hub c.lines.opened.items c.lines.rest.now _ _ p
     c.first_line.result.0.now c.first_line.result.1.now c.first_line.ensures.lines e (λ cut. is cut ∙ a.0 cut) _ a.1)
     (c.in-Err-run_line.ensures.line limits p.now p.at)
 
@@ -101,9 +104,11 @@ lines-preserved-in-Ok g c =
       runs = λ limits h matches none may.
           let p = c.lines.invariant.runs limits h matches none may in
           let honest = may-here rest text behind c.first_line.ensures.lines old (c.lines.invariant.may may) stop in
+          let again = c.in-Ok.ensures.stops honest in
           rw c.clear.ensures.items
-          (run_stopped limits h c.args.script.now (c.lines.number + 1) c.lines.hub c.lines.opened.items rest _ _ p text behind c.first_line.ensures.lines stop
-          c.in-Ok.next (c.in-Ok.ensures.ok limits p.now.hub p.at.run.matches honest));
+          (run_stopped limits h c.args.script.now g.D.SectorDisk.medium c.args.hub.store (c.lines.number + 1)
+          c.lines.hub c.lines.opened.items rest _ _ p text behind c.first_line.ensures.lines stop
+          c.in-Ok.next (c.in-Ok.ensures.ok limits p.now.hub p.at.run.matches honest) again.0 again.1 again.2);
     }
 
 -- the line was run
@@ -135,10 +140,12 @@ lines-preserved g c = record {
       let p = c.lines.invariant.runs limits h matches none may in
       let n = c.lines.number + 1 in
       let s = c.in_default-run_line.ensures.line limits p.now p.at in
-      run_more limits h c.args.script.now n c.lines.hub c.lines.opened.items c.lines.rest.now _ _ p
+      let is = ap (λ (o : Option PlainLine). text_done limits n p.now o s.0) (sym c.line_of.ensures ∙ ap (option_map plain_line) c.in-Some.is) ∙ s.2 in
+      run_more limits h c.args.script.now g.D.SectorDisk.medium c.args.hub.store n c.lines.hub c.lines.opened.items c.lines.rest.now _ _ p
       c.first_line.result.0.now c.first_line.result.1.now c.first_line.ensures.lines s.0 s.1
-      (ap (λ (o : Option PlainLine). text_done limits n p.now o s.0) (sym c.line_of.ensures ∙ ap (option_map plain_line) c.in-Some.is) ∙ s.2)
-      c.run_line.new.hub c.run_line.new.opened.items _ s.3.0 s.3.1;
+      is c.run_line.new.hub c.run_line.new.opened.items _ s.3.0 s.3.1
+      (Line n p.first c.first_line.result.0.now c.lines.hub.store c.run_line.new.hub.store p.now p.text s.0 s.1 p.lived is
+      (c.run_line.ensures.lasts limits p.now p.at) c.in_default-run_line.ensures.settles);
 }
 
 none-left : (n : ℕ) → true ≡ (n == 0) → n ≡ 0
@@ -147,7 +154,7 @@ none-left n is = grind (arith, nat_tests, is)
 pub returns-clause-runs : goal.returns-clause-runs
 returns-clause-runs g c = λ limits h matches nobody may.
     let none : length c.lines.rest.now ≡ 0 = none-left _ c.lines-test.ensures in
-    run_ended limits h c.args.script.now (c.lines.number + 1) c.lines.hub c.lines.opened.items c.lines.rest.now
+    run_ended limits h c.args.script.now g.D.SectorDisk.medium c.args.hub.store (c.lines.number + 1) c.lines.hub c.lines.opened.items c.lines.rest.now
     _ _ (c.lines.invariant.runs limits h matches nobody may) (no_lines c.lines.rest.now none)
 
 -- the device was not opened again
@@ -178,6 +185,9 @@ returns-in_default-clause-leaves g c = λ limits h matches none may.
     record {
       closed = c.lines.hub.store;
       lives = c.lines.invariant.lives limits h matches none may;
+      by_lines = ends_after limits h c.args.script.now g.D.SectorDisk.medium c.args.hub.store (c.lines.number + 1) c.lines.hub
+          c.lines.opened.items c.lines.rest.now _ _ (c.lines.invariant.runs limits h matches none may) c.lines.hub.store _
+          (lasts-none g.D.SectorDisk.medium g.met.D.SectorDisk.only_now c.lines.hub.store) (grown_none _);
       handed = inl handed;
       one = λ stops. (c.lines.invariant.lasts limits h matches none stops, handed);
       settled = c.lines.invariant.settled may;
@@ -196,6 +206,9 @@ returns-in-Err-clause-leaves g c = λ limits h matches none may.
     record {
       closed = left.0;
       lives = lives-more g.D.SectorDisk.medium c.args.hub.store c.lines.hub.store left.0 (c.lines.invariant.lives limits h matches none may) left.1;
+      by_lines = ends_after limits h c.args.script.now g.D.SectorDisk.medium c.args.hub.store (c.lines.number + 1) c.lines.hub
+          c.lines.opened.items c.lines.rest.now _ _ (c.lines.invariant.runs limits h matches none may) left.0 _
+          left.1 (grown_none _);
       handed = left.2;
       one = λ stops. absurd (no-stop-here rest text behind c.first_line.ensures.lines (c.lines.invariant.none stops) stop);
       settled = unless c.in-Err.fault _ _ (λ empty _. empty) left.3;
@@ -211,6 +224,10 @@ returns-in-Err-run_line-clause-leaves g c = λ limits h matches none may.
       closed = c.run_line.new.hub.store;
       lives = lives-more g.D.SectorDisk.medium c.args.hub.store c.lines.hub.store c.run_line.new.hub.store
           (c.lines.invariant.lives limits h matches none may) lasts;
+      by_lines = ends_after limits h c.args.script.now g.D.SectorDisk.medium c.args.hub.store (c.lines.number + 1) c.lines.hub
+          c.lines.opened.items c.lines.rest.now _ _ (c.lines.invariant.runs limits h matches none may) c.run_line.new.hub.store _
+          lasts (stops_grown (line_done limits (c.lines.number + 1) p.now (plain_line c.in-Some.line)) _ _ c.in-Err-run_line.fault
+          (c.in-Err-run_line.ensures.line limits p.now p.at));
       handed = inl handed;
       one = λ stops. (
         lasts-both g.D.SectorDisk.medium c.args.hub.store c.lines.hub.store c.run_line.new.hub.store
@@ -229,13 +246,17 @@ returns-clause-leaves g c = λ limits h matches none may.
     record {
       closed = c.lines.hub.store;
       lives = c.lines.invariant.lives limits h matches none may;
+      by_lines = ends_after limits h c.args.script.now g.D.SectorDisk.medium c.args.hub.store (c.lines.number + 1) c.lines.hub
+          c.lines.opened.items c.lines.rest.now _ _ (c.lines.invariant.runs limits h matches none may) c.lines.hub.store _
+          (lasts-none g.D.SectorDisk.medium g.met.D.SectorDisk.only_now c.lines.hub.store) (grown_none _);
       handed = inl handed;
       one = λ stops. (c.lines.invariant.lasts limits h matches none stops, handed);
       settled = c.lines.invariant.settled may;
       state =
           let p = c.lines.invariant.runs limits h matches none may in
           let empty : length c.lines.rest.now ≡ 0 = none-left _ c.lines-test.ensures in
-          let all = run_came limits h c.args.script.now (c.lines.number + 1) c.lines.hub c.lines.opened.items c.lines.rest.now _ _ p
+          let all = run_came limits h c.args.script.now g.D.SectorDisk.medium c.args.hub.store (c.lines.number + 1)
+          c.lines.hub c.lines.opened.items c.lines.rest.now _ _ p
           (no_lines c.lines.rest.now empty) in (
             all.0,
             all.1,

@@ -27,7 +27,8 @@ invariant-lines g l = record {
   settled : MayStop (g.D.SectorDisk.medium l.fn.hub.store.disk) l.fn.script → Settled l.fn.hub.store l.hub.store;
   runs : (limits : Limits) (h : Clients) → StoredMatches limits l.fn.hub h → h.clients ≡ []
       → MayStop (g.D.SectorDisk.medium l.fn.hub.store.disk) l.fn.script
-      → PartlyRun limits h l.fn.script (l.number + 1) l.hub l.opened.items l.rest (g.W.Write.contents l.fn.writer) (g.W.Write.contents l.writer);
+      → PartlyRun limits h l.fn.script g.D.SectorDisk.medium l.fn.hub.store (l.number + 1) l.hub l.opened.items l.rest
+      (g.W.Write.contents l.fn.writer) (g.W.Write.contents l.writer);
 }
 
 -- the text behind the lines so far
