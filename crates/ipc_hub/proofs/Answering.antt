@@ -212,7 +212,8 @@ serve-matches limits confirmed old new h conn v c e m found here sends a same st
     paired-with (ClientMatches confirmed mark) old.connections h.clients conn (answered (Some a.o) v) d
     (paired-weaker (ClientMatches confirmed (accepted h)) (ClientMatches confirmed mark) old.connections h.clients m.clients
     (λ x y. matches-later confirmed (accepted h) mark x y (omega (arith, more))))
-    (told-matches confirmed (accepted h) mark a.o v c (omega (arith, m.known, more)) (omega (arith, more)) (let short = rw a.one at sends.short in short.0) mine) in
+    (told-matches confirmed (accepted h) mark a.o v c (omega (arith, m.known, more)) (omega (arith, more))
+    (let short = rw a.one at sends.short in short.0) mine) in
     subst (λ (r : Option PlainOutcome). IsAhead limits confirmed new (accept limits (with_client h conn (welcomed mark r c)) e)) (sym last)
     (accept-matches limits confirmed mark old new h e table clients m (omega arith) paired same state (rows ∙ ap (put_all was.outcomes) told)
     sends.short)

@@ -1,5 +1,6 @@
 -- The calls of the hub over its rows: a connection comes, goes, is released, or has its output consumed, and the disk has failed.
-use Rattle.std.proofs.Common.{◌≡◌, ◌≢◌, ℕ, ◌+◌, ◌<◌, ◌≤◌, ◌^◌, List, [], ◌++◌, length, drop, Option, Some, None, refl, sym, ap, ◌∙◌, subst, arith, inl, false, true}
+use Rattle.std.proofs.Common.{◌≡◌, ◌≢◌, ℕ, ◌+◌, ◌<◌, ◌≤◌, ◌^◌, List, [], ◌++◌, length, drop, Option, Some, None, refl, sym, ap, ◌∙◌, subst, arith, inl, false}
+use Rattle.std.proofs.Common.{true}
 use Rattle.std.proofs.Common.{inr, ◌∷◌, append-nil}
 use Rattle.std.specs.Prelude.{nat_eq, option_map, unwrap_or, nat_le, is_some, not, ◌==◌, ◌&&◌, ◌||◌}
 use Rattle.std.proofs.lemmas.Bool.{cases_eq}

@@ -158,8 +158,8 @@ module _ {D : Type 0} {medium : D → Medium} {old new : StoreView D} {before af
     served-took =
         record {
           goes_on = goes-further (hub_view old.machine before) mid (hub_view new.machine last) refl r.numbers
-              (answer-goes-on mid conn bare-now now r.still (found' r) r.live r.room steps.sound e sends asks-none answers (hub_view new.machine last) steps.limits
-              steps.state told);
+              (answer-goes-on mid conn bare-now now r.still (found' r) r.live r.room steps.sound e sends asks-none answers
+              (hub_view new.machine last) steps.limits steps.state told);
           bytes = λ limits confirmed h ahead.
               let o = opened r ahead in
               served-taken o next moment (IsAhead limits confirmed (hub_view new.machine last)) (Accepts medium old new h) r.comes.1.0 r.partial r.few e refl (

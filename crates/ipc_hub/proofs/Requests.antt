@@ -53,9 +53,10 @@ fits-short limits o passed fits = omega (arith, fits, longest_reply-bound limits
 
 all-short : (limits : Limits) → ArePassed limits → (os : List PlainOutcome) → All (λ (o : PlainOutcome). FitsBody limits o.body) os → AllShort os
 all-short limits passed [] all = tt
-all-short limits passed (o ∷ os) all =
-    (fits-short limits o passed (All-head (λ (p : PlainOutcome). FitsBody limits p.body) o os all),
-    all-short limits passed os (All-tail (λ (p : PlainOutcome). FitsBody limits p.body) o os all))
+all-short limits passed (o ∷ os) all = (
+  fits-short limits o passed (All-head (λ (p : PlainOutcome). FitsBody limits p.body) o os all),
+  all-short limits passed os (All-tail (λ (p : PlainOutcome). FitsBody limits p.body) o os all),
+)
 
 pub step-sends : (limits : Limits) (s : State) (e : PlainEvent) → ArePassed limits → IsSound limits s → Sends limits s e (step limits s e).outcomes
 step-sends limits s e passed sound =

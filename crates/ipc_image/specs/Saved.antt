@@ -143,8 +143,8 @@ set_object = object_in (2 * 2 ^ 32) set_bytes
 
 -- ---- all of it
 
--- the objects: the clock, the processes, the waiting calls, the adjustments, the queues by identifier, and the semaphore
--- sets by identifier
+-- the objects: the clock, the processes, the waiting calls, the adjustments, the queues by identifier, and the
+-- semaphore sets by identifier
 unfoldable pub saved : State → PlainObjects
 saved s =
     (0, fields_bytes clock_sizes (clock_numbers s)) ∷ (1, processes_bytes s.processes.entries)

@@ -26,8 +26,8 @@ pub data Steps {D : Type 0} (medium : D → Medium) (moment : ℕ) (limits : Lim
       → HubCall medium limits last (after limits h acts) next (after_one limits (after limits h acts) act)
       → Steps medium moment limits old h next (acts ++ act ∷ [])
 
--- These calls were made, and the hub goes on: it matches what they come to, and its store has taken the events that they
--- accept.
+-- These calls were made, and the hub goes on: it matches what they come to, and its store has taken the events that
+-- they accept.
 pub record Makes {D : Type 0} (medium : D → Medium) (moment : ℕ) (limits : Limits) (old new : StoredHub D) (h : Clients)
     (acts : List Act) : Type 0 where
   pub steps : Steps medium moment limits old h new acts

@@ -11,9 +11,9 @@ use Rattle.ipc_hub.specs.View.{StoredHub}
 use Rattle.ipc_server.specs.Acts.{Act, after}
 use Rattle.ipc_server.specs.Goes.{Steps}
 
--- The hub of a server over a store that was just opened, and what its turns have made of the clients. A turn is calls of
--- the hub, as its clause names them; the server may be within one, which has made the first of them. The moments do not
--- fall. The frames are all those that were in an output at some time, from which the clients were sent.
+-- The hub of a server over a store that was just opened, and what its turns have made of the clients. A turn is calls
+-- of the hub, as its clause names them; the server may be within one, which has made the first of them. The moments do
+-- not fall. The frames are all those that were in an output at some time, from which the clients were sent.
 pub data Turns {D : Type 0} (medium : D → Medium) (limits : Limits) (opened : StoreView D)
     : ℕ → StoredHub D → Clients → List Frame → Type 0 where
   New : (hub : StoredHub D) → hub.store ≡ opened

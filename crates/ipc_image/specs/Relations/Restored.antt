@@ -24,4 +24,5 @@ with_sets s es = record s { sem = record { next = s.sem.next; entries = s.sem.en
 abbrev pub IsClockOf : Numbers → List ℕ → Type 0
 IsClockOf n bytes =
     (s : State) → s.clock ≡ n.clock.0 → s.processes.next ≡ n.next_pid → s.msg.next ≡ n.next_queue
-    → s.sem.next ≡ n.next_set → FitFields clock_sizes (clock_numbers s) × (bytes ≡ fields_bytes clock_sizes (clock_numbers s))
+    → s.sem.next ≡ n.next_set
+    → FitFields clock_sizes (clock_numbers s) × (bytes ≡ fields_bytes clock_sizes (clock_numbers s))
