@@ -39,13 +39,15 @@ module _ {D : Type 0} (medium : D → Medium) (moment : ℕ) where
     pub hangs-goes : (old new : StoredHub D) → HangsUp medium moment old new → Goes medium moment old new
     hangs-goes old _ no_call = goes-none medium law moment old
     hangs-goes old new (one_call last _ conn before serves) =
-        goes-both medium moment old last new (hangs-goes old last before) (goes-one medium moment last new (to_hang_up conn moment) refl tt serves)
+        goes-both medium moment old last new (hangs-goes old last before)
+        (goes-one medium moment last new (to_hang_up conn moment) refl tt serves)
 
     -- these are calls on a hub
     pub parts-goes : (old new : StoredHub D) → Parts medium moment old new → Goes medium moment old new
     parts-goes old new parts =
         goes-both medium moment old parts.parted new (hangs-goes old parts.parted parts.hangs_up)
-        (goes-both medium moment parts.parted parts.lasting new (goes-released medium moment parts.parted parts.lasting parts.releases.same parts.releases.takes)
+        (goes-both medium moment parts.parted parts.lasting new
+        (goes-released medium moment parts.parted parts.lasting parts.releases.same parts.releases.takes)
         (goes-sent medium law moment parts.lasting new parts.sends))
 
     -- what was fed was made to last, and the clients were written to

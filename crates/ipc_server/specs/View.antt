@@ -1,6 +1,6 @@
 -- What a caller sees of a server: its hub, and its clients by the number of their connection.
-use Rattle.std.specs.Prelude.{◌≡◌, ℕ, Bool, true, false, ◌&&◌, ◌||◌, ◌==◌, List, [], length, Option, Some, None, is_some}
-use Rattle.std.specs.Prelude.{slice_index_or}
+use Rattle.std.specs.Prelude.{◌≡◌, ℕ, Bool, true, false, ◌&&◌, ◌||◌, ◌==◌, List, [], length}
+use Rattle.std.specs.Prelude.{Option, Some, None, is_some, slice_index_or}
 use Rattle.ipc_hub.specs.View.{HubView, StoredHub, is_connected, output_of, ended_of}
 
 pub record ClientView : Type 0 where

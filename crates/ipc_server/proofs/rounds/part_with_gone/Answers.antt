@@ -51,7 +51,8 @@ loop-key-preserved g c = elim c.if-is_over.branch [
       let new = w.try_remove.new.self in
       let med = g.D.SectorDisk.medium in
       rw (w.hub-is, w.clients-is) (record {
-        hangs_up = hangs-both med c.args.moment.0 c.args.hub.now c.loop-key.hub w.hang_up.new.hub c.loop-key.invariant.hangs_up w.in_ok-hang_up.ensures.hangs_up;
+        hangs_up = hangs-both med c.args.moment.0 c.args.hub.now c.loop-key.hub w.hang_up.new.hub c.loop-key.invariant.hangs_up
+            w.in_ok-hang_up.ensures.hangs_up;
         serving = λ is. serving-gone c.loop-key.hub.hub w.hang_up.new.hub.hub old new c.loop-key.key c.in-Some.client.now (sym c.in-Some.ensures)
             (c.loop-key.invariant.serving is) w.try_remove.ensures.updates w.try_remove.ensures.capacity (rw w.conn.ensures at w.in_ok-hang_up.ensures.leaves);
         capacity = w.try_remove.ensures.capacity ∙ c.loop-key.invariant.capacity;
@@ -64,7 +65,8 @@ loop-key-preserved g c = elim c.if-is_over.branch [
       let new = w.try_remove.new.self in
       let med = g.D.SectorDisk.medium in
       rw (w.hub-is, w.clients-is) (record {
-        hangs_up = hangs-both med c.args.moment.0 c.args.hub.now c.loop-key.hub w.hang_up.new.hub c.loop-key.invariant.hangs_up w.in_ok-hang_up.ensures.hangs_up;
+        hangs_up = hangs-both med c.args.moment.0 c.args.hub.now c.loop-key.hub w.hang_up.new.hub c.loop-key.invariant.hangs_up
+            w.in_ok-hang_up.ensures.hangs_up;
         serving = λ is. serving-gone c.loop-key.hub.hub w.hang_up.new.hub.hub old new c.loop-key.key c.in-Some.client.now (sym c.in-Some.ensures)
             (c.loop-key.invariant.serving is) w.try_remove.ensures.updates w.try_remove.ensures.capacity (rw w.conn.ensures at w.in_ok-hang_up.ensures.leaves);
         capacity = w.try_remove.ensures.capacity ∙ c.loop-key.invariant.capacity;

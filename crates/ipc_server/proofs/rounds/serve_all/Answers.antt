@@ -17,7 +17,8 @@ returns-in_err-take_in_all-clause-breaks g c =
 
 pub returns-in_err-take_in_all-clause-serving : goal.returns-in_err-take_in_all-clause-serving
 returns-in_err-take_in_all-clause-serving g c =
-    serving-kept c.args.hub.now.hub c.take_in_all.new.hub.hub c.args.clients.now c.take_in_all.new.clients c.take_in_all.ensures.numbers c.take_in_all.ensures.keeps
+    serving-kept c.args.hub.now.hub c.take_in_all.new.hub.hub c.args.clients.now c.take_in_all.new.clients
+    c.take_in_all.ensures.numbers c.take_in_all.ensures.keeps
 
 pub returns-in_err-release-clause-breaks : goal.returns-in_err-release-clause-breaks
 returns-in_err-release-clause-breaks g c =
@@ -27,18 +28,24 @@ returns-in_err-release-clause-breaks g c =
 
 pub returns-in_err-release-clause-serving : goal.returns-in_err-release-clause-serving
 returns-in_err-release-clause-serving g c =
-    serving-kept c.args.hub.now.hub c.release.new.self.hub c.args.clients.now c.take_in_all.new.clients (c.release.ensures.numbers ∙ c.take_in_all.ensures.numbers) c.take_in_all.ensures.keeps
+    serving-kept c.args.hub.now.hub c.release.new.self.hub c.args.clients.now c.take_in_all.new.clients
+    (c.release.ensures.numbers ∙ c.take_in_all.ensures.numbers) c.take_in_all.ensures.keeps
 
 pub returns-in_err-part_with_gone-clause-breaks : goal.returns-in_err-part_with_gone-clause-breaks
 returns-in_err-part_with_gone-clause-breaks g c =
     let q = err_from_is_err_and c.from_residual-in_err-part_with_gone.result c.from_residual-in_err-part_with_gone.ensures.1 in
-    rw (q.1, q.2) (breaks-later g.D.SectorDisk.medium g.D.SectorDisk.counts c.args.moment.0 c.args.hub.now c.put_out_all.new.hub c.part_with_gone.new.hub _
-    (goes-written g.D.SectorDisk.medium c.args.moment.0 g.met.D.SectorDisk.only_now c.args.hub.now c.take_in_all.new.hub c.release.new.self c.put_out_all.new.hub
-    c.in_ok-take_in_all.ensures.goes c.in_ok-release.ensures.ok c.in_ok-release.ensures.takes c.put_out_all.ensures.sends) c.in_err-part_with_gone.ensures.breaks)
+    rw (q.1, q.2) (breaks-later g.D.SectorDisk.medium g.D.SectorDisk.counts c.args.moment.0
+    c.args.hub.now c.put_out_all.new.hub c.part_with_gone.new.hub _
+    (goes-written g.D.SectorDisk.medium c.args.moment.0 g.met.D.SectorDisk.only_now
+    c.args.hub.now c.take_in_all.new.hub c.release.new.self c.put_out_all.new.hub
+    c.in_ok-take_in_all.ensures.goes c.in_ok-release.ensures.ok c.in_ok-release.ensures.takes c.put_out_all.ensures.sends)
+    c.in_err-part_with_gone.ensures.breaks)
 
 pub returns-in_err-part_with_gone-clause-serving : goal.returns-in_err-part_with_gone-clause-serving
 returns-in_err-part_with_gone-clause-serving g c is =
-    c.part_with_gone.ensures.serving (serving-noted c.args.hub.now.hub c.take_in_all.new.hub.hub c.release.new.self.hub c.put_out_all.new.hub.hub c.args.clients.now c.take_in_all.new.clients c.put_out_all.new.clients c.note_ends.new.clients
+    c.part_with_gone.ensures.serving
+    (serving-noted c.args.hub.now.hub c.take_in_all.new.hub.hub c.release.new.self.hub c.put_out_all.new.hub.hub
+    c.args.clients.now c.take_in_all.new.clients c.put_out_all.new.clients c.note_ends.new.clients
     c.take_in_all.ensures.numbers c.take_in_all.ensures.keeps c.release.ensures.numbers c.put_out_all.ensures.numbers c.put_out_all.ensures.same
     c.put_out_all.ensures.capacity c.note_ends.ensures.keeps is)
 
@@ -47,15 +54,20 @@ returns-in_err-release-2-clause-breaks g c =
     let q = err_from_is_err_and c.from_residual-in_err-release-2.result c.from_residual-in_err-release-2.ensures.1 in
     let med = g.D.SectorDisk.medium in
     rw (q.1, q.2) (breaks-at med g.D.SectorDisk.counts c.args.moment.0 c.args.hub.now c.part_with_gone.new.hub c.release-2.new.self _
-    (goes-both med c.args.moment.0 _ _ _ (goes-written med c.args.moment.0 g.met.D.SectorDisk.only_now c.args.hub.now c.take_in_all.new.hub c.release.new.self c.put_out_all.new.hub
+    (goes-both med c.args.moment.0 _ _ _
+    (goes-written med c.args.moment.0 g.met.D.SectorDisk.only_now
+    c.args.hub.now c.take_in_all.new.hub c.release.new.self c.put_out_all.new.hub
     c.in_ok-take_in_all.ensures.goes c.in_ok-release.ensures.ok c.in_ok-release.ensures.takes c.put_out_all.ensures.sends)
     (hangs-goes med c.args.moment.0 g.met.D.SectorDisk.only_now c.put_out_all.new.hub c.part_with_gone.new.hub c.in_ok-part_with_gone.ensures.hangs_up))
     c.in_err-release-2.ensures.refused)
 
 pub returns-in_err-release-2-clause-serving : goal.returns-in_err-release-2-clause-serving
 returns-in_err-release-2-clause-serving g c is =
-    serving-kept c.part_with_gone.new.hub.hub c.release-2.new.self.hub c.part_with_gone.new.clients c.part_with_gone.new.clients c.release-2.ensures.numbers (keeps-none c.part_with_gone.new.clients)
-    (c.part_with_gone.ensures.serving (serving-noted c.args.hub.now.hub c.take_in_all.new.hub.hub c.release.new.self.hub c.put_out_all.new.hub.hub c.args.clients.now c.take_in_all.new.clients c.put_out_all.new.clients c.note_ends.new.clients
+    serving-kept c.part_with_gone.new.hub.hub c.release-2.new.self.hub c.part_with_gone.new.clients c.part_with_gone.new.clients
+    c.release-2.ensures.numbers (keeps-none c.part_with_gone.new.clients)
+    (c.part_with_gone.ensures.serving
+    (serving-noted c.args.hub.now.hub c.take_in_all.new.hub.hub c.release.new.self.hub c.put_out_all.new.hub.hub
+    c.args.clients.now c.take_in_all.new.clients c.put_out_all.new.clients c.note_ends.new.clients
     c.take_in_all.ensures.numbers c.take_in_all.ensures.keeps c.release.ensures.numbers c.put_out_all.ensures.numbers c.put_out_all.ensures.same
     c.put_out_all.ensures.capacity c.note_ends.ensures.keeps is))
 
@@ -64,9 +76,11 @@ returns-in_err-release-2-clause-serving g c is =
 last : (g : Over) (c : goal.After-put_out_all-2 g) → IsServing c.args.hub.now.hub c.args.clients.now
     → IsServing c.put_out_all-2.new.hub.hub c.put_out_all-2.new.clients
 last g c is =
-    serving-written c.part_with_gone.new.hub.hub c.release-2.new.self.hub c.put_out_all-2.new.hub.hub c.part_with_gone.new.clients c.put_out_all-2.new.clients c.release-2.ensures.numbers c.put_out_all-2.ensures.numbers
+    serving-written c.part_with_gone.new.hub.hub c.release-2.new.self.hub c.put_out_all-2.new.hub.hub
+    c.part_with_gone.new.clients c.put_out_all-2.new.clients c.release-2.ensures.numbers c.put_out_all-2.ensures.numbers
     c.put_out_all-2.ensures.same c.put_out_all-2.ensures.capacity (c.part_with_gone.ensures.serving
-    (serving-noted c.args.hub.now.hub c.take_in_all.new.hub.hub c.release.new.self.hub c.put_out_all.new.hub.hub c.args.clients.now c.take_in_all.new.clients c.put_out_all.new.clients c.note_ends.new.clients
+    (serving-noted c.args.hub.now.hub c.take_in_all.new.hub.hub c.release.new.self.hub c.put_out_all.new.hub.hub
+    c.args.clients.now c.take_in_all.new.clients c.put_out_all.new.clients c.note_ends.new.clients
     c.take_in_all.ensures.numbers c.take_in_all.ensures.keeps c.release.ensures.numbers c.put_out_all.ensures.numbers c.put_out_all.ensures.same
     c.put_out_all.ensures.capacity c.note_ends.ensures.keeps is))
 
@@ -76,7 +90,9 @@ returns-clause-serving g c is = last g c is
 pub returns-clause-goes : goal.returns-clause-goes
 returns-clause-goes g c =
     let med = g.D.SectorDisk.medium in
-    goes-both med c.args.moment.0 _ _ _ (goes-written med c.args.moment.0 g.met.D.SectorDisk.only_now c.args.hub.now c.take_in_all.new.hub c.release.new.self c.put_out_all.new.hub
+    goes-both med c.args.moment.0 _ _ _
+    (goes-written med c.args.moment.0 g.met.D.SectorDisk.only_now
+    c.args.hub.now c.take_in_all.new.hub c.release.new.self c.put_out_all.new.hub
     c.in_ok-take_in_all.ensures.goes c.in_ok-release.ensures.ok c.in_ok-release.ensures.takes c.put_out_all.ensures.sends)
     (parts-goes med c.args.moment.0 g.met.D.SectorDisk.only_now c.put_out_all.new.hub c.put_out_all-2.new.hub (record {
       parted = c.part_with_gone.new.hub;
@@ -105,7 +121,8 @@ returns-clause-read g c is =
 pub returns-clause-parted : goal.returns-clause-parted
 returns-clause-parted g c is = (
   c.put_out_all.new.hub,
-  (goes-written g.D.SectorDisk.medium c.args.moment.0 g.met.D.SectorDisk.only_now c.args.hub.now c.take_in_all.new.hub c.release.new.self c.put_out_all.new.hub
+  (goes-written g.D.SectorDisk.medium c.args.moment.0 g.met.D.SectorDisk.only_now
+    c.args.hub.now c.take_in_all.new.hub c.release.new.self c.put_out_all.new.hub
       c.in_ok-take_in_all.ensures.goes c.in_ok-release.ensures.ok c.in_ok-release.ensures.takes c.put_out_all.ensures.sends),
   record {
     parted = c.part_with_gone.new.hub;

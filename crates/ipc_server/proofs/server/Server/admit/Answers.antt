@@ -13,7 +13,8 @@ returns-in-Err g c = λ moment. rw (ap (λ v. v.hub) c.self-in-loop.view_is) (c.
 
 pub loop-preserved : goal.loop-preserved
 loop-preserved g c = λ moment.
-    goes-both g.D.SectorDisk.medium moment c.args.self.now.hub c.loop.self.hub c.take_client.new.self.hub (c.loop.invariant moment) (c.take_client.ensures moment)
+    goes-both g.D.SectorDisk.medium moment c.args.self.now.hub c.loop.self.hub c.take_client.new.self.hub
+    (c.loop.invariant moment) (c.take_client.ensures moment)
 
 pub returns : goal.returns
 returns g c = c.loop.invariant

@@ -4,15 +4,18 @@ use Rattle.ipc_server.proofs.server.Server.wait.Goals as goal
 
 pub invariant_of-self : goal.invariant_of-self
 invariant_of-self g c =
-    serving-kept c.self.inside.hub.hub c.self.inside.hub.hub c.self.inside.clients c.ask_for_room.new.clients refl c.ask_for_room.ensures c.self.invariant
+    serving-kept c.self.inside.hub.hub c.self.inside.hub.hub c.self.inside.clients c.ask_for_room.new.clients refl
+    c.ask_for_room.ensures c.self.invariant
 
 pub invariant_of-self-then-is_err : goal.invariant_of-self-then-is_err
 invariant_of-self-then-is_err g c =
-    serving-kept c.self.inside.hub.hub c.self.inside.hub.hub c.self.inside.clients c.ask_for_room.new.clients refl c.ask_for_room.ensures c.self.invariant
+    serving-kept c.self.inside.hub.hub c.self.inside.hub.hub c.self.inside.clients c.ask_for_room.new.clients refl
+    c.ask_for_room.ensures c.self.invariant
 
 pub returns-then-is_err-clause-connected : goal.returns-then-is_err-clause-connected
 returns-then-is_err-clause-connected g c = (
-    serving-kept c.self.inside.hub.hub c.self.inside.hub.hub c.self.inside.clients c.ask_for_room.new.clients refl c.ask_for_room.ensures c.self.invariant).connected
+    serving-kept c.self.inside.hub.hub c.self.inside.hub.hub c.self.inside.clients c.ask_for_room.new.clients refl
+    c.ask_for_room.ensures c.self.invariant).connected
 
 pub invariant_of-self-2 : goal.invariant_of-self-2
 invariant_of-self-2 g c =
