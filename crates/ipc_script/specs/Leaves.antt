@@ -39,8 +39,8 @@ EndsSettled old new (Err e) = UnlessDisk e (Settled old new)
 -- first on; and at a stop nothing waited, so that the next life begins with all that the one before has taken. If no
 -- line is `stop`, there is one life, and its disk is handed back. If nothing waited before, all events stand there,
 -- unless the disk failed. If all lines were run, they lead to the state to which the lines lead, for the same cut of
--- each line as what was written, and a store that was young goes on. All this is so line by line (`by_lines`): the lines whose whole text was written were
--- run before, and their events were made last then.
+-- each line as what was written, and a store that was young goes on. All this is so line by line (`by_lines`): the
+-- lines whose whole text was written were run before, and their events were made last then.
 pub record Leaves {D : Type 0} (medium : D → Medium) (limits : Limits) (h : Clients) (script : List ℕ)
     (before after : Option (List ℕ)) (store : StoreView D) (disk : D) (result : Result ⊤ ScriptFault)
     : Type 0 where
