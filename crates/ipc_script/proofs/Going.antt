@@ -12,7 +12,7 @@ use Rattle.ipc_store.proofs.CallerLemmas.{StoreMatches-stands}
 use Rattle.ipc_hub.specs.Clients.{Clients}
 use Rattle.ipc_script.specs.ByLines.{HasRunLines, KeepsLines}
 use Rattle.ipc_script.specs.ByLines.HasRunLines.{None as none_run, Line, Again}
-use Rattle.ipc_script.specs.Script.{Run}
+use Rattle.ipc_script.specs.Script.{IsYoung, Run}
 use Rattle.ipc_script.proofs.Stopping.{lives-none, lives-more, lives-stop}
 use Rattle.ipc_script.specs.Stops.{GoesOnFrom, IsReopened, LivesOn}
 use Rattle.ipc_script.specs.Stops.LivesOn.{One, Stop}
@@ -121,7 +121,7 @@ module _ {D : Type 0} (medium : D → Medium) where
       lives-of : (number : ℕ) (lines : List (List ℕ)) (last : StoreView D) (r : Run) (text : List ℕ)
           → HasRunLines medium limits old h number lines last r text → LivesOn medium old last
       lives-of _ _ _ _ _ none_run = lives-none medium old law
-      lives-of _ _ next _ _ (Line number lines line last _ r text cut p before is took settled) =
+      lives-of _ _ next _ _ (Line number lines line last _ r text cut p before is took settled goes) =
           lives-more medium old last next (lives-of number lines last r text before) took
       lives-of _ _ opened _ text (Again number lines line last closed _ r _ before is took again) =
           lives-stop medium old law last closed opened (lives-of number lines last r text before) took again
@@ -130,15 +130,23 @@ module _ {D : Type 0} (medium : D → Medium) where
       settled-of : (number : ℕ) (lines : List (List ℕ)) (last : StoreView D) (r : Run) (text : List ℕ)
           → HasRunLines medium limits old h number lines last r text → old.waiting ≡ 0 → last.waiting ≡ 0
       settled-of _ _ _ _ _ none_run empty = empty
-      settled-of _ _ next _ _ (Line number lines line last _ r text cut p before is took settled) empty =
+      settled-of _ _ next _ _ (Line number lines line last _ r text cut p before is took settled goes) empty =
           settled (settled-of number lines last r text before empty)
       settled-of _ _ opened _ text (Again number lines line last closed _ r _ before is took again) empty = again.opens.found.2.waits.count
 
+      -- a young store goes on
+      on-of : (number : ℕ) (lines : List (List ℕ)) (last : StoreView D) (r : Run) (text : List ℕ)
+          → HasRunLines medium limits old h number lines last r text → IsYoung old → last.stopped ≡ false
+      on-of _ _ _ _ _ none_run young = young.goes_on
+      on-of _ _ next _ _ (Line number lines line last _ r text cut p before is took settled goes) young = goes young
+      on-of _ _ opened _ text (Again number lines line last closed _ r _ before is took again) young = again.opens.found.2.goes_on
+
       pub keeps-lines : (last next : StoreView D) (before : History) (number : ℕ) (lines : List (List ℕ)) (r : Run) (text : List ℕ)
           (events : List PlainEvent) → Keeps (medium old.disk) old before → old.waiting ≡ 0
-          → HasRunLines medium limits old h number lines last r text → last.stopped ≡ false → Takes medium last events next
+          → HasRunLines medium limits old h number lines last r text → IsYoung old → Takes medium last events next
           → KeepsLines medium before last events next
-      keeps-lines last next before number lines r text events keeps empty runs goes_on takes =
+      keeps-lines last next before number lines r text events keeps empty runs young takes =
+          let goes_on = on-of number lines last r text runs young in
           let here = goes-on before old last keeps (lives-of number lines last r text runs) in
           let was : History = here.after in
           let none : was.waiting ≡ [] = none-waits last was here.keeps goes_on (settled-of number lines last r text runs empty) in

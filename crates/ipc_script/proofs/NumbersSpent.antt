@@ -1,5 +1,5 @@
 -- What calls use of a store's numbers, and when a fault is the disk's.
-use Rattle.std.proofs.Common.{◌≡◌, inl, inr, ℕ, ◌+◌, ◌-◌, ◌<◌, ◌≤◌, ◌^◌, Bool, true, false, refl, subst, ◌∙◌, arith}
+use Rattle.std.proofs.Common.{◌≡◌, inl, inr, ℕ, ◌+◌, ◌-◌, ◌*◌, ◌<◌, ◌≤◌, ◌^◌, Bool, true, false, List, length, refl, subst, ◌∙◌, arith}
 use Rattle.std.specs.Prelude.{if◌then◌else◌}
 use Rattle.ipc_disk.specs.Counts.{Counts, counted}
 use Rattle.ipc_disk.specs.Medium.{Medium}
@@ -13,7 +13,8 @@ use Rattle.ipc_hub.specs.View.{StoredHub, HasStopped}
 use Rattle.ipc_script.specs.declared.fault.ScriptFault.{ScriptFault}
 use Rattle.ipc_script.specs.declared.fault.ScriptFault.TheVariants.{NoMemory, Input, Output, Device, NotFormatted, Version, Damaged}
 use Rattle.ipc_script.specs.declared.fault.ScriptFault.TheVariants.{TooLong, BadLine, InUse, Unknown}
-use Rattle.ipc_script.specs.Script.{DiskFailed}
+use Rattle.ipc_script.specs.Line.{longest_script}
+use Rattle.ipc_script.specs.Script.{DiskFailed, IsYoung}
 use Rattle.ipc_script.specs.Relations.Faults.{ByFault, of_serve_error}
 use Rattle.ipc_script.specs.Relations.Input.{IsReadFault}
 use Rattle.ipc_script.specs.Relations.Numbers.{HasNumbers}
@@ -95,3 +96,8 @@ module _ {D : Type 0} (medium : D → Medium) (counts : D → Counts) (n : ℕ) 
 pub failed-behind : {D : Type 0} {counts : D → Counts} {n : ℕ} {old mid : StoreView D} (e : ScriptFault) (after : ℕ) → Spends counts n old mid
     → DiskFailed e (counts mid.disk).failures after → DiskFailed e (counts old.disk).failures after
 failed-behind e after spent failed = subst (λ (before : ℕ). DiskFailed e before after) spent.failures failed
+
+-- a young store has numbers enough for a script that is not too long
+pub young-has : {D : Type 0} (store : StoreView D) (script : List ℕ) → IsYoung store → length script ≤ longest_script
+    → HasNumbers (8 * length script) store
+young-has store script young short = record { goes_on = young.goes_on; left = omega (arith, young.numbers, short) }

@@ -1,6 +1,6 @@
 -- The run of a script line by line, as its store and its disk go through it: which lines were run, and what was written
 -- by then.
-use Rattle.std.specs.Prelude.{◌≡◌, ◌+◌, ℕ, Some, Ok, List, [], ◌∷◌, ◌++◌, Option}
+use Rattle.std.specs.Prelude.{◌≡◌, ◌+◌, ℕ, false, Some, Ok, List, [], ◌∷◌, ◌++◌, Option}
 use Rattle.ipc_base.specs.declared.limits.Limits.{Limits}
 use Rattle.ipc_disk.specs.Medium.{Medium}
 use Rattle.ipc_disk.specs.Since.{EachImageSince}
@@ -9,18 +9,20 @@ use Rattle.ipc_store.specs.Histories.{History, StandsForPrefix, accepted}
 use Rattle.ipc_store.specs.View.{StoreView}
 use Rattle.ipc_hub.specs.Clients.{Clients}
 use Rattle.ipc_script.specs.Line.{Stop, line_of, lines_of}
-use Rattle.ipc_script.specs.Script.{Cut, Progress, Run, WritesMore, start_run, stopped, text_done}
+use Rattle.ipc_script.specs.Script.{Cut, IsYoung, Progress, Run, WritesMore, start_run, stopped, text_done}
 use Rattle.ipc_script.specs.Stops.{IsReopened}
 use Rattle.ipc_script.specs.Relations.Lasts.{Lasts, Settled}
 
 -- These lines were run, one after another; what comes next has this number. They have written this text. Each takes
--- events, and if nothing waited before it, nothing waits when it has ended: its events were made last then.
+-- events, and if nothing waited before it, nothing waits when it has ended: its events were made last then. If the store
+-- was young before all of them, it goes on.
 pub data HasRunLines {D : Type 0} (medium : D → Medium) (limits : Limits) (old : StoreView D) (h : Clients)
     : ℕ → List (List ℕ) → StoreView D → Run → List ℕ → Type 0 where
   None : HasRunLines medium limits old h 1 [] old (start_run h) []
   Line : (number : ℕ) (lines : List (List ℕ)) (line : List ℕ) (last next : StoreView D) (r : Run) (text : List ℕ)
       (cut : Cut) (p : Progress) → HasRunLines medium limits old h number lines last r text
       → text_done limits number r (line_of line) cut ≡ Ok p → Lasts medium last next → Settled last next
+      → (IsYoung old → next.stopped ≡ false)
       → HasRunLines medium limits old h (number + 1) (lines ++ line ∷ []) next p.run (text ++ p.text)
   -- a line `stop`, which writes nothing
   Again : (number : ℕ) (lines : List (List ℕ)) (line : List ℕ) (last closed opened : StoreView D) (r : Run)

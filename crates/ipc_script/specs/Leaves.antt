@@ -1,5 +1,5 @@
 -- What the run of a script leaves on its disk.
-use Rattle.std.specs.Prelude.{◌≡◌, ⊤, ℕ, List, Option, Result, Ok, Err, OnOk}
+use Rattle.std.specs.Prelude.{◌≡◌, ⊤, ℕ, false, List, Option, Result, Ok, Err, OnOk}
 use Rattle.std.specs.Io.KnownBytes.{Appends}
 use Rattle.ipc_base.specs.declared.limits.Limits.{Limits}
 use Rattle.ipc_disk.specs.Medium.{Medium}
@@ -10,7 +10,7 @@ use Rattle.ipc_script.specs.declared.fault.ScriptFault.TheVariants.{NoMemory, In
 use Rattle.ipc_script.specs.declared.fault.ScriptFault.TheVariants.{NotFormatted, Version, Damaged}
 use Rattle.ipc_script.specs.declared.fault.ScriptFault.TheVariants.{TooLong, BadLine, InUse, Unknown}
 use Rattle.ipc_script.specs.ByLines.{EndsAfter}
-use Rattle.ipc_script.specs.Script.{Cut, HasNoStop, script_run, script_after}
+use Rattle.ipc_script.specs.Script.{Cut, HasNoStop, IsYoung, script_run, script_after}
 use Rattle.ipc_script.specs.Stops.{IsHanded, LivesOn}
 use Rattle.ipc_script.specs.Relations.Lasts.{Lasts, Settled}
 
@@ -39,8 +39,8 @@ EndsSettled old new (Err e) = UnlessDisk e (Settled old new)
 -- first on; and at a stop nothing waited, so that the next life begins with all that the one before has taken. If no
 -- line is `stop`, there is one life, and its disk is handed back. If nothing waited before, all events stand there,
 -- unless the disk failed. If all lines were run, they lead to the state to which the lines lead, for the same cut of
--- each line as what was written. All this is so line by line (`by_lines`): the lines whose whole text was written were
--- run before, and their events were made last then.
+-- each line as what was written, and a store that was young goes on. All this is so line by line (`by_lines`): the
+-- lines whose whole text was written were run before, and their events were made last then.
 pub record Leaves {D : Type 0} (medium : D → Medium) (limits : Limits) (h : Clients) (script : List ℕ)
     (before after : Option (List ℕ)) (store : StoreView D) (disk : D) (result : Result ⊤ ScriptFault)
     : Type 0 where
@@ -51,4 +51,5 @@ pub record Leaves {D : Type 0} (medium : D → Medium) (limits : Limits) (h : Cl
   pub one : HasNoStop script → Lasts medium store closed × (disk ≡ closed.disk)
   pub settled : EndsSettled store closed result
   pub state : OnOk result ((cuts : List Cut) × Appends before after (script_run limits h script cuts).text
-      × (closed.machine.state ≡ (script_after limits h script cuts).state) × (disk ≡ closed.disk))
+      × (closed.machine.state ≡ (script_after limits h script cuts).state) × (disk ≡ closed.disk)
+      × (IsYoung store → closed.stopped ≡ false))

@@ -1,13 +1,13 @@
 //! What follows from what a run promises. A call of it does nothing; its contract is the law.
 
-ghost use Rattle.std.specs.Prelude.{◌≡◌, ℕ, false, List};
+ghost use Rattle.std.specs.Prelude.{◌≡◌, ℕ, List};
 ghost use Rattle.ipc_base.specs.declared.limits.Limits.{Limits};
 ghost use Rattle.ipc_engine.specs.Event.{PlainEvent};
 ghost use Rattle.ipc_hub.specs.Clients.{Clients};
 ghost use Rattle.ipc_store.specs.Histories.{History, Keeps, Takes};
 ghost use Rattle.ipc_store.specs.View.{StoreView};
 ghost use Rattle.ipc_script.specs.ByLines.{HasRunLines, KeepsLines};
-ghost use Rattle.ipc_script.specs.Script.{Run};
+ghost use Rattle.ipc_script.specs.Script.{IsYoung, Run};
 ghost use Rattle.ipc_script.specs.Stops.{GoesOnFrom, LivesOn};
 
 use ipc_disk::SectorDisk;
@@ -27,12 +27,12 @@ pub fn a_stop_takes_nothing_back<D: SectorDisk>()
 /// A machine that is stopped at any moment of a line leaves the lines before, whose text was written:
 /// the disk stands for the state after all that was accepted before the script and in those lines,
 /// and some of the events of the line, from the first on. So it is if nothing waited before the
-/// script, and if the store goes on when the line begins.
+/// script, and if the store was young then.
 pub fn lines_that_were_run_stay<D: SectorDisk>()
     ensures { (limits : Limits) (h : Clients) (old last next : StoreView D) (before : History) (number : ℕ)
         (lines : List (List ℕ)) (r : Run) (text : List ℕ) (events : List PlainEvent)
         → Keeps (D.medium old.disk) old before → old.waiting ≡ 0
-        → HasRunLines D.medium limits old h number lines last r text → last.stopped ≡ false
+        → HasRunLines D.medium limits old h number lines last r text → IsYoung old
         → Takes D.medium last events next → KeepsLines D.medium before last events next }
 {
     an_open_finds_what_stands_there::<D>();

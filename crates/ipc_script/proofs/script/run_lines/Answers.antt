@@ -18,7 +18,7 @@ use Rattle.ipc_script.proofs.Lasting.{lasts-none, lasts-both, settles-after, set
 use Rattle.ipc_script.proofs.Stopping.{unless, lives-none, lives-more, lives-stop}
 use Rattle.ipc_script.proofs.WrittenText.{part_none, grown_none}
 use Rattle.ipc_script.proofs.LineLengths.{cost-fits}
-use Rattle.ipc_script.proofs.NumbersSpent.{spends-none, spends-both, left-behind, failed-behind}
+use Rattle.ipc_script.proofs.NumbersSpent.{young-has, spends-none, spends-both, left-behind, failed-behind}
 use Rattle.ipc_script.proofs.script.run_lines.Goals as goal
 
 pub lines-init : goal.lines-init
@@ -145,7 +145,11 @@ lines-preserved g c = record {
       c.first_line.result.0.now c.first_line.result.1.now c.first_line.ensures.lines s.0 s.1
       is c.run_line.new.hub c.run_line.new.opened.items _ s.3.0 s.3.1
       (Line n p.first c.first_line.result.0.now c.lines.hub.store c.run_line.new.hub.store p.now p.text s.0 s.1 p.lived is
-      (c.run_line.ensures.lasts limits p.now p.at) c.in_default-run_line.ensures.settles);
+      (c.run_line.ensures.lasts limits p.now p.at) c.in_default-run_line.ensures.settles (λ young.
+      let has = young-has c.args.hub.store c.args.script.now young c.requires in
+      let cost = cost-fits c.first_line.result.0.now (plain_line c.in-Some.line) (sym c.line_of.ensures ∙ ap (option_map plain_line) c.in-Some.is)
+      c.first_line.ensures.parts c.first_line.ensures.shorter in
+      (c.in_default-run_line.ensures.costs (left-behind _ has (c.lines.invariant.spends has may) (omega (arith, c.lines.invariant.left, cost)))).goes_on));
 }
 
 none-left : (n : ℕ) → true ≡ (n == 0) → n ≡ 0
@@ -263,5 +267,6 @@ returns-clause-leaves g c = λ limits h matches none may.
             ap (λ s. s.machine.state) (sym c.close-2.ensures.store) ∙ c.close-2.ensures.state ∙ p.at.run.matches.hub.state
                 ∙ ap (λ (k : Clients). k.state) (sym all.2),
             handed,
+            λ young. (c.lines.invariant.spends (young-has c.args.hub.store c.args.script.now young c.requires) may).goes_on,
           );
     }
