@@ -122,7 +122,7 @@ pub returns-clause-parted : goal.returns-clause-parted
 returns-clause-parted g c is = (
   c.put_out_all.new.hub,
   (goes-written g.D.SectorDisk.medium c.args.moment.0 g.met.D.SectorDisk.only_now
-    c.args.hub.now c.take_in_all.new.hub c.release.new.self c.put_out_all.new.hub
+      c.args.hub.now c.take_in_all.new.hub c.release.new.self c.put_out_all.new.hub
       c.in_ok-take_in_all.ensures.goes c.in_ok-release.ensures.ok c.in_ok-release.ensures.takes c.put_out_all.ensures.sends),
   record {
     parted = c.part_with_gone.new.hub;
