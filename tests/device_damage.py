@@ -336,7 +336,9 @@ TURNED: tuple[tuple[int, int, int, int], ...] = (
     (354, 29, 31, 0),
     (354, 32, 32, 1),  # the next number of a queue
     (354, 33, 35, 0),
-    (354, 36, 51, 1),  # those of other kinds
+    (354, 36, 36, 1),  # the next number of a semaphore set
+    (354, 37, 39, 0),
+    (354, 40, 51, 1),  # those of other kinds
     (354, 52, 67, 354),  # the number and the length of the processes
     (354, 68, 71, 1),  # how many there are
     (354, 72, 75, 1),  # the pid: not below the next one
