@@ -1,0 +1,110 @@
+-- Lemmas for callers.
+use Rattle.std.proofs.Common.{◌≡◌, ◌≢◌, ◌≤◌, arith, Bool, true, false, not, cond, nat_le, ℕ, List, [], ◌∷◌, ◌++◌}
+use Rattle.std.proofs.Common.{filter, Option, Some, None, append-nil, refl, sym, ap, subst, ◌∙◌}
+use Rattle.std.specs.List.{find}
+use Rattle.std.proofs.lemmas.Bool.Decides.{nat_tests}
+use Rattle.std.proofs.lemmas.List.Elements.{filter-append}
+use Rattle.ipc_base.specs.declared.identity.Pid.{Pid}
+use Rattle.ipc_base.specs.declared.identity.Moment.{Moment}
+use Rattle.ipc_wait.specs.declared.list.Waiting.{Waiting}
+use Rattle.ipc_wait.specs.Waits.{call_of, without, HaveDistinctPids, is_of, calls_on, calls_due, has_come, is_due}
+use Rattle.ipc_wait.proofs.Lists.{HaveDistinctPids-filter, filter-none, filter-filter, none_later, same_process, same_number, turned, call_of-past, filter-first, none_pass}
+
+-- a deadline that has come stays so
+pub has_come-later : (now later : Moment) (deadline : Option Moment) → now.0 ≤ later.0 → has_come now deadline ≡ true → has_come later deadline ≡ true
+has_come-later now later None after h = h
+has_come-later now later (Some d) after h = passed d.0 now.0 later.0 after h
+  where
+    passed : (d a b : ℕ) → a ≤ b → nat_le d a ≡ true → nat_le d b ≡ true
+    passed d a b after h = grind (arith, nat_tests)
+
+module _ {O C : Type 0} where
+  -- a call that enters is the last on its object
+  pub calls_on-enter : (eq : O → O → Bool) (on : O) (calls : List (Waiting O C)) (w : Waiting O C)
+      → calls_on eq on (calls ++ w ∷ []) ≡ cond (eq w.on on) (calls_on eq on calls ++ w ∷ []) (calls_on eq on calls)
+  calls_on-enter eq on calls w = filter-append (λ v. eq v.on on) calls (w ∷ []) ∙
+      elim (eq w.on on) as (λ b. calls_on eq on calls ++ cond b (w ∷ []) [] ≡ cond b (calls_on eq on calls ++ w ∷ []) (calls_on eq on calls)) [
+        | true ↦ refl
+        | false ↦ append-nil (calls_on eq on calls)
+      ]
+
+  -- after a call has left, its process has none
+  pub call_of-without_same : (pid : Pid) (calls : List (Waiting O C)) → call_of pid (without pid calls) ≡ None
+  call_of-without_same pid [] = refl
+  call_of-without_same pid (w ∷ calls) =
+      elim (is_of pid w) as (λ b. is_of pid w ≡ b → call_of pid (cond (not b) (w ∷ without pid calls) (without pid calls)) ≡ None) [
+        | true ↦ λ e. call_of-without_same pid calls
+        | false ↦ λ e. (λ i. cond (e i) (Some w) (call_of-without_same pid calls i))
+      ] refl
+
+  -- and each other process has what it had
+  pub call_of-without_other : (pid q : Pid) (calls : List (Waiting O C)) → q ≢ pid → call_of q (without pid calls) ≡ call_of q calls
+  call_of-without_other pid q [] ne = refl
+  call_of-without_other pid q (w ∷ calls) ne =
+      elim (is_of pid w) as (λ b. is_of pid w ≡ b → call_of q (cond (not b) (w ∷ without pid calls) (without pid calls)) ≡ cond (is_of q w) (Some w) (call_of q calls)) [
+        | true ↦ λ e. call_of-without_other pid q calls ne ∙ (λ i. cond (sym (apart e) i) (Some w) (call_of q calls))
+        | false ↦ λ e. ap (cond (is_of q w) (Some w)) (call_of-without_other pid q calls ne)
+      ] refl
+    where
+      apart : is_of pid w ≡ true → is_of q w ≡ false
+      apart e =
+          elim (is_of q w) as (λ b. is_of q w ≡ b → b ≡ false) [
+            | true ↦ λ h. absurd (ne (sym (same_process w.pid q h) ∙ same_process w.pid pid e))
+            | false ↦ λ h. refl
+          ] refl
+
+  -- those that pass a test stay in their order
+  pub filter-without : (test : Waiting O C → Bool) (pid : Pid) (calls : List (Waiting O C)) → filter test (without pid calls) ≡ without pid (filter test calls)
+  filter-without test pid calls = filter-filter test (λ w. not (is_of pid w)) calls
+
+  -- of a list that holds a call, what its process has there, and the rest
+  module _ (w : Waiting O C) (after : List (Waiting O C)) where
+    not_before : (v : Waiting O C) (before : List (Waiting O C)) → call_of v.pid (before ++ w ∷ after) ≡ None → is_of w.pid v ≡ false
+    not_before v [] none = turned v.pid.0 w.pid.0 ∙ (none_later (is_of v.pid) w after none).0
+    not_before v (u ∷ before) none = not_before v before (none_later (is_of v.pid) u (before ++ w ∷ after) none).1
+
+    pub call_of-here : (before : List (Waiting O C)) → HaveDistinctPids (before ++ w ∷ after) → call_of w.pid (before ++ w ∷ after) ≡ Some w
+    call_of-here [] distinct = ap (λ b. cond b (Some w) (call_of w.pid after)) (same_number w.pid.0)
+    call_of-here (v ∷ before) distinct = (λ i. cond (not_before v before distinct.0 i) (Some v) (call_of-here before distinct.1 i))
+
+    pub without-here : (before : List (Waiting O C)) → HaveDistinctPids (before ++ w ∷ after) → without w.pid (before ++ w ∷ after) ≡ before ++ after
+    without-here [] distinct =
+        ap (λ b. cond (not b) (w ∷ without w.pid after) (without w.pid after)) (same_number w.pid.0) ∙ filter-none (is_of w.pid) after distinct.0
+    without-here (v ∷ before) distinct =
+        (λ i. cond (not (not_before v before distinct.0 i)) (v ∷ without-here before distinct.1 i) (without w.pid (before ++ w ∷ after)))
+
+  -- what a process has among those that pass a test it has in the list
+  pub call_of-filter : (test : Waiting O C → Bool) (q : Pid) (w : Waiting O C) (calls : List (Waiting O C)) → HaveDistinctPids calls
+      → call_of q (filter test calls) ≡ Some w → call_of q calls ≡ Some w
+  call_of-filter test q w [] distinct h = h
+  call_of-filter test q w (v ∷ calls) distinct h =
+      elim (test v) as (λ b. call_of q (cond b (v ∷ filter test calls) (filter test calls)) ≡ Some w → call_of q (v ∷ calls) ≡ Some w) [
+        | true ↦ elim (is_of q v) as (λ b. cond b (Some v) (call_of q (filter test calls)) ≡ Some w → cond b (Some v) (call_of q calls) ≡ Some w) [
+          | true ↦ λ h. h
+          | false ↦ call_of-filter test q w calls distinct.1
+        ]
+        | false ↦ λ h. call_of-past v calls q w distinct.0 (call_of-filter test q w calls distinct.1 h)
+      ] h
+
+  -- a call that passes a test is its process's, and when it leaves the others that pass stay
+  pub call_of-passing : (test : Waiting O C → Bool) (calls before after : List (Waiting O C)) (w : Waiting O C) → HaveDistinctPids calls
+      → filter test calls ≡ before ++ w ∷ after → call_of w.pid calls ≡ Some w
+  call_of-passing test calls before after w distinct is =
+      let each = subst HaveDistinctPids is (HaveDistinctPids-filter test calls distinct) in
+      call_of-filter test w.pid w calls distinct (ap (call_of w.pid) is ∙ call_of-here w after before each)
+
+  pub filter-without_passing : (test : Waiting O C → Bool) (calls before after : List (Waiting O C)) (w : Waiting O C) → HaveDistinctPids calls
+      → filter test calls ≡ before ++ w ∷ after → filter test (without w.pid calls) ≡ before ++ after
+  filter-without_passing test calls before after w distinct is =
+      let each = subst HaveDistinctPids is (HaveDistinctPids-filter test calls distinct) in
+      filter-without test w.pid calls ∙ ap (without w.pid) is ∙ without-here w after before each
+
+  -- the first that is due is the first of those that are due, and when it leaves the others are due
+  pub calls_due-first : (now : Moment) (calls : List (Waiting O C)) (w : Waiting O C) → HaveDistinctPids calls → find (is_due now) calls ≡ Some w
+      → calls_due now calls ≡ w ∷ calls_due now (without w.pid calls)
+  calls_due-first now calls w distinct first =
+      let rest = filter-first (is_due now) calls w first in
+      rest.1 ∙ ap (λ ws. w ∷ ws) (sym (filter-without_passing (is_due now) calls [] rest.0 w distinct rest.1))
+
+  pub calls_due-none : (now : Moment) (calls : List (Waiting O C)) → find (is_due now) calls ≡ None → calls_due now calls ≡ []
+  calls_due-none now calls none = none_pass (is_due now) calls none

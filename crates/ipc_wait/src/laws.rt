@@ -1,0 +1,46 @@
+//! Laws of the definitions alone. A call of one does nothing; its contract is the law.
+
+ghost use Rattle.std.specs.Prelude.{◌≡◌, ◌≢◌, ◌≤◌, ◌++◌, ◌∷◌, [], Bool, true, if◌then◌else◌, List, Some, None, find};
+ghost use Rattle.ipc_base.specs.declared.identity.Moment.{Moment};
+ghost use Rattle.ipc_base.specs.declared.identity.Pid.{Pid};
+ghost use Rattle.ipc_wait.specs.Waits.{HaveDistinctPids, call_of, without, calls_on, calls_due, is_due};
+ghost use Rattle.ipc_wait.specs.declared.list.Waiting.{Waiting};
+
+/// A call that enters is the last on its object, and changes nothing on another.
+pub fn entered_is_last<O, C>()
+    ensures { (eq : O → O → Bool) (on : O) (calls : List (Waiting O C)) (w : Waiting O C)
+        → calls_on eq on (calls ++ w ∷ [])
+        ≡ (if eq w.on on then calls_on eq on calls ++ w ∷ [] else calls_on eq on calls) }
+{}
+
+/// If a call leaves, its process has none, and each other process has what it had.
+pub fn others_stay<O, C>()
+    ensures left { (pid : Pid) (calls : List (Waiting O C)) → call_of pid (without pid calls) ≡ None }
+    ensures others { (pid other : Pid) (calls : List (Waiting O C)) → other ≢ pid
+        → call_of other (without pid calls) ≡ call_of other calls }
+{}
+
+/// A call on an object is that of its process, and if it leaves the others there stay in order.
+pub fn others_on_the_object_stay<O, C>()
+    ensures found { (eq : O → O → Bool) (on : O) (calls before after : List (Waiting O C)) (w : Waiting O C)
+        → HaveDistinctPids calls → calls_on eq on calls ≡ before ++ w ∷ after
+        → call_of w.pid calls ≡ Some w }
+    ensures left { (eq : O → O → Bool) (on : O) (calls before after : List (Waiting O C)) (w : Waiting O C)
+        → HaveDistinctPids calls → calls_on eq on calls ≡ before ++ w ∷ after
+        → calls_on eq on (without w.pid calls) ≡ before ++ after }
+{}
+
+/// The first call that is due is the first of those that are due, and if it leaves the others are left.
+pub fn due_leave_in_order<O, C>()
+    ensures first { (now : Moment) (calls : List (Waiting O C)) (w : Waiting O C)
+        → HaveDistinctPids calls → find (is_due now) calls ≡ Some w
+        → calls_due now calls ≡ w ∷ calls_due now (without w.pid calls) }
+    ensures none { (now : Moment) (calls : List (Waiting O C)) → find (is_due now) calls ≡ None
+        → calls_due now calls ≡ [] }
+{}
+
+/// A call that is due stays so.
+pub fn due_stays_due<O, C>()
+    ensures { (now later : Moment) (w : Waiting O C) → now.0 ≤ later.0 → is_due now w ≡ true
+        → is_due later w ≡ true }
+{}

@@ -1,0 +1,200 @@
+//! The list of the calls that wait.
+
+ghost use Rattle.std.specs.Prelude.{◌≡◌, ◌<◌, ◌≤◌, ◌++◌, ◌∷◌, [], None, length, is_some, IsTrue, IsOk, OnOk, OnErr, ◌↔◌};
+ghost use Rattle.std.specs.Prelude.{slice_get, Some, find, position};
+ghost use Rattle.std.specs.Option.{option_copied};
+ghost use Rattle.ipc_wait.specs.Waits.{call_of, calls_on, calls_due, without, next_deadline, earlier, has_come, HaveDistinctPids};
+ghost use Rattle.ipc_wait.specs.Waits.{is_due, is_of};
+
+use crate::of::Of;
+use ipc_base::{Moment, Pid};
+use std::alloc::{AllocError, Global};
+use std::marker::Model;
+
+/// A call that waits: whose it is, the object that it waits on, the moment at which it expires, if it
+/// does, and the call itself.
+#[derive(Drop)]
+pub struct Waiting<O, C> {
+    pub pid: Pid,
+    pub on: O,
+    pub deadline: Option<Moment>,
+    pub call: C,
+}
+
+/// The calls that wait, in the order in which they came, of each process one at most.
+#[derive(Drop)]
+pub struct WaitList<O, C> {
+    calls: Vec<Waiting<O, C>>,
+    earliest: Option<Moment>,
+}
+
+impl<O, C> Model for WaitList<O, C> {
+    ghost use Rattle.std.specs.Prelude.{◌≡◌, vec_capacity};
+    ghost use Rattle.ipc_wait.specs.Waits.{Waits, next_deadline, HaveDistinctPids};
+
+    ghost Value = { Waits O C };
+
+    ghost view = { λ w. record { calls = w.calls.items; room = vec_capacity w.calls } };
+
+    ghost invariant = { λ w. (w.earliest ≡ next_deadline w.calls.items) × HaveDistinctPids w.calls.items };
+}
+
+impl<O: Copy + Eq, C: Drop> WaitList<O, C> {
+    /// No calls, and no room. It takes no memory.
+    pub fn new(alloc: Global) -> WaitList<O, C>
+        ensures { result.calls ≡ [] }
+    {
+        WaitList {
+            calls: Vec::new(alloc),
+            earliest: None,
+        }
+    }
+
+    /// How many calls wait.
+    pub fn len(&self) -> usize
+        ensures len { result ≡ length self.now.calls }
+        ensures pids { HaveDistinctPids self.now.calls }
+    {
+        self.calls.len()
+    }
+
+    /// Whether none waits.
+    pub fn is_empty(&self) -> bool
+        ensures { IsTrue result ↔ (self.now.calls ≡ []) }
+    {
+        self.calls.is_empty()
+    }
+
+    /// Makes room for so many calls in all. Refused for want of memory; never if there is that much room.
+    pub fn reserve(&mut self, count: usize) -> Result<(), AllocError>
+        ensures calls { self.new.calls ≡ self.old.calls }
+        ensures ok { OnOk result (count ≤ self.new.room) }
+        ensures room { self.old.room ≤ self.new.room }
+        ensures succeeds { count ≤ self.old.room → IsOk result }
+        ensures err { OnErr result (self.new ≡ self.old) }
+    {
+        let len = self.calls.len();
+        if count > len {
+            self.calls.reserve(count - len)?;
+        }
+        Ok(())
+    }
+
+    /// Puts a call at the end. It takes no memory: there is room, and the process has none that waits.
+    pub fn enter(&mut self, waiting: Waiting<O, C>)
+        requires room { length self.old.calls < self.old.room }
+        requires free { call_of waiting.pid self.old.calls ≡ None }
+        ensures calls { self.new.calls ≡ self.old.calls ++ waiting ∷ [] }
+        ensures room { self.new.room ≡ self.old.room }
+    {
+        self.earliest = earlier(self.earliest, waiting.deadline);
+        self.calls.push_reserved(waiting);
+    }
+
+    /// The earliest deadline of a call that waits, at once.
+    pub fn next_deadline(&self) -> Option<Moment>
+        ensures { result ≡ next_deadline self.now.calls }
+    {
+        self.earliest
+    }
+
+    /// The call at a place, the first at 0.
+    pub fn at(&self, place: usize) -> &Waiting<O, C>
+        requires { place < length self.now.calls }
+        ensures at { slice_get self.now.calls place ≡ Some result.now }
+        ensures found { call_of result.now.pid self.now.calls ≡ Some result.now }
+    {
+        &self.calls[place]
+    }
+
+    /// The call of a process.
+    pub fn get(&self, pid: Pid) -> Option<&Waiting<O, C>>
+        ensures { option_copied result ≡ call_of pid self.now.calls }
+    {
+        self.calls.iter().find(|w| w.pid == pid)
+    }
+
+    /// Whether a call of the process waits.
+    pub fn is_waiting(&self, pid: Pid) -> bool
+        ensures { result ≡ is_some (call_of pid self.now.calls) }
+    {
+        self.get(pid).is_some()
+    }
+
+    /// The calls on the object, in order.
+    pub fn of(&self, on: O) -> Of<'_, O, C>
+        ensures { result ≡ calls_on O.eq on self.now.calls }
+    {
+        Of::new(&self.calls, on)
+    }
+
+    /// The first call whose deadline is at or before the moment. If there is none, it looks at no call.
+    pub fn first_due(&self, now: Moment) -> Option<&Waiting<O, C>>
+        ensures { option_copied result ≡ find (is_due now) self.now.calls }
+    {
+        if !has_come(now, self.earliest) {
+            return None;
+        }
+        self.calls.iter().find(|w| has_come(now, w.deadline))
+    }
+
+    /// Removes the call of a process, and gives it. The others stay in order.
+    pub fn leave(&mut self, pid: Pid) -> Option<Waiting<O, C>>
+        ensures call { result ≡ call_of pid self.old.calls }
+        ensures others { self.new.calls ≡ without pid self.old.calls }
+        ensures room { self.new.room ≡ self.old.room }
+    {
+        let place = place_of(&self.calls, pid)?;
+        let left = self.calls.remove(place);
+        self.earliest = earliest_of(&self.calls);
+        Some(left)
+    }
+
+    /// Removes all calls. The room stays.
+    pub fn clear(&mut self)
+        ensures calls { self.new.calls ≡ [] }
+        ensures room { self.new.room ≡ self.old.room }
+    {
+        self.calls.clear();
+        self.earliest = None;
+    }
+}
+
+/// The earlier of two deadlines.
+fn earlier(a: Option<Moment>, b: Option<Moment>) -> Option<Moment>
+    ensures { result ≡ earlier a b }
+{
+    match (a, b) {
+        (Some(first), Some(second)) if second.0 < first.0 => b,
+        (Some(_), _) => a,
+        (None, _) => b,
+    }
+}
+
+/// Whether a deadline is at or before the moment.
+fn has_come(now: Moment, deadline: Option<Moment>) -> bool
+    ensures { result ≡ has_come now deadline }
+{
+    match deadline {
+        Some(deadline) => deadline.0 <= now.0,
+        None => false,
+    }
+}
+
+/// The place of the call of a process.
+fn place_of<O, C>(calls: &[Waiting<O, C>], pid: Pid) -> Option<usize>
+    ensures { result ≡ position (is_of pid) calls.now }
+{
+    calls.iter().position(|w| w.pid == pid)
+}
+
+/// The earliest deadline of these calls.
+fn earliest_of<O, C>(calls: &[Waiting<O, C>]) -> Option<Moment>
+    ensures { result ≡ next_deadline calls.now }
+{
+    let mut soonest = None;
+    for waiting in calls {
+        soonest = earlier(soonest, waiting.deadline);
+    }
+    soonest
+}
