@@ -1,14 +1,15 @@
 -- Lemmas for callers.
 use Rattle.std.proofs.Common.{◌≡◌, ◌≢◌, ◌≤◌, arith, Bool, true, false, not, cond, nat_le, ℕ, List, [], ◌∷◌, ◌++◌}
-use Rattle.std.proofs.Common.{filter, Option, Some, None, append-nil, refl, sym, ap, subst, ◌∙◌}
+use Rattle.std.proofs.Common.{filter, Option, Some, None, is_some, append-nil, refl, sym, ap, subst, ◌∙◌}
 use Rattle.std.specs.List.{find}
 use Rattle.std.proofs.lemmas.Bool.Decides.{nat_tests}
 use Rattle.std.proofs.lemmas.List.Elements.{filter-append}
 use Rattle.ipc_base.specs.declared.identity.Pid.{Pid}
 use Rattle.ipc_base.specs.declared.identity.Moment.{Moment}
 use Rattle.ipc_wait.specs.declared.list.Waiting.{Waiting}
-use Rattle.ipc_wait.specs.Waits.{call_of, without, HaveDistinctPids, is_of, calls_on, calls_due, has_come, is_due}
-use Rattle.ipc_wait.proofs.Lists.{HaveDistinctPids-filter, filter-none, filter-filter, none_later, same_process, same_number, turned, call_of-past, filter-first, none_pass}
+use Rattle.ipc_wait.specs.Waits.{call_of, without, HaveDistinctPids, is_of, calls_due, has_come, is_due, next_deadline}
+use Rattle.ipc_wait.proofs.Lists.{HaveDistinctPids-filter, filter-none, filter-filter, none_later, same_process, same_number, turned}
+use Rattle.ipc_wait.proofs.Lists.{call_of-past, filter-first, none_pass, one_due}
 
 -- a deadline that has come stays so
 pub has_come-later : (now later : Moment) (deadline : Option Moment) → now.0 ≤ later.0 → has_come now deadline ≡ true → has_come later deadline ≡ true
@@ -19,13 +20,13 @@ has_come-later now later (Some d) after h = passed d.0 now.0 later.0 after h
     passed d a b after h = grind (arith, nat_tests)
 
 module _ {O C : Type 0} where
-  -- a call that enters is the last on its object
-  pub calls_on-enter : (eq : O → O → Bool) (on : O) (calls : List (Waiting O C)) (w : Waiting O C)
-      → calls_on eq on (calls ++ w ∷ []) ≡ cond (eq w.on on) (calls_on eq on calls ++ w ∷ []) (calls_on eq on calls)
-  calls_on-enter eq on calls w = filter-append (λ v. eq v.on on) calls (w ∷ []) ∙
-      elim (eq w.on on) as (λ b. calls_on eq on calls ++ cond b (w ∷ []) [] ≡ cond b (calls_on eq on calls ++ w ∷ []) (calls_on eq on calls)) [
+  -- a call that enters is the last of those that pass a test, if it does
+  pub filter-enter : (test : Waiting O C → Bool) (calls : List (Waiting O C)) (w : Waiting O C)
+      → filter test (calls ++ w ∷ []) ≡ cond (test w) (filter test calls ++ w ∷ []) (filter test calls)
+  filter-enter test calls w = filter-append test calls (w ∷ []) ∙
+      elim (test w) as (λ b. filter test calls ++ cond b (w ∷ []) [] ≡ cond b (filter test calls ++ w ∷ []) (filter test calls)) [
         | true ↦ refl
-        | false ↦ append-nil (calls_on eq on calls)
+        | false ↦ append-nil (filter test calls)
       ]
 
   -- after a call has left, its process has none
@@ -106,5 +107,15 @@ module _ {O C : Type 0} where
       let rest = filter-first (is_due now) calls w first in
       rest.1 ∙ ap (λ ws. w ∷ ws) (sym (filter-without_passing (is_due now) calls [] rest.0 w distinct rest.1))
 
+  pub call_of-due : (now : Moment) (calls : List (Waiting O C)) (w : Waiting O C) → HaveDistinctPids calls → find (is_due now) calls ≡ Some w
+      → call_of w.pid calls ≡ Some w
+  call_of-due now calls w distinct first =
+      let rest = filter-first (is_due now) calls w first in
+      call_of-passing (is_due now) calls [] rest.0 w distinct rest.1
+
   pub calls_due-none : (now : Moment) (calls : List (Waiting O C)) → find (is_due now) calls ≡ None → calls_due now calls ≡ []
   calls_due-none now calls none = none_pass (is_due now) calls none
+
+  -- one is due if and only if the earliest deadline has come
+  pub has_come-next_deadline : (now : Moment) (calls : List (Waiting O C)) → has_come now (next_deadline calls) ≡ is_some (find (is_due now) calls)
+  has_come-next_deadline now calls = one_due now calls None

@@ -1,6 +1,6 @@
 -- The list of calls after a change.
 use Rattle.std.proofs.Common.{◌≡◌, ◌+◌, arith, ℕ, Bool, true, false, not, cond, nat_eq, nat_le, List, [], ◌∷◌, ◌++◌}
-use Rattle.std.proofs.Common.{filter, fold, length, Option, Some, None, zero, suc, refl, sym, ap, subst, ◌∙◌, slice_get, get_or}
+use Rattle.std.proofs.Common.{filter, fold, length, Option, Some, None, is_some, ◌||◌, true≢false, zero, suc, refl, sym, ap, subst, ◌∙◌, slice_get, get_or}
 use Rattle.std.specs.List.{find, remove, position, position_or_len}
 use Rattle.std.proofs.lemmas.Grind.{common_steps}
 use Rattle.std.proofs.lemmas.List.Folds.{find-append, find_at}
@@ -11,7 +11,7 @@ use Rattle.std.specs.Option.{option_or}
 use Rattle.ipc_base.specs.declared.identity.Pid.{Pid}
 use Rattle.ipc_base.specs.declared.identity.Moment.{Moment}
 use Rattle.ipc_wait.specs.declared.list.Waiting.{Waiting}
-use Rattle.ipc_wait.specs.Waits.{call_of, without, HaveDistinctPids, is_of, earlier, has_come, is_due}
+use Rattle.ipc_wait.specs.Waits.{call_of, without, HaveDistinctPids, is_of, earlier, has_come, is_due, next_deadline}
 
 module _ {X : Type 0} (test : X → Bool) where
   -- nothing passes in the rest
@@ -87,21 +87,25 @@ turned a b = grind (arith, nat_tests)
 next : (n : ℕ) → suc n ≡ 1 + n
 next n = omega arith
 
-neither_come : (now : Moment) (a b : Option Moment) → has_come now (earlier a b) ≡ false → (has_come now a ≡ false) × (has_come now b ≡ false)
-neither_come now None b h = (refl, h)
-neither_come now (Some a) None h = (h, refl)
-neither_come now (Some a) (Some b) h =
-    elim (nat_le a.0 b.0) as (λ e. nat_le a.0 b.0 ≡ e → has_come now (cond e (Some a) (Some b)) ≡ false
-    → (nat_le a.0 now.0 ≡ false) × (nat_le b.0 now.0 ≡ false)) [
-      | true ↦ λ e h. (h, later a.0 b.0 now.0 e h)
-      | false ↦ λ e h. (sooner a.0 b.0 now.0 e h, h)
-    ] refl h
-  where
-    later : (a b n : ℕ) → nat_le a b ≡ true → nat_le a n ≡ false → nat_le b n ≡ false
-    later a b n e h = grind (arith, nat_tests)
+or-false : (b : Bool) → b || false ≡ b
+or-false true = refl
+or-false false = refl
 
-    sooner : (a b n : ℕ) → nat_le a b ≡ false → nat_le b n ≡ false → nat_le a n ≡ false
-    sooner a b n e h = grind (arith, nat_tests)
+-- the earlier of two deadlines has come if one of them has
+has_come-earlier : (now : Moment) (a b : Option Moment) → has_come now (earlier a b) ≡ has_come now a || has_come now b
+has_come-earlier now None b = refl
+has_come-earlier now (Some a) None = sym (or-false (nat_le a.0 now.0))
+has_come-earlier now (Some a) (Some b) =
+    elim (nat_le a.0 b.0) as (λ e. nat_le a.0 b.0 ≡ e → has_come now (cond e (Some a) (Some b)) ≡ nat_le a.0 now.0 || nat_le b.0 now.0) [
+      | true ↦ λ e. first a.0 b.0 now.0 e
+      | false ↦ λ e. second a.0 b.0 now.0 e
+    ] refl
+  where
+    first : (a b n : ℕ) → nat_le a b ≡ true → nat_le a n ≡ nat_le a n || nat_le b n
+    first a b n e = grind (arith, nat_tests)
+
+    second : (a b n : ℕ) → nat_le a b ≡ false → nat_le b n ≡ nat_le a n || nat_le b n
+    second a b n e = grind (arith, nat_tests)
 
 module _ {O C : Type 0} where
   -- a call more, of a process that has none
@@ -166,11 +170,23 @@ module _ {O C : Type 0} where
       ap (λ b. cond b (Some v) (call_of w.pid calls)) same ∙ at
   call_of-at (v ∷ calls) (suc k) w distinct at = call_of-past v calls w.pid w distinct.0 (call_of-at calls k w distinct.1 at)
 
+  -- one of some deadlines or of the calls has come if the earliest has
+  pub one_due : (now : Moment) (calls : List (Waiting O C)) (soonest : Option Moment)
+      → has_come now (fold (λ s w. earlier s w.deadline) soonest calls) ≡ has_come now soonest || is_some (find (is_due now) calls)
+  one_due now [] soonest = sym (or-false (has_come now soonest))
+  one_due now (w ∷ calls) soonest =
+      one_due now calls (earlier soonest w.deadline) ∙ ap (λ b. b || is_some (find (is_due now) calls)) (has_come-earlier now soonest w.deadline)
+      ∙ either (has_come now soonest) (is_due now w)
+    where
+      either : (a b : Bool) → (a || b) || is_some (find (is_due now) calls) ≡ a || is_some (cond b (Some w) (find (is_due now) calls))
+      either true b = refl
+      either false true = refl
+      either false false = refl
+
   -- if the earliest deadline has not come, none has
-  pub none_due : (now : Moment) (calls : List (Waiting O C)) (soonest : Option Moment)
-      → has_come now (fold (λ s w. earlier s w.deadline) soonest calls) ≡ false → (has_come now soonest ≡ false) × (find (is_due now) calls ≡ None)
-  none_due now [] soonest h = (h, refl)
-  none_due now (w ∷ calls) soonest h =
-      let rest = none_due now calls (earlier soonest w.deadline) h in
-      let both = neither_come now soonest w.deadline rest.0 in
-      (both.0, ap (λ b. cond b (Some w) (find (is_due now) calls)) both.1 ∙ rest.1)
+  pub none_due : (now : Moment) (calls : List (Waiting O C)) → has_come now (next_deadline calls) ≡ false → find (is_due now) calls ≡ None
+  none_due now calls not =
+      elim (find (is_due now) calls) as (λ r. is_some r ≡ false → r ≡ None) [
+        | None ↦ λ h. refl
+        | Some w ↦ λ h. absurd (true≢false h)
+      ] (sym (one_due now calls None) ∙ not)

@@ -1,27 +1,37 @@
 //! Laws of the definitions alone. A call of one does nothing; its contract is the law.
 
-ghost use Rattle.std.specs.Prelude.{◌≡◌, ◌≢◌, ◌≤◌, ◌++◌, ◌∷◌, [], Bool, true, if◌then◌else◌, List, Some, None, find};
+ghost use Rattle.std.specs.Prelude.{◌≡◌, ◌≢◌, ◌≤◌, ◌++◌, ◌∷◌, [], Bool, true, if◌then◌else◌, List, Some, None, find, is_some};
 ghost use Rattle.ipc_base.specs.declared.identity.Moment.{Moment};
 ghost use Rattle.ipc_base.specs.declared.identity.Pid.{Pid};
 ghost use Rattle.ipc_wait.specs.Waits.{HaveDistinctPids, call_of, without, calls_on, calls_due, is_due};
+ghost use Rattle.ipc_wait.specs.Waits.{has_come, next_deadline};
 ghost use Rattle.ipc_wait.specs.declared.list.Waiting.{Waiting};
 
-/// A call that enters is the last on its object, and changes nothing on another.
+/// A call that enters is the last on its object, and changes nothing on another. If it is due, it is the
+/// last that is.
 pub fn entered_is_last<O, C>()
-    ensures { (eq : O → O → Bool) (on : O) (calls : List (Waiting O C)) (w : Waiting O C)
+    ensures on { (eq : O → O → Bool) (on : O) (calls : List (Waiting O C)) (w : Waiting O C)
         → calls_on eq on (calls ++ w ∷ [])
         ≡ (if eq w.on on then calls_on eq on calls ++ w ∷ [] else calls_on eq on calls) }
+    ensures due { (now : Moment) (calls : List (Waiting O C)) (w : Waiting O C)
+        → calls_due now (calls ++ w ∷ [])
+        ≡ (if is_due now w then calls_due now calls ++ w ∷ [] else calls_due now calls) }
 {}
 
-/// If a call leaves, its process has none, and each other process has what it had.
+/// If a call leaves, its process has none, and each other process has what it had; those on an object
+/// and those that are due stay in order.
 pub fn others_stay<O, C>()
     ensures left { (pid : Pid) (calls : List (Waiting O C)) → call_of pid (without pid calls) ≡ None }
     ensures others { (pid other : Pid) (calls : List (Waiting O C)) → other ≢ pid
         → call_of other (without pid calls) ≡ call_of other calls }
+    ensures on { (eq : O → O → Bool) (on : O) (pid : Pid) (calls : List (Waiting O C))
+        → calls_on eq on (without pid calls) ≡ without pid (calls_on eq on calls) }
+    ensures due { (now : Moment) (pid : Pid) (calls : List (Waiting O C))
+        → calls_due now (without pid calls) ≡ without pid (calls_due now calls) }
 {}
 
-/// A call on an object is that of its process, and if it leaves the others there stay in order.
-pub fn others_on_the_object_stay<O, C>()
+/// A call on an object is that of its process, and if it leaves, those before it and after it are left.
+pub fn tried_in_order<O, C>()
     ensures found { (eq : O → O → Bool) (on : O) (calls before after : List (Waiting O C)) (w : Waiting O C)
         → HaveDistinctPids calls → calls_on eq on calls ≡ before ++ w ∷ after
         → call_of w.pid calls ≡ Some w }
@@ -30,17 +40,22 @@ pub fn others_on_the_object_stay<O, C>()
         → calls_on eq on (without w.pid calls) ≡ before ++ after }
 {}
 
-/// The first call that is due is the first of those that are due, and if it leaves the others are left.
+/// The first call that is due is the first of those that are due and that of its process, and if it
+/// leaves, the others are left.
 pub fn due_leave_in_order<O, C>()
     ensures first { (now : Moment) (calls : List (Waiting O C)) (w : Waiting O C)
         → HaveDistinctPids calls → find (is_due now) calls ≡ Some w
         → calls_due now calls ≡ w ∷ calls_due now (without w.pid calls) }
+    ensures found { (now : Moment) (calls : List (Waiting O C)) (w : Waiting O C)
+        → HaveDistinctPids calls → find (is_due now) calls ≡ Some w → call_of w.pid calls ≡ Some w }
     ensures none { (now : Moment) (calls : List (Waiting O C)) → find (is_due now) calls ≡ None
         → calls_due now calls ≡ [] }
 {}
 
-/// A call that is due stays so.
-pub fn due_stays_due<O, C>()
-    ensures { (now later : Moment) (w : Waiting O C) → now.0 ≤ later.0 → is_due now w ≡ true
+/// A call that is due stays so; and one is due if and only if the earliest deadline has come.
+pub fn deadlines_come<O, C>()
+    ensures stays { (now later : Moment) (w : Waiting O C) → now.0 ≤ later.0 → is_due now w ≡ true
         → is_due later w ≡ true }
+    ensures next { (now : Moment) (calls : List (Waiting O C))
+        → has_come now (next_deadline calls) ≡ is_some (find (is_due now) calls) }
 {}

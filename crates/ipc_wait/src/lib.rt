@@ -5,8 +5,6 @@ mod laws;
 mod list;
 mod of;
 
-pub use laws::{
-    due_leave_in_order, due_stays_due, entered_is_last, others_on_the_object_stay, others_stay,
-};
+pub use laws::{deadlines_come, due_leave_in_order, entered_is_last, others_stay, tried_in_order};
 pub use list::{WaitList, Waiting};
 pub use of::Of;
