@@ -7,9 +7,9 @@ use Rattle.std.proofs.lemmas.List.Elements.{filter-append}
 use Rattle.ipc_base.specs.declared.identity.Pid.{Pid}
 use Rattle.ipc_base.specs.declared.identity.Moment.{Moment}
 use Rattle.ipc_wait.specs.declared.list.Waiting.{Waiting}
-use Rattle.ipc_wait.specs.Waits.{call_of, without, HaveDistinctPids, is_of, calls_due, has_come, is_due, next_deadline}
+use Rattle.ipc_wait.specs.Waits.{call_of, without, HaveDistinctPids, is_of, has_come, is_due, next_deadline}
 use Rattle.ipc_wait.proofs.Lists.{HaveDistinctPids-filter, filter-none, filter-filter, none_later, same_process, same_number, turned}
-use Rattle.ipc_wait.proofs.Lists.{call_of-past, filter-first, none_pass, one_due}
+use Rattle.ipc_wait.proofs.Lists.{call_of-past, one_due}
 
 -- a deadline that has come stays so
 pub has_come-later : (now later : Moment) (deadline : Option Moment) → now.0 ≤ later.0 → has_come now deadline ≡ true → has_come later deadline ≡ true
@@ -99,22 +99,6 @@ module _ {O C : Type 0} where
   filter-without_passing test calls before after w distinct is =
       let each = subst HaveDistinctPids is (HaveDistinctPids-filter test calls distinct) in
       filter-without test w.pid calls ∙ ap (without w.pid) is ∙ without-here w after before each
-
-  -- the first that is due is the first of those that are due, and when it leaves the others are due
-  pub calls_due-first : (now : Moment) (calls : List (Waiting O C)) (w : Waiting O C) → HaveDistinctPids calls → find (is_due now) calls ≡ Some w
-      → calls_due now calls ≡ w ∷ calls_due now (without w.pid calls)
-  calls_due-first now calls w distinct first =
-      let rest = filter-first (is_due now) calls w first in
-      rest.1 ∙ ap (λ ws. w ∷ ws) (sym (filter-without_passing (is_due now) calls [] rest.0 w distinct rest.1))
-
-  pub call_of-due : (now : Moment) (calls : List (Waiting O C)) (w : Waiting O C) → HaveDistinctPids calls → find (is_due now) calls ≡ Some w
-      → call_of w.pid calls ≡ Some w
-  call_of-due now calls w distinct first =
-      let rest = filter-first (is_due now) calls w first in
-      call_of-passing (is_due now) calls [] rest.0 w distinct rest.1
-
-  pub calls_due-none : (now : Moment) (calls : List (Waiting O C)) → find (is_due now) calls ≡ None → calls_due now calls ≡ []
-  calls_due-none now calls none = none_pass (is_due now) calls none
 
   -- one is due if and only if the earliest deadline has come
   pub has_come-next_deadline : (now : Moment) (calls : List (Waiting O C)) → has_come now (next_deadline calls) ≡ is_some (find (is_due now) calls)

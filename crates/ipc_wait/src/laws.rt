@@ -40,18 +40,6 @@ pub fn tried_in_order<O, C>()
         → calls_on eq on (without w.pid calls) ≡ before ++ after }
 {}
 
-/// The first call that is due is the first of those that are due and that of its process, and if it
-/// leaves, the others are left.
-pub fn due_leave_in_order<O, C>()
-    ensures first { (now : Moment) (calls : List (Waiting O C)) (w : Waiting O C)
-        → HaveDistinctPids calls → find (is_due now) calls ≡ Some w
-        → calls_due now calls ≡ w ∷ calls_due now (without w.pid calls) }
-    ensures found { (now : Moment) (calls : List (Waiting O C)) (w : Waiting O C)
-        → HaveDistinctPids calls → find (is_due now) calls ≡ Some w → call_of w.pid calls ≡ Some w }
-    ensures none { (now : Moment) (calls : List (Waiting O C)) → find (is_due now) calls ≡ None
-        → calls_due now calls ≡ [] }
-{}
-
 /// A call that is due stays so; and one is due if and only if the earliest deadline has come.
 pub fn deadlines_come<O, C>()
     ensures stays { (now later : Moment) (w : Waiting O C) → now.0 ≤ later.0 → is_due now w ≡ true

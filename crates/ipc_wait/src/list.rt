@@ -1,7 +1,7 @@
 //! The list of the calls that wait.
 
 ghost use Rattle.std.specs.Prelude.{◌≡◌, ◌<◌, ◌≤◌, ◌++◌, ◌∷◌, [], None, length, is_some, IsTrue, IsOk, OnOk, OnErr, ◌↔◌};
-ghost use Rattle.std.specs.Prelude.{slice_get, Some, find, position};
+ghost use Rattle.std.specs.Prelude.{slice_get, Some, IfSome, IfNone, find, position};
 ghost use Rattle.std.specs.Option.{option_copied};
 ghost use Rattle.ipc_wait.specs.Waits.{call_of, calls_on, calls_due, without, next_deadline, earlier, has_come, HaveDistinctPids};
 ghost use Rattle.ipc_wait.specs.Waits.{is_due, is_of};
@@ -123,19 +123,24 @@ impl<O: Copy + Eq, C: Drop> WaitList<O, C> {
 
     /// The calls on the object, in order.
     pub fn of(&self, on: O) -> Of<'_, O, C>
-        ensures { result ≡ calls_on O.eq on self.now.calls }
+        ensures calls { result ≡ calls_on O.eq on self.now.calls }
+        ensures pids { HaveDistinctPids self.now.calls }
     {
         Of::new(&self.calls, on)
     }
 
-    /// The first call whose deadline is at or before the moment. If there is none, it looks at no call.
+    /// The first call whose deadline is at or before the moment. If there is none, it looks at no call. If
+    /// the call leaves, those that are due after it are left.
     pub fn first_due(&self, now: Moment) -> Option<&Waiting<O, C>>
-        ensures { option_copied result ≡ find (is_due now) self.now.calls }
+        ensures none { IfNone result (calls_due now self.now.calls ≡ []) }
+        ensures first { IfSome result (λ w. calls_due now self.now.calls
+            ≡ w.now ∷ calls_due now (without w.now.pid self.now.calls)) }
+        ensures found { IfSome result (λ w. call_of w.now.pid self.now.calls ≡ Some w.now) }
     {
         if !has_come(now, self.earliest) {
             return None;
         }
-        self.calls.iter().find(|w| has_come(now, w.deadline))
+        first_of(&self.calls, now)
     }
 
     /// Removes the call of a process, and gives it. The others stay in order.
@@ -186,6 +191,13 @@ fn place_of<O, C>(calls: &[Waiting<O, C>], pid: Pid) -> Option<usize>
     ensures { result ≡ position (is_of pid) calls.now }
 {
     calls.iter().position(|w| w.pid == pid)
+}
+
+/// The first of these calls that is due.
+fn first_of<O, C>(calls: &[Waiting<O, C>], now: Moment) -> Option<&Waiting<O, C>>
+    ensures { option_copied result ≡ find (is_due now) calls.now }
+{
+    calls.iter().find(|w| has_come(now, w.deadline))
 }
 
 /// The earliest deadline of these calls.
