@@ -42,7 +42,7 @@ module _ {O C : Type 0} where
   pub call_of-without_other : (pid q : Pid) (calls : List (Waiting O C)) → q ≢ pid → call_of q (without pid calls) ≡ call_of q calls
   call_of-without_other pid q [] ne = refl
   call_of-without_other pid q (w ∷ calls) ne =
-      elim (is_of pid w) as (λ b. is_of pid w ≡ b → call_of q (cond (not b) (w ∷ without pid calls) (without pid calls)) ≡ cond (is_of q w) (Some w) (call_of q calls)) [
+      elim (is_of pid w) as (λ b. is_of pid w ≡ b → call_of q (cond (not b) (w ∷ without pid calls) (without pid calls)) ≡ call_of q (w ∷ calls)) [
         | true ↦ λ e. call_of-without_other pid q calls ne ∙ (λ i. cond (sym (apart e) i) (Some w) (call_of q calls))
         | false ↦ λ e. ap (cond (is_of q w) (Some w)) (call_of-without_other pid q calls ne)
       ] refl

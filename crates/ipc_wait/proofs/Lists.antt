@@ -57,16 +57,18 @@ module _ {X : Type 0} (test : X → Bool) where
   pub filter-filter : (other : X → Bool) (xs : List X) → filter test (filter other xs) ≡ filter other (filter test xs)
   filter-filter other [] = refl
   filter-filter other (x ∷ xs) =
-      elim (other x) as (λ a. other x ≡ a → filter test (cond a (x ∷ filter other xs) (filter other xs)) ≡ filter other (cond (test x) (x ∷ filter test xs) (filter test xs))) [
+      elim (other x) as (λ a. other x ≡ a → filter test (cond a (x ∷ filter other xs) (filter other xs))
+      ≡ filter other (cond (test x) (x ∷ filter test xs) (filter test xs))) [
         | true ↦ λ e. elim (test x) as (λ b. cond b (x ∷ filter test (filter other xs)) (filter test (filter other xs))
             ≡ filter other (cond b (x ∷ filter test xs) (filter test xs))) [
               | true ↦ (λ i. cond (sym e i) (x ∷ filter-filter other xs i) (filter-filter other xs i))
               | false ↦ filter-filter other xs
             ]
-        | false ↦ λ e. filter-filter other xs ∙ elim (test x) as (λ b. filter other (filter test xs) ≡ filter other (cond b (x ∷ filter test xs) (filter test xs))) [
-          | true ↦ (λ i. cond (sym e i) (x ∷ filter other (filter test xs)) (filter other (filter test xs)))
-          | false ↦ refl
-        ]
+        | false ↦ λ e. filter-filter other xs ∙
+            elim (test x) as (λ b. filter other (filter test xs) ≡ filter other (cond b (x ∷ filter test xs) (filter test xs))) [
+              | true ↦ (λ i. cond (sym e i) (x ∷ filter other (filter test xs)) (filter other (filter test xs)))
+              | false ↦ refl
+            ]
       ] refl
 
   pub find-position_none : (xs : List X) → position test xs ≡ None → find test xs ≡ None
@@ -109,12 +111,14 @@ has_come-earlier now (Some a) (Some b) =
 
 module _ {O C : Type 0} where
   -- a call more, of a process that has none
-  pub HaveDistinctPids-enter : (calls : List (Waiting O C)) (w : Waiting O C) → HaveDistinctPids calls → call_of w.pid calls ≡ None → HaveDistinctPids (calls ++ w ∷ [])
+  pub HaveDistinctPids-enter : (calls : List (Waiting O C)) (w : Waiting O C) → HaveDistinctPids calls → call_of w.pid calls ≡ None
+      → HaveDistinctPids (calls ++ w ∷ [])
   HaveDistinctPids-enter [] w distinct free = (refl, tt)
   HaveDistinctPids-enter (v ∷ calls) w distinct free =
       let later = none_later (is_of w.pid) v calls free in
       let other = turned w.pid.0 v.pid.0 ∙ later.0 in
-      (find-append (is_of v.pid) calls (w ∷ []) ∙ (λ i. option_or (distinct.0 i) (cond (other i) (Some w) None)), HaveDistinctPids-enter calls w distinct.1 later.1)
+      let none = find-append (is_of v.pid) calls (w ∷ []) ∙ (λ i. option_or (distinct.0 i) (cond (other i) (Some w) None)) in
+      (none, HaveDistinctPids-enter calls w distinct.1 later.1)
 
   -- some of the calls
   pub HaveDistinctPids-filter : (test : Waiting O C → Bool) (calls : List (Waiting O C)) → HaveDistinctPids calls → HaveDistinctPids (filter test calls)

@@ -1,5 +1,6 @@
--- Calls that wait, of any object that may make a call wait (msgop(2), semop(2), mq_receive(3), sem_wait(3)). They
--- stand in one list in the order in which they came. A process has one call at a time, so no two are of one process.
+-- Calls that wait, on whatever object makes a call wait (msgop(2), semop(2), mq_receive(3), sem_wait(3)).
+-- They stand in one list, in the order in which they came. A process has one call at a time, so no two are
+-- of one process. A call with a deadline is due from that moment on.
 use Rattle.std.specs.Prelude.{◌≡◌, ℕ, ◌==◌, nat_le, Bool, false, not, if◌then◌else◌, List, [], ◌∷◌}
 use Rattle.std.specs.Prelude.{Option, Some, None, find, filter, fold}
 use Rattle.ipc_base.specs.declared.identity.Pid.{Pid}
@@ -18,6 +19,7 @@ has_come now None = false
 has_come now (Some deadline) = nat_le deadline.0 now.0
 
 module _ {O C : Type 0} where
+  -- whether it is the call of the process
   abbrev pub is_of : Pid → Waiting O C → Bool
   is_of pid w = w.pid.0 == pid.0
 
@@ -50,7 +52,7 @@ module _ {O C : Type 0} where
   abbrev pub next_deadline : List (Waiting O C) → Option Moment
   next_deadline calls = fold (λ soonest w. earlier soonest w.deadline) None calls
 
--- a list with so many places, of which its calls take the first
+-- the calls, and for how many there is room
 pub record Waits (O C : Type 0) : Type 0 where
   pub calls : List (Waiting O C)
   pub room : ℕ

@@ -1,18 +1,18 @@
 //! The list of the calls that wait.
 
-ghost use Rattle.std.specs.Prelude.{◌≡◌, ◌<◌, ◌≤◌, ◌++◌, ◌∷◌, [], None, length, is_some, IsTrue, IsOk, OnOk, OnErr, ◌↔◌};
-ghost use Rattle.std.specs.Prelude.{slice_get, Some, IfSome, IfNone, find, position};
+ghost use Rattle.std.specs.Prelude.{◌≡◌, ◌<◌, ◌≤◌, ◌↔◌, ◌++◌, ◌∷◌, [], Some, None, is_some, IsTrue};
+ghost use Rattle.std.specs.Prelude.{IsOk, OnOk, OnErr, IfSome, IfNone, length, slice_get, find, position};
 ghost use Rattle.std.specs.Option.{option_copied};
-ghost use Rattle.ipc_wait.specs.Waits.{call_of, calls_on, calls_due, without, next_deadline, earlier, has_come, HaveDistinctPids};
-ghost use Rattle.ipc_wait.specs.Waits.{is_due, is_of};
+ghost use Rattle.ipc_wait.specs.Waits.{HaveDistinctPids, is_of, call_of, without, calls_on, is_due};
+ghost use Rattle.ipc_wait.specs.Waits.{calls_due, has_come, earlier, next_deadline};
 
 use crate::of::Of;
 use ipc_base::{Moment, Pid};
 use std::alloc::{AllocError, Global};
 use std::marker::Model;
 
-/// A call that waits: whose it is, the object that it waits on, the moment at which it expires, if it
-/// does, and the call itself.
+/// A call that waits: of which process, on which object, until when (`None`: without end), and the
+/// call itself.
 #[derive(Drop)]
 pub struct Waiting<O, C> {
     pub pid: Pid,
@@ -36,7 +36,8 @@ impl<O, C> Model for WaitList<O, C> {
 
     ghost view = { λ w. record { calls = w.calls.items; room = vec_capacity w.calls } };
 
-    ghost invariant = { λ w. (w.earliest ≡ next_deadline w.calls.items) × HaveDistinctPids w.calls.items };
+    ghost invariant = { λ w. (w.earliest ≡ next_deadline w.calls.items)
+        × HaveDistinctPids w.calls.items };
 }
 
 impl<O: Copy + Eq, C: Drop> WaitList<O, C> {
@@ -65,7 +66,8 @@ impl<O: Copy + Eq, C: Drop> WaitList<O, C> {
         self.calls.is_empty()
     }
 
-    /// Makes room for so many calls in all. Refused for want of memory; never if there is that much room.
+    /// Makes room for so many calls in all. Refused for want of memory, and then all is as before; never
+    /// refused if there is that much room.
     pub fn reserve(&mut self, count: usize) -> Result<(), AllocError>
         ensures calls { self.new.calls ≡ self.old.calls }
         ensures ok { OnOk result (count ≤ self.new.room) }
@@ -80,7 +82,7 @@ impl<O: Copy + Eq, C: Drop> WaitList<O, C> {
         Ok(())
     }
 
-    /// Puts a call at the end. It takes no memory: there is room, and the process has none that waits.
+    /// Puts a call at the end; its process has none. It takes no memory: there is room.
     pub fn enter(&mut self, waiting: Waiting<O, C>)
         requires room { length self.old.calls < self.old.room }
         requires free { call_of waiting.pid self.old.calls ≡ None }
@@ -91,7 +93,7 @@ impl<O: Copy + Eq, C: Drop> WaitList<O, C> {
         self.calls.push_reserved(waiting);
     }
 
-    /// The earliest deadline of a call that waits, at once.
+    /// The earliest deadline of the calls that wait.
     pub fn next_deadline(&self) -> Option<Moment>
         ensures { result ≡ next_deadline self.now.calls }
     {
@@ -129,8 +131,9 @@ impl<O: Copy + Eq, C: Drop> WaitList<O, C> {
         Of::new(&self.calls, on)
     }
 
-    /// The first call whose deadline is at or before the moment. If there is none, it looks at no call. If
-    /// the call leaves, those that are due after it are left.
+    /// The first call whose deadline is at or before the moment. If it leaves, those that are due after it
+    /// are left. If none is due, this takes no longer with more calls: it looks at the earliest deadline
+    /// alone.
     pub fn first_due(&self, now: Moment) -> Option<&Waiting<O, C>>
         ensures none { IfNone result (calls_due now self.now.calls ≡ []) }
         ensures first { IfSome result (λ w. calls_due now self.now.calls

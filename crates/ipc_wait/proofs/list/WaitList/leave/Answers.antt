@@ -8,7 +8,8 @@ use Rattle.ipc_wait.proofs.list.WaitList.leave.Goals as goal
 left : (g : Over) (c : goal.After-self-1 g) → Leaves c.args.pid c.self.inside.calls.items c.remove-left.result c.remove-left.new.self.items
 left g c =
     leaves c.args.pid c.self.inside.calls.items c.in_ok-place.place c.remove-left.result c.remove-left.new.self.items c.self.invariant.1
-    (ap (position (is_of c.args.pid)) (sym c.deref.ensures.value) ∙ sym c.place_of.ensures ∙ c.in_ok-place.was) c.remove-left.ensures.value c.remove-left.ensures.items
+    (ap (position (is_of c.args.pid)) (sym c.deref.ensures.value) ∙ sym c.place_of.ensures ∙ c.in_ok-place.was)
+    c.remove-left.ensures.value c.remove-left.ensures.items
 
 pub returns-in_err-place-clause-call : goal.returns-in_err-place-clause-call
 returns-in_err-place-clause-call g c =
