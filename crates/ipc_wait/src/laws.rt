@@ -34,7 +34,7 @@ pub fn others_stay<O, C>()
 
 /// A call on an object is that of its process, and if it leaves, those before it and after it there are
 /// left.
-pub fn tried_in_order<O, C>()
+pub fn others_on_its_object_stay<O, C>()
     ensures found { (eq : O → O → Bool) (on : O) (calls before after : List (Waiting O C))
         (w : Waiting O C) → HaveDistinctPids calls → calls_on eq on calls ≡ before ++ w ∷ after
         → call_of w.pid calls ≡ Some w }

@@ -5,6 +5,6 @@ mod laws;
 mod list;
 mod of;
 
-pub use laws::{deadlines_come, entered_is_last, others_stay, tried_in_order};
+pub use laws::{deadlines_come, entered_is_last, others_on_its_object_stay, others_stay};
 pub use list::{WaitList, Waiting};
 pub use of::Of;

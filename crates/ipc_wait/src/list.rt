@@ -21,7 +21,9 @@ pub struct Waiting<O, C> {
     pub call: C,
 }
 
-/// The calls that wait, in the order in which they came, of each process one at most.
+/// The calls that wait, in the order in which they came, of each process one at most. A contract sees
+/// the calls, and for how many there is room. A method may look through all of them; there are no more
+/// than processes.
 #[derive(Drop)]
 pub struct WaitList<O, C> {
     calls: Vec<Waiting<O, C>>,
@@ -41,7 +43,7 @@ impl<O, C> Model for WaitList<O, C> {
 }
 
 impl<O: Copy + Eq, C: Drop> WaitList<O, C> {
-    /// No calls, and no room. It takes no memory.
+    /// No calls. It takes no memory.
     pub fn new(alloc: Global) -> WaitList<O, C>
         ensures { result.calls ≡ [] }
     {

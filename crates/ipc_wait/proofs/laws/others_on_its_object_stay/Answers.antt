@@ -1,5 +1,5 @@
 use Rattle.ipc_wait.proofs.CallerLemmas.{call_of-passing, filter-without_passing}
-use Rattle.ipc_wait.proofs.laws.tried_in_order.Goals as goal
+use Rattle.ipc_wait.proofs.laws.others_on_its_object_stay.Goals as goal
 
 pub returns-clause-found : goal.returns-clause-found
 returns-clause-found g c eq on = call_of-passing (λ v. eq v.on on)
