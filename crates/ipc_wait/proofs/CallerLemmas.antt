@@ -9,7 +9,7 @@ use Rattle.ipc_base.specs.declared.identity.Moment.{Moment}
 use Rattle.ipc_wait.specs.declared.list.Waiting.{Waiting}
 use Rattle.ipc_wait.specs.Waits.{call_of, without, HaveDistinctPids, is_of, has_come, is_due, next_deadline}
 use Rattle.ipc_wait.proofs.Lists.{HaveDistinctPids-filter, filter-none, filter-filter, none_later, same_process, same_number, turned}
-use Rattle.ipc_wait.proofs.Lists.{call_of-past, one_due}
+use Rattle.ipc_wait.proofs.Lists.{call_of-past, find-parts, one_due}
 
 -- a deadline that has come stays so
 pub has_come-later : (now later : Moment) (deadline : Option Moment) → now.0 ≤ later.0 → has_come now deadline ≡ true → has_come later deadline ≡ true
@@ -99,6 +99,13 @@ module _ {O C : Type 0} where
   filter-without_passing test calls before after w distinct is =
       let each = subst HaveDistinctPids is (HaveDistinctPids-filter test calls distinct) in
       filter-without test w.pid calls ∙ ap (without w.pid) is ∙ without-here w after before each
+
+  -- what a search finds among those that pass a test is its process's
+  pub call_of-found : (test found : Waiting O C → Bool) (calls : List (Waiting O C)) (w : Waiting O C) → HaveDistinctPids calls
+      → find found (filter test calls) ≡ Some w → call_of w.pid calls ≡ Some w
+  call_of-found test found calls w distinct is =
+      let parts = find-parts found (filter test calls) w is in
+      call_of-passing test calls parts.0 parts.1 w distinct parts.2
 
   -- one is due if and only if the earliest deadline has come
   pub has_come-next_deadline : (now : Moment) (calls : List (Waiting O C)) → has_come now (next_deadline calls) ≡ is_some (find (is_due now) calls)

@@ -48,6 +48,15 @@ module _ {X : Type 0} (test : X → Bool) where
         | false ↦ filter-first ys x
       ] first
 
+  -- what stands before the first that passes, and after it
+  pub find-parts : (xs : List X) (x : X) → find test xs ≡ Some x → (before : List X) × (after : List X) × (xs ≡ before ++ x ∷ after)
+  find-parts [] x found = absurd (none-some x found)
+  find-parts (y ∷ ys) x found =
+      elim (test y) as (λ b. cond b (Some y) (find test ys) ≡ Some x → (before : List X) × (after : List X) × (y ∷ ys ≡ before ++ x ∷ after)) [
+        | true ↦ λ h. ([], ys, ap (λ z. z ∷ ys) (same_Some y x h))
+        | false ↦ λ h. let rest = find-parts ys x h in (y ∷ rest.0, rest.1, ap (λ zs. y ∷ zs) rest.2)
+      ] found
+
   pub none_pass : (xs : List X) → find test xs ≡ None → filter test xs ≡ []
   none_pass [] none = refl
   none_pass (x ∷ xs) none =
