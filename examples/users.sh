@@ -1,25 +1,9 @@
 # Two users of one queue: who may read it, write to it, change it and remove it. The one argument is the program. The
 # client is examples/client.py, which needs Python.
 set -eu
-ipcd=$(realpath "$1")
-PYTHONPATH=$(realpath "$(dirname "$0")")
-PYTHONDONTWRITEBYTECODE=1
-export PYTHONPATH PYTHONDONTWRITEBYTECODE
-folder=$(mktemp -d)
-cd "$folder"
+. "$(dirname "$0")/server.sh"
 "$ipcd" format device --small > formatted
-"$ipcd" serve device socket > said &
-server=$!
-trap 'kill "$server"; wait "$server" 2> ended || :; rm -r "$folder"' EXIT
-tries=0
-until grep -q "^serving" said; do
-	tries=$((tries + 1))
-	if [ "$tries" -gt 100 ] || ! kill -0 "$server"; then
-		echo "users: the server does not start" >&2
-		exit 1
-	fi
-	sleep 0.1
-done
+serve
 
 python3 - <<'SESSION'
 from client import *

@@ -7,11 +7,11 @@ use Rattle.std.proofs.lemmas.Bool.{cases_eq}
 use Rattle.std.proofs.lemmas.List.{length-append, drop_all, drop-drop, drop-append-le, length-drop}
 use Rattle.std.proofs.lemmas.List.Elements.{All-weaker, All-cons, All-head, All-tail, All-push}
 use Rattle.ipc_base.specs.Limits.{longest_reply}
-use Rattle.ipc_base.specs.Table.{value_at, with_entry, without, keys_of, seen_as, ArePaired, IsRising}
+use Rattle.ipc_base.specs.Table.{value_at, with_entry, with_value, without, keys_of, seen_as, ArePaired, IsRising}
 use Rattle.ipc_base.specs.declared.limits.Limits.{Limits}
 use Rattle.ipc_base.proofs.CallerLemmas.{nobody, each-entry, each-without, each-seen, entry-at, entry-other, rising-entry, rising-without, rising-gone}
 use Rattle.ipc_base.proofs.CallerLemmas.{value_at-without, paired-entry, paired-without, paired-seen, at-map, keys-map, choice}
-use Rattle.ipc_base.proofs.CallerLemmas.{test_cases, same_keys}
+use Rattle.ipc_base.proofs.CallerLemmas.{other-with, test_cases, same_keys}
 use Rattle.ipc_wire.proofs.CallerLemmas.{first_short, length-reply_bytes}
 use Rattle.ipc_hub.specs.Clients.{accepted, Frame, Client, Clients, start_client, with_client, all_bytes, confirmed_bytes, consumed_from, shown_at}
 use Rattle.ipc_hub.specs.Clients.{process_at, ended_at, connect, consume, refusal, confirmed_frames, cut_off, fail}
@@ -249,6 +249,16 @@ consumed-output table conn n =
     by_value : (r : Option ConnectionView) → shows (option_map (consumed n) r) ≡ drop n (shows r)
     by_value None = sym (drop_all n [] (omega arith))
     by_value (Some c) = refl
+
+pub consumed-others : (table : Table) (conn n other : ℕ) → other ≢ conn
+    → output_in (changed (consumed n) conn table) other ≡ output_in table other
+consumed-others table conn n other apart = by_value (value_at nat_eq table conn)
+  where
+    by_value : (r : Option ConnectionView)
+        → output_in (elim r as (λ _. Table) [ None ↦ table | Some c ↦ with_value nat_eq table conn (consumed n c) ]) other ≡ output_in table other
+    by_value None = refl
+    by_value (Some c) =
+        ap (λ (r : Option ConnectionView). unwrap_or (option_map (λ c. c.outbox.visible) r) []) (other-with table conn other (consumed n c) apart)
 
 -- ---- what is seen
 

@@ -1,6 +1,6 @@
 //! The hub: connections by number, over one store.
 
-ghost use Rattle.std.specs.Prelude.{◌≡◌, ◌<◌, ◌≤◌, ◌↔◌, ℕ, List, [], true, false, length};
+ghost use Rattle.std.specs.Prelude.{◌≡◌, ◌≢◌, ◌<◌, ◌≤◌, ◌↔◌, ℕ, List, [], true, false, length};
 ghost use Rattle.std.specs.Prelude.{◌==◌, ◌&&◌, ◌||◌, not};
 ghost use Rattle.std.specs.Prelude.{drop, take, slice_get, IfOk, IfErr, IsTrue, OnErr, OnOk, Some, Err};
 ghost use Rattle.ipc_base.specs.declared.limits.Limits.{Limits};
@@ -313,6 +313,9 @@ impl<D: SectorDisk> Hub<D> {
         requires { count ≤ length (output_of self.old.hub conn) }
         ensures ok { Simulates self.old.hub self.new.hub (λ _ h. consume h conn count) }
         ensures output { output_of self.new.hub conn ≡ drop count (output_of self.old.hub conn) }
+        // The other clients may see what they could.
+        ensures others { (other : ℕ) → other ≢ conn
+            → output_of self.new.hub other ≡ output_of self.old.hub other }
         ensures numbers { numbers_of self.new.hub ≡ numbers_of self.old.hub }
         ensures store { self.new.store ≡ self.old.store }
     {

@@ -1,17 +1,15 @@
 -- The end of a turn: connections are hung up, that is made to last, and clients are sent what they may see.
-use Rattle.std.proofs.Common.{◌≡◌, ℕ, [], false, refl, inl, inr, arith}
+use Rattle.std.proofs.Common.{◌≡◌, ℕ, false, refl, inl, inr, arith}
 use Rattle.std.specs.Prelude.{nat_eq, not, ◌==◌, ◌&&◌}
 use Rattle.std.proofs.lemmas.Bool.Decides.{nat_tests}
 use Rattle.ipc_base.proofs.CallerLemmas.{test_cases}
 use Rattle.ipc_disk.specs.Medium.{Image, Medium}
 use Rattle.ipc_server.specs.Acts.Act.{HangsUp as to_hang_up}
-use Rattle.ipc_base.specs.declared.limits.Limits.{Limits}
-use Rattle.ipc_store.specs.Histories.{Takes}
-use Rattle.ipc_server.specs.Goes.{Goes, Sends}
-use Rattle.ipc_server.specs.Parts.{HangsUp, Parts}
+use Rattle.ipc_server.specs.Goes.{Goes}
+use Rattle.ipc_server.specs.Parts.{Answers, HangsUp, Parts}
 use Rattle.ipc_server.specs.Parts.HangsUp.{None as no_call, More as one_call}
-use Rattle.ipc_hub.specs.Clients.{Clients, hangup}
-use Rattle.ipc_hub.specs.Relations.Matches.{Serves, StoredMatches}
+use Rattle.ipc_hub.specs.Clients.{hangup}
+use Rattle.ipc_hub.specs.Relations.Matches.{Serves}
 use Rattle.ipc_hub.specs.View.{HubView, StoredHub, is_connected}
 use Rattle.ipc_server.proofs.Going.{goes-both, goes-none, goes-one, goes-released, goes-sent}
 
@@ -43,17 +41,16 @@ module _ {D : Type 0} (medium : D → Medium) (moment : ℕ) where
         (goes-one medium moment last new (to_hang_up conn moment) refl tt serves)
 
     -- these are calls on a hub
+    pub answers-goes : (old new : StoredHub D) → Answers medium old new → Goes medium moment old new
+    answers-goes old new answers =
+        goes-both medium moment old answers.lasting new
+        (goes-released medium moment old answers.lasting answers.releases.same answers.releases.takes)
+        (goes-sent medium law moment answers.lasting new answers.sends)
+
+    -- after others
+    pub goes-answered : (old fed new : StoredHub D) → Goes medium moment old fed → Answers medium fed new → Goes medium moment old new
+    goes-answered old fed new goes answers = goes-both medium moment old fed new goes (answers-goes fed new answers)
+
     pub parts-goes : (old new : StoredHub D) → Parts medium moment old new → Goes medium moment old new
     parts-goes old new parts =
-        goes-both medium moment old parts.parted new (hangs-goes old parts.parted parts.hangs_up)
-        (goes-both medium moment parts.parted parts.lasting new
-        (goes-released medium moment parts.parted parts.lasting parts.releases.same parts.releases.takes)
-        (goes-sent medium law moment parts.lasting new parts.sends))
-
-    -- what was fed was made to last, and the clients were written to
-    pub goes-written : (old fed lasting new : StoredHub D) → Goes medium moment old fed
-        → ((limits : Limits) (h : Clients) → StoredMatches limits fed h → StoredMatches limits lasting h) → Takes medium fed.store [] lasting.store
-        → Sends lasting new → Goes medium moment old new
-    goes-written old fed lasting new goes same takes sends =
-        goes-both medium moment old fed new goes
-        (goes-both medium moment fed lasting new (goes-released medium moment fed lasting same takes) (goes-sent medium law moment lasting new sends))
+        goes-both medium moment old parts.parted new (hangs-goes old parts.parted parts.hangs_up) (answers-goes parts.parted new parts.answers)

@@ -20,13 +20,17 @@ pub record Releases {D : Type 0} (medium : D → Medium) (old new : StoredHub D)
   pub same : (limits : Limits) (h : Clients) → StoredMatches limits old h → StoredMatches limits new h
   pub takes : Takes medium old.store [] new.store
 
--- The end of a round: connections were hung up, that was made to last, and clients were sent what they may see.
+-- What was accepted was made to last, and after that clients were sent what they may see.
+pub record Answers {D : Type 0} (medium : D → Medium) (old new : StoredHub D) : Type 0 where
+  pub lasting : StoredHub D
+  pub releases : Releases medium old lasting
+  pub sends : Sends lasting new
+
+-- The end of a round: connections were hung up, and the clients were answered.
 pub record Parts {D : Type 0} (medium : D → Medium) (moment : ℕ) (old new : StoredHub D) : Type 0 where
   pub parted : StoredHub D
   pub hangs_up : HangsUp medium moment old parted
-  pub lasting : StoredHub D
-  pub releases : Releases medium parted lasting
-  pub sends : Sends lasting new
+  pub answers : Answers medium parted new
 
 -- None of the clients that a turn leaves was gone when the clients had been written to: none is over, and each that the
 -- server has ended had something to see then. From there on the turn has only parted with the others.

@@ -1,7 +1,16 @@
 -- What a caller sees of a server: its hub, and its clients by the number of their connection.
-use Rattle.std.specs.Prelude.{◌≡◌, ℕ, Bool, true, false, ◌&&◌, ◌||◌, ◌==◌, List, [], length}
-use Rattle.std.specs.Prelude.{Option, Some, None, is_some, slice_index_or}
+use Rattle.std.specs.Prelude.{◌≡◌, ◌⊎◌, ℕ, Bool, true, false, ◌&&◌, ◌||◌, ◌==◌, List, [], length}
+use Rattle.std.specs.Prelude.{Option, Some, None, is_some, option_map, slice_index_or, unwrap_or}
 use Rattle.ipc_hub.specs.View.{HubView, StoredHub, is_connected, output_of, ended_of}
+
+-- what became of a client when it was last written to
+pub record Writing : Type 0 where
+  -- its socket took no more bytes
+  pub full : Bool
+  -- a write to its socket has failed, then or before
+  pub failed : Bool
+  -- how many writes were made
+  pub writes : ℕ
 
 pub record ClientView : Type 0 where
   -- the number of its connection
@@ -14,6 +23,7 @@ pub record ClientView : Type 0 where
   pub reads : ℕ
   -- its connection is to be hung up: the end of its input was read, or its socket has failed
   pub over : Bool
+  pub writing : Writing
 
 pub record ServerView (D : Type 0) : Type 0 where
   pub hub : StoredHub D
@@ -24,6 +34,10 @@ pub record ServerView (D : Type 0) : Type 0 where
 abbrev pub most_reads : ℕ
 most_reads = 16
 
+-- the most writes to a client, each time that it is written to
+abbrev pub most_writes : ℕ
+most_writes = 16
+
 -- the client that has the number
 abbrev pub client_of : List (Option ClientView) → ℕ → Option ClientView
 client_of clients number = slice_index_or clients number None
@@ -32,14 +46,30 @@ client_of clients number = slice_index_or clients number None
 abbrev pub EachClient : (ClientView → Type 0) → List (Option ClientView) → Type 0
 EachClient P clients = (number : ℕ) (client : ClientView) → client_of clients number ≡ Some client → P client
 
+-- there is a client with the number whose socket has failed
+abbrev pub has_failed : List (Option ClientView) → ℕ → Bool
+has_failed clients number = unwrap_or (option_map (λ c. c.writing.failed) (client_of clients number)) false
+
+-- each client's connection has its own number
+abbrev pub HaveOwnNumbers : List (Option ClientView) → Type 0
+HaveOwnNumbers clients =
+    (number : ℕ) (client : ClientView) → client_of clients number ≡ Some client → client.conn ≡ number
+
 -- Each client has its connection in the hub, under its own number, and no other connection is there.
 pub record HaveConnections (hub : HubView) (clients : List (Option ClientView)) : Type 0 where
-  pub own : (number : ℕ) (client : ClientView) → client_of clients number ≡ Some client → client.conn ≡ number
+  pub own : HaveOwnNumbers clients
   pub same : (number : ℕ) → is_connected hub number ≡ is_some (client_of clients number)
 
 -- A client was read: if a read may give something still, then a piece of what was read is kept, or its reads are used.
 abbrev pub WasRead : ClientView → Type 0
 WasRead client = client.readable ≡ true → client.piece ≡ [] → client.reads ≡ most_reads
+
+-- A client was written to: if its socket is not full and has not failed, then nothing is left that it may see, or its
+-- writes are used.
+abbrev pub WasWritten : HubView → ClientView → Type 0
+WasWritten hub client =
+    client.writing.full ≡ false → client.writing.failed ≡ false
+    → (output_of hub client.conn ≡ []) ⊎ (client.writing.writes ≡ most_writes)
 
 -- A client is gone if it is over, or if the server has ended its connection and all that it may see was written.
 abbrev pub is_gone : HubView → ClientView → Bool

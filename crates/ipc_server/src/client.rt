@@ -1,13 +1,13 @@
 //! The client of a connection: its socket, and what was read of it.
 
-ghost use Rattle.std.specs.Prelude.{◌≡◌, ◌<◌, ◌+◌, ◌==◌, ◌&&◌, ◌||◌, not, true, false};
+ghost use Rattle.std.specs.Prelude.{◌≡◌, ◌≢◌, ◌<◌, ◌+◌, ◌==◌, ◌&&◌, ◌||◌, ℕ, not, true, false};
 ghost use Rattle.std.specs.Prelude.{length, []};
 ghost use Rattle.std.specs.Prelude.{IfErr, IfOk, OnOk};
 ghost use Rattle.std.specs.Io.KnownBytes.{Keeps, prepend_known};
 ghost use Rattle.ipc_hub.specs.View.{numbers_of, output_of, ended_of};
 ghost use Rattle.ipc_server.specs.Goes.{Goes, Hears, Sends, Tells, Breaks};
 ghost use Rattle.ipc_server.specs.Rows.{view_of};
-ghost use Rattle.ipc_server.specs.View.{WasRead, is_gone, most_reads};
+ghost use Rattle.ipc_server.specs.View.{WasRead, WasWritten, is_gone, most_reads};
 
 use bytes::BytesMut;
 use ipc_base::Moment;
@@ -45,6 +45,8 @@ pub(crate) struct Client<S> {
     asked: bool,
     /// A write to its socket has failed. It is over once a turn parts with those that are gone.
     failed: bool,
+    /// How many writes were made when it was last written to.
+    writes: usize,
     /// Its connection is to be hung up: the end of its input was read, its socket has failed, or the
     /// server has ended it and all that it may see was written.
     over: bool,
@@ -70,6 +72,7 @@ impl<S> Client<S> {
             full: false,
             asked: false,
             failed: false,
+            writes: 0,
             over: false,
         })
     }
@@ -123,6 +126,7 @@ impl<S: Source> Client<S> {
         ensures conn { self.new.conn ≡ self.old.conn }
         ensures piece { self.new.piece ≡ self.old.piece }
         ensures full { self.new.full ≡ self.old.full }
+        ensures failed { self.new.failed ≡ self.old.failed }
         ensures readable { self.new.readable ≡ self.old.readable }
     {
         if self.asked == self.full {
@@ -153,6 +157,7 @@ impl<S: Read> Client<S> {
             (prepend_known self.new.piece.items (S.remaining self.new.socket))) }
         ensures breaks { IfErr result (λ e. Breaks D.medium D.counts moment.0 hub.old hub.new e) }
         ensures conn { self.new.conn ≡ self.old.conn }
+        ensures failed { self.new.failed ≡ self.old.failed }
         ensures numbers { numbers_of hub.new.hub ≡ numbers_of hub.old.hub }
         ensures read { OnOk result (self.new.over ≡ false → WasRead (view_of self.new)) }
     {
@@ -175,6 +180,7 @@ impl<S: Read> Client<S> {
         ensures same { Keeps (S.remaining self.old.socket)
             (prepend_known self.new.piece.items (S.remaining self.new.socket)) }
         ensures conn { self.new.conn ≡ self.old.conn }
+        ensures failed { self.new.failed ≡ self.old.failed }
         ensures reads { self.new.reads ≡ self.old.reads + 1 }
     {
         self.reads += 1;
@@ -197,6 +203,7 @@ impl<S: Read> Client<S> {
             (prepend_known self.new.piece.items (S.remaining self.new.socket))) }
         ensures breaks { IfErr result (λ e. Breaks D.medium D.counts moment.0 hub.old hub.new e) }
         ensures conn { self.new.conn ≡ self.old.conn }
+        ensures failed { self.new.failed ≡ self.old.failed }
         ensures reads { self.new.reads ≡ self.old.reads }
         ensures numbers { numbers_of hub.new.hub ≡ numbers_of hub.old.hub }
     {
@@ -220,15 +227,23 @@ impl<S: Write> Client<S> {
         // The socket is written what the client could see, in order, each byte once.
         ensures tells { Tells (S.contents self.old.socket) (S.contents self.new.socket)
             (output_of hub.old.hub self.old.conn) (output_of hub.new.hub self.old.conn) }
-        ensures same { view_of self.new ≡ view_of self.old }
+        ensures written { WasWritten hub.new.hub (view_of self.new) }
+        ensures same { view_of self.new
+            ≡ record (view_of self.old) { writing = (view_of self.new).writing } }
+        ensures failed { self.old.failed ≡ true → self.new.failed ≡ true }
         ensures numbers { numbers_of hub.new.hub ≡ numbers_of hub.old.hub }
+        // The others may see what they could.
+        ensures others { (other : ℕ) → other ≢ self.old.conn
+            → output_of hub.new.hub other ≡ output_of hub.old.hub other }
     {
         self.full = false;
-        for _ in 0..MOST_WRITES {
+        self.writes = 0;
+        while self.writes < MOST_WRITES {
             let output = hub.output(self.conn);
             if output.is_empty() {
                 return;
             }
+            self.writes += 1;
             match self.socket.write(output) {
                 Ok(count) => hub.consume(self.conn, count),
                 Err(error) => match error.kind() {

@@ -1,11 +1,13 @@
 //! What is done with all clients, in rising number.
 
-ghost use Rattle.std.specs.Prelude.{◌≡◌, ◌==◌, ◌&&◌, ℕ, not, false, IfErr, OnErr, OnOk};
+ghost use Rattle.std.specs.Prelude.{◌≡◌, ◌==◌, ◌&&◌, ℕ, not, true, false, None, IfErr, OnErr, OnOk};
 ghost use Rattle.ipc_hub.specs.View.{StoredHub, is_connected, numbers_of};
 ghost use Rattle.ipc_server.specs.Goes.{Goes, Sends, Breaks};
-ghost use Rattle.ipc_server.specs.Parts.{HangsUp, Parts};
-ghost use Rattle.ipc_server.specs.Rows.{clients_of, EachBelow, IsServing, KeepsClients, StandsIn};
-ghost use Rattle.ipc_server.specs.View.{EachClient, WasRead, is_gone};
+ghost use Rattle.ipc_hub.specs.Relations.Faults.{Halts};
+ghost use Rattle.ipc_server.specs.Parts.{Answers, HangsUp, Parts};
+ghost use Rattle.ipc_server.specs.Rows.{clients_of, EachBelow, IsServing, KeepsClients, StandsIn, Stays};
+ghost use Rattle.ipc_server.specs.View.{EachClient, HaveOwnNumbers, WasRead, WasWritten};
+ghost use Rattle.ipc_server.specs.View.{client_of, has_failed, is_gone};
 
 use crate::client::Client;
 use ipc_base::Moment;
@@ -33,15 +35,17 @@ pub(crate) fn serve_all<D: SectorDisk, S: Read + Write + Drop>(
     ensures parted { IsServing hub.old.hub clients.old → OnOk result ((written : StoredHub D)
         × (Goes D.medium moment.0 hub.old written) × (Parts D.medium moment.0 written hub.new)
         × EachClient (λ c. is_gone written.hub c ≡ false) (clients_of clients.new)) }
+    ensures written { IsServing hub.old.hub clients.old
+        → OnOk result (EachClient (WasWritten hub.new.hub) (clients_of clients.new)) }
+    ensures failed { IsServing hub.old.hub clients.old → OnOk result ((number : ℕ)
+        → has_failed (clients_of clients.old) number ≡ true
+        → client_of (clients_of clients.new) number ≡ None) }
 {
     take_in_all(hub, clients, moment)?;
-    hub.release()?;
-    put_out_all(hub, clients);
+    answer_all(hub, clients)?;
     note_ends(hub, clients);
     part_with_gone(hub, clients, moment)?;
-    hub.release()?;
-    put_out_all(hub, clients);
-    Ok(())
+    answer_all(hub, clients)
 }
 
 // Feeds the hub what the clients have written.
@@ -65,12 +69,33 @@ fn take_in_all<D: SectorDisk, S: Read>(
     Ok(())
 }
 
+// Makes all that was accepted last, and then writes to the clients what they may see.
+fn answer_all<D: SectorDisk, S: Write>(
+    hub: &mut Hub<D>,
+    clients: &mut Slab<Client<S>>,
+) -> Result<(), CommitError>
+    ensures answers { OnOk result (Answers D.medium hub.old hub.new) }
+    ensures settled { OnOk result (hub.new.store.waiting ≡ 0) }
+    ensures refused { IfErr result (λ e. Halts D.medium D.counts hub.old hub.new e) }
+    ensures numbers { numbers_of hub.new.hub ≡ numbers_of hub.old.hub }
+    ensures keeps { KeepsClients clients.old clients.new }
+    ensures stays { Stays (clients_of clients.old) (clients_of clients.new) }
+    ensures written { HaveOwnNumbers (clients_of clients.old) → OnOk result
+        (EachBelow clients.new.capacity (WasWritten hub.new.hub) (clients_of clients.new)) }
+{
+    hub.release()?;
+    put_out_all(hub, clients);
+    Ok(())
+}
+
 /// Writes to the clients what they may see.
 pub(crate) fn put_out_all<D: SectorDisk, S: Write>(hub: &mut Hub<D>, clients: &mut Slab<Client<S>>)
     ensures sends { Sends hub.old hub.new }
     ensures numbers { numbers_of hub.new.hub ≡ numbers_of hub.old.hub }
-    ensures same { clients_of clients.new ≡ clients_of clients.old }
-    ensures capacity { clients.new.capacity ≡ clients.old.capacity }
+    ensures keeps { KeepsClients clients.old clients.new }
+    ensures stays { Stays (clients_of clients.old) (clients_of clients.new) }
+    ensures written { HaveOwnNumbers (clients_of clients.old)
+        → EachBelow clients.new.capacity (WasWritten hub.new.hub) (clients_of clients.new) }
 {
     for key in 0..clients.capacity() {
         if let Some(client) = clients.get_mut(key) {
@@ -85,6 +110,8 @@ fn note_ends<D: SectorDisk, S>(hub: &Hub<D>, clients: &mut Slab<Client<S>>)
     ensures stands { StandsIn (clients_of clients.old) (clients_of clients.new) }
     ensures gone { EachBelow clients.new.capacity
         (λ c. c.over ≡ false → is_gone hub.now.hub c ≡ false) (clients_of clients.new) }
+    ensures failed { EachBelow clients.new.capacity
+        (λ c. c.writing.failed ≡ true → c.over ≡ true) (clients_of clients.new) }
 {
     for key in 0..clients.capacity() {
         if let Some(client) = clients.get_mut(key) {

@@ -1,11 +1,12 @@
 //! The server: a hub, the sockets of its connections, and the socket on which new ones come.
 
-ghost use Rattle.std.specs.Prelude.{◌≡◌, ℕ, [], IfErr, IfOk, OnOk, Err};
+ghost use Rattle.std.specs.Prelude.{◌≡◌, ℕ, [], true, None, IfErr, IfOk, OnOk, Err};
 ghost use Rattle.ipc_hub.specs.View.{HasStopped};
 ghost use Rattle.ipc_server.specs.Goes.{Goes, GoesRound, Breaks, BreaksOff};
 ghost use Rattle.ipc_server.specs.Parts.{HasParted};
-ghost use Rattle.ipc_server.specs.Rows.{KeepsClients};
-ghost use Rattle.ipc_server.specs.View.{EachClient, HaveConnections, WasRead};
+ghost use Rattle.ipc_server.specs.Rows.{KeepsClients, KeepsFailed};
+ghost use Rattle.ipc_server.specs.View.{EachClient, HaveConnections, WasRead, WasWritten};
+ghost use Rattle.ipc_server.specs.View.{client_of, has_failed};
 
 use crate::client::Client;
 use crate::fault::{ServeFault, ServerError};
@@ -152,6 +153,15 @@ impl<D: SectorDisk> Server<D> {
         ensures connected { HaveConnections self.new.hub.hub self.new.clients }
         // Of each client nothing may be read, or a piece of it is kept, or its reads are used.
         ensures read { OnOk result (EachClient WasRead self.new.clients) }
+        // Each client was sent what it may see, or its socket is full or has failed, or its writes
+        // are used.
+        ensures written { OnOk result (EachClient (WasWritten self.new.hub.hub) self.new.clients) }
+        // The same if the disk has failed, which each client is told.
+        ensures told { IfErr result (λ fault. fault ≡ ServeFault.Device
+            → EachClient (WasWritten self.new.hub.hub) self.new.clients) }
+        // A client whose socket has failed before is let go.
+        ensures failed { OnOk result ((number : ℕ) → has_failed self.old.clients number ≡ true
+            → client_of self.new.clients number ≡ None) }
         // None of the clients that are left is gone.
         ensures parted { OnOk result
             (HasParted D.medium moment.0 self.old.hub self.new.hub self.new.clients) }
@@ -176,6 +186,9 @@ impl<D: SectorDisk> Server<D> {
         ensures settled { OnOk result (self.new.hub.store.waiting ≡ 0) }
         ensures connected { HaveConnections self.new.hub.hub self.new.clients }
         ensures read { OnOk result (EachClient WasRead self.new.clients) }
+        ensures written { OnOk result (EachClient (WasWritten self.new.hub.hub) self.new.clients) }
+        ensures failed { OnOk result ((number : ℕ) → has_failed self.old.clients number ≡ true
+            → client_of self.new.clients number ≡ None) }
         ensures parted { OnOk result
             (HasParted D.medium moment.0 self.old.hub self.new.hub self.new.clients) }
         ensures breaks { IfErr result (λ e.
@@ -189,6 +202,7 @@ impl<D: SectorDisk> Server<D> {
     // Waits until a socket is ready, or not at all if there is something to do already.
     fn wait(&mut self) -> Result<(), ServeFault>
         ensures same { self.new.hub ≡ self.old.hub }
+        ensures failed { KeepsFailed self.old.clients self.new.clients }
         ensures connected { HaveConnections self.new.hub.hub self.new.clients }
         ensures err { IfErr result (λ fault. fault ≡ ServeFault.Socket) }
     {
@@ -220,7 +234,8 @@ impl<D: SectorDisk> Server<D> {
     // there may be more. If an accept fails otherwise than that it would block, as without a
     // descriptor, connections may wait still, and the system does not tell of them again.
     fn admit(&mut self) -> bool
-        ensures { (moment : ℕ) → Goes D.medium moment self.old.hub self.new.hub }
+        ensures goes { (moment : ℕ) → Goes D.medium moment self.old.hub self.new.hub }
+        ensures failed { KeepsFailed self.old.clients self.new.clients }
     {
         if !self.told {
             return false;
@@ -239,7 +254,8 @@ impl<D: SectorDisk> Server<D> {
 
     // Takes a new connection, or closes it if something that it needs is refused.
     fn take_client(&mut self, socket: UnixStream)
-        ensures { (moment : ℕ) → Goes D.medium moment self.old.hub self.new.hub }
+        ensures goes { (moment : ℕ) → Goes D.medium moment self.old.hub self.new.hub }
+        ensures failed { KeepsFailed self.old.clients self.new.clients }
     {
         let mut socket = socket;
         let key = self.clients.vacant_key();

@@ -1,4 +1,4 @@
-use Rattle.std.proofs.Common.{sym}
+use Rattle.std.proofs.Common.{sym, ◌∙◌}
 use Rattle.ipc_server.proofs.Standing.{keeps-both, keeps-value}
 use Rattle.ipc_server.proofs.rounds.ask_for_room.Goals.{in-Some, in_default}
 use Rattle.ipc_server.proofs.rounds.ask_for_room.Goals as goal
@@ -6,6 +6,7 @@ use Rattle.ipc_server.proofs.rounds.ask_for_room.Goals as goal
 pub loop-key-preserved : goal.loop-key-preserved
 loop-key-preserved g c = elim c.match-get_mut.branch [
   | in-Some w ↦ rw w.clients-is (keeps-both c.args.clients.now c.loop-key.clients _ c.loop-key.invariant
-      (keeps-value c.loop-key.clients c.loop-key.key w.in-Some.client.now w.ask_for_room.new.self (sym w.in-Some.ensures.value) w.ask_for_room.ensures.conn))
+      (keeps-value c.loop-key.clients c.loop-key.key w.in-Some.client.now w.ask_for_room.new.self (sym w.in-Some.ensures.value) w.ask_for_room.ensures.conn
+      (λ bad. w.ask_for_room.ensures.failed ∙ bad)))
   | in_default w ↦ rw w.clients-is c.loop-key.invariant
 ]

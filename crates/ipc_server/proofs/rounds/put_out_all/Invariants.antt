@@ -1,13 +1,15 @@
 use Rattle.std.proofs.Common.{◌≡◌}
 use Rattle.ipc_hub.specs.View.{numbers_of}
 use Rattle.ipc_server.specs.Goes.{Sends}
-use Rattle.ipc_server.specs.Rows.{clients_of}
+use Rattle.ipc_server.specs.Rows.{EachBelow, KeepsClients, Stays, clients_of}
+use Rattle.ipc_server.specs.View.{HaveOwnNumbers, WasWritten}
 use Rattle.ipc_server.proofs.rounds.put_out_all.Given as goal
 
 abbrev pub invariant-loop-key : goal.invariant-loop-key
 invariant-loop-key g l = record {
   sends : Sends l.fn.hub l.hub;
   numbers : numbers_of l.hub.hub ≡ numbers_of l.fn.hub.hub;
-  same : clients_of l.clients ≡ clients_of l.fn.clients;
-  capacity : l.clients.capacity ≡ l.fn.clients.capacity;
+  keeps : KeepsClients l.fn.clients l.clients;
+  stays : Stays (clients_of l.fn.clients) (clients_of l.clients);
+  written : HaveOwnNumbers (clients_of l.fn.clients) → EachBelow l.key (WasWritten l.hub.hub) (clients_of l.clients);
 }

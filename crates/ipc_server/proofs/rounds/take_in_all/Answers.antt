@@ -26,7 +26,8 @@ returns-in_err-take_in-clause-breaks g c =
 pub returns-in_err-take_in-clause-keeps : goal.returns-in_err-take_in-clause-keeps
 returns-in_err-take_in-clause-keeps g c =
     keeps-both c.args.clients.now c.loop-key.clients (with_value c.loop-key.clients c.loop-key.key c.take_in.new.self) c.loop-key.invariant.keeps
-    (keeps-value c.loop-key.clients c.loop-key.key c.in-Some.client.now c.take_in.new.self (sym c.in-Some.ensures.value) c.take_in.ensures.conn)
+    (keeps-value c.loop-key.clients c.loop-key.key c.in-Some.client.now c.take_in.new.self (sym c.in-Some.ensures.value) c.take_in.ensures.conn
+    (λ bad. c.take_in.ensures.failed ∙ bad))
 
 pub returns-in_err-take_in-clause-numbers : goal.returns-in_err-take_in-clause-numbers
 returns-in_err-take_in-clause-numbers g c = c.take_in.ensures.numbers ∙ c.loop-key.invariant.numbers
@@ -44,7 +45,7 @@ loop-key-preserved g c = elim c.match-get_mut.branch [
             (hears-goes g.D.SectorDisk.medium was.conn c.args.moment.0 c.loop-key.hub w.take_in.new.hub _ _ w.in_ok-take_in.ensures.hears);
         numbers = w.take_in.ensures.numbers ∙ c.loop-key.invariant.numbers;
         keeps = keeps-both c.args.clients.now slab (with_value slab key now) c.loop-key.invariant.keeps
-            (keeps-value slab key was now found w.take_in.ensures.conn);
+            (keeps-value slab key was now found w.take_in.ensures.conn (λ bad. w.take_in.ensures.failed ∙ bad));
         read = below-more (λ (v : ClientView). v.over ≡ false → WasRead v) slab (with_value slab key now) key (Some now)
             (updates-value slab key was now found) w.in_ok-take_in.ensures.read c.loop-key.invariant.read;
       })

@@ -2,7 +2,7 @@ use Rattle.std.proofs.Common.{drop, sym, ap, ◌∙◌, refl}
 use Rattle.ipc_hub.specs.View.{numbers_of, output_of}
 use Rattle.ipc_hub.specs.Relations.Delivery.{consumed}
 use Rattle.ipc_hub.specs.Relations.Rows.{table_of, hub_view, stored_view}
-use Rattle.ipc_hub.proofs.Changes.{consumed-stands, consumed-output, consume-matches}
+use Rattle.ipc_hub.proofs.Changes.{consumed-stands, consumed-others, consumed-output, consume-matches}
 use Rattle.ipc_hub.proofs.Keeping.{changed-keys}
 use Rattle.ipc_hub.proofs.hub.Hub.consume.Goals as goal
 
@@ -28,3 +28,8 @@ pub returns-clause-numbers : goal.returns-clause-numbers
 returns-clause-numbers g c =
     rw c.consume.ensures (changed-keys (consumed c.args.count) c.args.conn (table_of c.self.inside.connections))
     ∙ ap (λ v. numbers_of v.hub) c.self.view_is
+
+pub returns-clause-others : goal.returns-clause-others
+returns-clause-others g c other apart =
+    rw c.consume.ensures (consumed-others (table_of c.self.inside.connections) c.args.conn c.args.count other apart)
+    ∙ ap (λ v. output_of v.hub other) c.self.view_is

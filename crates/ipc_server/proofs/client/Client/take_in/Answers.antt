@@ -18,6 +18,7 @@ loop-self-preserved g c =
     let same = c.read.ensures.conn ∙ c.loop-self.invariant.conn in
     record {
       conn = c.feed-in-loop-self.ensures.conn ∙ same;
+      failed = c.feed-in-loop-self.ensures.failed ∙ c.read.ensures.failed ∙ c.loop-self.invariant.failed;
       reads = omega arith;
       numbers = c.feed-in-loop-self.ensures.numbers ∙ c.loop-self.invariant.numbers;
       hears = hears-both g.D.SectorDisk.medium c.args.self.now.conn c.args.moment.0 c.args.hub.now c.loop-self.hub c.feed-in-loop-self.new.hub _ _ _

@@ -8,6 +8,7 @@ use Rattle.ipc_server.proofs.client.Client.take_in.Given as goal
 abbrev pub invariant-loop-self : goal.invariant-loop-self
 invariant-loop-self g l = record {
   conn : l.self.conn ≡ l.fn.self.conn;
+  failed : l.self.failed ≡ l.fn.self.failed;
   reads : l.self.reads ≤ most_reads;
   numbers : numbers_of l.hub.hub ≡ numbers_of l.fn.hub.hub;
   hears : Hears g.D.SectorDisk.medium l.fn.self.conn l.fn.moment.0 l.fn.hub l.hub

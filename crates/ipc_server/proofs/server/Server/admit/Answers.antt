@@ -2,19 +2,33 @@ use Rattle.std.proofs.Common.{ap}
 use Rattle.ipc_server.proofs.Going.{goes-none, goes-both}
 use Rattle.ipc_server.proofs.server.Server.admit.Goals as goal
 
-pub returns-then-not-self : goal.returns-then-not-self
-returns-then-not-self g c = λ moment. goes-none g.D.SectorDisk.medium g.met.D.SectorDisk.only_now moment c.args.self.now.hub
+pub returns-then-not-self-clause-goes : goal.returns-then-not-self-clause-goes
+returns-then-not-self-clause-goes g c = λ moment. goes-none g.D.SectorDisk.medium g.met.D.SectorDisk.only_now moment c.args.self.now.hub
+
+pub returns-then-not-self-clause-failed : goal.returns-then-not-self-clause-failed
+returns-then-not-self-clause-failed g c number bad = bad
 
 pub loop-init : goal.loop-init
-loop-init g c = λ moment. goes-none g.D.SectorDisk.medium g.met.D.SectorDisk.only_now moment c.args.self.now.hub
+loop-init g c = record {
+  goes = λ moment. goes-none g.D.SectorDisk.medium g.met.D.SectorDisk.only_now moment c.args.self.now.hub;
+  failed = λ number bad. bad;
+}
 
-pub returns-in-Err : goal.returns-in-Err
-returns-in-Err g c = λ moment. rw (ap (λ v. v.hub) c.self-in-loop.view_is) (c.loop.invariant moment)
+pub returns-in-Err-clause-goes : goal.returns-in-Err-clause-goes
+returns-in-Err-clause-goes g c = λ moment. rw (ap (λ v. v.hub) c.self-in-loop.view_is) (c.loop.invariant.goes moment)
+
+pub returns-in-Err-clause-failed : goal.returns-in-Err-clause-failed
+returns-in-Err-clause-failed g c = rw (ap (λ v. v.clients) c.self-in-loop.view_is) c.loop.invariant.failed
 
 pub loop-preserved : goal.loop-preserved
-loop-preserved g c = λ moment.
-    goes-both g.D.SectorDisk.medium moment c.args.self.now.hub c.loop.self.hub c.take_client.new.self.hub
-    (c.loop.invariant moment) (c.take_client.ensures moment)
+loop-preserved g c = record {
+  goes = λ moment. goes-both g.D.SectorDisk.medium moment c.args.self.now.hub c.loop.self.hub c.take_client.new.self.hub
+      (c.loop.invariant.goes moment) (c.take_client.ensures.goes moment);
+  failed = λ number bad. c.take_client.ensures.failed number (c.loop.invariant.failed number bad);
+}
 
-pub returns : goal.returns
-returns g c = c.loop.invariant
+pub returns-clause-goes : goal.returns-clause-goes
+returns-clause-goes g c = c.loop.invariant.goes
+
+pub returns-clause-failed : goal.returns-clause-failed
+returns-clause-failed g c = c.loop.invariant.failed

@@ -1,4 +1,4 @@
-use Rattle.std.proofs.Common.{ap, refl, ◌∙◌}
+use Rattle.std.proofs.Common.{ap, refl, sym, ◌∙◌}
 use Rattle.std.proofs.lemmas.Result.{err_from_is_err_and, on_ok_weaker, IfErr-weaker}
 use Rattle.ipc_server.specs.Acts.Act.{Ticks}
 use Rattle.ipc_server.specs.Goes.{Goes}
@@ -17,7 +17,7 @@ returns-in_err-tick-clause-breaks g c =
 
 -- new connections were taken
 admitted : (g : Over) (c : goal.After-serve_all g) → Goes g.D.SectorDisk.medium c.args.moment.0 c.tick.new.self c.self-2.inside.hub
-admitted g c = rw (ap (λ v. v.hub) c.self-2.view_is) (c.admit-self-inside.ensures c.args.moment.0)
+admitted g c = rw (ap (λ v. v.hub) c.self-2.view_is) (c.admit-self-inside.ensures.goes c.args.moment.0)
 
 pub returns-clause-goes : goal.returns-clause-goes
 returns-clause-goes g c =
@@ -43,6 +43,16 @@ returns-clause-parted g c =
 
 pub returns-clause-read : goal.returns-clause-read
 returns-clause-read g c = c.serve_all.ensures.read c.self-2.invariant
+
+pub returns-clause-written : goal.returns-clause-written
+returns-clause-written g c = c.serve_all.ensures.written c.self-2.invariant
+
+pub returns-clause-failed : goal.returns-clause-failed
+returns-clause-failed g c =
+    on_ok_weaker c.serve_all.result
+    (λ failed number bad. failed number (rw (sym (ap (λ v. v.clients) c.self-2.view_is)) at c.admit-self-inside.ensures.failed number
+    (rw (ap (λ v. v.clients) c.self.view_is) bad)))
+    (c.serve_all.ensures.failed c.self-2.invariant)
 
 pub invariant_of-self : goal.invariant_of-self
 invariant_of-self g c =

@@ -1,6 +1,6 @@
 use Rattle.std.proofs.Common.{sym, ap}
 use Rattle.ipc_server.proofs.Going.{breaks-off, breaks-sent}
-use Rattle.ipc_server.proofs.Standing.{keeps-same, serving-kept}
+use Rattle.ipc_server.proofs.Standing.{serving-kept}
 use Rattle.ipc_server.proofs.server.Server.turn.Goals as goal
 
 pub returns-in-Err-clause-err : goal.returns-in-Err-clause-err
@@ -14,12 +14,22 @@ returns-in-Err-clause-err g c =
 pub invariant_of-self : goal.invariant_of-self
 invariant_of-self g c =
     serving-kept c.self-2.inside.hub.hub c.put_out_all.new.hub.hub c.self-2.inside.clients c.put_out_all.new.clients c.put_out_all.ensures.numbers
-    (keeps-same c.self-2.inside.clients c.put_out_all.new.clients c.put_out_all.ensures.same c.put_out_all.ensures.capacity) c.self-2.invariant
+    c.put_out_all.ensures.keeps c.self-2.invariant
 
 pub returns-in-Err-clause-connected : goal.returns-in-Err-clause-connected
 returns-in-Err-clause-connected g c = (
     serving-kept c.self-2.inside.hub.hub c.put_out_all.new.hub.hub c.self-2.inside.clients c.put_out_all.new.clients c.put_out_all.ensures.numbers
-    (keeps-same c.self-2.inside.clients c.put_out_all.new.clients c.put_out_all.ensures.same c.put_out_all.ensures.capacity) c.self-2.invariant).connected
+    c.put_out_all.ensures.keeps c.self-2.invariant).connected
+
+pub returns-in-Err-clause-told : goal.returns-in-Err-clause-told
+returns-in-Err-clause-told g c is number client there =
+    let serves =
+    serving-kept c.self-2.inside.hub.hub c.put_out_all.new.hub.hub c.self-2.inside.clients c.put_out_all.new.clients c.put_out_all.ensures.numbers
+    c.put_out_all.ensures.keeps c.self-2.invariant in
+    c.put_out_all.ensures.written c.self-2.invariant.connected.own number client (serves.within number client there) there
 
 pub returns-clause-ok : goal.returns-clause-ok
 returns-clause-ok g c = rw c.wait.ensures.same at c.in_default.ensures.goes
+
+pub returns-clause-failed : goal.returns-clause-failed
+returns-clause-failed g c number bad = c.in_default.ensures.failed number (c.wait.ensures.failed number bad)
