@@ -7,7 +7,7 @@ use Rattle.std.proofs.lemmas.Bool.{eqb-true, leb-true, le-leb, eq-eqb}
 use Rattle.std.proofs.lemmas.List.{length-append, length-drop, drop_at}
 use Rattle.ipc_base.specs.Numbers.{Values, total, values_of, values_bytes, AreInRange}
 use Rattle.ipc_wire.specs.Fields.{Rest, Nothing, Bytes, Units, MayHave, fits}
-use Rattle.ipc_wire.specs.Request.{PlainKind, Hello, Calls}
+use Rattle.ipc_wire.specs.Request.{PlainKind, Hello, Interrupt, Calls}
 use Rattle.ipc_wire.specs.Request as requests
 use Rattle.ipc_wire.specs.Spelling.{opcode_of, fields_of}
 use Rattle.ipc_wire.specs.Stream.{fits_row, made_by, made_by_some, kind_of}
@@ -29,6 +29,7 @@ record HasRow (kind : PlainKind) : Type 0 where
 
 has_row : (kind : PlainKind) → HasRow kind
 has_row (Hello cred) = record { row = refl; made = refl }
+has_row Interrupt = record { row = refl; made = refl }
 has_row (Calls (requests.Msgget key flags)) = record { row = refl; made = refl }
 has_row (Calls (requests.Msgsnd id flags mtype text)) = record { row = refl; made = refl }
 has_row (Calls (requests.Msgrcv id flags size mtype)) = record { row = refl; made = refl }

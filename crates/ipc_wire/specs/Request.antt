@@ -15,9 +15,10 @@ pub data PlainCall : Type 0 where
   MsgctlSet : (id uid gid mode qbytes : ℕ) → PlainCall
   MsgctlRmid : (id : ℕ) → PlainCall
 
--- HELLO, or a call of the process
+-- HELLO, INTERRUPT, or a call of the process
 pub data PlainKind : Type 0 where
   Hello : (cred : Cred) → PlainKind
+  Interrupt : PlainKind
   Calls : (call : PlainCall) → PlainKind
 
 pub record PlainRequest : Type 0 where
@@ -34,6 +35,7 @@ plain_call (calls.MsgctlRmid id) = MsgctlRmid id.0
 
 abbrev pub plain_kind : RequestKind → PlainKind
 plain_kind (kinds.Hello cred) = Hello cred
+plain_kind kinds.Interrupt = Interrupt
 plain_kind (kinds.Call call) = Calls (plain_call call)
 
 abbrev pub plain_request : Request → PlainRequest

@@ -2,7 +2,7 @@
 use Rattle.std.specs.Prelude.{ℕ, List, [], ◌∷◌, ◌==◌, if◌then◌else◌, Option, Some, None}
 use Rattle.ipc_base.specs.Numbers.{Kind, U32, I32, I64, Values}
 use Rattle.ipc_wire.specs.Fields.{Rest, Nothing, Bytes}
-use Rattle.ipc_wire.specs.Request.{PlainKind, Hello, Calls}
+use Rattle.ipc_wire.specs.Request.{PlainKind, Hello, Interrupt, Calls}
 use Rattle.ipc_wire.specs.Request as requests
 
 -- a row: the opcode, the fields, what the rest of the frame after them is, and the request
@@ -21,6 +21,10 @@ hello =
       rest = Nothing;
       make = λ v rest. Hello (record { uid = v.0; gid = v.1.0 });
     }
+
+-- nothing
+abbrev pub interrupt : Row
+interrupt = record { opcode = 0x02; fields = []; rest = Nothing; make = λ v rest. Interrupt }
 
 -- key, flags
 abbrev pub msgget : Row
@@ -83,7 +87,7 @@ msgctl_rmid =
     }
 
 abbrev pub rows : List Row
-rows = hello ∷ msgget ∷ msgsnd ∷ msgrcv ∷ msgctl_stat ∷ msgctl_set ∷ msgctl_rmid ∷ []
+rows = hello ∷ interrupt ∷ msgget ∷ msgsnd ∷ msgrcv ∷ msgctl_stat ∷ msgctl_set ∷ msgctl_rmid ∷ []
 
 -- the row of an opcode among rows, if it has one
 abbrev pub row_among : List Row → ℕ → Option Row
@@ -101,6 +105,7 @@ pub record Parts : Type 0 where
 
 abbrev pub parts_of : PlainKind → Parts
 parts_of (Hello cred) = record { row = hello; values = (cred.uid, (cred.gid, tt)); rest = [] }
+parts_of Interrupt = record { row = interrupt; values = tt; rest = [] }
 parts_of (Calls (requests.Msgget key flags)) = record { row = msgget; values = (key, (flags, tt)); rest = [] }
 parts_of (Calls (requests.Msgsnd id flags mtype text)) =
     record { row = msgsnd; values = (id, (flags, (mtype, tt))); rest = text }

@@ -30,6 +30,9 @@ pub const GREATEST_FRAME: usize = 4 + GREATEST_LENGTH as usize;
 /// The opcode of HELLO.
 pub(crate) const HELLO: u8 = 0x01;
 
+/// The opcode of INTERRUPT.
+pub(crate) const INTERRUPT: u8 = 0x02;
+
 /// The opcode of msgget(2).
 pub(crate) const MSGGET: u8 = 0x0a;
 
@@ -135,6 +138,7 @@ fn read_kind(opcode: u8, fields: &[u8]) -> Option<RequestKind<'_>>
 {
     match opcode {
         HELLO => read_hello(fields),
+        INTERRUPT => read_interrupt(fields),
         MSGGET => read_msgget(fields),
         MSGSND => read_msgsnd(fields),
         MSGRCV => read_msgrcv(fields),
@@ -156,6 +160,15 @@ fn read_hello(fields: &[u8]) -> Option<RequestKind<'_>>
         return None;
     }
     Some(RequestKind::Hello(Cred { uid, gid }))
+}
+
+fn read_interrupt(fields: &[u8]) -> Option<RequestKind<'_>>
+    ensures { option_map plain_kind result ≡ made_by table.interrupt fields.now }
+{
+    if !fields.is_empty() {
+        return None;
+    }
+    Some(RequestKind::Interrupt)
 }
 
 #[tactic(auto, unfolding(ipc_base::specs::Numbers::number_of))]

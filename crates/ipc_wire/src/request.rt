@@ -10,11 +10,13 @@ pub struct Request<'a> {
     pub kind: RequestKind<'a>,
 }
 
-/// Who is to answer: the connection itself, or the machine by a call.
+/// Who is to answer: the connection itself, or the machine.
 #[derive(Clone, Copy, Debug)]
 pub enum RequestKind<'a> {
     /// HELLO: the connection becomes a process of this user and group.
     Hello(Cred),
+    /// INTERRUPT: the process waits no longer.
+    Interrupt,
     /// A call of the process.
     Call(Call<'a>),
 }

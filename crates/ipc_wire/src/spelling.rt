@@ -19,7 +19,9 @@ ghost use Rattle.ipc_base.specs.Numbers.{record_bytes};
 ghost use Rattle.ipc_wire.specs.Request.{Calls, plain_call, plain_kind, plain_request};
 ghost use Rattle.ipc_wire.specs.Spelling.{HasFrame, opcode_of, fields_of, request_bytes, frame};
 
-use crate::reading::{HELLO, MSGCTL_RMID, MSGCTL_SET, MSGCTL_STAT, MSGGET, MSGRCV, MSGSND};
+use crate::reading::{
+    HELLO, INTERRUPT, MSGCTL_RMID, MSGCTL_SET, MSGCTL_STAT, MSGGET, MSGRCV, MSGSND,
+};
 use crate::record::Record;
 use crate::request::{Call, Request, RequestKind};
 use crate::writing::text_len;
@@ -91,6 +93,7 @@ fn parts_of(kind: RequestKind<'_>) -> Parts<'_>
             &[Field::U32(cred.uid), Field::U32(cred.gid)],
             &[],
         ),
+        RequestKind::Interrupt => spelled(INTERRUPT, &[], &[]),
         RequestKind::Call(call) => call_parts(call),
     }
 }
