@@ -1,21 +1,17 @@
 -- An event sends a process no more bytes than it asked for.
-use Rattle.std.proofs.Common.{◌≡◌, ℕ, ◌+◌, ◌<◌, ◌≤◌, Bool, true, false, [], ◌∷◌, arith, refl}
-use Rattle.std.specs.Prelude.{◌==◌, if◌then◌else◌, None, Some}
+use Rattle.std.proofs.Common.{◌≡◌, ℕ, ◌<◌, ◌≤◌, Bool, true, false, [], ◌∷◌, arith, refl}
+use Rattle.std.specs.Prelude.{◌==◌, if◌then◌else◌, None}
 use Rattle.std.proofs.lemmas.Bool.Decides.{nat_tests}
 use Rattle.std.proofs.lemmas.List.Elements.{All-head}
 use Rattle.ipc_base.specs.Limits.{longest_reply}
-use Rattle.ipc_base.specs.declared.errno.Errno.TheVariants.{ENFILE}
-use Rattle.ipc_base.specs.declared.identity.Cred.{Cred}
 use Rattle.ipc_base.specs.declared.limits.Limits.{Limits}
 use Rattle.ipc_base.proofs.CallerLemmas.{choice}
-use Rattle.ipc_wire.specs.Request.{PlainRequest}
-use Rattle.ipc_wire.specs.Reply.{reply_bytes}
 use Rattle.ipc_wire.specs.declared.reply.Body.TheVariants.{Empty, Number}
 use Rattle.ipc_wire.proofs.CallerLemmas.{length-reply_bytes}
 use Rattle.ipc_state.specs.Sound.{FitsBody}
 use Rattle.ipc_state.specs.State.{State, at_moment, has_all_processes}
-use Rattle.ipc_engine.specs.Bytes.{bytes_to, asks, allowed}
-use Rattle.ipc_engine.specs.Event.{PlainEvent, Connect, Call, Tick, Exit, Restart, PlainOutcome}
+use Rattle.ipc_engine.specs.Bytes.{bytes_to, allowed}
+use Rattle.ipc_engine.specs.Event.{PlainEvent, Connect, Call, Interrupt, Tick, Exit, Restart, PlainOutcome}
 use Rattle.ipc_engine.specs.Sound.{IsSound}
 use Rattle.ipc_engine.specs.Step.{Step, step, asked}
 use Rattle.ipc_engine.specs.View.{reply_of}
@@ -43,6 +39,8 @@ step-bytes limits s (Call asker request moment) pid sound some =
     } in
     one-allowed limits o pid (pid == asker)
     (All-head (λ (p : PlainOutcome). FitsBody limits p.body) o [] (step-fits limits s (Call asker request moment) sound)) refl
+step-bytes limits s (Interrupt asker serial moment) pid sound some =
+    one-allowed limits (record { pid = asker; serial = serial; errno = None; body = Empty }) pid (pid == asker) (omega arith) refl
 step-bytes limits s (Tick moment) pid sound some = omega arith
 step-bytes limits s (Exit gone moment) pid sound some = omega arith
 step-bytes limits s Restart pid sound some = omega arith

@@ -2,7 +2,7 @@
 use Rattle.std.proofs.Common.{◌≡◌, ℕ, ◌<◌, ◌≤◌, List, [], ◌∷◌, ◌++◌, refl}
 use Rattle.std.specs.Prelude.{All}
 use Rattle.ipc_base.specs.declared.limits.Limits.{Limits}
-use Rattle.ipc_wire.specs.Request.{PlainKind, Hello, Calls}
+use Rattle.ipc_wire.specs.Request.{PlainKind, Hello, Interrupt as Interrupts, Calls}
 use Rattle.ipc_engine.specs.Event.{PlainEvent, PlainOutcome}
 use Rattle.ipc_state.specs.Sound.{FitsBody}
 use Rattle.ipc_engine.specs.Sound.{IsSound}
@@ -31,6 +31,7 @@ step-fits = soundness.step-fits
 -- a request leaves the processes as they are
 pub asked-keeps : (limits : Limits) (s : State) (pid : ℕ) (kind : PlainKind) → (asked limits s pid kind).state.processes ≡ s.processes
 asked-keeps limits s pid (Hello cred) = refl
+asked-keeps limits s pid Interrupts = refl
 asked-keeps limits s pid (Calls call) = attempt-keeps limits s pid call
 
 -- the state after a run is the state after its second part, begun where the first part ends

@@ -5,13 +5,13 @@ use Rattle.std.proofs.lemmas.List.Elements.{All-nil, All-cons}
 use Rattle.ipc_base.specs.declared.limits.Limits.{Limits}
 use Rattle.ipc_base.specs.declared.identity.Cred.{Cred}
 use Rattle.ipc_base.proofs.CallerLemmas.{choice}
-use Rattle.ipc_wire.specs.Request.{PlainKind, Hello, Calls}
+use Rattle.ipc_wire.specs.Request.{PlainKind, Hello, Interrupt as Interrupts, Calls}
 use Rattle.ipc_state.specs.Sound.{HasSoundParts, FitsBody}
 use Rattle.ipc_engine.specs.Sound.{IsSound}
 use Rattle.ipc_state.specs.State.{State, at_moment, has_all_processes}
 use Rattle.ipc_state.proofs.CallerLemmas.{EndsSound, begin-sound, exit-sound, restart-sound, with_process-sound}
 use Rattle.sysv_calls.proofs.CallerLemmas.{attempt-sound}
-use Rattle.ipc_engine.specs.Event.{PlainEvent, Connect, Call, Tick, Exit, Restart, PlainOutcome}
+use Rattle.ipc_engine.specs.Event.{PlainEvent, Connect, Call, Interrupt, Tick, Exit, Restart, PlainOutcome}
 use Rattle.ipc_engine.specs.Step.{Step, step, connect, asked}
 
 module _ (limits : Limits) where
@@ -21,11 +21,13 @@ module _ (limits : Limits) where
 
   asked-sound : (s : State) (pid : ℕ) (kind : PlainKind) → HasSoundParts limits s → EndsSound limits (asked limits s pid kind)
   asked-sound s pid (Hello cred) h = record { state = h; body = omega arith }
+  asked-sound s pid Interrupts h = record { state = h; body = omega arith }
   asked-sound s pid (Calls call) h = attempt-sound limits s pid call h
 
   step-parts : (s : State) (e : PlainEvent) → HasSoundParts limits s → HasSoundParts limits (step limits s e).state
   step-parts s (Connect cred serial moment) h = connect-parts (at_moment s moment) cred serial (begin-sound limits s moment h)
   step-parts s (Call pid request moment) h = (asked-sound (at_moment s moment) pid request.kind (begin-sound limits s moment h)).state
+  step-parts s (Interrupt pid serial moment) h = begin-sound limits s moment h
   step-parts s (Tick moment) h = begin-sound limits s moment h
   step-parts s (Exit pid moment) h = exit-sound limits (at_moment s moment) pid (begin-sound limits s moment h)
   step-parts s Restart h = restart-sound limits s h
@@ -44,6 +46,7 @@ module _ (limits : Limits) where
       (λ _. All-cons Fits _ [] (omega arith) (All-nil Fits)) (λ _. All-cons Fits _ [] (omega arith) (All-nil Fits))
   step-fits s (Call pid request moment) h =
       All-cons Fits _ [] (asked-sound (at_moment s moment) pid request.kind (begin-sound limits s moment h.parts)).body (All-nil Fits)
+  step-fits s (Interrupt pid serial moment) h = All-cons Fits _ [] (omega arith) (All-nil Fits)
   step-fits s (Tick moment) h = All-nil Fits
   step-fits s (Exit pid moment) h = All-nil Fits
   step-fits s Restart h = All-nil Fits

@@ -4,7 +4,7 @@ use Rattle.ipc_base.specs.declared.limits.Limits.{Limits}
 use Rattle.ipc_base.specs.Limits.{longest_reply}
 use Rattle.ipc_wire.specs.Reply.{reply_bytes}
 use Rattle.ipc_state.specs.State.{State}
-use Rattle.ipc_engine.specs.Event.{PlainEvent, Connect, Call, Tick, Exit, Restart, PlainOutcome}
+use Rattle.ipc_engine.specs.Event.{PlainEvent, Connect, Call, Interrupt, Tick, Exit, Restart, PlainOutcome}
 use Rattle.ipc_engine.specs.View.{reply_of}
 
 -- the bytes of those frames that are for a process
@@ -12,10 +12,11 @@ abbrev pub bytes_to : ℕ → List PlainOutcome → ℕ
 bytes_to pid [] = 0
 bytes_to pid (o ∷ os) = (if pid == o.pid then length (reply_bytes (reply_of o)) else 0) + bytes_to pid os
 
--- whether a process asks something by an event: it makes a request, or is the one that a HELLO makes
+-- whether a process asks something by an event: it makes a request, an INTERRUPT too, or is the one that a HELLO makes
 abbrev pub asks : State → PlainEvent → ℕ → Bool
 asks s (Connect cred serial moment) pid = pid == s.processes.next
 asks s (Call asker request moment) pid = pid == asker
+asks s (Interrupt asker serial moment) pid = pid == asker
 asks s (Tick moment) pid = false
 asks s (Exit gone moment) pid = false
 asks s Restart pid = false

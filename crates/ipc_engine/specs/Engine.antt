@@ -1,11 +1,11 @@
 -- What a caller sees of the machine, and what it may ask.
 use Rattle.std.specs.Prelude.{◌≡◌, Bool, true, false, not, List}
 use Rattle.ipc_base.specs.declared.limits.Limits.{Limits}
-use Rattle.ipc_wire.specs.Request.{PlainKind, Hello, Calls}
+use Rattle.ipc_wire.specs.Request.{PlainKind, Hello, Interrupt as Interrupts, Calls}
 use Rattle.ipc_state.specs.State.{State, is_process, has_all_processes}
 use Rattle.ipc_state.specs.Held.{Room}
 use Rattle.sysv_calls.specs.Needs.{Needs, Nothing, needs, is_something, Has}
-use Rattle.ipc_engine.specs.Event.{PlainEvent, Connect, Call, Tick, Exit, Restart, PlainOutcome}
+use Rattle.ipc_engine.specs.Event.{PlainEvent, Connect, Call, Interrupt, Tick, Exit, Restart, PlainOutcome}
 
 -- the limits that it keeps, the state, and the replies of the last event
 pub record Machine : Type 0 where
@@ -17,6 +17,7 @@ pub record Machine : Type 0 where
 abbrev pub IsForProcess : State → PlainEvent → Type 0
 IsForProcess s (Connect cred serial moment) = Unit {0}
 IsForProcess s (Call pid request moment) = is_process s pid ≡ true
+IsForProcess s (Interrupt pid serial moment) = is_process s pid ≡ true
 IsForProcess s (Tick moment) = Unit {0}
 IsForProcess s (Exit pid moment) = is_process s pid ≡ true
 IsForProcess s Restart = Unit {0}
@@ -24,6 +25,7 @@ IsForProcess s Restart = Unit {0}
 -- what a request of a process may need of memory
 abbrev pub kind_needs : PlainKind → Needs
 kind_needs (Hello cred) = Nothing
+kind_needs Interrupts = Nothing
 kind_needs (Calls call) = needs call
 
 abbrev pub kind_takes_memory : PlainKind → Bool
@@ -33,6 +35,7 @@ kind_takes_memory kind = is_something (kind_needs kind)
 abbrev pub takes_memory : Limits → State → PlainEvent → Bool
 takes_memory limits s (Connect cred serial moment) = not (has_all_processes limits s)
 takes_memory limits s (Call pid request moment) = kind_takes_memory request.kind
+takes_memory limits s (Interrupt pid serial moment) = false
 takes_memory limits s (Tick moment) = false
 takes_memory limits s (Exit pid moment) = false
 takes_memory limits s Restart = false

@@ -11,6 +11,8 @@ pub data PlainEvent : Type 0 where
   Connect : (cred : Cred) → (serial moment : ℕ) → PlainEvent
   -- a request of a process
   Call : (pid : ℕ) → (request : PlainRequest) → (moment : ℕ) → PlainEvent
+  -- an INTERRUPT: the process waits no longer
+  Interrupt : (pid serial moment : ℕ) → PlainEvent
   -- time passes
   Tick : (moment : ℕ) → PlainEvent
   -- the process is gone
@@ -22,6 +24,7 @@ pub data PlainEvent : Type 0 where
 abbrev pub moment_of : PlainEvent → ℕ
 moment_of (Connect cred serial moment) = moment
 moment_of (Call pid request moment) = moment
+moment_of (Interrupt pid serial moment) = moment
 moment_of (Tick moment) = moment
 moment_of (Exit pid moment) = moment
 moment_of Restart = 0

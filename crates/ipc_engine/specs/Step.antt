@@ -4,12 +4,12 @@ use Rattle.std.specs.Prelude.{ℕ, List, [], ◌∷◌, ◌++◌, if◌then◌el
 use Rattle.ipc_base.specs.declared.errno.Errno.TheVariants.{ENFILE, EPROTO}
 use Rattle.ipc_base.specs.declared.identity.Cred.{Cred}
 use Rattle.ipc_base.specs.declared.limits.Limits.{Limits}
-use Rattle.ipc_wire.specs.Request.{PlainKind, Hello, Calls}
+use Rattle.ipc_wire.specs.Request.{PlainKind, Hello, Interrupt as Interrupts, Calls}
 use Rattle.ipc_wire.specs.declared.reply.Body.TheVariants.{Empty, Number}
-use Rattle.ipc_state.specs.Finish.{Finish, refused}
+use Rattle.ipc_state.specs.Finish.{Finish, done, refused}
 use Rattle.ipc_state.specs.State.{State, at_moment, has_all_processes, with_process, exit, restart}
 use Rattle.sysv_calls.specs.Calls.{attempt}
-use Rattle.ipc_engine.specs.Event.{PlainEvent, Connect, Call, Tick, Exit, Restart, PlainOutcome}
+use Rattle.ipc_engine.specs.Event.{PlainEvent, Connect, Call, Interrupt, Tick, Exit, Restart, PlainOutcome}
 
 pub record Step : Type 0 where
   pub state : State
@@ -26,9 +26,10 @@ connect limits s cred serial =
           record { pid = s.processes.next; serial = serial; errno = None; body = Number s.processes.next } ∷ [];
     }
 
--- A request of a process. HELLO has no place there: the process has said it.
+-- A request of a process. HELLO has no place there: the process has said it. INTERRUPT is done at once.
 abbrev pub asked : Limits → State → ℕ → PlainKind → Finish
 asked limits s pid (Hello cred) = refused s EPROTO
+asked limits s pid Interrupts = done s Empty
 asked limits s pid (Calls call) = attempt limits s pid call
 
 -- the reply to a call that has ended so
@@ -39,10 +40,15 @@ replied pid serial f =
       outcomes = record { pid = pid; serial = serial; errno = f.errno; body = f.body } ∷ [];
     }
 
+-- INTERRUPT: its reply. A call of the process that waits is to end with EINTR before; none waits yet.
+abbrev pub interrupt : State → ℕ → ℕ → Step
+interrupt s pid serial = replied pid serial (done s Empty)
+
 abbrev pub step : Limits → State → PlainEvent → Step
 step limits s (Connect cred serial moment) = connect limits (at_moment s moment) cred serial
 step limits s (Call pid request moment) =
     replied pid request.serial (asked limits (at_moment s moment) pid request.kind)
+step limits s (Interrupt pid serial moment) = interrupt (at_moment s moment) pid serial
 step limits s (Tick moment) = record { state = at_moment s moment; outcomes = [] }
 step limits s (Exit pid moment) = record { state = exit (at_moment s moment) pid; outcomes = [] }
 step limits s Restart = record { state = restart s; outcomes = [] }

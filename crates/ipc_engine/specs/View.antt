@@ -5,17 +5,18 @@ use Rattle.ipc_wire.specs.declared.reply.Body.{Body}
 use Rattle.ipc_wire.specs.Reply.{PlainBody, PlainReply, body_of}
 use Rattle.std.specs.Global.{Vec}
 use Rattle.ipc_engine.specs.declared.event.Event.{Event}
-use Rattle.ipc_engine.specs.declared.event.Event.TheVariants.{Connect, Call, Tick, Exit, Restart}
+use Rattle.ipc_engine.specs.declared.event.Event.TheVariants.{Connect, Call, Interrupt, Tick, Exit, Restart}
 use Rattle.ipc_engine.specs.declared.event.Outcome.{Outcome}
 use Rattle.ipc_state.specs.State.{State}
-use Rattle.ipc_engine.specs.Event.{PlainEvent, Connect as Connects, Call as Calls, Tick as Ticks, Exit as Exits}
-use Rattle.ipc_engine.specs.Event.{Restart as Restarts}
+use Rattle.ipc_engine.specs.Event.{PlainEvent, Connect as Connects, Call as Calls, Interrupt as Interrupts}
+use Rattle.ipc_engine.specs.Event.{Tick as Ticks, Exit as Exits, Restart as Restarts}
 use Rattle.ipc_engine.specs.Event.{PlainOutcome}
 use Rattle.ipc_engine.specs.Step.{Step}
 
 abbrev pub plain_event : Event → PlainEvent
 plain_event (Connect cred serial moment) = Connects cred serial moment.0
 plain_event (Call pid request moment) = Calls pid.0 (plain_request request) moment.0
+plain_event (Interrupt pid serial moment) = Interrupts pid.0 serial moment.0
 plain_event (Tick moment) = Ticks moment.0
 plain_event (Exit pid moment) = Exits pid.0 moment.0
 plain_event Restart = Restarts

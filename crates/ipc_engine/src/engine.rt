@@ -154,7 +154,8 @@ impl Engine {
         ensures { IsTrue result ↔ IsForProcess self.now.state (plain_event event.now) }
     {
         match event {
-            Event::Call { pid, .. } | Event::Exit { pid, .. } => self.connected(*pid),
+            Event::Call { pid, .. } | Event::Interrupt { pid, .. } | Event::Exit { pid, .. } =>
+                self.connected(*pid),
             Event::Connect { .. } | Event::Tick { .. } | Event::Restart => true,
         }
     }
@@ -207,6 +208,15 @@ impl Engine {
                 self.state.begin(moment);
                 let ended = ask(&mut self.state, pid, &request.kind, &mut self.spare);
                 answer(&mut self.outcomes, reply_to(pid, request.serial, ended));
+            }
+            Event::Interrupt {
+                pid,
+                serial,
+                moment,
+            } => {
+                take_back(&mut self.outcomes, &mut self.spare);
+                self.state.begin(moment);
+                answer(&mut self.outcomes, reply_to(pid, serial, Ok(Body::Empty)));
             }
             Event::Tick { moment } => {
                 take_back(&mut self.outcomes, &mut self.spare);
@@ -324,7 +334,7 @@ fn reserve_kind(state: &mut State, kind: &RequestKind<'_>) -> Result<(), AllocEr
     ensures memory { kind_takes_memory (plain_kind kind.now) ≡ false → IsOk result }
 {
     match kind {
-        RequestKind::Hello(_) => Ok(()),
+        RequestKind::Hello(_) | RequestKind::Interrupt => Ok(()),
         RequestKind::Call(call) => reserve(state, call),
     }
 }
@@ -342,6 +352,7 @@ fn ask(state: &mut State, pid: Pid, kind: &RequestKind<'_>, spare: &mut Vec<u8>)
 {
     match kind {
         RequestKind::Hello(_) => Err(Errno::EPROTO),
+        RequestKind::Interrupt => Ok(Body::Empty),
         RequestKind::Call(call) => attempt(state, pid, call, spare),
     }
 }

@@ -20,6 +20,12 @@ pub enum Event<'a> {
         request: Request<'a>,
         moment: Moment,
     },
+    /// A process waits no longer: an INTERRUPT.
+    Interrupt {
+        pid: Pid,
+        serial: u32,
+        moment: Moment,
+    },
     /// Time passes.
     Tick {
         moment: Moment,
@@ -44,6 +50,7 @@ impl Event<'_> {
         match self {
             Event::Connect { moment, .. }
             | Event::Call { moment, .. }
+            | Event::Interrupt { moment, .. }
             | Event::Tick { moment }
             | Event::Exit { moment, .. } => *moment,
             Event::Restart => Moment(0),

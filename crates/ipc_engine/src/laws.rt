@@ -5,9 +5,9 @@ ghost use Rattle.std.specs.Prelude.{List, [], ◌++◌, length, max};
 ghost use Rattle.std.specs.Prelude.{Option, None, All, IsSome};
 ghost use Rattle.ipc_base.specs.declared.limits.Limits.{Limits};
 ghost use Rattle.ipc_base.specs.declared.identity.Cred.{Cred};
-ghost use Rattle.ipc_wire.specs.Request.{PlainRequest};
+ghost use Rattle.ipc_wire.specs.Request.{PlainRequest, Interrupt as Interrupts};
 ghost use Rattle.ipc_state.specs.State.{State, start, is_process, at_moment, restart};
-ghost use Rattle.ipc_engine.specs.Event.{PlainEvent, Connect, Call, Tick, Exit, Restart, moment_of};
+ghost use Rattle.ipc_engine.specs.Event.{PlainEvent, Connect, Call, Interrupt, Tick, Exit, Restart, moment_of};
 ghost use Rattle.ipc_engine.specs.Step.{step, run, asked, most_replies};
 ghost use Rattle.ipc_state.specs.Sound.{FitsBody};
 ghost use Rattle.ipc_engine.specs.Bytes.{bytes_to, allowed};
@@ -67,6 +67,13 @@ pub fn refused_call_changes_nothing()
         → (step limits s (Call pid request moment)).state ≡ at_moment s moment }
 {}
 
+/// A call whose request is an INTERRUPT is an interrupt.
+pub fn interrupt_call_is_an_interrupt()
+    ensures { (limits : Limits) (s : State) (pid serial moment : ℕ)
+        → step limits s (Call pid (record { serial = serial; kind = Interrupts }) moment)
+        ≡ step limits s (Interrupt pid serial moment) }
+{}
+
 /// A connected process has a number from 1 to below the next.
 pub fn pid_is_below_next()
     ensures least { (limits : Limits) (s : State) (pid : ℕ)
@@ -118,10 +125,12 @@ pub fn restart_twice_is_once()
         → step limits (step limits s Restart).state Restart ≡ step limits s Restart }
 {}
 
-/// A call and a tick leave the processes as they are.
-pub fn call_and_tick_keep_processes()
+/// A call, an interrupt and a tick leave the processes as they are.
+pub fn call_interrupt_and_tick_keep_processes()
     ensures call { (limits : Limits) (s : State) (pid moment : ℕ) (request : PlainRequest)
         → (step limits s (Call pid request moment)).state.processes ≡ s.processes }
+    ensures interrupt { (limits : Limits) (s : State) (pid serial moment : ℕ)
+        → (step limits s (Interrupt pid serial moment)).state.processes ≡ s.processes }
     ensures tick { (limits : Limits) (s : State) (moment : ℕ)
         → (step limits s (Tick moment)).state.processes ≡ s.processes }
 {}

@@ -11,10 +11,10 @@ pub use engine::Engine;
 pub use event::{Event, Outcome};
 pub use fault::StateFault;
 pub use laws::{
-    call_and_tick_keep_processes, connect_adds_one_process, event_sets_clock,
-    exit_removes_one_process, late_tick_does_nothing, pid_is_below_next,
-    refused_call_changes_nothing, replies_are_asked_for, replies_are_few, replies_fit,
-    restart_keeps_objects, restart_leaves_no_process, restart_twice_is_once, run_of_parts,
-    step_keeps_soundness,
+    call_interrupt_and_tick_keep_processes, connect_adds_one_process, event_sets_clock,
+    exit_removes_one_process, interrupt_call_is_an_interrupt, late_tick_does_nothing,
+    pid_is_below_next, refused_call_changes_nothing, replies_are_asked_for, replies_are_few,
+    replies_fit, restart_keeps_objects, restart_leaves_no_process, restart_twice_is_once,
+    run_of_parts, step_keeps_soundness,
 };
 pub use listing::Row;

@@ -1,9 +1,9 @@
 use Rattle.std.proofs.Common.{◌≡◌, refl, max, arith}
 use Rattle.ipc_base.proofs.CallerLemmas.{choice}
-use Rattle.ipc_wire.specs.Request.{PlainKind, Hello, Calls}
+use Rattle.ipc_wire.specs.Request.{PlainKind, Hello, Interrupt as Interrupts, Calls}
 use Rattle.ipc_state.specs.State.{at_moment, has_all_processes}
 use Rattle.sysv_calls.proofs.CallerLemmas.{attempt-clock}
-use Rattle.ipc_engine.specs.Event.{PlainEvent, Connect, Call, Tick, Exit, Restart, moment_of}
+use Rattle.ipc_engine.specs.Event.{PlainEvent, Connect, Call, Interrupt, Tick, Exit, Restart, moment_of}
 use Rattle.ipc_engine.specs.Step.{Step, step, asked}
 use Rattle.ipc_base.specs.declared.limits.Limits.{Limits}
 use Rattle.ipc_state.specs.State.{State}
@@ -16,7 +16,9 @@ sets_clock limits s (Call pid request moment) = asked_clock request.kind
   where
     asked_clock : (kind : PlainKind) → (asked limits (at_moment s moment) pid kind).state.clock ≡ max s.clock moment
     asked_clock (Hello cred) = refl
+    asked_clock Interrupts = refl
     asked_clock (Calls call) = attempt-clock limits (at_moment s moment) pid call
+sets_clock limits s (Interrupt pid serial moment) = refl
 sets_clock limits s (Tick moment) = refl
 sets_clock limits s (Exit pid moment) = refl
 sets_clock limits s Restart = omega arith

@@ -1,9 +1,10 @@
-use Rattle.std.proofs.Common.{◌≡◌, ◌≤◌, map, vec_capacity, subst, sym, rules}
+use Rattle.std.proofs.Common.{◌≡◌, ◌≤◌, map, vec_capacity, ap, ◌∙◌, subst, sym, rules}
 use Rattle.ipc_base.specs.declared.limits.Limits.{Limits}
 use Rattle.ipc_base.specs.Limits.{ArePassed}
 use Rattle.ipc_wire.specs.Request.{plain_request}
-use Rattle.ipc_engine.specs.Event.{Connect, Call, Exit, Restart}
-use Rattle.ipc_engine.specs.Step.{most_replies}
+use Rattle.ipc_engine.specs.Event.{Connect, Call, Interrupt, Exit, Restart}
+use Rattle.ipc_state.specs.State.{at_moment}
+use Rattle.ipc_engine.specs.Step.{Step, most_replies}
 use Rattle.ipc_engine.specs.View.{plain_outcome}
 use Rattle.sysv_calls.specs.Spare.{IsKept}
 use Rattle.ipc_engine.proofs.Buffers.{buffer-spare, buffer-answered}
@@ -59,6 +60,41 @@ returns-in_ok-reserve_kind-in-Call-clause-fits c =
     let new = c.ask-ended.new.state in
     let event = Call c.in-Call.pid.0 (plain_request c.in-Call.request) c.in-Call.moment.0 in
     after-fits old.limits new.limits old.state (map plain_outcome c.answer-in-Call.new.outcomes.items) event (search rules) (search rules) c.self.invariant.1
+
+pub returns-in-Interrupt-clause-sound : goal.returns-in-Interrupt-clause-sound
+returns-in-Interrupt-clause-sound c =
+    let old = c.self.inside.state in
+    let new = c.begin-in-Interrupt.new.self in
+    let event = Interrupt c.in-Interrupt.pid.0 c.in-Interrupt.serial c.in-Interrupt.moment.0 in
+    after-sound old.limits new.limits old.state new.state event (search rules) (search rules) c.self.invariant.1
+
+pub returns-in-Interrupt-clause-outcomes : goal.returns-in-Interrupt-clause-outcomes
+returns-in-Interrupt-clause-outcomes c =
+    rw c.in-Interrupt.is (ap (map plain_outcome) c.answer-in-Interrupt.ensures.items
+    ∙ ap (λ (t : Step). t.outcomes) (c.reply_to-in-Interrupt.ensures.reply (at_moment c.args.self.now.state c.in-Interrupt.moment.0)))
+
+pub returns-in-Interrupt-clause-fits : goal.returns-in-Interrupt-clause-fits
+returns-in-Interrupt-clause-fits c =
+    let old = c.self.inside.state in
+    let new = c.begin-in-Interrupt.new.self in
+    let event = Interrupt c.in-Interrupt.pid.0 c.in-Interrupt.serial c.in-Interrupt.moment.0 in
+    after-fits old.limits new.limits old.state (map plain_outcome c.answer-in-Interrupt.new.outcomes.items) event (search rules)
+    (ap (map plain_outcome) c.answer-in-Interrupt.ensures.items
+    ∙ ap (λ (t : Step). t.outcomes) (c.reply_to-in-Interrupt.ensures.reply (at_moment old.state c.in-Interrupt.moment.0))) c.self.invariant.1
+
+pub invariant_of-self-in-Interrupt : goal.invariant_of-self-in-Interrupt
+invariant_of-self-in-Interrupt c =
+    let old = c.self.inside.state in
+    let new = c.begin-in-Interrupt.new.self in
+    let event = Interrupt c.in-Interrupt.pid.0 c.in-Interrupt.serial c.in-Interrupt.moment.0 in
+    let room : most_replies ≤ vec_capacity c.answer-in-Interrupt.new.outcomes = search rules in
+    let same : new.limits ≡ old.limits = search rules in (
+      room,
+      after-sound old.limits new.limits old.state new.state event same (search rules) c.self.invariant.1,
+      subst (λ (l : Limits). ArePassed l) (sym same) c.self.invariant.2,
+      buffer-spare old.limits new.limits same c.self.inside.spare c.take_back-in-Interrupt.new.spare c.self.inside.outcomes.items
+          c.answer-in-Interrupt.new.outcomes.items c.self.invariant.3 c.take_back-in-Interrupt.ensures.room,
+    )
 
 pub returns-in-Exit-clause-sound : goal.returns-in-Exit-clause-sound
 returns-in-Exit-clause-sound c =

@@ -1,6 +1,6 @@
 use Rattle.ipc_state.specs.State.{at_moment}
 use Rattle.ipc_engine.proofs.CallerLemmas.{asked-keeps}
-use Rattle.ipc_engine.proofs.laws.call_and_tick_keep_processes.Goals as goal
+use Rattle.ipc_engine.proofs.laws.call_interrupt_and_tick_keep_processes.Goals as goal
 
 pub returns-clause-call : goal.returns-clause-call
 returns-clause-call c limits s pid moment request = asked-keeps limits (at_moment s moment) pid request.kind
