@@ -16,12 +16,12 @@ use Rattle.ipc_image.proofs.Bounds.{bounds}
 use Rattle.ipc_image.proofs.SavedObjects.{saved-fit, start-places}
 use Rattle.ipc_wire.specs.Spelling.{request_bytes}
 use Rattle.ipc_wire.proofs.CallerLemmas.{one_text}
-use Rattle.ipc_engine.specs.Event.{PlainEvent, Connect, Call, Tick, Exit, Restart, moment_of}
+use Rattle.ipc_engine.specs.Event.{PlainEvent, Connect, Call, Interrupt, Tick, Exit, Restart, moment_of}
 use Rattle.ipc_image.specs.Records.{kind_of, details, text_of, record_bytes, HasDetails, HasRecord, BeginsWith}
 use Rattle.ipc_image.specs.RecordParts.{IsOf}
 use Rattle.ipc_image.specs.Superblock.{IsFormatted, version_in, IsSuperblock}
 use Rattle.ipc_base.proofs.CallerLemmas.{number32_known}
-use Rattle.ipc_image.proofs.EventRecords.{Got, GotLong, connect_only, call_only, text_only, length_text, begun, text_cut}
+use Rattle.ipc_image.proofs.EventRecords.{Got, GotLong, connect_only, call_only, interrupt_only, text_only, length_text, begun, text_cut}
 use Rattle.ipc_image.proofs.Reading as reading
 use Rattle.ipc_image.proofs.WholeState.{saved_once}
 
@@ -76,9 +76,14 @@ one_of (Call pid request moment) f has is =
     unwrapped (Call pid request moment) f
     (call_only moment (to_be_bytes w32 pid ++ request_bytes request) (request_bytes request) pid request (got_spelled pid (request_bytes request) has.0)
     (λ r other same. one_text request r has.1 other same) f is)
+one_of (Interrupt pid serial moment) f has is =
+    unwrapped (Interrupt pid serial moment) f
+    (interrupt_only moment (to_be_bytes w32 pid ++ to_be_bytes w32 serial) (to_be_bytes w32 serial) [] pid serial
+    (got_spelled pid (to_be_bytes w32 serial) has.0) (got_spelled serial [] has.1) f is)
 one_of (Tick moment) (Tick later) has is = ap Tick is.moment_is
 one_of (Tick moment) (Connect cred s m) has is = absurd (omega (arith, is.kind_is))
 one_of (Tick moment) (Call p r m) has is = absurd (omega (arith, is.kind_is))
+one_of (Tick moment) (Interrupt p s m) has is = absurd (omega (arith, is.kind_is))
 one_of (Tick moment) (Exit p m) has is = absurd (omega (arith, is.kind_is))
 one_of (Tick moment) Restart has is = absurd (omega (arith, is.kind_is))
 one_of (Exit pid moment) (Exit other later) has is =
@@ -86,11 +91,13 @@ one_of (Exit pid moment) (Exit other later) has is =
     ap (λ (n : ℕ). Exit n moment) same.0 ∙ ap (λ (n : ℕ). Exit other n) is.moment_is
 one_of (Exit pid moment) (Connect cred s m) has is = absurd (omega (arith, is.kind_is))
 one_of (Exit pid moment) (Call p r m) has is = absurd (omega (arith, is.kind_is))
+one_of (Exit pid moment) (Interrupt p s m) has is = absurd (omega (arith, is.kind_is))
 one_of (Exit pid moment) (Tick m) has is = absurd (omega (arith, is.kind_is))
 one_of (Exit pid moment) Restart has is = absurd (omega (arith, is.kind_is))
 one_of Restart Restart has is = refl
 one_of Restart (Connect cred s m) has is = absurd (omega (arith, is.kind_is))
 one_of Restart (Call p r m) has is = absurd (omega (arith, is.kind_is))
+one_of Restart (Interrupt p s m) has is = absurd (omega (arith, is.kind_is))
 one_of Restart (Tick m) has is = absurd (omega (arith, is.kind_is))
 one_of Restart (Exit p m) has is = absurd (omega (arith, is.kind_is))
 

@@ -8,7 +8,7 @@ use Rattle.std.proofs.lemmas.Nat.{from_be_bytes-to_be_bytes_8}
 use Rattle.ipc_base.specs.declared.identity.Cred.{Cred}
 use Rattle.ipc_wire.specs.Request.{PlainRequest}
 use Rattle.ipc_wire.specs.Spelling.{HasFrame, request_bytes, frame}
-use Rattle.ipc_engine.specs.Event.{PlainEvent, Connect, Call, Tick, Exit, Restart, moment_of}
+use Rattle.ipc_engine.specs.Event.{PlainEvent, Connect, Call, Interrupt, Tick, Exit, Restart, moment_of}
 use Rattle.ipc_image.specs.Records.{kind_of, details, text_of, record_bytes, HasDetails, BeginsWith}
 use Rattle.ipc_image.specs.RecordParts.{IsText, IsOf}
 use Rattle.ipc_base.proofs.CallerLemmas.{Got as GotOf, bytes-drop, number32_got, number32_known, number64_got}
@@ -61,6 +61,7 @@ connect_only moment bytes one two three serial uid gid a b c (Connect cred s m) 
     let third = number32_known cred.gid [] two three gid is.has.2 second.1 c in
     ap (λ (e : PlainEvent). Some e) (same_connect cred uid gid serial s moment m second.0 third.0 first.0 is.moment_is)
 connect_only moment bytes one two three serial uid gid a b c (Call pid request m) is = absurd (omega (arith, is.kind_is))
+connect_only moment bytes one two three serial uid gid a b c (Interrupt pid s m) is = absurd (omega (arith, is.kind_is))
 connect_only moment bytes one two three serial uid gid a b c (Tick m) is = absurd (omega (arith, is.kind_is))
 connect_only moment bytes one two three serial uid gid a b c (Exit pid m) is = absurd (omega (arith, is.kind_is))
 connect_only moment bytes one two three serial uid gid a b c Restart is = absurd (omega (arith, is.kind_is))
@@ -86,9 +87,37 @@ call_only moment bytes rest pid request a only (Call p r m) is =
     ap (λ (n : ℕ). Some (Call n request moment)) first.0
     ∙ ap (λ (q : PlainRequest). Some (Call p q moment)) one ∙ ap (λ (n : ℕ). Some (Call p r n)) is.moment_is
 call_only moment bytes rest pid request a only (Connect cred s m) is = absurd (omega (arith, is.kind_is))
+call_only moment bytes rest pid request a only (Interrupt p s m) is = absurd (omega (arith, is.kind_is))
 call_only moment bytes rest pid request a only (Tick m) is = absurd (omega (arith, is.kind_is))
 call_only moment bytes rest pid request a only (Exit p m) is = absurd (omega (arith, is.kind_is))
 call_only moment bytes rest pid request a only Restart is = absurd (omega (arith, is.kind_is))
+
+pub interrupt_found : (moment : ℕ) (bytes one two : List ℕ) (pid serial : ℕ) → AreBelow 256 bytes → Got bytes one pid → Got one two serial
+    → length two ≡ 0 → IsOf 3 moment bytes (Interrupt pid serial moment)
+interrupt_found moment bytes one two pid serial fits a b empty =
+    let first = number32_got bytes one pid fits a in
+    let second = number32_got one two serial first.left b in
+    record {
+      has = (first.below, second.below);
+      kind_is = refl;
+      moment_is = refl;
+      details_are =
+          first.spelled ∙ ap (λ (x : List ℕ). to_be_bytes w32 pid ++ x)
+          (second.spelled ∙ ap (λ (x : List ℕ). to_be_bytes w32 serial ++ x) (nothing two empty));
+    }
+
+pub interrupt_only : (moment : ℕ) (bytes one two : List ℕ) (pid serial : ℕ) → Got bytes one pid → Got one two serial
+    → (e : PlainEvent) → IsOf 3 moment bytes e → Some (Interrupt pid serial moment) ≡ Some e
+interrupt_only moment bytes one two pid serial a b (Interrupt p s m) is =
+    let first = number32_known p (to_be_bytes w32 s) bytes one pid is.has.0 is.details_are a in
+    let second = number32_known s [] one two serial is.has.1 first.1 b in
+    ap (λ (n : ℕ). Some (Interrupt n serial moment)) first.0 ∙ ap (λ (n : ℕ). Some (Interrupt p n moment)) second.0
+    ∙ ap (λ (n : ℕ). Some (Interrupt p s n)) is.moment_is
+interrupt_only moment bytes one two pid serial a b (Connect cred s m) is = absurd (omega (arith, is.kind_is))
+interrupt_only moment bytes one two pid serial a b (Call p request m) is = absurd (omega (arith, is.kind_is))
+interrupt_only moment bytes one two pid serial a b (Tick m) is = absurd (omega (arith, is.kind_is))
+interrupt_only moment bytes one two pid serial a b (Exit p m) is = absurd (omega (arith, is.kind_is))
+interrupt_only moment bytes one two pid serial a b Restart is = absurd (omega (arith, is.kind_is))
 
 -- ---- the kind and the moment
 
@@ -137,6 +166,7 @@ text_only text one two kind moment a b e is =
 pub details_short : (e : PlainEvent) → HasDetails e → length (details e) ≤ 8452
 details_short (Connect cred serial moment) has = omega arith
 details_short (Call pid request moment) has = let short = has.1.short in omega (arith, short)
+details_short (Interrupt pid serial moment) has = omega arith
 details_short (Tick moment) has = omega arith
 details_short (Exit pid moment) has = omega arith
 details_short Restart has = omega arith

@@ -5,20 +5,22 @@ use Rattle.std.specs.Int.{w32, w64, to_be_bytes}
 use Rattle.ipc_wire.specs.Spelling.{HasFrame, request_bytes}
 use Rattle.ipc_engine.specs.declared.event.Event.{Event}
 use Rattle.ipc_engine.specs.View.{plain_event}
-use Rattle.ipc_engine.specs.Event.{PlainEvent, Connect, Call, Tick, Exit, Restart, moment_of}
+use Rattle.ipc_engine.specs.Event.{PlainEvent, Connect, Call, Interrupt, Tick, Exit, Restart, moment_of}
 
--- 3 is the kind of no record yet
 abbrev pub kind_of : PlainEvent → ℕ
 kind_of (Connect cred serial moment) = 1
 kind_of (Call pid request moment) = 2
+kind_of (Interrupt pid serial moment) = 3
 kind_of (Tick moment) = 4
 kind_of (Exit pid moment) = 5
 kind_of Restart = 6
 
--- a HELLO: its serial, uid and gid; a request: the pid, and its frame without the length; an exit: the pid
+-- a HELLO: its serial, uid and gid; a request: the pid, and its frame without the length; an INTERRUPT: the pid, and its
+-- serial; an exit: the pid
 abbrev pub details : PlainEvent → List ℕ
 details (Connect cred serial moment) = to_be_bytes w32 serial ++ to_be_bytes w32 cred.uid ++ to_be_bytes w32 cred.gid
 details (Call pid request moment) = to_be_bytes w32 pid ++ request_bytes request
+details (Interrupt pid serial moment) = to_be_bytes w32 pid ++ to_be_bytes w32 serial
 details (Tick moment) = []
 details (Exit pid moment) = to_be_bytes w32 pid
 details Restart = []
@@ -34,6 +36,7 @@ record_bytes e = to_be_bytes w32 (9 + length (details e)) ++ text_of e
 abbrev pub HasDetails : PlainEvent → Type 0
 HasDetails (Connect cred serial moment) = (serial < 2 ^ 32) × (cred.uid < 2 ^ 32) × (cred.gid < 2 ^ 32)
 HasDetails (Call pid request moment) = (pid < 2 ^ 32) × HasFrame request
+HasDetails (Interrupt pid serial moment) = (pid < 2 ^ 32) × (serial < 2 ^ 32)
 HasDetails (Tick moment) = Unit {0}
 HasDetails (Exit pid moment) = pid < 2 ^ 32
 HasDetails Restart = Unit {0}

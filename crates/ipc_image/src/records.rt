@@ -40,6 +40,8 @@ const CONNECT: u8 = 1;
 
 const CALL: u8 = 2;
 
+const INTERRUPT: u8 = 3;
+
 const TICK: u8 = 4;
 
 const EXIT: u8 = 5;
@@ -55,6 +57,7 @@ pub fn record_len(event: &Event<'_>) -> usize
         Event::Connect { .. } => 12,
         // The pid takes as many bytes as the length of the frame, which is left out.
         Event::Call { request, .. } => request_len(request),
+        Event::Interrupt { .. } => 8,
         Event::Exit { .. } => 4,
         Event::Tick { .. } => 0,
         Event::Restart => 0,
@@ -93,6 +96,7 @@ fn kind_of(event: &Event<'_>) -> u8
     match event {
         Event::Connect { .. } => CONNECT,
         Event::Call { .. } => CALL,
+        Event::Interrupt { .. } => INTERRUPT,
         Event::Tick { .. } => TICK,
         Event::Exit { .. } => EXIT,
         Event::Restart => RESTART,
@@ -113,6 +117,10 @@ fn put_details(put: &mut Put, out: &mut [u8], event: &Event<'_>)
         Event::Call { pid, request, .. } => {
             put.u32(out, pid.0);
             put_request(put, out, request);
+        }
+        Event::Interrupt { pid, serial, .. } => {
+            put.u32(out, pid.0);
+            put.u32(out, *serial);
         }
         Event::Exit { pid, .. } => {
             put.u32(out, pid.0);
@@ -156,6 +164,7 @@ fn read_details(kind: u8, moment: Moment, bytes: &[u8]) -> Option<Event<'_>>
     match kind {
         CONNECT => read_connect(moment, bytes),
         CALL => read_call(moment, bytes),
+        INTERRUPT => read_interrupt(moment, bytes),
         TICK if bytes.is_empty() => Some(Event::Tick { moment }),
         EXIT => read_exit(moment, bytes),
         RESTART if bytes.is_empty() && moment.0 == 0 => Some(Event::Restart),
@@ -192,6 +201,23 @@ fn read_call(moment: Moment, bytes: &[u8]) -> Option<Event<'_>>
     Some(Event::Call {
         pid,
         request,
+        moment,
+    })
+}
+
+fn read_interrupt(moment: Moment, bytes: &[u8]) -> Option<Event<'_>>
+    ensures some { IfSome (option_map plain_event result) (λ e. IsOf 3 moment.0 bytes.now e) }
+    ensures only { (e : PlainEvent) → IsOf 3 moment.0 bytes.now e → option_map plain_event result ≡ Some e }
+{
+    let mut cursor = Cursor::new(bytes);
+    let pid = Pid(cursor.u32()?);
+    let serial = cursor.u32()?;
+    if !cursor.is_empty() {
+        return None;
+    }
+    Some(Event::Interrupt {
+        pid,
+        serial,
         moment,
     })
 }

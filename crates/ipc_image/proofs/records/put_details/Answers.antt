@@ -31,3 +31,16 @@ returns-in-Call c =
     let a = puts_room pid at c.u32-in-Call.new.self old c.u32-in-Call.new.buffer c.u32-in-Call.result c.u32-in-Call.ensures (omega (arith, room)) in
     rw c.in-Call.is (puts_both pid request at c.u32-in-Call.new.self c.put_request.new.put old c.u32-in-Call.new.buffer
     c.put_request.new.out a c.put_request.ensures)
+
+pub returns-in-Interrupt : goal.returns-in-Interrupt
+returns-in-Interrupt c =
+    let at : ℕ = c.args.put.now in
+    let old : List ℕ = c.args.out.now in
+    let room : at + 8 ≤ length old = rw c.in-Interrupt.is at c.requires in
+    let pid : List ℕ = to_be_bytes w32 c.in-Interrupt.pid.0 in
+    let serial : List ℕ = to_be_bytes w32 c.in-Interrupt.serial in
+    let a = puts_room pid at c.u32-in-Interrupt.new.self old c.u32-in-Interrupt.new.buffer c.u32-in-Interrupt.result c.u32-in-Interrupt.ensures
+    (omega (arith, room)) in
+    rw c.in-Interrupt.is (puts_more pid serial at c.u32-in-Interrupt.new.self c.u32-in-Interrupt-2.new.self old
+    c.u32-in-Interrupt.new.buffer c.u32-in-Interrupt-2.new.buffer
+    c.u32-in-Interrupt-2.result a c.u32-in-Interrupt-2.ensures (omega (arith, room)))

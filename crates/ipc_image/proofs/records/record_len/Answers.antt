@@ -3,7 +3,7 @@ use Rattle.ipc_wire.specs.Request.{plain_request}
 use Rattle.ipc_engine.specs.View.{plain_event}
 use Rattle.ipc_image.specs.Records.{details}
 use Rattle.ipc_image.proofs.EventRecords.{length_record, length_call}
-use Rattle.ipc_image.proofs.records.record_len.Goals.{in-Connect, in-Call, in-Exit, in-Tick, in-Restart}
+use Rattle.ipc_image.proofs.records.record_len.Goals.{in-Connect, in-Call, in-Interrupt, in-Exit, in-Tick, in-Restart}
 use Rattle.ipc_image.proofs.records.record_len.Goals as goal
 
 pub returns-clause-exact : goal.returns-clause-exact
@@ -14,6 +14,7 @@ returns-clause-exact c =
       | in-Call w ↦
           w.result-is ∙ w.request_len.ensures.exact ∙ length_call w.in-Call.pid.0 (plain_request w.in-Call.request) w.in-Call.moment.0
           ∙ ap (λ e. length (details (plain_event e))) (sym w.in-Call.is)
+      | in-Interrupt w ↦ w.result-is ∙ ap (λ e. length (details (plain_event e))) (sym w.in-Interrupt.is)
       | in-Exit w ↦ w.result-is ∙ ap (λ e. length (details (plain_event e))) (sym w.in-Exit.is)
       | in-Tick w ↦ w.result-is ∙ ap (λ e. length (details (plain_event e))) (sym w.in-Tick.is)
       | in-Restart w ↦ w.result-is ∙ ap (λ e. length (details (plain_event e))) (sym w.in-Restart.is)
