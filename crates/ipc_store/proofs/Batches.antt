@@ -4,7 +4,7 @@ use Rattle.std.proofs.lemmas.List.{take-append-drop, take-take, length-take, len
 use Rattle.byteorder.specs.Endian.{big_bytes}
 use Rattle.std.specs.Int.{w32, w64, to_be_bytes}
 use Rattle.ipc_wire.specs.Spelling.{opcode_of, fields_of, request_bytes}
-use Rattle.ipc_engine.specs.Event.{PlainEvent, Connect, Call, Tick, Exit, Restart, moment_of}
+use Rattle.ipc_engine.specs.Event.{PlainEvent, Connect, Call, Interrupt, Tick, Exit, Restart, moment_of}
 use Rattle.ipc_image.specs.Records.{record_bytes, details, text_of, HasDetails, HasRecord}
 use Rattle.ipc_store.specs.Relations.Batch.{IsFilled}
 
@@ -77,6 +77,7 @@ details-most (Call pid request moment) has =
       length-append (to_be_bytes w32 request.serial) (opcode_of request.kind ∷ fields_of request.kind),
       has.1.short,
     )
+details-most (Interrupt pid serial moment) has = omega (arith, length-append (to_be_bytes w32 pid) (to_be_bytes w32 serial))
 details-most (Tick moment) has = omega arith
 details-most (Exit pid moment) has = omega arith
 details-most Restart has = omega arith
