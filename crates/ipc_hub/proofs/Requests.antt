@@ -12,7 +12,7 @@ use Rattle.ipc_base.specs.declared.identity.Cred.{Cred}
 use Rattle.ipc_base.specs.declared.limits.Limits.{Limits}
 use Rattle.ipc_base.proofs.CallerLemmas.{choice, rising-found, is_some-append, is_some-push, longest_reply-bound}
 use Rattle.ipc_wire.specs.Reply.{reply_bytes}
-use Rattle.ipc_wire.specs.Request.{PlainRequest, PlainKind, Hello, Calls}
+use Rattle.ipc_wire.specs.Request.{PlainRequest, PlainKind, Hello, Interrupt as Interrupts, Calls}
 use Rattle.ipc_wire.specs.declared.reply.Body.TheVariants.{Empty, Number}
 use Rattle.ipc_wire.proofs.CallerLemmas.{length-reply_bytes}
 use Rattle.ipc_state.specs.Numbered.{Numbered, entry_of, last_number}
@@ -21,7 +21,7 @@ use Rattle.ipc_state.specs.Sound.{FitsBody}
 use Rattle.ipc_engine.specs.Sound.{IsSound}
 use Rattle.ipc_state.specs.State.{State, is_process, at_moment}
 use Rattle.ipc_engine.specs.Bytes.{bytes_to, asks}
-use Rattle.ipc_engine.specs.Event.{PlainEvent, PlainOutcome, Connect, Call}
+use Rattle.ipc_engine.specs.Event.{PlainEvent, PlainOutcome, Connect, Call, Interrupt}
 use Rattle.ipc_engine.specs.Step.{Step, step, asked}
 use Rattle.ipc_engine.specs.View.{reply_of}
 use Rattle.ipc_engine.proofs.CallerLemmas.{step-fits, step-bytes, asked-keeps}
@@ -122,6 +122,19 @@ call-answers limits s pid request moment sound =
       there = λ never. cc;
     }
 
+interrupt-answers : (limits : Limits) (s : State) (pid serial moment : ℕ) → Answers limits s (Some pid) (step limits s (Interrupt pid serial moment))
+interrupt-answers limits s pid serial moment =
+    let o : PlainOutcome = record { pid = pid; serial = serial; errno = None; body = Empty } in
+    record {
+      o = o;
+      one = refl;
+      fits = fits-longest limits o (omega arith);
+      stay = λ q is. is;
+      own = λ q same. cc;
+      fresh = λ never. cc;
+      there = λ never. cc;
+    }
+
 -- whatever event a request of a process, or of none, makes
 pub request-answers : (limits : Limits) (s : State) (process : Option ℕ) (request : PlainRequest) (moment : ℕ) (e : PlainEvent)
     → IsSound limits s → event_of process request moment ≡ Some e → Answers limits s process (step limits s e)
@@ -133,8 +146,11 @@ request-answers limits s process request moment e sound made = by_case process r
     by_case : (p : Option ℕ) (kind : PlainKind) → event_of p (record request { kind = kind }) moment ≡ Some e → Answers limits s p (step limits s e)
     by_case None (Hello cred) is =
         one (Connect cred request.serial moment) None (hello-answers limits s cred request.serial moment sound) is
+    by_case None Interrupts is = cc
     by_case None (Calls call) is = cc
     by_case (Some pid) (Hello cred) is = cc
+    by_case (Some pid) Interrupts is =
+        one (Interrupt pid request.serial moment) (Some pid) (interrupt-answers limits s pid request.serial moment) is
     by_case (Some pid) (Calls call) is =
         one (Call pid (record request { kind = Calls call }) moment) (Some pid)
         (call-answers limits s pid (record request { kind = Calls call }) moment sound) is
@@ -151,8 +167,12 @@ request-asks limits s process request moment e sound made pid is apart = by_case
     by_case None (Hello cred) same other =
         let below = (rising-found 1 s.processes.entries s.processes.next pid sound.parts.processes.numbers is).1 in
         one (Connect cred request.serial moment) (grind (arith, nat_tests, below)) same
+    by_case None Interrupts same other = cc
     by_case None (Calls call) same other = cc
     by_case (Some q) (Hello cred) same other = cc
+    by_case (Some q) Interrupts same other =
+        let differ : pid ≢ q = λ e. other (ap Some (sym e)) in
+        one (Interrupt q request.serial moment) (grind (arith, nat_tests, differ)) same
     by_case (Some q) (Calls call) same other =
         let differ : pid ≢ q = λ e. other (ap Some (sym e)) in
         one (Call q (record request { kind = Calls call }) moment) (grind (arith, nat_tests, differ)) same

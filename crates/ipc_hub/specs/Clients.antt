@@ -6,7 +6,7 @@ use Rattle.std.specs.List.{flat_map}
 use Rattle.ipc_base.specs.declared.errno.Errno.TheVariants.{EIO, ENOMEM, EPROTO}
 use Rattle.ipc_base.specs.declared.errno.Errno.{Errno}
 use Rattle.ipc_base.specs.declared.limits.Limits.{Limits}
-use Rattle.ipc_wire.specs.Request.{PlainKind, PlainRequest, Hello, Calls}
+use Rattle.ipc_wire.specs.Request.{PlainKind, PlainRequest, Hello, Interrupt as Interrupts, Calls}
 use Rattle.ipc_wire.specs.declared.reply.Body.TheVariants.{Empty}
 use Rattle.ipc_wire.specs.Reply.{reply_bytes}
 use Rattle.ipc_engine.specs.Engine.{takes_memory}
@@ -14,7 +14,7 @@ use Rattle.ipc_wire.specs.Stream.{Ending, stream_of}
 use Rattle.ipc_wire.specs.Stream.Ending.{Rest, Broken}
 use Rattle.ipc_base.specs.Table.{value_at, with_value, with_entry, without, seen_as}
 use Rattle.ipc_state.specs.State.{State}
-use Rattle.ipc_engine.specs.Event.{PlainEvent, Connect, Call, Tick, Exit, PlainOutcome}
+use Rattle.ipc_engine.specs.Event.{PlainEvent, Connect, Call, Interrupt, Tick, Exit, PlainOutcome}
 use Rattle.ipc_engine.specs.Step.{step}
 use Rattle.ipc_engine.specs.View.{reply_of}
 
@@ -114,14 +114,16 @@ break_off limits h conn c serial moment =
 abbrev pub refuse : Clients → ℕ → Client → ℕ → Clients
 refuse h conn c serial = with_client h conn (with_frame c (accepted h) (refusal serial ENOMEM))
 
--- the event that a request of a process, or of none, makes: a HELLO asks for a process, a call needs one
+-- the event that a request of a process, or of none, makes: a HELLO asks for a process, an INTERRUPT and a call need one
 abbrev pub event_of : Option ℕ → PlainRequest → ℕ → Option PlainEvent
 event_of process request moment = by_kind process request.kind
   where
     by_kind : Option ℕ → PlainKind → Option PlainEvent
     by_kind None (Hello cred) = Some (Connect cred request.serial moment)
+    by_kind None Interrupts = None
     by_kind None (Calls call) = None
     by_kind (Some pid) (Hello cred) = None
+    by_kind (Some pid) Interrupts = Some (Interrupt pid request.serial moment)
     by_kind (Some pid) (Calls call) = Some (Call pid request moment)
 
 -- the reply to a request is the last one of its event

@@ -54,12 +54,19 @@ fn event_of<'a>(process: Option<Pid>, request: &Request<'a>, moment: Moment) -> 
             serial: request.serial,
             moment,
         }),
+        (Some(pid), RequestKind::Interrupt) => Some(Event::Interrupt {
+            pid,
+            serial: request.serial,
+            moment,
+        }),
         (Some(pid), RequestKind::Call(_)) => Some(Event::Call {
             pid,
             request: *request,
             moment,
         }),
-        (None, RequestKind::Call(_)) | (Some(_), RequestKind::Hello(_)) => None,
+        (None, RequestKind::Interrupt)
+        | (None, RequestKind::Call(_))
+        | (Some(_), RequestKind::Hello(_)) => None,
     }
 }
 
