@@ -3,6 +3,7 @@ mod Bounds
 mod Numbers
 mod Reading
 mod RestoredParts
+mod Entries
 mod ReadLists
 mod ReadKinds
 mod WholeState

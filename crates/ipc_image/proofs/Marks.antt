@@ -1,12 +1,15 @@
 -- Lists of things in saved objects: one of them by its place, and how many bytes the first ones have.
-use Rattle.std.proofs.Common.{◌≡◌, ℕ, zero, suc, ◌-◌, ◌+◌, ◌<◌, ◌≤◌, List, [], ◌∷◌, ◌++◌, length, map, take, drop, get_or, Some, refl, ap, sym, subst, ◌∙◌, arith}
+use Rattle.std.proofs.Common.{◌≡◌, ℕ, zero, suc, ◌-◌, ◌+◌, ◌<◌, ◌≤◌, List, [], ◌∷◌, ◌++◌}
+use Rattle.std.proofs.Common.{length, map, take, drop, get_or, Some, refl, ap, sym, subst, ◌∙◌, arith}
 use Rattle.std.specs.Prelude.{All, option_map}
 use Rattle.std.proofs.lemmas.List.{length-append, flat_map_more, take_more, take-append-drop}
 use Rattle.std.proofs.lemmas.List.Elements.{All-get_or}
 use Rattle.std.proofs.lemmas.Grind.{flat_map-append}
-use Rattle.std.proofs.lemmas.Option.{get_or_from_slice_get, slice_get_within, slice_get_read, slice_get-map}
+use Rattle.std.proofs.lemmas.Option.{get_or_from_slice_get, slice_get_within, slice_get_read, slice_get-map, slice_get-get_or}
 use Rattle.std.specs.List.{flat_map, slice_get}
-use Rattle.ipc_image.specs.SavedParts.{first_bytes}
+use Rattle.ipc_base.specs.declared.objects.Mark.{Mark}
+use Rattle.ipc_base.specs.Objects.{PlainObjects}
+use Rattle.ipc_image.specs.SavedParts.{first_bytes, MarkAt, Stands}
 
 -- one of them as a value of the definitions
 pub row-at : {A X : Type 0} (row : A → X) (ys : List A) (i : ℕ) (a : A) → i < length ys → a ≡ get_or ys i a
@@ -17,18 +20,38 @@ row-at row ys i a within is = slice_get-map row ys i ∙ ap (option_map row) (sl
 pub each-at : {X : Type 0} (P : X → Type 0) (xs : List X) (i : ℕ) (x : X) → All P xs → slice_get xs i ≡ Some x → P x
 each-at P xs i x each is = subst P (get_or_from_slice_get xs i x x is) (All-get_or P xs i x (slice_get_within xs i x is) each)
 
--- what stands in the first of two lists, and in the second
-pub found-first : {X : Type 0} (xs ys : List X) (i : ℕ) (x : X) → slice_get xs i ≡ Some x → slice_get (xs ++ ys) i ≡ Some x
-found-first [] ys i x is = absurd cc
-found-first (y ∷ xs) ys zero x is = is
-found-first (y ∷ xs) ys (suc i) x is = found-first xs ys i x is
+-- the one at a place of a table, as the state has it
+pub row_at : {T X : Type 0} (row : T → X) (items : List T) (rows : List X) (at : ℕ) (d : T) → map row items ≡ rows → at < length items
+    → slice_get rows at ≡ Some (row (get_or items at d))
+row_at row items rows at d are low =
+    ap (λ l. slice_get l at) (sym are) ∙ slice_get-map row items at ∙ ap (option_map row) (slice_get-get_or items at d low)
 
-pub found-second : {X : Type 0} (xs ys : List X) (i : ℕ) (x : X) → length xs ≤ i → slice_get ys (i - length xs) ≡ Some x → slice_get (xs ++ ys) i ≡ Some x
-found-second [] ys i x le is = let whole : i - 0 ≡ i = omega arith in ap (slice_get ys) (sym whole) ∙ is
-found-second (y ∷ xs) ys zero x le is = absurd (omega arith)
-found-second (y ∷ xs) ys (suc i) x le is =
-    let less : i - length xs ≡ suc i - length (y ∷ xs) = omega arith in
-    found-second xs ys i x (omega arith) (ap (slice_get ys) less ∙ is)
+-- what is a mark of each is one at each place
+pub mark-each : {X : Type 0} (IsMark : X → Mark → Type 0) (next : ℕ → Mark → Type 0) (m : Mark) → ((x : X) → IsMark x m) → ((at : ℕ) → next at m)
+    → (xs : List X) (at : ℕ) → MarkAt IsMark next xs at m
+mark-each IsMark next m each after [] at = after at
+mark-each IsMark next m each after (x ∷ xs) zero = each x
+mark-each IsMark next m each after (x ∷ xs) (suc at) = mark-each IsMark next m each after xs at
+
+-- an object of a kind, at its place among those of the kind and what follows them
+module _ {X : Type 0} (object : X → ℕ × List ℕ) (IsMark : X → Mark → Type 0) (next : ℕ → Mark → Type 0) where
+  pub here : (xs : List X) (more : PlainObjects) (at : ℕ) (x : X) → slice_get xs at ≡ Some x
+      → Stands (map object xs ++ more) (MarkAt IsMark next xs) at (object x) (IsMark x)
+  here [] more at x is = absurd cc
+  here (y ∷ xs) more zero x is =
+      let same : y ≡ x = cc in
+      subst (λ (z : X). Stands (map object (y ∷ xs) ++ more) (MarkAt IsMark next (y ∷ xs)) 0 (object z) (IsMark z)) same
+      (record { object = refl; marks = λ m. (λ h. h, λ h. h) })
+  here (y ∷ xs) more (suc at) x is = let h = here xs more at x is in record { object = h.object; marks = h.marks }
+
+  pub past : (xs : List X) (more : PlainObjects) (at : ℕ) (o : ℕ × List ℕ) (IsOfIt : Mark → Type 0) → length xs ≤ at
+      → Stands more next (at - length xs) o IsOfIt → Stands (map object xs ++ more) (MarkAt IsMark next xs) at o IsOfIt
+  past [] more at o IsOfIt le h = let whole : at - 0 ≡ at = omega arith in subst (λ (n : ℕ). Stands more next n o IsOfIt) whole h
+  past (y ∷ xs) more zero o IsOfIt le h = absurd (omega arith)
+  past (y ∷ xs) more (suc at) o IsOfIt le h =
+      let less : suc at - length (y ∷ xs) ≡ at - length xs = omega arith in
+      let r = past xs more at o IsOfIt (omega arith) (subst (λ (n : ℕ). Stands more next n o IsOfIt) less h) in
+      record { object = r.object; marks = r.marks }
 
 module _ {X : Type 0} (bytes_of : X → List ℕ) (xs : List X) (k : ℕ) where
   -- one more

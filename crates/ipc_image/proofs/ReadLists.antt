@@ -1,9 +1,10 @@
 -- Things read one after another, as many as were counted: what was read so far, and what a reader that stops has shown.
-use Rattle.std.proofs.Common.{◌≡◌, ◌≢◌, ◌<◌, ◌+◌, ℕ, List, [], ◌∷◌, ◌++◌, length, refl, sym, subst, ◌∙◌, arith}
+use Rattle.std.proofs.Common.{◌≡◌, ◌≢◌, ◌<◌, ◌+◌, ℕ, List, [], ◌∷◌, ◌++◌, length, refl, sym, ap, subst, ◌∙◌, arith}
 use Rattle.std.specs.Prelude.{All}
 use Rattle.std.specs.List.{flat_map}
-use Rattle.std.proofs.lemmas.List.{length-append}
+use Rattle.std.proofs.lemmas.List.{length-append, append-nil, append_assoc}
 use Rattle.std.proofs.lemmas.List.Elements.{All-nil, All-push, All-head, All-tail}
+use Rattle.ipc_image.specs.SavedParts.{with_more, IsPlace}
 use Rattle.ipc_base.proofs.CallerLemmas.{spelled-next, spelled-more}
 
 module _ {X : Type 0} (bytes_of : X → List ℕ) (P : X → Type 0) where
@@ -37,3 +38,13 @@ module _ {X : Type 0} (bytes_of : X → List ℕ) (P : X → Type 0) where
           middle : (ys : List X) (x : X) (more : List X) → All P (ys ++ x ∷ more) → P x
           middle [] x more h = All-head P x more h
           middle (y ∷ ys) x more h = middle ys x more (All-tail P y (ys ++ x ∷ more) h)
+
+-- what was added is added after what was added before
+module _ {S X : Type 0} (items : S → List X) (put : S → List X → S) (place : IsPlace items put) (s : S) where
+  pub none-more : with_more items put s [] ≡ s
+  none-more = ap (put s) (append-nil (items s)) ∙ place.same s
+
+  pub more-more : (xs ys : List X) → with_more items put (with_more items put s xs) ys ≡ with_more items put s (xs ++ ys)
+  more-more xs ys =
+      place.again s (items s ++ xs) (items (put s (items s ++ xs)) ++ ys)
+      ∙ ap (λ (l : List X). put s (l ++ ys)) (place.found s (items s ++ xs)) ∙ ap (put s) (append_assoc (items s) xs ys)

@@ -1,45 +1,52 @@
 -- The state as objects: how many bytes each has, that they are objects, and that they fit where they are kept.
-use Rattle.std.proofs.Common.{◌≡◌, ℕ, zero, suc, ◌+◌, ◌*◌, ◌^◌, ◌<◌, ◌≤◌, List, [], ◌∷◌, ◌++◌, length, map, Some, refl, sym, ap, subst, ◌∙◌, arith}
+use Rattle.std.proofs.Common.{◌≡◌, ℕ, zero, suc, ◌+◌, ◌*◌, ◌^◌, ◌<◌, ◌≤◌, ◌-◌, drop, List, [], ◌∷◌, ◌++◌, length, map, Some, refl, sym, ap, subst, ◌∙◌, arith}
 use Rattle.std.specs.Prelude.{All, sum_by, option_map}
 use Rattle.std.proofs.lemmas.List.{append-nil, length-map, length-append}
 use Rattle.std.proofs.lemmas.List.Concat.{flat_map-cons}
 use Rattle.std.proofs.lemmas.List.Elements.{All-append, All-cons, All-map, All-nil, All-weaker}
 use Rattle.std.proofs.lemmas.List.Sums.{sum_by-append, sum_by-cons, sum_by-le, sum_by_from}
 use Rattle.std.proofs.lemmas.Nat.{mul-le}
-use Rattle.std.proofs.lemmas.Option.{slice_get-map}
+use Rattle.std.proofs.Math.Nat.{mul-zero, mul-suc}
 use Rattle.std.specs.List.{flat_map, slice_get}
 use Rattle.ipc_state.specs.declared.processes.Process.{Process}
 use Rattle.ipc_base.specs.declared.limits.Limits.{Limits}
 use Rattle.ipc_base.specs.Limits.{ArePassed}
 use Rattle.ipc_base.specs.Objects.{PlainObjects, AreObjects, object_sectors, Fit}
 use Rattle.ipc_base.specs.Table.{keys_of, IsRising}
-use Rattle.ipc_base.proofs.CallerLemmas.{passed-bounds, rising-weaker, rising-lower}
-use Rattle.sysv_msg.specs.Queue.{Queue, PlainMessage, Kept, byte_count, stat_of}
+use Rattle.ipc_base.proofs.CallerLemmas.{passed-bounds, rising-lower}
+use Rattle.sysv_msg.specs.Queue.{Queue, PlainMessage, Kept, byte_count, stat_of as queue_stat}
 use Rattle.sysv_msg.specs.declared.queue.QueueStat.{QueueStat}
 use Rattle.ipc_state.specs.declared.numbered.Item.{Item}
 use Rattle.ipc_state.specs.declared.keyed.Entry.{Entry}
 use Rattle.ipc_state.specs.Sound.{IsSoundQueue, IsSoundSet, HasNumbers}
-use Rattle.sysv_sem.specs.declared.set.Semaphore.{Semaphore}
-use Rattle.sysv_sem.specs.Set.{Set, semaphores_of}
-use Rattle.sysv_sem.proofs.CallerLemmas.{semaphores-long}
+use Rattle.sysv_sem.specs.Set.{Set, stat_of as set_stat}
+use Rattle.sysv_sem.specs.declared.set.SemStat.{SemStat}
 use Rattle.ipc_state.proofs.CallerLemmas.{All-seen, queue-numbers}
 use Rattle.ipc_engine.specs.Sound.{IsSound}
 use Rattle.ipc_state.specs.State.{State, start}
 use Rattle.ipc_state.specs.Tables.{item_row, queue_row}
 use Rattle.ipc_base.specs.Numbers.{fields_bytes}
+use Rattle.ipc_image.specs.Saved.{counted_bytes, queue_sizes, queue_numbers, set_sizes, set_numbers}
 use Rattle.ipc_image.specs.Saved.{clock_sizes, clock_numbers, count_bytes, process_bytes, processes_bytes, message_bytes}
 use Rattle.ipc_image.specs.Kind.{object_in}
 use Rattle.ipc_image.specs.Saved.{queue_bytes, queue_object, semaphore_bytes, set_bytes, set_object, saved, HasAllPlaces}
-use Rattle.ipc_image.proofs.RestoredParts.{queue_spelled, set_spelled}
+use Rattle.ipc_image.specs.SavedParts.{IsMarkAfter, Stands}
+use Rattle.ipc_image.proofs.Marks.{each-at}
+use Rattle.ipc_base.specs.declared.objects.Mark.{Mark}
 use Rattle.ipc_image.specs.Sizes.{sectors, process_sectors, area_of}
 
 -- ---- how many bytes each has
 
+-- a list of things that have as many each
+length-each : {X : Type 0} (bytes_of : X → List ℕ) (n : ℕ) → ((x : X) → length (bytes_of x) ≡ n) → (xs : List X)
+    → length (flat_map bytes_of xs) ≡ n * length xs
+length-each bytes_of n each [] = sym (mul-zero n)
+length-each bytes_of n each (x ∷ xs) =
+    ap length (flat_map-cons bytes_of x xs) ∙ length-append (bytes_of x) (flat_map bytes_of xs)
+    ∙ omega (arith, each x, length-each bytes_of n each xs, mul-suc n (length xs))
+
 pub length-processes : (processes : List (ℕ × Process)) → length (flat_map process_bytes processes) ≡ 16 * length processes
-length-processes [] = refl
-length-processes (p ∷ processes) =
-    ap length (flat_map-cons process_bytes p processes) ∙ length-append (process_bytes p) (flat_map process_bytes processes)
-    ∙ omega (arith, length-processes processes)
+length-processes processes = length-each process_bytes 16 (λ p. refl) processes
 
 pub processes-long : (processes : List (ℕ × Process)) → length (processes_bytes processes) ≡ 4 + 16 * length processes
 processes-long processes = omega (arith, length-append (count_bytes (length processes)) (flat_map process_bytes processes), length-processes processes)
@@ -51,20 +58,19 @@ length-messages (m ∷ messages) =
     ∙ omega (arith, length-messages messages, sum_by-cons (λ (n : PlainMessage). length n.text) m messages)
 
 pub queue-long : (e : Entry Queue) → length (queue_bytes e) ≡ 64 + (12 * length e.object.messages + byte_count e.object.messages)
-queue-long e = omega (arith, ap length (queue_spelled e), length-messages e.object.messages)
+queue-long e = omega (arith, length-messages e.object.messages)
 
-pub queue_counts : (e : Entry Queue) (s : QueueStat) → s ≡ stat_of e.object → length (queue_bytes e) ≡ 64 + (12 * s.qnum + s.bytes)
-queue_counts e s is = omega (arith, queue-long e, ap (λ (t : QueueStat). t.qnum) is, ap (λ (t : QueueStat). t.bytes) is)
+-- how many its numbers and its parts have, by what it tells of itself
+pub queue_counts : (q : Queue) (s : QueueStat) → s ≡ queue_stat q
+    → length (fields_bytes queue_sizes (queue_numbers q) ++ counted_bytes message_bytes q.messages) ≡ 40 + (12 * s.qnum + s.bytes)
+queue_counts q s is = omega (arith, length-messages q.messages, ap (λ (t : QueueStat). t.qnum) is, ap (λ (t : QueueStat). t.bytes) is)
 
-pub length-semaphores : (xs : List Semaphore) → length (flat_map semaphore_bytes xs) ≡ 6 * length xs
-length-semaphores [] = refl
-length-semaphores (x ∷ xs) =
-    ap length (flat_map-cons semaphore_bytes x xs) ∙ length-append (semaphore_bytes x) (flat_map semaphore_bytes xs)
-    ∙ omega (arith, length-semaphores xs)
+pub set_counts : (x : Set) (s : SemStat) → s ≡ set_stat x
+    → length (fields_bytes set_sizes (set_numbers x) ++ counted_bytes semaphore_bytes x.semaphores) ≡ 20 + 6 * s.nsems
+set_counts x s is = omega (arith, length-each semaphore_bytes 6 (λ y. refl) x.semaphores, ap (λ (t : SemStat). t.nsems) is)
 
-pub set-long : (e : Entry Set) → length e.object.pids ≡ length e.object.values → length (set_bytes e) ≡ 44 + 6 * length e.object.values
-set-long e same =
-    omega (arith, ap length (set_spelled e), length-semaphores (semaphores_of e.object), semaphores-long e.object.values e.object.pids same)
+pub set-long : (e : Entry Set) → length (set_bytes e) ≡ 44 + 6 * length e.object.semaphores
+set-long e = omega (arith, length-each semaphore_bytes 6 (λ x. refl) e.object.semaphores)
 
 -- ---- which object is which
 
@@ -109,11 +115,14 @@ module _ (s : State) where
   saved-number (suc (suc (suc (suc i)))) few = absurd (omega arith)
 
   -- an object after the four
-  pub saved-thing : (i j : ℕ) (o : ℕ × List ℕ) → i ≡ 4 + j → slice_get (things s) j ≡ Some o → slice_get (saved s) i ≡ Some o
+  pub found-thing : AreObjects (saved s) → (i : ℕ) → 4 ≤ i → (o : ℕ × List ℕ) (IsOfIt : Mark → Type 0)
+      → Stands (things s) (IsMarkAfter s) (i - 4) o IsOfIt
+      → Stands (drop 4 (saved s)) (IsMarkAfter s) (i - 4) o IsOfIt × (slice_get (saved s) i ≡ Some o) × (length o.1 < 2 ^ 64)
   unfolding saved
-  saved-thing i j o place found =
-      let deep : i ≡ suc (suc (suc (suc j))) = omega arith in
-      ap (slice_get (saved s)) deep ∙ found
+  found-thing are i four o IsOfIt stands =
+      let deep : i ≡ suc (suc (suc (suc (i - 4)))) = omega (arith, four) in
+      let found = ap (slice_get (saved s)) deep ∙ stands.object in
+      (stands, found, each-at (λ (p : ℕ × List ℕ). length p.1 < 2 ^ 64) (saved s) i o are.lengths found)
 
   -- what holds of the four, of each queue and of each set holds of all
   each-saved : (P : ℕ × List ℕ → Type 0) → P (0, fields_bytes clock_sizes (clock_numbers s)) → P (1, processes_bytes s.processes.entries)
@@ -165,10 +174,10 @@ module _ (limits : Limits) (s : State) (passed : ArePassed limits) (sound : IsSo
       s.msg.entries sound.parts.msg.each))
 
   -- and the count of the semaphores of a set
-  pub sets-numbers : (rows : List (Item (Entry Set))) → map item_row rows ≡ s.sem.entries → All (λ e. length e.value.object.values < 2 ^ 32) rows
+  pub sets-numbers : (rows : List (Item (Entry Set))) → map item_row rows ≡ s.sem.entries → All (λ e. length e.value.object.semaphores < 2 ^ 32) rows
   sets-numbers rows are =
       let b = passed-bounds limits passed in
-      let P : ℕ × Entry Set → Type 0 = λ e. length e.1.object.values < 2 ^ 32 in
+      let P : ℕ × Entry Set → Type 0 = λ e. length e.1.object.semaphores < 2 ^ 32 in
       All-seen P item_row rows (subst (All P) (sym are)
       (All-weaker (λ (e : ℕ × Entry Set). IsSoundSet limits e.1.object) P (λ e good. omega (arith, good.few, b.semmsl))
       s.sem.entries sound.parts.sem.keyed.each))
@@ -178,11 +187,10 @@ module _ (limits : Limits) (s : State) (passed : ArePassed limits) (sound : IsSo
       All-weaker (λ (e : ℕ × Entry Queue). IsSoundQueue limits e.1.object) (λ e. length (queue_bytes e.1) ≤ 64 + 13 * limits.msgmnb)
       (λ e good. omega (arith, queue-long e.1, good.count, good.bytes)) s.msg.entries sound.parts.msg.each
 
-  sets-short : All (λ e. (44 ≤ length (set_bytes e.1)) × (length (set_bytes e.1) ≤ 44 + 6 * limits.semmsl)) s.sem.entries
+  sets-short : All (λ e. length (set_bytes e.1) ≤ 44 + 6 * limits.semmsl) s.sem.entries
   sets-short =
-      All-weaker (λ (e : ℕ × Entry Set). IsSoundSet limits e.1.object)
-      (λ e. (44 ≤ length (set_bytes e.1)) × (length (set_bytes e.1) ≤ 44 + 6 * limits.semmsl))
-      (λ e good. let long = set-long e.1 good.pids in (omega (arith, long), omega (arith, long, good.few))) s.sem.entries sound.parts.sem.keyed.each
+      All-weaker (λ (e : ℕ × Entry Set). IsSoundSet limits e.1.object) (λ e. length (set_bytes e.1) ≤ 44 + 6 * limits.semmsl)
+      (λ e good. omega (arith, set-long e.1, good.few)) s.sem.entries sound.parts.sem.keyed.each
 
   numbers-rise : IsRising 0 (keys_of (saved s)) (2 ^ 64)
   unfolding saved
@@ -203,18 +211,18 @@ module _ (limits : Limits) (s : State) (passed : ArePassed limits) (sound : IsSo
       let b = passed-bounds limits passed in
       let Some-bytes : ℕ × List ℕ → Type 0 = λ o. 0 < length o.1 in
       let Few-bytes : ℕ × List ℕ → Type 0 = λ o. length o.1 < 2 ^ 64 in
-      let IsShort : ℕ × Entry Set → Type 0 = λ e. (44 ≤ length (set_bytes e.1)) × (length (set_bytes e.1) ≤ 44 + 6 * limits.semmsl) in
+      let IsShort : ℕ × Entry Set → Type 0 = λ e. length (set_bytes e.1) ≤ 44 + 6 * limits.semmsl in
       record {
         numbers = numbers-rise;
         some = each-saved s Some-bytes (omega arith) (omega (arith, processes-long s.processes.entries)) (omega arith) (omega arith)
             (All-weaker (λ (e : ℕ × Entry Queue). length (queue_bytes e.1) ≤ 64 + 13 * limits.msgmnb) (λ e. Some-bytes (queue_object e))
             (λ e short. omega (arith, queue-long e.1)) s.msg.entries queues-short)
-            (All-weaker IsShort (λ e. Some-bytes (set_object e)) (λ e short. omega (arith, short.0)) s.sem.entries sets-short);
+            (All-weaker IsShort (λ e. Some-bytes (set_object e)) (λ e short. omega (arith, set-long e.1)) s.sem.entries sets-short);
         lengths = each-saved s Few-bytes (omega arith)
             (omega (arith, processes-long s.processes.entries, sound.parts.processes.count, b.processes.1)) (omega arith) (omega arith)
             (All-weaker (λ (e : ℕ × Entry Queue). length (queue_bytes e.1) ≤ 64 + 13 * limits.msgmnb) (λ e. Few-bytes (queue_object e))
             (λ e short. omega (arith, short, b.msgmnb.1)) s.msg.entries queues-short)
-            (All-weaker IsShort (λ e. Few-bytes (set_object e)) (λ e short. omega (arith, short.1, b.semmsl)) s.sem.entries sets-short);
+            (All-weaker IsShort (λ e. Few-bytes (set_object e)) (λ e short. omega (arith, short, b.semmsl)) s.sem.entries sets-short);
         count = omega (arith, saved-count s, sound.parts.msg.numbered.count, b.msgmni, sound.parts.sem.keyed.numbered.count, b.semmni);
       }
 
@@ -226,9 +234,8 @@ module _ (limits : Limits) (s : State) (passed : ArePassed limits) (sound : IsSo
   object-sectors =
       let of : ℕ × List ℕ → ℕ = λ o. sectors (length o.1) in
       let queues = kind-sectors (2 ^ 32) limits.msgmni (64 + 13 * limits.msgmnb) queue_bytes s.msg.entries queues-short sound.parts.msg.numbered.count in
-      let sets = kind-sectors (2 * 2 ^ 32) limits.semmni (44 + 6 * limits.semmsl) set_bytes s.sem.entries
-      (All-weaker (λ (e : ℕ × Entry Set). (44 ≤ length (set_bytes e.1)) × (length (set_bytes e.1) ≤ 44 + 6 * limits.semmsl))
-      (λ e. length (set_bytes e.1) ≤ 44 + 6 * limits.semmsl) (λ e short. short.1) s.sem.entries sets-short) sound.parts.sem.keyed.numbered.count in
+      let sets = kind-sectors (2 * 2 ^ 32) limits.semmni (44 + 6 * limits.semmsl) set_bytes s.sem.entries sets-short
+      sound.parts.sem.keyed.numbered.count in
       let processes : 16 * length s.processes.entries ≤ limits.processes * (16 + 16 * limits.descriptors) =
       omega (arith, mul-le (length s.processes.entries) 16 limits.processes (16 + 16 * limits.descriptors) sound.parts.processes.count (omega arith)) in
       let first : ℕ = sectors 32 + sectors (length (processes_bytes s.processes.entries)) + sectors 4 + sectors 4 in

@@ -1,15 +1,14 @@
 -- What is saved is known by its bytes, whatever follows them: proved once, for every shape.
-use Rattle.std.proofs.Common.{◌≡◌, ◌<◌, ◌^◌, ℕ, List, [], ◌∷◌, ◌++◌, length, map, get_or, take, drop, refl, sym, ap, ◌∙◌, arith}
+use Rattle.std.proofs.Common.{◌≡◌, ◌<◌, ◌^◌, ℕ, List, [], ◌∷◌, ◌++◌, length, get_or, take, drop, refl, sym, ap, ◌∙◌, arith}
 use Rattle.std.specs.Prelude.{All}
 use Rattle.std.specs.List.{flat_map}
 use Rattle.std.proofs.lemmas.List.{append_assoc, length-append, take_at, drop_at}
-use Rattle.std.proofs.lemmas.List.Elements.{All-head, All-tail}
 use Rattle.ipc_base.specs.declared.field.Size.{Size}
 use Rattle.ipc_base.specs.declared.field.Size.TheVariants.{Four}
 use Rattle.ipc_image.specs.Saved.{counted_bytes}
 use Rattle.ipc_base.specs.Numbers.{fields_bytes, FitFields}
 use Rattle.ipc_base.proofs.CallerLemmas.{fields_one, spelled-same}
-use Rattle.ipc_image.specs.Shape.{Shape, Fields, Texts, Listing, Tree, tree_bytes, total_at, IsTree}
+use Rattle.ipc_image.specs.Shape.{Shape, Fields, Texts, Tree, tree_bytes, total_at, IsTree}
 
 -- two texts of one length
 pub text_one : (s t more others : List ℕ) → length s ≡ length t → s ++ more ≡ t ++ others → (s ≡ t) × (more ≡ others)
@@ -41,19 +40,6 @@ tree_one (Texts sizes lengths) t u more others fit also same =
     let all = texts_one sizes lengths t.0 u.0 t.1 u.1 more others fit.0 also.0 fit.1 also.1
     (sym (append_assoc (fields_bytes sizes t.0) t.1 more) ∙ same ∙ append_assoc (fields_bytes sizes u.0) u.1 others) in
     (ap (λ (ns : List ℕ). (ns, t.1)) all.0 ∙ ap (λ (l : List ℕ). (u.0, l)) all.1, all.2)
-tree_one (Listing sizes lengths count shape) t u more others fit also same =
-    let mine : List ℕ = flat_map (tree_bytes shape) t.2 in
-    let its : List ℕ = flat_map (tree_bytes shape) u.2 in
-    let apart : (ns x y z : List ℕ) → (fields_bytes sizes ns ++ (x ++ y)) ++ z ≡ fields_bytes sizes ns ++ (x ++ (y ++ z)) =
-    λ ns x y z. append_assoc (fields_bytes sizes ns) (x ++ y) z ∙ ap (λ (l : List ℕ). fields_bytes sizes ns ++ l) (append_assoc x y z) in
-    let all = texts_one sizes lengths t.0 u.0 t.1 u.1 (mine ++ more) (its ++ others) fit.0 also.0 fit.1 also.1
-    (sym (apart t.0 t.1 mine more) ∙ same ∙ apart u.0 u.1 its others) in
-    let long : length t.2 ≡ length u.2 = fit.2 ∙ ap (λ (ns : List ℕ). get_or ns count 0) all.0 ∙ sym also.2 in
-    let items = spelled-same (tree_bytes shape) (IsTree shape) (tree_one shape) t.2 u.2 more others fit.3 also.3 long all.2 in (
-      ap (λ (ns : List ℕ). (ns, t.1, t.2)) all.0 ∙ ap (λ (l : List ℕ). (u.0, l, t.2)) all.1
-          ∙ ap (λ (ts : List (Tree shape)). (u.0, u.1, ts)) items.0,
-      items.1,
-    )
 
 -- so is what a tree stands for, if the tree gives it back
 pub plain_one : (s : Shape) {X : Type 0} (tree : X → Tree s) (back : Tree s → X) (Fits : X → Type 0)
@@ -65,13 +51,6 @@ plain_one s tree back Fits known x y more others fit also same =
     let two = known y also in
     let trees = tree_one s (tree x) (tree y) more others one.0 two.0 same in
     (sym one.1 ∙ ap back trees.0 ∙ two.1, trees.1)
-
--- and each of a list of them
-pub each_back : {X T : Type 0} (tree : X → T) (back : T → X) (xs : List X) → All (λ x. back (tree x) ≡ x) xs → map back (map tree xs) ≡ xs
-each_back tree back [] known = refl
-each_back {X} tree back (x ∷ xs) known =
-    ap (λ (y : X). y ∷ map back (map tree xs)) (All-head (λ y. back (tree y) ≡ y) x xs known)
-    ∙ ap (λ (ys : List X). x ∷ ys) (each_back tree back xs (All-tail (λ y. back (tree y) ≡ y) x xs known))
 
 -- so is a counted list of them
 pub counted_one : {X : Type 0} (bytes_of : X → List ℕ) (P : X → Type 0)

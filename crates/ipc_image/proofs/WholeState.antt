@@ -1,6 +1,9 @@
--- The whole of a state: its objects part by part, and that two states with the same objects are the same.
-use Rattle.std.proofs.Common.{◌≡◌, ◌<◌, ◌^◌, ◌*◌, arith, ℕ, List, [], ◌∷◌, ◌++◌, length, drop, map, Option, Some, refl, sym, ◌∙◌, ap, subst}
+-- A state is known by its objects, and what was read of objects makes one.
+use Rattle.std.proofs.Common.{◌≡◌, ℕ, ◌*◌, ◌<◌, ◌^◌, List, [], ◌∷◌, ◌++◌, length, map, drop, Option, Some, refl, sym, ap, subst, ◌∙◌, arith}
 use Rattle.std.specs.Prelude.{All, slice_get, unwrap_or}
+use Rattle.std.specs.Int.{w64}
+use Rattle.std.proofs.lemmas.Int.{to_z-of_z}
+use Rattle.ipc_base.specs.declared.limits.Limits.{Limits}
 use Rattle.ipc_base.specs.Numbers.{fields_bytes}
 use Rattle.ipc_base.specs.Objects.{PlainObjects}
 use Rattle.sysv_msg.specs.Queue.{Queue}
@@ -10,16 +13,18 @@ use Rattle.ipc_state.specs.declared.processes.Process.{Process}
 use Rattle.ipc_state.specs.declared.state.Numbers.{Numbers}
 use Rattle.ipc_state.specs.Restored.{with_numbers}
 use Rattle.ipc_state.specs.State.{State, start}
-use Rattle.ipc_image.specs.Relations.Restored.{IsClockOf}
-use Rattle.ipc_image.specs.Relations.Restored.{with_processes, with_queues, with_sets}
-use Rattle.ipc_image.specs.Saved.{clock_sizes, clock_numbers, count_bytes, process_shape, process_numbers, process_bytes, processes_bytes, FitsProcess}
-use Rattle.ipc_image.specs.Saved.{queue_shape, queue_tree, queue_bytes, queue_object, saved, FitsQueue, HasPlaces, HasAllPlaces}
 use Rattle.ipc_image.specs.Kind.{FitsIn}
-use Rattle.ipc_image.specs.Saved.{set_shape, set_tree, set_bytes, set_object, FitsSet}
-use Rattle.ipc_image.specs.SavedParts.{process_of, queue_of, set_in, without_processes, without_queues, without_sets}
+use Rattle.ipc_image.specs.Relations.Restored.{IsClockOf}
+use Rattle.ipc_image.specs.Saved.{clock_sizes, clock_numbers, count_bytes, process_shape, process_numbers, process_bytes, processes_bytes, FitsProcess}
+use Rattle.ipc_image.specs.Saved.{message_shape, message_tree, message_bytes, FitsMessage, messages_of, queue_sizes, queue_numbers, queue_bytes, queue_object}
+use Rattle.ipc_image.specs.Saved.{FitsQueue, semaphore_shape, semaphore_numbers, semaphore_bytes, FitsSemaphore, semaphores_of, set_sizes, set_numbers}
+use Rattle.ipc_image.specs.Saved.{set_bytes, set_object, FitsSet, saved, HasAllPlaces}
+use Rattle.ipc_image.specs.SavedParts.{process_of, message_of, message_from, queue_from, semaphore_from, set_from}
+use Rattle.ipc_image.specs.SavedParts.{with_more, put_processes, put_queues, put_sets}
+use Rattle.ipc_image.proofs.Entries.{entry_one}
 use Rattle.ipc_image.proofs.Shapes.{plain_one, counted_one}
 use Rattle.ipc_image.proofs.ReadKinds.{object_at, objects_one, later-kind}
-use Rattle.ipc_image.proofs.RestoredParts.{clock_one, queue_known, set_tree_known}
+use Rattle.ipc_image.proofs.RestoredParts.{clock_one}
 use Rattle.ipc_image.proofs.SavedObjects.{things}
 
 -- the objects of a state, each in its place
@@ -55,33 +60,33 @@ same_object objects i a b is also =
 
 -- ---- added
 
-pub processes_added : (s t : State) (ps : List (ℕ × Process)) → t.processes.entries ≡ s.processes.entries ++ ps
-    → without_processes t ≡ without_processes s → t ≡ with_processes s ps
-processes_added s t ps added others =
-    let set : List (ℕ × Process) → State → State = λ l v. record v { processes = record { next = v.processes.next; entries = l } } in
-    ap (λ (l : List (ℕ × Process)). set l t) added ∙ ap (set (s.processes.entries ++ ps)) others
+-- the state that has these
+abbrev pub state_of : Numbers → List (ℕ × Process) → List (ℕ × Entry Queue) → List (ℕ × Entry Set) → State
+state_of n ps es fs =
+    record {
+      clock = n.clock.0;
+      processes = record { next = n.next_pid; entries = ps };
+      msg = record { next = n.next_queue; entries = es };
+      sem = record { next = n.next_set; entries = fs };
+    }
 
-pub queues_added : (s t : State) (es : List (ℕ × Entry Queue)) → t.msg.entries ≡ s.msg.entries ++ es → without_queues t ≡ without_queues s
-    → t ≡ with_queues s es
-queues_added s t es added others =
-    let set : List (ℕ × Entry Queue) → State → State = λ l v. record v { msg = record { next = v.msg.next; entries = l } } in
-    ap (λ (l : List (ℕ × Entry Queue)). set l t) added ∙ ap (set (s.msg.entries ++ es)) others
-
-pub sets_added : (s t : State) (es : List (ℕ × Entry Set)) → t.sem.entries ≡ s.sem.entries ++ es → without_sets t ≡ without_sets s → t ≡ with_sets s es
-sets_added s t es added others =
-    let set : List (ℕ × Entry Set) → State → State = λ l v. record v { sem = record { next = v.sem.next; entries = l } } in
-    ap (λ (l : List (ℕ × Entry Set)). set l t) added ∙ ap (set (s.sem.entries ++ es)) others
+pub all-added : (n : Numbers) (limits : Limits) (one two three four : State × Limits) (ps : List (ℕ × Process)) (es : List (ℕ × Entry Queue))
+    (fs : List (ℕ × Entry Set)) → one ≡ (with_numbers start n, limits)
+    → two ≡ with_more (λ s. s.0.processes.entries) put_processes one ps → three ≡ with_more (λ s. s.0.msg.entries) put_queues two es
+    → four ≡ with_more (λ s. s.0.sem.entries) put_sets three fs → four ≡ (state_of n ps es fs, limits)
+all-added n limits one two three four ps es fs from processes queues sets =
+    sets ∙ ap (λ (s : State × Limits). put_sets s (s.0.sem.entries ++ fs)) (queues ∙ ap (λ (s : State × Limits). put_queues s (s.0.msg.entries ++ es))
+    (processes ∙ ap (λ (s : State × Limits). put_processes s (s.0.processes.entries ++ ps)) from))
 
 -- the objects are those of the state that they make
 pub all_restored : (objects : PlainObjects) (n : Numbers) (ps : List (ℕ × Process)) (es : List (ℕ × Entry Queue)) (fs : List (ℕ × Entry Set)) (s : State)
     (clock processes calls adjustments : List ℕ)
     → slice_get objects 0 ≡ Some (0, clock) → slice_get objects 1 ≡ Some (1, processes) → slice_get objects 2 ≡ Some (2, calls)
     → slice_get objects 3 ≡ Some (3, adjustments) → calls ≡ count_bytes 0 → adjustments ≡ count_bytes 0 → IsClockOf n clock
-    → length ps < 2 ^ 32 → All FitsProcess ps → processes ≡ processes_bytes ps → All HasPlaces es → All (FitsIn FitsSet) fs
-    → drop 4 objects ≡ map queue_object es ++ map set_object fs
-    → s ≡ with_sets (with_queues (with_processes (with_numbers start n) ps) es) fs → HasAllPlaces s × (objects ≡ saved s)
+    → length ps < 2 ^ 32 → All FitsProcess ps → processes ≡ processes_bytes ps → All (FitsIn FitsQueue) es → All (FitsIn FitsSet) fs
+    → drop 4 objects ≡ map queue_object es ++ map set_object fs → s ≡ state_of n ps es fs → HasAllPlaces s × (objects ≡ saved s)
 all_restored objects n ps es fs s clock processes calls adjustments at0 at1 at2 at3 no_call no_adjustment of few fit read places holds others is =
-    let t : State = with_sets (with_queues (with_processes (with_numbers start n) ps) es) fs in
+    let t : State = state_of n ps es fs in
     let numbers = of t refl refl refl refl in
     let all : HasAllPlaces t = record { clock = numbers.0; count = few; processes = fit; queues = places; sets = holds } in
     let parts : HasParts t objects = record {
@@ -105,13 +110,17 @@ with_parts u ps es fs =
       sem = record { next = u.sem.next; entries = fs };
     }
 
--- two queues with the same bytes
+-- two queues with the same bytes, and two semaphore sets
 queue_one : (e f : Entry Queue) → FitsQueue e → FitsQueue f → queue_bytes e ≡ queue_bytes f → e ≡ f
-queue_one e f fit also same = (plain_one queue_shape queue_tree queue_of FitsQueue queue_known e f [] [] fit also (ap (λ (l : List ℕ). l ++ []) same)).0
+queue_one =
+    entry_one queue_sizes queue_numbers message_bytes FitsMessage messages_of
+    (plain_one message_shape message_tree message_of FitsMessage (λ m fit. (fit.1, ap (message_from m.text) (to_z-of_z w64 m.mtype fit.0))))
+    queue_from (λ q. refl)
 
--- two semaphore sets
 set_one : (e f : Entry Set) → FitsSet e → FitsSet f → set_bytes e ≡ set_bytes f → e ≡ f
-set_one e f fit also same = (plain_one set_shape set_tree set_in FitsSet set_tree_known e f [] [] fit also (ap (λ (l : List ℕ). l ++ []) same)).0
+set_one =
+    entry_one set_sizes set_numbers semaphore_bytes FitsSemaphore semaphores_of
+    (plain_one semaphore_shape semaphore_numbers semaphore_from FitsSemaphore (λ x fit. (fit.1, refl))) set_from (λ s. refl)
 
 -- two states
 pub saved_once : (s t : State) → HasAllPlaces s → HasAllPlaces t → saved s ≡ saved t → s ≡ t

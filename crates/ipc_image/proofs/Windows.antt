@@ -78,6 +78,10 @@ module _ (w : Shown) where
       ap (λ (y : X). passed (bytes_of y) (passed (flat_map bytes_of (take i xs)) w)) (sym (get_or_from_slice_get xs i x x is))
       ∙ passed-more bytes_of xs i x (slice_get_within xs i x is)
 
+-- three pieces
+pub passed-three : (w : Shown) (xs ys zs : List ℕ) → passed zs (passed ys (passed xs w)) ≡ passed (xs ++ (ys ++ zs)) w
+passed-three w xs ys zs = passed-both (passed xs w) ys zs ∙ passed-both w xs (ys ++ zs)
+
 -- all of a list of them, if the window shows no more after some
 pub passed-full : {X : Type 0} (w : Shown) (bytes_of : X → List ℕ) (xs : List X) (i : ℕ) (full : Shown)
     → full ≡ passed (flat_map bytes_of (take i xs)) w → ((piece : List ℕ) → passed piece full ≡ full) → full ≡ passed (flat_map bytes_of xs) w

@@ -1,7 +1,7 @@
 -- The state as objects, each of them some bytes under a number: what a checkpoint keeps. There are four that every
 -- state has, one for each queue, and one for each semaphore set. Kinds that are still to come have their place: their
 -- next number is 1, and no process has a descriptor, no call waits, and no semaphore is adjusted.
-use Rattle.std.specs.Prelude.{◌≡◌, ◌+◌, ◌*◌, ◌<◌, ◌≤◌, ◌^◌, ℕ, List, [], ◌∷◌, ◌++◌}
+use Rattle.std.specs.Prelude.{◌≡◌, ◌*◌, ◌<◌, ◌≤◌, ◌^◌, ℕ, ℤ, List, [], ◌∷◌, ◌++◌}
 use Rattle.std.specs.Prelude.{length, map, All, FitsSigned}
 use Rattle.std.specs.Int.{w32, w64, cast_unsigned}
 use Rattle.std.specs.List.{flat_map}
@@ -10,7 +10,8 @@ use Rattle.ipc_base.specs.Objects.{PlainObjects}
 use Rattle.sysv_msg.specs.Queue.{Queue, PlainMessage}
 use Rattle.sysv_sem.specs.Operation.{most_value}
 use Rattle.sysv_sem.specs.declared.set.Semaphore.{Semaphore}
-use Rattle.sysv_sem.specs.Set.{Set, semaphores_of}
+use Rattle.sysv_sem.specs.Set.{Set}
+use Rattle.ipc_perm.specs.declared.perm.Perm.{Perm}
 use Rattle.ipc_state.specs.declared.keyed.Entry.{Entry}
 use Rattle.ipc_state.specs.declared.processes.Process.{Process}
 use Rattle.ipc_engine.specs.Sound.{IsSound}
@@ -19,7 +20,7 @@ use Rattle.ipc_base.specs.declared.field.Size.{Size}
 use Rattle.ipc_base.specs.declared.field.Size.TheVariants.{Two, Four, Eight}
 use Rattle.ipc_base.specs.Numbers.{fields_bytes, FitFields}
 use Rattle.ipc_image.specs.Kind.{object_in, FitsIn}
-use Rattle.ipc_image.specs.Shape.{Shape, Fields, Texts, Listing, Tree, IsTree, bytes_in}
+use Rattle.ipc_image.specs.Shape.{Shape, Fields, Texts, Tree, IsTree, bytes_in}
 
 -- ---- the four that every state has
 
@@ -55,19 +56,29 @@ process_bytes = bytes_in process_shape process_numbers
 abbrev pub processes_bytes : List (ℕ × Process) → List ℕ
 processes_bytes processes = counted_bytes process_bytes processes
 
+-- ---- objects with a key
+
+-- key, uid, gid, cuid, cgid, mode
+abbrev pub head_sizes : List Size
+head_sizes = Four ∷ Four ∷ Four ∷ Four ∷ Four ∷ Four ∷ []
+
+abbrev pub head_numbers : ℤ → Perm → List ℕ
+head_numbers key p = cast_unsigned w32 key ∷ p.uid ∷ p.gid ∷ p.cuid ∷ p.cgid ∷ p.mode ∷ []
+
+-- these, its own numbers, how many parts it has, and each of them
+abbrev pub entry_bytes : {X P : Type 0} → List Size → (X → List ℕ) → (P → List ℕ) → (X → List P) → Entry X → List ℕ
+entry_bytes sizes numbers part_bytes parts e =
+    fields_bytes head_sizes (head_numbers e.key e.perm)
+    ++ (fields_bytes sizes (numbers e.object) ++ counted_bytes part_bytes (parts e.object))
+
 -- ---- message queues
 
--- key, uid, gid, cuid, cgid, mode, stime, rtime, ctime, lspid, lrpid, qbytes, and how many messages
+-- stime, rtime, ctime, lspid, lrpid, qbytes
 abbrev pub queue_sizes : List Size
-queue_sizes =
-    Four ∷ Four ∷ Four ∷ Four ∷ Four ∷ Four
-    ∷ Eight ∷ Eight ∷ Eight ∷ Four ∷ Four ∷ Four ∷ Four ∷ []
+queue_sizes = Eight ∷ Eight ∷ Eight ∷ Four ∷ Four ∷ Four ∷ []
 
-abbrev pub queue_numbers : Entry Queue → List ℕ
-queue_numbers e =
-    cast_unsigned w32 e.key ∷ e.perm.uid ∷ e.perm.gid ∷ e.perm.cuid ∷ e.perm.cgid ∷ e.perm.mode
-    ∷ e.object.stime ∷ e.object.rtime ∷ e.object.ctime ∷ e.object.lspid ∷ e.object.lrpid ∷ e.object.qbytes
-    ∷ length e.object.messages ∷ []
+abbrev pub queue_numbers : Queue → List ℕ
+queue_numbers q = q.stime ∷ q.rtime ∷ q.ctime ∷ q.lspid ∷ q.lrpid ∷ q.qbytes ∷ []
 
 -- a message: its type, how long its text is, and the text
 abbrev pub message_sizes : List Size
@@ -85,19 +96,12 @@ message_tree m = (message_numbers m, m.text)
 abbrev pub message_bytes : PlainMessage → List ℕ
 message_bytes = bytes_in message_shape message_tree
 
--- a queue, and each of its messages, the oldest first
-abbrev pub queue_shape : Shape
-queue_shape = Listing queue_sizes [] 12 message_shape
-
-abbrev pub queue_tree : Entry Queue → Tree queue_shape
-queue_tree e = (queue_numbers e, [], map message_tree e.object.messages)
+-- its messages, the oldest first
+abbrev pub messages_of : Queue → List PlainMessage
+messages_of q = q.messages
 
 abbrev pub queue_bytes : Entry Queue → List ℕ
-queue_bytes = bytes_in queue_shape queue_tree
-
--- the number of a queue's object
-abbrev pub queue_number : ℕ → ℕ
-queue_number id = 2 ^ 32 + id
+queue_bytes = entry_bytes queue_sizes queue_numbers message_bytes messages_of
 
 -- its object
 abbrev pub queue_object : ℕ × Entry Queue → ℕ × List ℕ
@@ -105,14 +109,12 @@ queue_object = object_in (2 ^ 32) queue_bytes
 
 -- ---- semaphore sets
 
--- key, uid, gid, cuid, cgid, mode, otime, ctime, and how many semaphores
+-- otime, ctime
 abbrev pub set_sizes : List Size
-set_sizes = Four ∷ Four ∷ Four ∷ Four ∷ Four ∷ Four ∷ Eight ∷ Eight ∷ Four ∷ []
+set_sizes = Eight ∷ Eight ∷ []
 
-abbrev pub set_numbers : Entry Set → List ℕ
-set_numbers e =
-    cast_unsigned w32 e.key ∷ e.perm.uid ∷ e.perm.gid ∷ e.perm.cuid ∷ e.perm.cgid ∷ e.perm.mode
-    ∷ e.object.otime ∷ e.object.ctime ∷ length e.object.values ∷ []
+abbrev pub set_numbers : Set → List ℕ
+set_numbers s = s.otime ∷ s.ctime ∷ []
 
 -- a semaphore: its value, and who changed it last
 abbrev pub semaphore_sizes : List Size
@@ -127,15 +129,11 @@ semaphore_numbers x = x.value ∷ x.pid.0 ∷ []
 abbrev pub semaphore_bytes : Semaphore → List ℕ
 semaphore_bytes = bytes_in semaphore_shape semaphore_numbers
 
--- a set, and each of its semaphores
-abbrev pub set_shape : Shape
-set_shape = Listing set_sizes [] 8 semaphore_shape
-
-abbrev pub set_tree : Entry Set → Tree set_shape
-set_tree e = (set_numbers e, [], map semaphore_numbers (semaphores_of e.object))
+abbrev pub semaphores_of : Set → List Semaphore
+semaphores_of s = s.semaphores
 
 abbrev pub set_bytes : Entry Set → List ℕ
-set_bytes = bytes_in set_shape set_tree
+set_bytes = entry_bytes set_sizes set_numbers semaphore_bytes semaphores_of
 
 -- its object
 abbrev pub set_object : ℕ × Entry Set → ℕ × List ℕ
@@ -158,32 +156,30 @@ FitsProcess p = IsTree process_shape (process_numbers p)
 abbrev pub FitsMessage : PlainMessage → Type 0
 FitsMessage m = FitsSigned w64 m.mtype × IsTree message_shape (message_tree m)
 
--- of a queue and its messages
-pub record FitsQueue (e : Entry Queue) : Type 0 where
-  pub key : FitsSigned w32 e.key
-  pub numbers : FitFields queue_sizes (queue_numbers e)
-  pub messages : All FitsMessage e.object.messages
-
--- of a set and its semaphores
 abbrev pub FitsSemaphore : Semaphore → Type 0
 FitsSemaphore x = (x.value ≤ most_value) × IsTree semaphore_shape (semaphore_numbers x)
 
-pub record FitsSet (e : Entry Set) : Type 0 where
+-- of an object with a key, and its parts
+pub record FitsEntry {X P : Type 0} (sizes : List Size) (own : X → List ℕ) (FitsPart : P → Type 0)
+    (parts_of : X → List P) (e : Entry X) : Type 0 where
   pub key : FitsSigned w32 e.key
-  pub numbers : FitFields set_sizes (set_numbers e)
-  pub semaphores : All FitsSemaphore (semaphores_of e.object)
-  pub pids : length e.object.pids ≡ length e.object.values
+  pub head : FitFields head_sizes (head_numbers e.key e.perm)
+  pub numbers : FitFields sizes (own e.object)
+  pub count : length (parts_of e.object) < 2 ^ 32
+  pub parts : All FitsPart (parts_of e.object)
 
--- and of its identifier
-abbrev pub HasPlaces : ℕ × Entry Queue → Type 0
-HasPlaces = FitsIn FitsQueue
+abbrev pub FitsQueue : Entry Queue → Type 0
+FitsQueue = FitsEntry queue_sizes queue_numbers FitsMessage messages_of
+
+abbrev pub FitsSet : Entry Set → Type 0
+FitsSet = FitsEntry set_sizes set_numbers FitsSemaphore semaphores_of
 
 -- of the state
 pub record HasAllPlaces (s : State) : Type 0 where
   pub clock : FitFields clock_sizes (clock_numbers s)
   pub count : length s.processes.entries < 2 ^ 32
   pub processes : All FitsProcess s.processes.entries
-  pub queues : All HasPlaces s.msg.entries
+  pub queues : All (FitsIn FitsQueue) s.msg.entries
   pub sets : All (FitsIn FitsSet) s.sem.entries
 
 -- the objects stand for a sound state

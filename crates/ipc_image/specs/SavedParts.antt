@@ -1,35 +1,50 @@
--- What is known of numbers once they are read, and marks.
-use Rattle.std.specs.Prelude.{◌≡◌, ℕ, ◌-◌, ◌<◌, ◌≤◌, ◌^◌, List, length, take, Some, slice_get, [], ℤ, slice_index, map}
+-- What is known of numbers once they are read, marks, and what a tree is of.
+use Rattle.std.specs.Prelude.{◌≡◌, ℕ, zero, suc, ◌-◌, ◌≤◌, ◌↔◌, List, [], ◌∷◌, ◌++◌, length, take, Some, slice_get}
+use Rattle.std.specs.Prelude.{ℤ, slice_index, map}
 use Rattle.std.specs.List.{flat_map}
-use Rattle.std.specs.Int.{w32, w64, cast_signed}
-use Rattle.ipc_state.specs.declared.processes.Process.{Process}
-use Rattle.sysv_msg.specs.declared.queue.QueueStat.{QueueStat}
+use Rattle.std.specs.Int.{w64, cast_signed}
+use Rattle.ipc_base.specs.declared.limits.Limits.{Limits}
 use Rattle.ipc_base.specs.declared.objects.Mark.{Mark}
+use Rattle.ipc_base.specs.Objects.{PlainObjects}
 use Rattle.sysv_msg.specs.Queue.{Kept, Queue, PlainMessage}
-use Rattle.ipc_state.specs.declared.keyed.Entry.{Entry}
-use Rattle.ipc_state.specs.State.{State}
+use Rattle.sysv_sem.specs.declared.set.Semaphore.{Semaphore}
+use Rattle.sysv_sem.specs.Set.{Set}
 use Rattle.ipc_perm.specs.declared.perm.Perm.{Perm}
+use Rattle.ipc_state.specs.declared.processes.Process.{Process}
+use Rattle.ipc_state.specs.declared.keyed.Entry.{Entry}
 use Rattle.ipc_state.specs.declared.numbered.Item.{Item}
 use Rattle.ipc_state.specs.declared.state.Numbers.{Numbers}
-use Rattle.sysv_sem.specs.declared.set.Semaphore.{Semaphore}
-use Rattle.sysv_sem.specs.Set.{Set, set_of}
+use Rattle.ipc_state.specs.State.{State}
+use Rattle.ipc_state.specs.Tables.{item_row, queue_row}
 use Rattle.ipc_image.specs.declared.state_objects.Thing.{Thing}
 use Rattle.ipc_image.specs.declared.state_objects.Thing.TheVariants as thing
-use Rattle.ipc_state.specs.Tables.{item_row, queue_row}
 use Rattle.ipc_image.specs.Kind.{FitsIn}
-use Rattle.ipc_image.specs.Saved.{process_bytes, message_bytes, queue_shape, queue_bytes, queue_object, HasPlaces}
-use Rattle.ipc_image.specs.Saved.{set_shape, set_object, FitsSet}
-use Rattle.ipc_image.specs.Shape.{Tree}
+use Rattle.ipc_image.specs.Saved.{process_bytes, message_bytes, queue_object, FitsQueue}
+use Rattle.ipc_image.specs.Saved.{semaphore_bytes, set_object, FitsSet}
 
--- each number of a kind has its place
-abbrev pub IsWidePerm : Perm → Type 0
-IsWidePerm p =
-    (p.uid < 2 ^ 32) × (p.gid < 2 ^ 32) × (p.cuid < 2 ^ 32) × (p.cgid < 2 ^ 32) × (p.mode < 2 ^ 32)
+-- ---- what was added
 
-abbrev pub IsWideStat : QueueStat → Type 0
-IsWideStat s =
-    (s.stime.0 < 2 ^ 64) × (s.rtime.0 < 2 ^ 64) × (s.ctime.0 < 2 ^ 64)
-    × (s.lspid.0 < 2 ^ 32) × (s.lrpid.0 < 2 ^ 32)
+-- with these after those that are there
+abbrev pub with_more : {S X : Type 0} → (S → List X) → (S → List X → S) → S → List X → S
+with_more items put s xs = put s (items s ++ xs)
+
+-- what `items` finds is what `put` put there
+pub record IsPlace {S X : Type 0} (items : S → List X) (put : S → List X → S) : Type 0 where
+  pub same : (s : S) → put s (items s) ≡ s
+  pub found : (s : S) (xs : List X) → items (put s xs) ≡ xs
+  pub again : (s : S) (xs ys : List X) → put (put s xs) ys ≡ put s ys
+
+-- the processes of a state, its queues, and its semaphore sets
+abbrev pub put_processes : State × Limits → List (ℕ × Process) → State × Limits
+put_processes s xs = (record s.0 { processes = record { next = s.0.processes.next; entries = xs } }, s.1)
+
+abbrev pub put_queues : State × Limits → List (ℕ × Entry Queue) → State × Limits
+put_queues s xs = (record s.0 { msg = record { next = s.0.msg.next; entries = xs } }, s.1)
+
+abbrev pub put_sets : State × Limits → List (ℕ × Entry Set) → State × Limits
+put_sets s xs = (record s.0 { sem = record { next = s.0.sem.next; entries = xs } }, s.1)
+
+-- ---- marks
 
 -- the bytes of the first of some things
 abbrev pub first_bytes : {X : Type 0} → (X → List ℕ) → ℕ → List X → List ℕ
@@ -39,33 +54,51 @@ first_bytes bytes_of n xs = flat_map bytes_of (take n xs)
 abbrev pub IsMarkIn : {X : Type 0} → (X → List ℕ) → List X → Mark → Type 0
 IsMarkIn bytes_of xs m = m.bytes ≡ length (first_bytes bytes_of m.parts xs)
 
+-- it is a mark of the one at a place; past the last, of one of those that follow
+abbrev pub MarkAt : {X : Type 0} → (X → Mark → Type 0) → (ℕ → Mark → Type 0) → List X → ℕ → Mark → Type 0
+MarkAt IsMark next [] at m = next at m
+MarkAt IsMark next (x ∷ xs) zero m = IsMark x m
+MarkAt IsMark next (x ∷ xs) (suc at) m = MarkAt IsMark next xs at m
+
+-- of a queue's messages, or a set's semaphores
+abbrev pub IsMarkOfQueue : ℕ × Entry Queue → Mark → Type 0
+IsMarkOfQueue e m = IsMarkIn message_bytes e.1.object.messages m
+
+abbrev pub IsMarkOfSet : ℕ × Entry Set → Mark → Type 0
+IsMarkOfSet e m = IsMarkIn semaphore_bytes e.1.object.semaphores m
+
+-- of the one at a place after the four objects that every state has
+abbrev pub IsMarkAfter : State → ℕ → Mark → Type 0
+IsMarkAfter s = MarkAt IsMarkOfQueue (MarkAt IsMarkOfSet (λ at m. Unit {0}) s.sem.entries) s.msg.entries
+
+-- it is a mark of the i-th object; those of objects without a list are never looked at
+pub record IsMarkOf (s : State) (i : ℕ) (m : Mark) : Type 0 where
+  pub processes : i ≡ 1 → IsMarkIn process_bytes s.processes.entries m
+  pub things : 4 ≤ i → IsMarkAfter s (i - 4) m
+
+-- this object stands at a place, and the marks there are of it
+pub record Stands (objects : PlainObjects) (IsMark : ℕ → Mark → Type 0) (at : ℕ) (o : ℕ × List ℕ)
+    (IsOfIt : Mark → Type 0) : Type 0 where
+  pub object : slice_get objects at ≡ Some o
+  pub marks : (m : Mark) → IsMark at m ↔ IsOfIt m
+
 -- the object of what has one
 abbrev pub object_of : Thing → ℕ × List ℕ
 object_of (thing.Queue q) = queue_object (queue_row q.now)
 object_of (thing.Set e) = set_object (item_row e.now)
 
--- it stands at a place after the four: the queues first
-abbrev pub StandsAt : State → ℕ → Thing → Type 0
-StandsAt s at (thing.Queue q) = slice_get s.msg.entries at ≡ Some (queue_row q.now)
-StandsAt s at (thing.Set e) = length s.msg.entries ≤ at
-
--- each of its numbers has its place, and its bytes can be counted
+-- each of its numbers has its place
 abbrev pub FitsThing : Thing → Type 0
-FitsThing (thing.Queue q) = HasPlaces (queue_row q.now) × (length (queue_bytes (queue_row q.now).1) < 2 ^ 64)
+FitsThing (thing.Queue q) = FitsIn FitsQueue (queue_row q.now)
 FitsThing (thing.Set e) = FitsIn FitsSet (item_row e.now)
 
--- the mark is of its messages
+-- the mark is of its parts
 abbrev pub IsMarkOfThing : Thing → Mark → Type 0
-IsMarkOfThing (thing.Queue q) m = IsMarkIn message_bytes (queue_row q.now).1.object.messages m
-IsMarkOfThing (thing.Set e) m = Unit {0}
+IsMarkOfThing (thing.Queue q) m = IsMarkOfQueue (queue_row q.now) m
+IsMarkOfThing (thing.Set e) m = IsMarkOfSet (item_row e.now) m
 
--- it is a mark of the i-th object; those of objects without a list are never looked at
-pub record IsMarkOf (s : State) (i : ℕ) (m : Mark) : Type 0 where
-  pub processes : i ≡ 1 → IsMarkIn process_bytes s.processes.entries m
-  pub messages : 4 ≤ i → (e : ℕ × Entry Queue) → slice_get s.msg.entries (i - 4) ≡ Some e
-      → IsMarkIn message_bytes e.1.object.messages m
+-- ---- what a tree is of, and what has these numbers and these parts
 
--- what a tree is of
 abbrev pub process_of : List ℕ → ℕ × Process
 process_of ns = (slice_index ns 0, record { cred = record { uid = slice_index ns 1; gid = slice_index ns 2 } })
 
@@ -75,69 +108,39 @@ message_from text mtype = record { mtype = mtype; text = text }
 abbrev pub message_of : List ℕ × List ℕ → PlainMessage
 message_of t = message_from t.1 (cast_signed w64 (slice_index t.0 0))
 
--- a state without its processes
-abbrev pub without_processes : State → State
-without_processes s = record s { processes = record { next = s.processes.next; entries = [] } }
+abbrev pub perm_from : List ℕ → Perm
+perm_from ns =
+    record {
+      uid = slice_index ns 1;
+      gid = slice_index ns 2;
+      cuid = slice_index ns 3;
+      cgid = slice_index ns 4;
+      mode = slice_index ns 5;
+    }
 
--- a state without its semaphore sets
-abbrev pub without_sets : State → State
-without_sets s = record s { sem = record { next = s.sem.next; entries = [] } }
-
--- a state without its queues
-abbrev pub without_queues : State → State
-without_queues s = record s { msg = record { next = s.msg.next; entries = [] } }
-
--- a queue with these messages in the place of its own
 abbrev pub with_messages : Queue → List PlainMessage → Queue
 with_messages q messages = record q { messages = messages }
 
--- the queue with these numbers, this key and these messages
-abbrev pub entry_from : List ℕ → ℤ → List PlainMessage → Entry Queue
-entry_from ns key messages =
+abbrev pub queue_from : List ℕ → List PlainMessage → Queue
+queue_from ns messages =
     record {
-      key = key;
-      perm = record {
-        uid = slice_index ns 1;
-        gid = slice_index ns 2;
-        cuid = slice_index ns 3;
-        cgid = slice_index ns 4;
-        mode = slice_index ns 5;
-      };
-      object = record {
-        messages = messages;
-        qbytes = slice_index ns 11;
-        stime = slice_index ns 6;
-        rtime = slice_index ns 7;
-        ctime = slice_index ns 8;
-        lspid = slice_index ns 9;
-        lrpid = slice_index ns 10;
-      };
+      messages = messages;
+      qbytes = slice_index ns 5;
+      stime = slice_index ns 0;
+      rtime = slice_index ns 1;
+      ctime = slice_index ns 2;
+      lspid = slice_index ns 3;
+      lrpid = slice_index ns 4;
     }
 
-abbrev pub queue_of : Tree queue_shape → Entry Queue
-queue_of t = entry_from t.0 (cast_signed w32 (slice_index t.0 0)) (map message_of t.2)
-
--- the semaphore with these numbers
 abbrev pub semaphore_from : List ℕ → Semaphore
 semaphore_from ns = record { value = slice_index ns 0; pid = record { 0 = slice_index ns 1 } }
 
--- the semaphore set with these numbers, this key and these semaphores
-abbrev pub set_from : List ℕ → ℤ → List Semaphore → Entry Set
-set_from ns key semaphores =
-    record {
-      key = key;
-      perm = record {
-        uid = slice_index ns 1;
-        gid = slice_index ns 2;
-        cuid = slice_index ns 3;
-        cgid = slice_index ns 4;
-        mode = slice_index ns 5;
-      };
-      object = set_of semaphores (slice_index ns 6) (slice_index ns 7);
-    }
+abbrev pub with_semaphores : Set → List Semaphore → Set
+with_semaphores s semaphores = record s { semaphores = semaphores }
 
-abbrev pub set_in : Tree set_shape → Entry Set
-set_in t = set_from t.0 (cast_signed w32 (slice_index t.0 0)) (map semaphore_from t.2)
+abbrev pub set_from : List ℕ → List Semaphore → Set
+set_from ns semaphores = record { semaphores = semaphores; otime = slice_index ns 0; ctime = slice_index ns 1 }
 
 -- the state that has these tables
 abbrev pub seen_state : Numbers → List (Item Process) → List (Item (Entry Kept)) → List (Item (Entry Set)) → State

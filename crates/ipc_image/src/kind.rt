@@ -1,63 +1,119 @@
 //! Objects of one kind, one for each thing of it, numbered by its identifier: read one after another.
 
-ghost use Rattle.std.specs.Prelude.{◌≡◌, ◌≢◌, ◌<◌, ◌+◌, ◌^◌, ◌++◌, ◌∷◌, [], ℕ, List, All};
-ghost use Rattle.std.specs.Prelude.{map, drop, Err, IfOk, OnOk, IfSome, IfNone};
+ghost use Rattle.std.specs.Prelude.{◌≡◌, ◌≢◌, ◌<◌, ◌+◌, ◌*◌, ◌^◌, ◌++◌, ◌∷◌, [], ℕ, List, All};
+ghost use Rattle.std.specs.Prelude.{length, map, drop, Err, IfOk, OnOk, IfSome, IfNone};
+ghost use Rattle.std.specs.List.{flat_map};
+ghost use Rattle.ipc_base.specs.declared.field.Size.{Size};
+ghost use Rattle.ipc_base.specs.declared.limits.Limits.{Limits};
+ghost use Rattle.ipc_base.specs.Numbers.{fields_bytes, FitFields};
 ghost use Rattle.ipc_base.specs.Objects.{PlainObjects};
 ghost use Rattle.ipc_engine.specs.declared.fault.StateFault.{StateFault};
-ghost use Rattle.ipc_state.specs.Held.{Held};
-ghost use Rattle.ipc_image.specs.Shape.{Shape, Tree, tree_bytes, bytes_in};
+ghost use Rattle.ipc_state.specs.declared.keyed.Entry.{Entry as PlainEntry};
+ghost use Rattle.ipc_state.specs.Keyed.{entry_map};
+ghost use Rattle.ipc_state.specs.State.{State as PlainState};
 ghost use Rattle.ipc_image.specs.Kind.{object_in, FitsIn, IsOther};
+ghost use Rattle.ipc_image.specs.Saved.{counted_bytes, entry_bytes, FitsEntry};
+ghost use Rattle.ipc_image.specs.SavedParts.{with_more, IsMarkIn, IsPlace};
+ghost use Rattle.ipc_image.specs.Window.{passed};
 
-use ipc_base::{Id, ObjectMap, Objects};
+use crate::entry::read_entry;
+use crate::window::Window;
+use ipc_base::{Id, Mark, ObjectMap, Objects};
 use ipc_engine::StateFault;
-use ipc_state::{Item, State};
+use ipc_state::{Entry, State};
 use std::alloc::{AllocError, Global};
 
-/// A thing that has an object of its own.
-pub(crate) trait Kind {
+/// A thing with a key, which has an object of its own: beside the key and who may use it, its own numbers and its
+/// parts.
+pub(crate) trait Kind: Drop {
     /// What it is for the definitions.
     ghost Plain: { Type 0 };
 
     ghost plain: { Self → Plain };
 
-    /// Its bytes.
-    ghost shape: { Shape };
+    /// Its numbers.
+    ghost sizes: { List Size };
 
-    ghost tree: { Plain → Tree shape };
+    ghost numbers: { Plain → List ℕ };
 
-    /// Each of its numbers has its place.
-    ghost Fits: { Plain → Type 0 };
+    /// Its parts, and the bytes of each.
+    ghost Part: { Type 0 };
 
-    /// Those of a state, by identifier, and all else.
-    ghost items: { Held → List (ℕ × Plain) };
+    ghost part_bytes: { Part → List ℕ };
 
-    ghost Others: { Type 0 };
+    ghost FitsPart: { Part → Type 0 };
 
-    ghost others: { Held → Others };
+    ghost parts: { Plain → List Part };
+
+    /// What has these numbers and these parts.
+    ghost from: { List ℕ → List Part → Plain };
+
+    /// What is known of a sound one.
+    ghost IsSmall: { Plain → Type 0 };
 
     /// The number of an object is this one and the identifier.
     ghost FIRST: { ℕ };
 
     const FIRST: u64;
 
-    /// What is known of a sound one.
-    ghost IsSmall: { Plain → Type 0 };
+    /// Those of a state, by identifier.
+    ghost items: { PlainState × Limits → List (ℕ × PlainEntry Plain) };
 
-    /// Reads each of its numbers, so that each has its place.
+    ghost put: { PlainState × Limits → List (ℕ × PlainEntry Plain) → PlainState × Limits };
+
+    /// Reads each number of it and of its parts, so that each has its place.
     fn read_numbers(&self)
         requires { IsSmall (plain self.now) }
-        ensures { Fits (plain self.now) };
+        ensures numbers { FitFields sizes (numbers (plain self.now)) }
+        ensures count { length (parts (plain self.now)) < 2 ^ 32 }
+        ensures parts { All FitsPart (parts (plain self.now)) };
 
-    /// Reads all of an object.
-    fn read(alloc: Global, bytes: &[u8]) -> Result<Self, StateFault>
-        ensures ok { IfOk result (λ x. Fits (plain x) × (bytes.now ≡ tree_bytes shape (tree (plain x)))) }
-        ensures damaged { result ≡ Err StateFault.Unsound → (x : Plain) → Fits x
-            → bytes.now ≢ tree_bytes shape (tree x) };
+    /// How many bytes its numbers and its parts have.
+    fn len(&self) -> u64
+        requires { length (fields_bytes sizes (numbers (plain self.now))
+            ++ counted_bytes part_bytes (parts (plain self.now))) < 2 ^ 64 }
+        ensures { result ≡ length (fields_bytes sizes (numbers (plain self.now))
+            ++ counted_bytes part_bytes (parts (plain self.now))) };
 
-    /// Adds what was read, at the end.
-    fn add(self, state: &mut State, id: Id) -> Result<(), AllocError>
-        ensures { OnOk result ((items state.new ≡ items state.old ++ (id.0, plain self) ∷ [])
-            × (others state.new ≡ others state.old)) };
+    /// Its numbers pass the window.
+    fn put_numbers(&self, window: &mut Window)
+        ensures { window.new ≡ passed (fields_bytes sizes (numbers (plain self.now))) window.old };
+
+    /// How many parts there are, and each of them, pass the window. The mark is of them.
+    fn put_parts(&self, window: &mut Window, mark: &mut Mark)
+        requires count { length (parts (plain self.now)) < 2 ^ 32 }
+        requires fit { All FitsPart (parts (plain self.now)) }
+        requires short { length (flat_map part_bytes (parts (plain self.now))) < 2 ^ 64 }
+        requires mark { IsMarkIn part_bytes (parts (plain self.now)) mark.old }
+        ensures passed { window.new ≡ passed (counted_bytes part_bytes (parts (plain self.now))) window.old }
+        ensures mark { IsMarkIn part_bytes (parts (plain self.now)) mark.new };
+
+    /// Reads its numbers: it has no parts yet, and the bytes after them are left.
+    fn begin(alloc: Global, bytes: &[u8]) -> Option<(Self, &[u8])>
+        ensures some { IfSome result (λ found. (ns : List ℕ) × FitFields sizes ns
+            × (bytes.now ≡ fields_bytes sizes ns ++ found.1.now) × (plain found.0 ≡ from ns [])) }
+        ensures none { IfNone result ((ns rest : List ℕ) → FitFields sizes ns
+            → bytes.now ≢ fields_bytes sizes ns ++ rest) };
+
+    /// Reads how many parts there are, and them, and nothing after them.
+    fn read_parts(&mut self, bytes: &[u8]) -> Result<(), StateFault>
+        ensures ok { OnOk result ((ps : List Part) × (length ps < 2 ^ 32) × All FitsPart ps
+            × (bytes.now ≡ counted_bytes part_bytes ps)
+            × ((ns : List ℕ) → plain self.old ≡ from ns [] → plain self.new ≡ from ns ps)) }
+        ensures damaged { result ≡ Err StateFault.Unsound → (ps : List Part) → length ps < 2 ^ 32
+            → All FitsPart ps → bytes.now ≢ counted_bytes part_bytes ps };
+
+    /// Adds what was read to a state, at the end.
+    fn add(state: &mut State, id: Id, entry: Entry<Self>) -> Result<(), AllocError>
+        ensures { OnOk result ((state.new.state, state.new.limits)
+            ≡ with_more items put (state.old.state, state.old.limits) ((id.0, entry_map plain entry) ∷ [])) };
+
+    /// It has those numbers and those parts.
+    ghost known: { (ns : List ℕ) (ps : List Part) → FitFields sizes ns
+        → (numbers (from ns ps) ≡ ns) × (parts (from ns ps) ≡ ps) };
+
+    /// What was added is what is found there.
+    ghost place: { IsPlace items put };
 }
 
 /// Reads the objects of a kind, from this one on, and adds what they are. Gives the place of the first object that is
@@ -68,22 +124,27 @@ pub(crate) fn restore_kind<T: Kind>(
     objects: &ObjectMap,
     from: u32,
 ) -> Result<u32, StateFault>
-    ensures ok { IfOk result (λ next. (xs : List (ℕ × T.Plain)) × All (FitsIn T.Fits) xs
-        × (drop from objects.now ≡ map (object_in T.FIRST (bytes_in T.shape T.tree)) xs ++ drop next objects.now)
-        × (T.items state.new ≡ T.items state.old ++ xs) × (T.others state.new ≡ T.others state.old)) }
-    ensures whole { IfOk result (λ next. (xs : List (ℕ × T.Plain)) (rest : PlainObjects) → IsOther T.FIRST rest
-        → drop from objects.now ≡ map (object_in T.FIRST (bytes_in T.shape T.tree)) xs ++ rest
-        → All (FitsIn T.Fits) xs → drop next objects.now ≡ rest) }
-    ensures damaged { result ≡ Err StateFault.Unsound → (xs : List (ℕ × T.Plain)) (rest : PlainObjects)
-        → IsOther T.FIRST rest → All (FitsIn T.Fits) xs
-        → drop from objects.now ≢ map (object_in T.FIRST (bytes_in T.shape T.tree)) xs ++ rest }
+    ensures ok { IfOk result (λ next. (xs : List (ℕ × PlainEntry T.Plain))
+        × All (FitsIn (FitsEntry T.sizes T.numbers T.FitsPart T.parts)) xs
+        × (drop from objects.now
+        ≡ map (object_in T.FIRST (entry_bytes T.sizes T.numbers T.part_bytes T.parts)) xs ++ drop next objects.now)
+        × ((state.new.state, state.new.limits) ≡ with_more T.items T.put (state.old.state, state.old.limits) xs)) }
+    ensures whole { IfOk result (λ next. (xs : List (ℕ × PlainEntry T.Plain)) (rest : PlainObjects)
+        → IsOther T.FIRST rest
+        → drop from objects.now
+        ≡ map (object_in T.FIRST (entry_bytes T.sizes T.numbers T.part_bytes T.parts)) xs ++ rest
+        → All (FitsIn (FitsEntry T.sizes T.numbers T.FitsPart T.parts)) xs → drop next objects.now ≡ rest) }
+    ensures damaged { result ≡ Err StateFault.Unsound → (xs : List (ℕ × PlainEntry T.Plain)) (rest : PlainObjects)
+        → IsOther T.FIRST rest → All (FitsIn (FitsEntry T.sizes T.numbers T.FitsPart T.parts)) xs
+        → drop from objects.now
+        ≢ map (object_in T.FIRST (entry_bytes T.sizes T.numbers T.part_bytes T.parts)) xs ++ rest }
 {
     for i in from..objects.count() {
         let Some(id) = id_of_number(objects.number(i), T::FIRST) else {
             return Ok(i);
         };
-        let thing = T::read(alloc, objects.object(i))?;
-        thing.add(state, id)?;
+        let entry = read_entry::<T>(alloc, objects.object(i))?;
+        T::add(state, id, entry)?;
     }
     Ok(objects.count())
 }
@@ -96,15 +157,4 @@ fn id_of_number(number: u64, first: u64) -> Option<Id>
     let id = number.checked_sub(first)?;
     let id = u32::try_from(id).ok()?;
     Some(Id(id))
-}
-
-/// Reads each number of these, and nothing else is done.
-pub(crate) fn read_all<T: Kind>(items: &[Item<T>])
-    requires { All (λ e. T.IsSmall (T.plain e.value)) items.now }
-    ensures { All (λ e. FitsIn T.Fits (e.number, T.plain e.value)) items.now }
-{
-    for item in items {
-        let _id = item.number;
-        item.value.read_numbers();
-    }
 }

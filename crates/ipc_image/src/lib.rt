@@ -3,6 +3,7 @@
 #![tactic(auto)]
 
 mod clock;
+mod entry;
 mod fault;
 mod fields;
 mod kind;

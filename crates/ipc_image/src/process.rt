@@ -6,7 +6,7 @@ ghost use Rattle.ipc_state.specs.declared.processes.Process.{Process as PlainPro
 ghost use Rattle.ipc_state.specs.State.{State as PlainState};
 ghost use Rattle.ipc_state.specs.Tables.{item_row};
 ghost use Rattle.ipc_image.specs.Saved.{process_shape, process_numbers, FitsProcess};
-ghost use Rattle.ipc_image.specs.SavedParts.{process_of, without_processes};
+ghost use Rattle.ipc_image.specs.SavedParts.{process_of, put_processes};
 
 use crate::fields::{FOUR, put_fields};
 use crate::saved::Saved;
@@ -30,11 +30,15 @@ impl Saved for Item<Process> {
 
     ghost Fits = { FitsProcess };
 
-    ghost items = { λ s. s.state.processes.entries };
+    ghost Seen = { PlainState × Limits };
 
-    ghost Others = { PlainState × Limits };
+    ghost seen = { λ s. (s.state, s.limits) };
 
-    ghost others = { λ s. (without_processes s.state, s.limits) };
+    ghost items = { λ s. s.0.processes.entries };
+
+    ghost put = { put_processes };
+
+    ghost place = { record { same = λ s. refl; found = λ s xs. refl; again = λ s xs ys. refl } };
 
     ghost known = { λ p fit. (fit, refl) };
 

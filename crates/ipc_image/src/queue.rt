@@ -1,33 +1,31 @@
 //! A message queue's object: its numbers, and its messages.
 
-ghost use Rattle.std.specs.Prelude.{◌≡◌, ◌<◌, ◌^◌, [], ℕ, List, All, length, pos, map};
+ghost use Rattle.std.specs.Prelude.{◌≡◌, ◌≢◌, ◌++◌, IfSome, IfNone, OnOk, ◌∷◌, ◌<◌, ◌*◌, ◌^◌, [], ℕ, List, All, length};
 ghost use Rattle.std.specs.Int.{w64};
-ghost use Rattle.std.proofs.Common.{ap};
+ghost use Rattle.std.proofs.Common.{ap, sym, refl};
 ghost use Rattle.std.proofs.lemmas.Int.{to_z-of_z};
+ghost use Rattle.ipc_base.proofs.CallerLemmas.{numbers_are};
 ghost use Rattle.ipc_base.specs.declared.limits.Limits.{Limits};
 ghost use Rattle.ipc_base.specs.Numbers.{fields_bytes, FitFields};
 ghost use Rattle.sysv_msg.specs.Queue.{plain, Queue, PlainMessage, empty_queue};
-ghost use Rattle.ipc_state.specs.declared.keyed.Entry.{Entry as PlainEntry};
+ghost use Rattle.ipc_state.specs.Keyed.{entry_map};
 ghost use Rattle.ipc_state.specs.Sound.{HasNumbers};
 ghost use Rattle.ipc_state.specs.State.{State as PlainState};
-ghost use Rattle.ipc_state.specs.Tables.{queue_entry};
-ghost use Rattle.ipc_image.specs.Saved.{message_shape, message_tree, message_bytes, FitsMessage};
-ghost use Rattle.ipc_image.specs.Saved.{queue_sizes, queue_numbers, queue_shape, queue_tree, queue_bytes, FitsQueue};
-ghost use Rattle.ipc_image.specs.SavedParts.{message_of, message_from, with_messages, IsMarkIn};
-ghost use Rattle.ipc_image.specs.SavedParts.{entry_from, without_queues};
-ghost use Rattle.ipc_image.specs.Window.{passed};
+ghost use Rattle.ipc_state.specs.Tables.{queue_in};
+ghost use Rattle.ipc_image.specs.Saved.{message_shape, message_tree, message_bytes, FitsMessage, messages_of};
+ghost use Rattle.ipc_image.specs.Saved.{queue_sizes, queue_numbers};
+ghost use Rattle.ipc_image.specs.SavedParts.{message_of, message_from, with_messages};
+ghost use Rattle.ipc_image.specs.SavedParts.{queue_from, put_queues, with_more};
 
 use crate::fields::{EIGHT, FOUR, put_fields, put_row};
 use crate::kind::Kind;
-use crate::saved::{Saved, put_list, read_list};
-use crate::widths::{read_perm, read_stat};
+use crate::saved::{Saved, put_counted, read_counted};
 use crate::window::Window;
 use ipc_base::{Field, Id, Mark, Moment, Pid, take_fields};
 use ipc_engine::StateFault;
-use ipc_perm::Perm;
 use ipc_state::{Entry, State};
 use std::alloc::{AllocError, Global};
-use sysv_msg::{Message, MsgQueue, QueueNumbers};
+use sysv_msg::{Message, MsgQueue, QueueNumbers, QueueStat};
 
 /// The bytes of a message before its text.
 const MESSAGE_NUMBERS: u64 = 12;
@@ -47,11 +45,15 @@ impl Saved for Message {
 
     ghost Fits = { FitsMessage };
 
-    ghost items = { λ q. q.queue.messages };
+    ghost Seen = { Queue };
 
-    ghost Others = { Queue };
+    ghost seen = { queue_in };
 
-    ghost others = { λ q. with_messages q.queue [] };
+    ghost items = { messages_of };
+
+    ghost put = { with_messages };
+
+    ghost place = { record { same = λ q. refl; found = λ q ms. refl; again = λ q ms ns. refl } };
 
     ghost known = { λ m fit. (fit.1, ap (message_from m.text) (to_z-of_z w64 m.mtype fit.0)) };
 
@@ -80,126 +82,105 @@ impl Saved for Message {
     }
 }
 
-impl Kind for Entry<MsgQueue> {
-    ghost Plain = { PlainEntry Queue };
+impl Kind for MsgQueue {
+    ghost Plain = { Queue };
 
-    ghost plain = { queue_entry };
+    ghost plain = { queue_in };
 
-    ghost shape = { queue_shape };
+    ghost sizes = { queue_sizes };
 
-    ghost tree = { queue_tree };
+    ghost numbers = { queue_numbers };
 
-    ghost Fits = { FitsQueue };
+    ghost Part = { PlainMessage };
 
-    ghost items = { λ s. s.state.msg.entries };
+    ghost part_bytes = { message_bytes };
 
-    ghost Others = { PlainState × Limits };
+    ghost FitsPart = { FitsMessage };
 
-    ghost others = { λ s. (without_queues s.state, s.limits) };
+    ghost parts = { messages_of };
+
+    ghost from = { queue_from };
+
+    ghost known = { λ ns ms fit. (sym (numbers_are queue_sizes ns fit), refl) };
+
+    ghost IsSmall = { HasNumbers };
 
     ghost FIRST = { 2 ^ 32 };
 
     const FIRST: u64 = 1 << 32;
 
-    ghost IsSmall = { λ e. HasNumbers e.object };
+    ghost items = { λ s. s.0.msg.entries };
+
+    ghost put = { put_queues };
+
+    ghost place = { record { same = λ s. refl; found = λ s xs. refl; again = λ s xs ys. refl } };
 
     fn read_numbers(&self) {
-        let _key = self.key;
-        read_perm(self.perm);
-        read_stat(self.object.stat());
+        read_stat(self.stat());
     }
 
-    fn read(alloc: Global, bytes: &[u8]) -> Result<Entry<MsgQueue>, StateFault> {
-        let sizes = [
-            FOUR, FOUR, FOUR, FOUR, FOUR, FOUR, EIGHT, EIGHT, EIGHT, FOUR, FOUR, FOUR, FOUR,
-        ];
-        let (numbers, rest) = take_fields(bytes, &sizes).ok_or(StateFault::Unsound)?;
-        let mut object = MsgQueue::restored(alloc, own_numbers(&numbers));
-        read_list::<Message>(&mut object, numbers[12] as u32, rest)?;
-        Ok(Entry {
-            key: (numbers[0] as u32).cast_signed(),
-            perm: perm_in(&numbers),
-            object,
-        })
+    #[tactic(auto, using(crate::proofs::SavedObjects::queue_counts))]
+    fn len(&self) -> u64 {
+        let stat = self.stat();
+        40 + MESSAGE_NUMBERS * stat.qnum as u64 + stat.bytes as u64
     }
 
-    fn add(self, state: &mut State, id: Id) -> Result<(), AllocError> {
-        state.restore_queue(id, self)
+    fn put_numbers(&self, window: &mut Window) {
+        let stat = self.stat();
+        put_fields(
+            window,
+            &[
+                Field::U64(stat.stime.0),
+                Field::U64(stat.rtime.0),
+                Field::U64(stat.ctime.0),
+                Field::U32(stat.lspid.0),
+                Field::U32(stat.lrpid.0),
+                Field::U32(stat.qbytes),
+            ],
+        );
+    }
+
+    fn put_parts(&self, window: &mut Window, mark: &mut Mark) {
+        put_counted(window, self.messages(), mark);
+    }
+
+    fn begin(alloc: Global, bytes: &[u8]) -> Option<(MsgQueue, &[u8])>
+        ensures some { IfSome result (λ found. (ns : List ℕ) × FitFields queue_sizes ns
+            × (bytes.now ≡ fields_bytes queue_sizes ns ++ found.1.now) × (found.0.queue ≡ queue_from ns [])) }
+        ensures none { IfNone result ((ns rest : List ℕ) → FitFields queue_sizes ns
+            → bytes.now ≢ fields_bytes queue_sizes ns ++ rest) }
+    {
+        let (numbers, rest) = take_fields(bytes, &[EIGHT, EIGHT, EIGHT, FOUR, FOUR, FOUR])?;
+        Some((MsgQueue::restored(alloc, own_numbers(&numbers)), rest))
+    }
+
+    fn read_parts(&mut self, bytes: &[u8]) -> Result<(), StateFault> {
+        read_counted::<Message>(self, bytes)
+    }
+
+    fn add(state: &mut State, id: Id, entry: Entry<MsgQueue>) -> Result<(), AllocError>
+        ensures { OnOk result ((state.new.state, state.new.limits) ≡ with_more (λ s. s.0.msg.entries) put_queues
+            (state.old.state, state.old.limits) ((id.0, entry_map queue_in entry) ∷ [])) }
+    {
+        state.restore_queue(id, entry)
     }
 }
 
-fn perm_in(numbers: &[u64; 13]) -> Perm
-    requires { FitFields queue_sizes numbers.now }
-    ensures { result ≡ (entry_from numbers.now (pos 0) []).perm }
-{
-    Perm {
-        uid: numbers[1] as u32,
-        gid: numbers[2] as u32,
-        cuid: numbers[3] as u32,
-        cgid: numbers[4] as u32,
-        mode: numbers[5] as u32,
-    }
-}
+fn read_stat(stat: QueueStat)
+    ensures { (stat.stime.0 < 2 ^ 64) × (stat.rtime.0 < 2 ^ 64) × (stat.ctime.0 < 2 ^ 64)
+        × (stat.lspid.0 < 2 ^ 32) × (stat.lrpid.0 < 2 ^ 32) }
+{}
 
-fn own_numbers(numbers: &[u64; 13]) -> QueueNumbers
+fn own_numbers(numbers: &[u64; 6]) -> QueueNumbers
     requires { FitFields queue_sizes numbers.now }
-    ensures { empty_queue result ≡ (entry_from numbers.now (pos 0) []).object }
+    ensures { empty_queue result ≡ queue_from numbers.now [] }
 {
     QueueNumbers {
-        stime: Moment(numbers[6]),
-        rtime: Moment(numbers[7]),
-        ctime: Moment(numbers[8]),
-        lspid: Pid(numbers[9] as u32),
-        lrpid: Pid(numbers[10] as u32),
-        qbytes: numbers[11] as u32,
+        stime: Moment(numbers[0]),
+        rtime: Moment(numbers[1]),
+        ctime: Moment(numbers[2]),
+        lspid: Pid(numbers[3] as u32),
+        lrpid: Pid(numbers[4] as u32),
+        qbytes: numbers[5] as u32,
     }
-}
-
-/// How many bytes a queue has, with its messages.
-pub(crate) fn queue_len(entry: &Entry<MsgQueue>) -> u64
-    requires { length (queue_bytes (queue_entry entry.now)) < 2 ^ 64 }
-    ensures { result ≡ length (queue_bytes (queue_entry entry.now)) }
-{
-    let stat = entry.object.stat();
-    64 + MESSAGE_NUMBERS * stat.qnum as u64 + stat.bytes as u64
-}
-
-/// A queue, and each of its messages, the oldest first. The mark is of its messages.
-pub(crate) fn put_queue(window: &mut Window, entry: &Entry<MsgQueue>, mark: &mut Mark)
-    requires numbers { FitsQueue (queue_entry entry.now) }
-    requires messages { All FitsMessage entry.now.object.queue.messages }
-    requires short { length (queue_bytes (queue_entry entry.now)) < 2 ^ 64 }
-    requires mark { IsMarkIn message_bytes entry.now.object.queue.messages mark.old }
-    ensures passed { window.new ≡ passed (queue_bytes (queue_entry entry.now)) window.old }
-    ensures mark { IsMarkIn message_bytes entry.now.object.queue.messages mark.new }
-{
-    put_queue_numbers(window, entry);
-    put_list(window, entry.object.messages(), mark);
-}
-
-fn put_queue_numbers(window: &mut Window, entry: &Entry<MsgQueue>)
-    requires { FitsQueue (queue_entry entry.now) }
-    ensures { window.new
-        ≡ passed (fields_bytes queue_sizes (queue_numbers (queue_entry entry.now))) window.old }
-{
-    let perm = entry.perm;
-    let stat = entry.object.stat();
-    put_fields(
-        window,
-        &[
-            Field::U32(entry.key.cast_unsigned()),
-            Field::U32(perm.uid),
-            Field::U32(perm.gid),
-            Field::U32(perm.cuid),
-            Field::U32(perm.cgid),
-            Field::U32(perm.mode),
-            Field::U64(stat.stime.0),
-            Field::U64(stat.rtime.0),
-            Field::U64(stat.ctime.0),
-            Field::U32(stat.lspid.0),
-            Field::U32(stat.lrpid.0),
-            Field::U32(stat.qbytes),
-            Field::U32(stat.qnum as u32),
-        ],
-    );
 }

@@ -11,7 +11,7 @@ use crate::kind::restore_kind;
 use crate::saved::read_counted;
 use ipc_base::{Limits, ObjectMap, Objects};
 use ipc_engine::{Engine, StateFault};
-use ipc_state::{Entry, Item, Process, State};
+use ipc_state::{Item, Process, State};
 use std::alloc::Global;
 use sysv_msg::MsgQueue;
 use sysv_sem::SemSet;
@@ -65,8 +65,8 @@ fn restore(state: &mut State, alloc: Global, objects: &ObjectMap) -> Result<(), 
     };
     state.restore_numbers(numbers);
     read_counted::<Item<Process>>(state, processes)?;
-    let next = restore_kind::<Entry<MsgQueue>>(state, alloc, objects, ALWAYS)?;
-    let next = restore_kind::<Entry<SemSet>>(state, alloc, objects, next)?;
+    let next = restore_kind::<MsgQueue>(state, alloc, objects, ALWAYS)?;
+    let next = restore_kind::<SemSet>(state, alloc, objects, next)?;
     if next < objects.count() {
         return Err(StateFault::Unsound);
     }

@@ -6,7 +6,7 @@ ghost use Rattle.std.specs.List.{flat_map};
 ghost use Rattle.ipc_engine.specs.declared.fault.StateFault.{StateFault};
 ghost use Rattle.ipc_image.specs.Shape.{Shape, Tree, tree_bytes, bytes_in, IsTree};
 ghost use Rattle.ipc_image.specs.Saved.{counted_bytes};
-ghost use Rattle.ipc_image.specs.SavedParts.{first_bytes, IsMarkIn};
+ghost use Rattle.ipc_image.specs.SavedParts.{first_bytes, with_more, IsMarkIn, IsPlace};
 ghost use Rattle.ipc_image.specs.Window.{Shown, passed};
 
 use crate::fields::{put_count, take_count};
@@ -37,12 +37,14 @@ pub(crate) trait Saved {
     /// Each of its numbers has its place.
     ghost Fits: { Plain → Type 0 };
 
-    /// Those that were added, and all else.
-    ghost items: { Self.Into → List Plain };
+    /// What a contract sees of that, and which of these are there.
+    ghost Seen: { Type 0 };
 
-    ghost Others: { Type 0 };
+    ghost seen: { Self.Into → Seen };
 
-    ghost others: { Self.Into → Others };
+    ghost items: { Seen → List Plain };
+
+    ghost put: { Seen → List Plain → Seen };
 
     /// How many bytes it has.
     fn len(&self) -> u64
@@ -58,12 +60,15 @@ pub(crate) trait Saved {
     fn take<'b>(into: &mut Self::Into, bytes: &'b [u8]) -> Result<&'b [u8], StateFault>
         ensures ok { IfOk result (λ rest. (x : Plain) × Fits x
             × (bytes.now ≡ tree_bytes shape (tree x) ++ rest.now)
-            × (items into.new ≡ items into.old ++ x ∷ []) × (others into.new ≡ others into.old)) }
+            × (seen into.new ≡ with_more items put (seen into.old) (x ∷ []))) }
         ensures damaged { result ≡ Err StateFault.Unsound → (x : Plain) (rest : List ℕ) → Fits x
             → bytes.now ≢ tree_bytes shape (tree x) ++ rest };
 
     /// Its tree gives it back.
     ghost known: { (x : Plain) → Fits x → IsTree shape (tree x) × (back (tree x) ≡ x) };
+
+    /// What was added is what is found there.
+    ghost place: { IsPlace items put };
 }
 
 /// All of them pass the window. The mark is of them.
@@ -124,7 +129,7 @@ pub(crate) fn take_list<'b, T: Saved>(
 ) -> Result<&'b [u8], StateFault>
     ensures ok { IfOk result (λ rest. (xs : List T.Plain) × All T.Fits xs × (length xs ≡ count)
         × (bytes.now ≡ flat_map (bytes_in T.shape T.tree) xs ++ rest.now)
-        × (T.items into.new ≡ T.items into.old ++ xs) × (T.others into.new ≡ T.others into.old)) }
+        × (T.seen into.new ≡ with_more T.items T.put (T.seen into.old) xs)) }
     ensures damaged { result ≡ Err StateFault.Unsound → (xs : List T.Plain) (rest : List ℕ)
         → length xs ≡ count → All T.Fits xs → bytes.now ≢ flat_map (bytes_in T.shape T.tree) xs ++ rest }
 {
@@ -143,7 +148,7 @@ pub(crate) fn read_list<T: Saved>(
 ) -> Result<(), StateFault>
     ensures ok { OnOk result ((xs : List T.Plain) × All T.Fits xs × (length xs ≡ count)
         × (bytes.now ≡ flat_map (bytes_in T.shape T.tree) xs)
-        × (T.items into.new ≡ T.items into.old ++ xs) × (T.others into.new ≡ T.others into.old)) }
+        × (T.seen into.new ≡ with_more T.items T.put (T.seen into.old) xs)) }
     ensures damaged { result ≡ Err StateFault.Unsound → (xs : List T.Plain)
         → length xs ≡ count → All T.Fits xs → bytes.now ≢ flat_map (bytes_in T.shape T.tree) xs }
 {
@@ -158,7 +163,7 @@ pub(crate) fn read_list<T: Saved>(
 pub(crate) fn read_counted<T: Saved>(into: &mut T::Into, bytes: &[u8]) -> Result<(), StateFault>
     ensures ok { OnOk result ((xs : List T.Plain) × (length xs < 2 ^ 32) × All T.Fits xs
         × (bytes.now ≡ counted_bytes (bytes_in T.shape T.tree) xs)
-        × (T.items into.new ≡ T.items into.old ++ xs) × (T.others into.new ≡ T.others into.old)) }
+        × (T.seen into.new ≡ with_more T.items T.put (T.seen into.old) xs)) }
     ensures damaged { result ≡ Err StateFault.Unsound → (xs : List T.Plain)
         → length xs < 2 ^ 32 → All T.Fits xs → bytes.now ≢ counted_bytes (bytes_in T.shape T.tree) xs }
 {

@@ -1,27 +1,27 @@
 //! A semaphore set's object: its numbers, and its semaphores.
 
-ghost use Rattle.std.specs.Prelude.{◌≡◌, ◌<◌, ◌*◌, ◌^◌, [], ℕ, length, pos};
-ghost use Rattle.std.proofs.Common.{refl};
-ghost use Rattle.ipc_base.specs.declared.limits.Limits.{Limits};
+ghost use Rattle.std.specs.Prelude.{◌≡◌, ◌≢◌, ◌++◌, IfSome, IfNone, OnOk, ◌∷◌, ◌<◌};
+ghost use Rattle.std.specs.Prelude.{◌≤◌, ◌*◌, ◌^◌, [], ℕ, List, All, length};
+ghost use Rattle.std.proofs.Common.{sym, refl};
+ghost use Rattle.ipc_base.proofs.CallerLemmas.{numbers_are};
 ghost use Rattle.ipc_base.specs.Numbers.{fields_bytes, FitFields};
+ghost use Rattle.ipc_base.specs.declared.limits.Limits.{Limits};
 ghost use Rattle.sysv_sem.specs.declared.set.Semaphore.{Semaphore as PlainSemaphore};
-ghost use Rattle.sysv_sem.specs.Set.{Set, semaphores_in, semaphores_of};
-ghost use Rattle.std.specs.List.{flat_map};
-ghost use Rattle.ipc_state.specs.declared.keyed.Entry.{Entry as PlainEntry};
+ghost use Rattle.sysv_sem.specs.Operation.{most_value};
+ghost use Rattle.sysv_sem.specs.Set.{Set};
+ghost use Rattle.ipc_state.specs.Keyed.{entry_map};
 ghost use Rattle.ipc_state.specs.State.{State as PlainState};
 ghost use Rattle.ipc_image.specs.Saved.{semaphore_shape, semaphore_numbers, semaphore_bytes, FitsSemaphore};
-ghost use Rattle.ipc_image.specs.Saved.{set_sizes, set_numbers, set_shape, set_tree, set_bytes, FitsSet};
-ghost use Rattle.ipc_image.specs.SavedParts.{semaphore_from, set_from, without_sets};
-ghost use Rattle.ipc_image.specs.Window.{passed};
+ghost use Rattle.ipc_image.specs.Saved.{set_sizes, set_numbers, semaphores_of};
+ghost use Rattle.ipc_image.specs.SavedParts.{semaphore_from, with_semaphores, set_from, put_sets, with_more};
 
 use crate::fields::{EIGHT, FOUR, TWO, put_fields};
 use crate::kind::Kind;
-use crate::saved::{Saved, read_list};
-use crate::widths::read_perm;
+use crate::saved::{Saved, put_counted, read_counted};
+use crate::widths::{Wide, read_each};
 use crate::window::Window;
-use ipc_base::{Field, Id, Moment, Pid, take_fields};
+use ipc_base::{Field, Id, Mark, Moment, Pid, take_fields};
 use ipc_engine::StateFault;
-use ipc_perm::Perm;
 use ipc_state::{Entry, State};
 use std::alloc::{AllocError, Global};
 use sysv_sem::{MOST_VALUE, SemSet, Semaphore};
@@ -41,11 +41,15 @@ impl Saved for Semaphore {
 
     ghost Fits = { FitsSemaphore };
 
+    ghost Seen = { Set };
+
+    ghost seen = { λ s. s };
+
     ghost items = { semaphores_of };
 
-    ghost Others = { ℕ × ℕ };
+    ghost put = { with_semaphores };
 
-    ghost others = { λ s. (s.otime, s.ctime) };
+    ghost place = { record { same = λ s. refl; found = λ s xs. refl; again = λ s xs ys. refl } };
 
     ghost known = { λ x fit. (fit.1, refl) };
 
@@ -70,116 +74,95 @@ impl Saved for Semaphore {
     }
 }
 
-impl Kind for Entry<SemSet> {
-    ghost Plain = { PlainEntry Set };
+impl Wide for Semaphore {
+    ghost IsSmall = { λ x. x.value ≤ most_value };
 
-    ghost plain = { λ e. e };
+    ghost IsWide = { FitsSemaphore };
 
-    ghost shape = { set_shape };
+    fn read(&self) {
+        let _value = self.value;
+        let _pid = self.pid.0;
+    }
+}
 
-    ghost tree = { set_tree };
+impl Kind for SemSet {
+    ghost Plain = { Set };
 
-    ghost Fits = { FitsSet };
+    ghost plain = { λ s. s };
 
-    ghost items = { λ s. s.state.sem.entries };
+    ghost sizes = { set_sizes };
 
-    ghost Others = { PlainState × Limits };
+    ghost numbers = { set_numbers };
 
-    ghost others = { λ s. (without_sets s.state, s.limits) };
+    ghost Part = { PlainSemaphore };
+
+    ghost part_bytes = { semaphore_bytes };
+
+    ghost FitsPart = { FitsSemaphore };
+
+    ghost parts = { semaphores_of };
+
+    ghost from = { set_from };
+
+    ghost known = { λ ns xs fit. (sym (numbers_are set_sizes ns fit), refl) };
+
+    ghost IsSmall = { λ s. length s.semaphores < 2 ^ 32 };
 
     ghost FIRST = { 2 * 2 ^ 32 };
 
     const FIRST: u64 = 2 << 32;
 
-    ghost IsSmall = { λ e. length e.object.values < 2 ^ 32 };
+    ghost items = { λ s. s.0.sem.entries };
+
+    ghost put = { put_sets };
+
+    ghost place = { record { same = λ s. refl; found = λ s xs. refl; again = λ s xs ys. refl } };
 
     fn read_numbers(&self) {
-        let _key = self.key;
-        read_perm(self.perm);
-        let stat = self.object.stat();
+        let stat = self.stat();
         read_times(stat.otime, stat.ctime);
-        let _values = self.object.values();
-        let _pids = self.object.pids();
-        self.object.read_pids();
+        read_each(self.semaphores());
     }
 
-    fn read(alloc: Global, bytes: &[u8]) -> Result<Entry<SemSet>, StateFault> {
-        let sizes = [FOUR, FOUR, FOUR, FOUR, FOUR, FOUR, EIGHT, EIGHT, FOUR];
-        let (numbers, rest) = take_fields(bytes, &sizes).ok_or(StateFault::Unsound)?;
-        let mut object = SemSet::restored(alloc, Moment(numbers[6]), Moment(numbers[7]));
-        read_list::<Semaphore>(&mut object, numbers[8] as u32, rest)?;
-        let _pids = object.pids();
-        Ok(Entry {
-            key: (numbers[0] as u32).cast_signed(),
-            perm: perm_in(&numbers),
-            object,
-        })
+    #[tactic(auto, using(crate::proofs::SavedObjects::set_counts))]
+    fn len(&self) -> u64 {
+        20 + 6 * self.stat().nsems as u64
     }
 
-    fn add(self, state: &mut State, id: Id) -> Result<(), AllocError> {
-        state.restore_set(id, self)
+    fn put_numbers(&self, window: &mut Window) {
+        let stat = self.stat();
+        put_fields(
+            window,
+            &[Field::U64(stat.otime.0), Field::U64(stat.ctime.0)],
+        );
     }
-}
 
-fn perm_in(numbers: &[u64; 9]) -> Perm
-    requires { FitFields set_sizes numbers.now }
-    ensures { result ≡ (set_from numbers.now (pos 0) []).perm }
-{
-    Perm {
-        uid: numbers[1] as u32,
-        gid: numbers[2] as u32,
-        cuid: numbers[3] as u32,
-        cgid: numbers[4] as u32,
-        mode: numbers[5] as u32,
+    fn put_parts(&self, window: &mut Window, mark: &mut Mark) {
+        put_counted(window, self.semaphores(), mark);
     }
-}
 
-/// How many bytes a set has, with its semaphores.
-pub(crate) fn set_len(entry: &Entry<SemSet>) -> u64
-    requires { FitsSet entry.now }
-    ensures { result ≡ length (set_bytes entry.now) }
-{
-    44 + 6 * entry.object.stat().nsems as u64
-}
+    fn begin(alloc: Global, bytes: &[u8]) -> Option<(SemSet, &[u8])>
+        ensures some { IfSome result (λ found. (ns : List ℕ) × FitFields set_sizes ns
+            × (bytes.now ≡ fields_bytes set_sizes ns ++ found.1.now) × (found.0 ≡ set_from ns [])) }
+        ensures none { IfNone result ((ns rest : List ℕ) → FitFields set_sizes ns
+            → bytes.now ≢ fields_bytes set_sizes ns ++ rest) }
+    {
+        let (numbers, rest) = take_fields(bytes, &[EIGHT, EIGHT])?;
+        Some((
+            SemSet::restored(alloc, Moment(numbers[0]), Moment(numbers[1])),
+            rest,
+        ))
+    }
 
-/// A set, and each of its semaphores.
-pub(crate) fn put_set(window: &mut Window, entry: &Entry<SemSet>)
-    requires { FitsSet entry.now }
-    ensures { window.new ≡ passed (set_bytes entry.now) window.old }
-{
-    put_set_numbers(window, entry);
-    put_semaphores(window, entry.object.values(), entry.object.pids());
-}
+    fn read_parts(&mut self, bytes: &[u8]) -> Result<(), StateFault> {
+        read_counted::<Semaphore>(self, bytes)
+    }
 
-fn put_set_numbers(window: &mut Window, entry: &Entry<SemSet>)
-    requires { FitsSet entry.now }
-    ensures { window.new ≡ passed (fields_bytes set_sizes (set_numbers entry.now)) window.old }
-{
-    let perm = entry.perm;
-    let stat = entry.object.stat();
-    put_fields(
-        window,
-        &[
-            Field::U32(entry.key.cast_unsigned()),
-            Field::U32(perm.uid),
-            Field::U32(perm.gid),
-            Field::U32(perm.cuid),
-            Field::U32(perm.cgid),
-            Field::U32(perm.mode),
-            Field::U64(stat.otime.0),
-            Field::U64(stat.ctime.0),
-            Field::U32(stat.nsems as u32),
-        ],
-    );
-}
-
-fn put_semaphores(window: &mut Window, values: &[u16], pids: &[Pid])
-    requires { length pids.now ≡ length values.now }
-    ensures { window.new ≡ passed (flat_map semaphore_bytes (semaphores_in values.now pids.now)) window.old }
-{
-    for at in 0..values.len() {
-        let semaphore = [Field::U16(values[at]), Field::U32(pids[at].0)];
-        put_fields(window, &semaphore);
+    fn add(state: &mut State, id: Id, entry: Entry<SemSet>) -> Result<(), AllocError>
+        ensures { OnOk result ((state.new.state, state.new.limits) ≡ with_more (λ s. s.0.sem.entries) put_sets
+            (state.old.state, state.old.limits) ((id.0, entry_map (λ s. s) entry) ∷ [])) }
+    {
+        state.restore_set(id, entry)
     }
 }
 

@@ -1,21 +1,21 @@
 //! The state as objects, without any memory.
 
-ghost use Rattle.std.specs.Prelude.{◌≡◌, ◌≤◌, ◌<◌, ◌-◌, ◌^◌, length, true, Some, slice_get, option_map};
+ghost use Rattle.std.specs.Prelude.{◌≡◌, ◌≤◌, ◌<◌, ◌-◌, ◌^◌, length, drop, true, Some, slice_get, option_map};
 ghost use Rattle.ipc_base.specs.declared.limits.Limits.{Limits};
 ghost use Rattle.ipc_base.specs.Limits.{ArePassed};
 ghost use Rattle.ipc_base.specs.Objects.{Fit};
 ghost use Rattle.ipc_state.specs.State.{start};
 ghost use Rattle.ipc_image.specs.Saved.{saved, StandForState};
-ghost use Rattle.ipc_image.specs.SavedParts.{IsMarkOf, IsMarkOfThing, FitsThing, StandsAt, object_of};
+ghost use Rattle.ipc_image.specs.SavedParts.{IsMarkAfter, IsMarkOf, IsMarkOfThing, FitsThing, Stands, object_of};
 ghost use Rattle.ipc_image.specs.Sizes.{area_of};
 ghost use Rattle.ipc_image.specs.Window.{passed};
 
 use crate::clock::put_clock;
+use crate::entry::{entry_len, put_entry};
 use crate::fields::put_count;
-use crate::queue::{put_queue, queue_len};
+use crate::kind::Kind;
 use crate::restoring::ALWAYS;
 use crate::saved::{START, put_counted};
-use crate::set::{put_set, set_len};
 use crate::widths::read_state;
 use crate::window::Window;
 use ipc_base::{Mark, Moment, Objects};
@@ -24,12 +24,6 @@ use ipc_state::{Entry, Item, Numbers, Process};
 use std::marker::Model;
 use sysv_msg::MsgQueue;
 use sysv_sem::SemSet;
-
-/// The number of a queue's object is this one and its identifier.
-const QUEUES: u64 = 1 << 32;
-
-/// And that of a semaphore set's object this one and its identifier.
-const SETS: u64 = 2 << 32;
 
 /// The objects of a state: four that every state has, one for each queue, and one for each semaphore
 /// set. A contract sees the state. Each object counts as changed.
@@ -119,8 +113,8 @@ impl<'a> Objects for StateObjects<'a> {
             return u64::from(i);
         }
         match thing_at(self, i) {
-            Thing::Queue(queue) => QUEUES + u64::from(queue.number),
-            Thing::Set(set) => SETS + u64::from(set.number),
+            Thing::Queue(queue) => MsgQueue::FIRST + u64::from(queue.number),
+            Thing::Set(set) => SemSet::FIRST + u64::from(set.number),
         }
     }
 
@@ -152,38 +146,42 @@ impl<'a> Objects for StateObjects<'a> {
 fn thing_at<'a, 'b>(objects: &'b StateObjects<'a>, i: u32) -> Thing<'a>
     requires thing { 4 ≤ i }
     requires object { i < length (saved objects.now) }
+    ensures stands { Stands (drop 4 (saved objects.now)) (IsMarkAfter objects.now) (i - 4)
+        (object_of result) (IsMarkOfThing result) }
     ensures object { slice_get (saved objects.now) i ≡ Some (object_of result) }
-    ensures stands { StandsAt objects.now (i - 4) result }
+    ensures short { length (object_of result).1 < 2 ^ 64 }
     ensures fits { FitsThing result }
 {
     let at = (i - ALWAYS) as usize;
     if at < objects.queues.len() {
         return Thing::Queue(&objects.queues[at]);
     }
-    Thing::Set(&objects.sets[at - objects.queues.len()])
+    let at = at - objects.queues.len();
+    Thing::Set(&objects.sets[at])
 }
 
 // How many bytes its object has.
 fn thing_len(thing: &Thing<'_>) -> u64
-    requires { FitsThing thing.now }
+    requires { length (object_of thing.now).1 < 2 ^ 64 }
     ensures { result ≡ length (object_of thing.now).1 }
 {
     match thing {
-        Thing::Queue(queue) => queue_len(&queue.value),
-        Thing::Set(set) => set_len(&set.value),
+        Thing::Queue(queue) => entry_len(&queue.value),
+        Thing::Set(set) => entry_len(&set.value),
     }
 }
 
 // Its object passes the window. The mark is of its parts.
 fn put_thing(window: &mut Window, thing: &Thing<'_>, mark: &mut Mark)
     requires fits { FitsThing thing.now }
+    requires short { length (object_of thing.now).1 < 2 ^ 64 }
     requires mark { IsMarkOfThing thing.now mark.old }
     ensures passed { window.new ≡ passed (object_of thing.now).1 window.old }
     ensures mark { IsMarkOfThing thing.now mark.new }
 {
     match thing {
-        Thing::Queue(queue) => put_queue(window, &queue.value, mark),
-        Thing::Set(set) => put_set(window, &set.value),
+        Thing::Queue(queue) => put_entry(window, &queue.value, mark),
+        Thing::Set(set) => put_entry(window, &set.value, mark),
     }
 }
 

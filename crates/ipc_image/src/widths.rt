@@ -2,19 +2,67 @@
 //! at most, and says so once the number is read; so each is read here, and nothing else is done.
 //! Messages are not read: a queue says of them what is needed.
 
-ghost use Rattle.std.specs.Prelude.{All};
+ghost use Rattle.std.specs.Prelude.{All, ⊤};
 ghost use Rattle.ipc_base.specs.Limits.{ArePassed};
 ghost use Rattle.ipc_base.specs.Numbers.{FitFields};
+ghost use Rattle.ipc_state.specs.Keyed.{entry_map};
 ghost use Rattle.ipc_state.specs.Tables.{item_row};
 ghost use Rattle.ipc_engine.specs.Sound.{IsSound};
-ghost use Rattle.ipc_image.specs.Saved.{clock_sizes, clock_numbers, FitsProcess, HasAllPlaces};
-ghost use Rattle.ipc_image.specs.SavedParts.{IsWidePerm, IsWideStat};
+ghost use Rattle.ipc_image.specs.Kind.{FitsIn};
+ghost use Rattle.ipc_image.specs.Saved.{clock_sizes, clock_numbers, FitsEntry, FitsProcess, HasAllPlaces};
 
-use crate::kind::read_all;
-use ipc_perm::Perm;
+use crate::entry::read_head;
+use crate::kind::Kind;
 use ipc_state::{Entry, Item, Process, State};
-use sysv_msg::{MsgQueue, QueueStat};
-use sysv_sem::SemSet;
+
+/// What has numbers.
+pub(crate) trait Wide {
+    /// What is known of a sound one.
+    ghost IsSmall: { Self → Type 0 };
+
+    /// Each of its numbers has its place.
+    ghost IsWide: { Self → Type 0 };
+
+    /// Reads each of its numbers.
+    fn read(&self)
+        requires { IsSmall self.now }
+        ensures { IsWide self.now };
+}
+
+impl Wide for Item<Process> {
+    ghost IsSmall = { λ p. ⊤ };
+
+    ghost IsWide = { λ p. FitsProcess (item_row p) };
+
+    fn read(&self) {
+        let _pid = self.number;
+        let _uid = self.value.cred.uid;
+        let _gid = self.value.cred.gid;
+    }
+}
+
+impl<T: Kind> Wide for Item<Entry<T>> {
+    ghost IsSmall = { λ e. T.IsSmall (T.plain e.value.object) };
+
+    ghost IsWide = { λ e.
+        FitsIn (FitsEntry T.sizes T.numbers T.FitsPart T.parts) (e.number, entry_map T.plain e.value) };
+
+    fn read(&self) {
+        let _id = self.number;
+        read_head(&self.value);
+        self.value.object.read_numbers();
+    }
+}
+
+/// Reads each number of these.
+pub(crate) fn read_each<T: Wide>(items: &[T])
+    requires { All T.IsSmall items.now }
+    ensures { All T.IsWide items.now }
+{
+    for item in items {
+        item.read();
+    }
+}
 
 /// Reads each number of a state.
 pub(crate) fn read_state(state: &State)
@@ -23,9 +71,9 @@ pub(crate) fn read_state(state: &State)
     ensures { HasAllPlaces state.now.state }
 {
     read_clock(state);
-    read_processes(state.processes());
-    read_all::<Entry<MsgQueue>>(state.queues());
-    read_all::<Entry<SemSet>>(state.sets());
+    read_each(state.processes());
+    read_each(state.queues());
+    read_each(state.sets());
 }
 
 fn read_clock(state: &State)
@@ -36,27 +84,3 @@ fn read_clock(state: &State)
     let _next_queue = state.next_queue();
     let _next_set = state.next_set();
 }
-
-fn read_processes(processes: &[Item<Process>])
-    ensures { All (λ p. FitsProcess (item_row p)) processes.now }
-{
-    for process in processes {
-        read_process(process);
-    }
-}
-
-fn read_process(process: &Item<Process>)
-    ensures { FitsProcess (item_row process.now) }
-{
-    let _pid = process.number;
-    let _uid = process.value.cred.uid;
-    let _gid = process.value.cred.gid;
-}
-
-pub(crate) fn read_perm(perm: Perm)
-    ensures { IsWidePerm perm }
-{}
-
-pub(crate) fn read_stat(stat: QueueStat)
-    ensures { IsWideStat stat }
-{}

@@ -30,17 +30,15 @@ pub record HasNumbers (q : Queue) : Type 0 where
   pub count : length q.messages < 2 ^ 32
   pub qbytes : q.qbytes < 2 ^ 32
 
--- a set has at least one semaphore and at most semmsl; each has a value of at most 32767, and somebody, or nobody, who
--- changed it last
+-- a set has at least one semaphore and at most semmsl, and each a value of at most 32767
 pub record IsSoundSet (limits : Limits) (s : Set) : Type 0 where
-  pub some : 0 < length s.values
-  pub few : length s.values ≤ limits.semmsl
-  pub values : All (λ v. v ≤ most_value) s.values
-  pub pids : length s.pids ≡ length s.values
+  pub some : 0 < length s.semaphores
+  pub few : length s.semaphores ≤ limits.semmsl
+  pub values : All (λ x. x.value ≤ most_value) s.semaphores
 
 -- how many semaphores the sets have together
 abbrev pub semaphore_count : Keyed Set → ℕ
-semaphore_count o = sum_by (λ e. length e.1.object.values) o.entries
+semaphore_count o = sum_by (λ e. length e.1.object.semaphores) o.entries
 
 -- each set is sound, and together they have at most semmns semaphores
 pub record AreSoundSets (limits : Limits) (o : Keyed Set) : Type 0 where

@@ -68,7 +68,7 @@ impl State {
 /// Whether each of these sets is sound, and they have together no more semaphores than the limit says.
 fn are_sound(sets: &[Item<Entry<SemSet>>], limits: &Limits) -> bool
     ensures { IsTrue result ↔ All (λ e. IsSoundSet limits.now e.value.object) sets.now
-        × (sum_by (λ e. length e.value.object.values) sets.now ≤ limits.now.semmns) }
+        × (sum_by (λ e. length e.value.object.semaphores) sets.now ≤ limits.now.semmns) }
 {
     let mut left = limits.semmns as usize;
     for item in sets {
@@ -85,7 +85,6 @@ fn are_sound(sets: &[Item<Entry<SemSet>>], limits: &Limits) -> bool
 fn is_sound_set(set: &SemSet, limits: &Limits) -> bool
     ensures { IsTrue result ↔ IsSoundSet limits.now set.now }
 {
-    let values = set.values();
-    let _pids = set.pids();
-    0 < values.len() && values.len() <= limits.semmsl as usize
+    let semaphores = set.semaphores();
+    0 < semaphores.len() && semaphores.len() <= limits.semmsl as usize
 }

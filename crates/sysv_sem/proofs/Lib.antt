@@ -1,2 +1,1 @@
-pub mod CallerLemmas
 pub mod Trials

@@ -1,23 +1,24 @@
 -- A trial, operation by operation.
 use Rattle.std.proofs.Common.{◌≡◌, ℕ, zero, suc, ◌+◌, ◌<◌, ◌≤◌, ◌⊎◌, inl, inr, ℤ, pos, ◌-ℤ◌, Bool, true, false, cond, not, ◌&&◌, List, []}
 use Rattle.std.proofs.Common.{◌∷◌, ◌++◌, length, take, drop, get_or, set, nat_eq, refl, sym, ap, subst, ◌∙◌, arith, add-one, FitsSigned}
-use Rattle.std.proofs.Common.{All, to_z, of_z}
+use Rattle.std.proofs.Common.{All, map, to_z, of_z}
 use Rattle.std.specs.Int.{w16}
 use Rattle.std.specs.List.{fold}
 use Rattle.std.proofs.lemmas.Bool.{ltb-false, eqb-true, eqb-false}
 use Rattle.std.proofs.lemmas.Int.{ints, to_z-of_z}
-use Rattle.std.proofs.lemmas.List.{get_or-set_other, get_or-set_same, get_or-map, get_or_default, get_or_past, length-take, take-take}
+use Rattle.std.proofs.lemmas.List.{get_or-set_other, get_or-set_same, get_or-map, get_or_default, get_or_past, length-take, length-map, map-set, take-take}
 use Rattle.std.proofs.lemmas.List.Sums.{fold_more}
 use Rattle.std.proofs.Math.ListN.{length-set, drop_of_length-le}
 use Rattle.std.proofs.Math.Seq.{drop-cons, take-append_seam, take-length}
 use Rattle.ipc_base.specs.declared.identity.Pid.{Pid}
-use Rattle.sysv_sem.specs.Set.{marked}
+use Rattle.sysv_sem.specs.Set.{marked, semaphores_in}
+use Rattle.sysv_sem.specs.declared.set.Semaphore.{Semaphore}
 use Rattle.sysv_sem.specs.declared.operation.Operation.{Operation}
 use Rattle.sysv_sem.specs.declared.operation.Verdict.{Verdict}
 use Rattle.sysv_sem.specs.declared.operation.Verdict.TheVariants.{Passes, Waits, OutOfRange}
 use Rattle.sysv_sem.specs.Operation.{most_value, is_adjustment, has_undo, value_after, judged, performed, adjusted, Done, unless_stopped}
 use Rattle.sysv_sem.specs.Operation.{outcome_from, outcome}
-use Rattle.sysv_sem.specs.Trial.{value_of, adjustment_of, AreAdjustments, CanBeDone}
+use Rattle.sysv_sem.specs.Trial.{value_of, adjustment_of, AreAdjustments, CanBeDone, changed_by}
 
 fits : (z : ℤ) → is_adjustment z ≡ true → FitsSigned w16 z
 fits z h = grind (arith, ints)
@@ -274,9 +275,68 @@ pub all-bounded : (values : List ℕ) → All (λ v. v ≤ most_value) values �
 all-bounded values all n =
     elim (lt_or_le n (length values)) [ inl h ↦ all n 0 h | inr h ↦ subst (λ v. v ≤ most_value) (sym (get_or_past values n 0 h)) (omega arith) ]
 
-pub length-marked : (pid : Pid) (pids : List Pid) (operations : List Operation) → length (fold (marked pid) pids operations) ≡ length pids
-length-marked pid pids [] = refl
-length-marked pid pids (o ∷ rest) = length-marked pid (marked pid pids o) rest ∙ length-set pids o.num pid
+-- ---- the semaphores: of each its value, and its pid
+
+abbrev pub values : List Semaphore → List ℕ
+values xs = map (λ (x : Semaphore). x.value) xs
+
+abbrev pub pids : List Semaphore → List Pid
+pids xs = map (λ (x : Semaphore). x.pid) xs
+
+pub value-at : (xs : List Semaphore) (n : ℕ) → (get_or xs n (record { value = 0; pid = record { 0 = 0 } })).value ≡ get_or (values xs) n 0
+value-at [] n = refl
+value-at (x ∷ xs) zero = refl
+value-at (x ∷ xs) (suc n) = value-at xs n
+
+pub within : (xs : List Semaphore) (n : ℕ) → n < length xs → n < length (values xs)
+within xs n lt = omega (arith, lt, length-map xs (λ (x : Semaphore). x.value))
+
+pub each-value : (xs : List Semaphore) → All (λ v. v ≤ most_value) (values xs) → All (λ x. x.value ≤ most_value) xs
+each-value xs all k d lt =
+    subst (λ v. v ≤ most_value) (get_or-map (λ (x : Semaphore). x.value) xs k d 0 lt) (all k 0 (within xs k lt))
+
+pub value-from : (xs : List Semaphore) (n value : ℕ) (operations : List Operation)
+    → value ≡ fold (value_of n) (get_or xs n (record { value = 0; pid = record { 0 = 0 } })).value operations
+    → value ≡ fold (value_of n) (get_or (values xs) n 0) operations
+value-from xs n value operations is = is ∙ ap (λ v. fold (value_of n) v operations) (value-at xs n)
+
+pub value-to : (xs : List Semaphore) (n : ℕ) (operations : List Operation)
+    → ((k : ℕ) → k ≤ length operations → fold (value_of n) (get_or (values xs) n 0) (take k operations) ≤ most_value) → (k : ℕ) → k ≤ length operations
+    → fold (value_of n) (get_or xs n (record { value = 0; pid = record { 0 = 0 } })).value (take k operations) ≤ most_value
+value-to xs n operations ready k le = subst (λ v. fold (value_of n) v (take k operations) ≤ most_value) (sym (value-at xs n)) (ready k le)
+
+module _ (pid : Pid) where
+  pub values-changed : (xs : List Semaphore) (operations : List Operation)
+      → values (fold (changed_by pid) xs operations) ≡ fold performed (values xs) operations
+  values-changed xs [] = refl
+  values-changed xs (o ∷ rest) =
+      values-changed (changed_by pid xs o) rest
+      ∙ ap (λ l. fold performed l rest) (map-set (λ (x : Semaphore). x.value) xs o.num _)
+
+  pids-changed : (xs : List Semaphore) (operations : List Operation) → pids (fold (changed_by pid) xs operations) ≡ fold (marked pid) (pids xs) operations
+  pids-changed xs [] = refl
+  pids-changed xs (o ∷ rest) =
+      pids-changed (changed_by pid xs o) rest ∙ ap (λ l. fold (marked pid) l rest) (map-set (λ (x : Semaphore). x.pid) xs o.num _)
+
+  -- the value of one, on the way
+  pub value-on_way : (xs now : List Semaphore) (operations : List Operation) (n : ℕ) → now ≡ fold (changed_by pid) xs operations
+      → get_or (fold performed (values xs) operations) n 0 ≤ most_value → (get_or now n (record { value = 0; pid = record { 0 = 0 } })).value ≤ most_value
+  value-on_way xs now operations n is le =
+      subst (λ v. v ≤ most_value) (sym (value-at now n ∙ ap (λ l. get_or l n 0) (ap values is ∙ values-changed xs operations))) le
+
+  pub length-changed : (xs : List Semaphore) (operations : List Operation) → length (fold (changed_by pid) xs operations) ≡ length xs
+  length-changed xs [] = refl
+  length-changed xs (o ∷ rest) = length-changed (changed_by pid xs o) rest ∙ length-set xs o.num _
+
+  pub changed : (xs : List Semaphore) (operations : List Operation)
+      → fold (changed_by pid) xs operations ≡ semaphores_in (fold performed (values xs) operations) (fold (marked pid) (pids xs) operations)
+  changed xs operations =
+      split (fold (changed_by pid) xs operations)
+      ∙ (λ i. semaphores_in (values-changed xs operations i) (pids-changed xs operations i))
+    where
+      split : (xs : List Semaphore) → xs ≡ semaphores_in (values xs) (pids xs)
+      split [] = refl
+      split (x ∷ xs) = ap (λ (ys : List Semaphore). x ∷ ys) (split xs)
 
 -- a buffer that is written whole
 pub whole : {A : Type 0} (xs items : List A) (len : ℕ) → length xs ≡ len → take len (xs ++ drop (length xs) items) ≡ xs

@@ -1,7 +1,7 @@
 //! A semaphore set.
 
-ghost use Rattle.std.specs.Prelude.{◌≡◌, ◌<◌, ◌≤◌, ◌^◌, ℕ, ℤ, List, Some, length};
-ghost use Rattle.std.specs.Prelude.{IfOk, OnOk, OnErr, All, slice_index, slice_get, [], ◌∷◌, ◌++◌};
+ghost use Rattle.std.specs.Prelude.{◌≡◌, ◌<◌, ◌≤◌, ℕ, ℤ, List, Some, length, map};
+ghost use Rattle.std.specs.Prelude.{IfOk, OnOk, OnErr, All, slice_index, slice_get};
 ghost use Rattle.sysv_sem.specs.Operation.{most_value, outcome, trial_of, Done};
 ghost use Rattle.sysv_sem.specs.Trial.{AreAdjustments, ArePrepared, CanBeDone};
 
@@ -28,45 +28,47 @@ pub struct Semaphore {
     pub pid: Pid,
 }
 
+/// A semaphore that nobody changed.
+const UNCHANGED: Semaphore = Semaphore {
+    value: 0,
+    pid: Pid(0),
+};
+
 /// A semaphore set: of each semaphore its value, of at most 32767, and who changed it last. But for `new`
 /// and `restore`, no call takes memory.
 #[derive(Drop)]
 pub struct SemSet {
-    values: Vec<u16>,
-    pids: Vec<Pid>,
+    semaphores: Vec<Semaphore>,
     otime: Moment,
     ctime: Moment,
 }
 
 impl Model for SemSet {
-    ghost use Rattle.std.specs.Prelude.{◌≡◌, ◌≤◌, length, All};
+    ghost use Rattle.std.specs.Prelude.{◌≤◌, All};
     ghost use Rattle.sysv_sem.specs.Operation.{most_value};
     ghost use Rattle.sysv_sem.specs.Set.{Set};
 
     ghost Value = { Set };
 
     ghost view = { λ s. record {
-      values = s.values.items;
-      pids = s.pids.items;
+      semaphores = s.semaphores.items;
       otime = s.otime.0;
       ctime = s.ctime.0;
     } };
 
-    ghost invariant = { λ s. (length s.pids.items ≡ length s.values.items)
-        × All (λ v. v ≤ most_value) s.values.items };
+    ghost invariant = { λ s. All (λ x. x.value ≤ most_value) s.semaphores.items };
 }
 
 impl SemSet {
     ghost use Rattle.sysv_sem.specs.Set.{new_set, carried, with_value, with_values, after_exit, stat_of};
-    ghost use Rattle.sysv_sem.specs.Set.{set_of, semaphores_of, with_semaphore};
+    ghost use Rattle.sysv_sem.specs.Set.{values_of, pids_of, empty_set, with_semaphore};
 
     /// A set of so many semaphores, each of value 0. Refused for want of memory.
     pub fn new(alloc: Global, nsems: usize, ctime: Moment) -> Result<SemSet, AllocError>
         ensures { IfOk result (λ set. set ≡ new_set nsems ctime.0) }
     {
         Ok(SemSet {
-            values: vec![in alloc; 0; nsems]?,
-            pids: vec![in alloc; Pid(0); nsems]?,
+            semaphores: vec![in alloc; UNCHANGED; nsems]?,
             otime: Moment(0),
             ctime,
         })
@@ -74,11 +76,10 @@ impl SemSet {
 
     /// A set without semaphores whose times are known. It takes no memory.
     pub fn restored(alloc: Global, otime: Moment, ctime: Moment) -> SemSet
-        ensures { result ≡ set_of [] otime.0 ctime.0 }
+        ensures { result ≡ empty_set otime.0 ctime.0 }
     {
         SemSet {
-            values: Vec::new(alloc),
-            pids: Vec::new(alloc),
+            semaphores: Vec::new(alloc),
             otime,
             ctime,
         }
@@ -87,14 +88,11 @@ impl SemSet {
     /// Adds a semaphore that was read, at the end. Refused for want of memory, the set is as before.
     pub fn restore(&mut self, semaphore: Semaphore) -> Result<(), AllocError>
         requires { semaphore.value ≤ most_value }
-        ensures set { OnOk result (self.new ≡ with_semaphore self.old semaphore) }
-        ensures semaphores { OnOk result (semaphores_of self.new ≡ semaphores_of self.old ++ semaphore ∷ []) }
+        ensures ok { OnOk result (self.new ≡ with_semaphore self.old semaphore) }
         ensures err { OnErr result (self.new ≡ self.old) }
     {
-        self.values.reserve(1)?;
-        self.pids.reserve(1)?;
-        self.values.push_reserved(semaphore.value);
-        self.pids.push_reserved(semaphore.pid);
+        self.semaphores.reserve(1)?;
+        self.semaphores.push_reserved(semaphore);
         Ok(())
     }
 
@@ -102,98 +100,79 @@ impl SemSet {
     /// given the adjustment that the process has there before the list. It looks at the semaphores that
     /// the list names and at no other.
     pub fn try_list(&self, operations: &[Operation], adjustments: &[i16]) -> Trial
-        requires nums { All (λ o. o.num < length self.now.values) operations.now }
+        requires nums { All (λ o. o.num < length self.now.semaphores) operations.now }
         requires adjustments { ArePrepared adjustments.now operations.now }
         ensures { (held : ℕ → ℤ) → AreAdjustments adjustments.now held operations.now
-            → result ≡ trial_of (outcome self.now.values held operations.now) }
+            → result ≡ trial_of (outcome (values_of self.now) held operations.now) }
     {
-        trial::try_list(&self.values, operations, adjustments)
+        trial::try_list(&self.semaphores, operations, adjustments)
     }
 
     /// Performs a list of operations, each of which passes, and notes who did and when.
     pub fn carry(&mut self, operations: &[Operation], pid: Pid, now: Moment)
-        requires nums { All (λ o. o.num < length self.old.values) operations.now }
-        requires passes { CanBeDone self.old.values operations.now }
+        requires nums { All (λ o. o.num < length self.old.semaphores) operations.now }
+        requires passes { CanBeDone (values_of self.old) operations.now }
         ensures { (held after : ℕ → ℤ) (values : List ℕ)
-            → outcome self.old.values held operations.now ≡ Done values after
+            → outcome (values_of self.old) held operations.now ≡ Done values after
             → self.new ≡ carried self.old values operations.now pid now.0 }
     {
-        trial::perform(&mut self.values, operations);
-        trial::mark(&mut self.pids, operations, pid);
+        trial::perform(&mut self.semaphores, operations, pid);
         self.otime = now;
     }
 
     /// Sets the value of one semaphore, and notes who did and when. See SETVAL of semctl(2).
     pub fn set_value(&mut self, num: u16, value: u16, pid: Pid, now: Moment)
-        requires num { num < length self.old.values }
+        requires num { num < length self.old.semaphores }
         requires value { value ≤ most_value }
         ensures { self.new ≡ with_value self.old num value pid now.0 }
     {
-        self.values[num as usize] = value;
-        self.pids[num as usize] = pid;
+        self.semaphores[num as usize] = Semaphore { value, pid };
         self.ctime = now;
     }
 
     /// Sets the values of all semaphores, and notes who did and when. See SETALL of semctl(2).
     pub fn set_all(&mut self, values: &[u16], pid: Pid, now: Moment)
-        requires count { length values.now ≡ length self.old.values }
+        requires count { length values.now ≡ length self.old.semaphores }
         requires values { All (λ v. v ≤ most_value) values.now }
         ensures { self.new ≡ with_values self.old values.now pid now.0 }
     {
-        self.values.copy_from_slice(values);
-        self.pids.fill(pid);
+        write_all(&mut self.semaphores, values, pid);
         self.ctime = now;
     }
 
     /// Adds the adjustment of a process that exits, up to the ends of a value's range, and notes who did;
     /// no time is noted. See semop(2).
     pub fn adjust(&mut self, num: u16, adjustment: i16, pid: Pid)
-        requires { num < length self.old.values }
+        requires { num < length self.old.semaphores }
         ensures { self.new ≡ after_exit self.old num adjustment pid }
     {
-        let value = value_after(self.values[num as usize], adjustment);
-        self.values[num as usize] = value.min(MOST_VALUE);
-        self.pids[num as usize] = pid;
+        let value = value_after(self.semaphores[num as usize].value, adjustment).min(MOST_VALUE);
+        self.semaphores[num as usize] = Semaphore { value, pid };
     }
 
     /// The value of a semaphore.
     pub fn value(&self, num: u16) -> u16
-        requires { num < length self.now.values }
-        ensures value { result ≡ slice_index self.now.values num }
+        requires { num < length self.now.semaphores }
+        ensures value { result ≡ slice_index (values_of self.now) num }
         ensures range { result ≤ most_value }
     {
-        self.values[num as usize]
+        self.semaphores[num as usize].value
     }
 
     /// Who changed a semaphore last, 0 for nobody.
     pub fn pid(&self, num: u16) -> Pid
-        requires { num < length self.now.values }
-        ensures { slice_get self.now.pids num ≡ Some result }
+        requires { num < length self.now.semaphores }
+        ensures { slice_get (pids_of self.now) num ≡ Some result }
     {
-        self.pids[num as usize]
+        self.semaphores[num as usize].pid
     }
 
-    /// The values, by the number of the semaphore.
-    pub fn values(&self) -> &[u16]
-        ensures values { result.now ≡ self.now.values }
-        ensures range { All (λ v. v ≤ most_value) result.now }
+    /// The semaphores, by their number.
+    pub fn semaphores(&self) -> &[Semaphore]
+        ensures semaphores { result.now ≡ self.now.semaphores }
+        ensures range { All (λ x. x.value ≤ most_value) result.now }
     {
-        &self.values
-    }
-
-    /// Who changed each semaphore last, by its number.
-    pub fn pids(&self) -> &[Pid]
-        ensures pids { result.now ≡ self.now.pids }
-        ensures count { length self.now.pids ≡ length self.now.values }
-    {
-        &self.pids
-    }
-
-    /// Reads who changed each semaphore last: each is a number of four bytes.
-    pub fn read_pids(&self)
-        ensures { All (λ p. p.0 < 2 ^ 32) self.now.pids }
-    {
-        read_each(&self.pids);
+        &self.semaphores
     }
 
     /// Its numbers.
@@ -201,21 +180,22 @@ impl SemSet {
         ensures { result ≡ stat_of self.now }
     {
         SemStat {
-            nsems: self.values.len(),
+            nsems: self.semaphores.len(),
             otime: self.otime,
             ctime: self.ctime,
         }
     }
 }
 
-fn read_each(pids: &[Pid])
-    ensures { All (λ p. p.0 < 2 ^ 32) pids.now }
+// Each semaphore has the value at its place, and this process changed it.
+fn write_all(semaphores: &mut [Semaphore], values: &[u16], pid: Pid)
+    requires { length values.now ≡ length semaphores.old }
+    ensures { semaphores.new ≡ map (λ v. record { value = v; pid = pid }) values.now }
 {
-    for pid in pids {
-        read_pid(*pid);
+    for at in 0..values.len() {
+        semaphores[at] = Semaphore {
+            value: values[at],
+            pid,
+        };
     }
 }
-
-fn read_pid(pid: Pid)
-    ensures { pid.0 < 2 ^ 32 }
-{}

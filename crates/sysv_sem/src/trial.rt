@@ -5,25 +5,29 @@ ghost use Rattle.std.specs.Prelude.{All, slice_index, FitsSigned};
 ghost use Rattle.std.specs.Int.{w16};
 ghost use Rattle.std.specs.List.{fold};
 ghost use Rattle.sysv_sem.specs.Operation.{most_value, performed, outcome, trial_of};
-ghost use Rattle.sysv_sem.specs.Set.{marked};
-ghost use Rattle.sysv_sem.specs.Trial.{value_of, adjustment_of, AreAdjustments, ArePrepared};
+ghost use Rattle.sysv_sem.specs.Trial.{value_of, adjustment_of, changed_by, AreAdjustments, ArePrepared};
 
 use crate::operation::{Operation, Trial, Verdict, value_after};
+use crate::set::Semaphore;
 use ipc_base::{Errno, Pid};
 
 /// What the operations meet at these values. Each is judged at what those before it leave of its
 /// semaphore, so no other semaphore is looked at.
-pub(crate) fn try_list(values: &[u16], operations: &[Operation], adjustments: &[i16]) -> Trial
-    requires values { All (λ v. v ≤ most_value) values.now }
-    requires nums { All (λ o. o.num < length values.now) operations.now }
+pub(crate) fn try_list(
+    semaphores: &[Semaphore],
+    operations: &[Operation],
+    adjustments: &[i16],
+) -> Trial
+    requires values { All (λ x. x.value ≤ most_value) semaphores.now }
+    requires nums { All (λ o. o.num < length semaphores.now) operations.now }
     requires adjustments { ArePrepared adjustments.now operations.now }
     ensures { (held : ℕ → ℤ) → AreAdjustments adjustments.now held operations.now
-        → result ≡ trial_of (outcome values.now held operations.now) }
+        → result ≡ trial_of (outcome (map (λ x. x.value) semaphores.now) held operations.now) }
 {
     for (at, operation) in operations.iter().enumerate() {
         let num = operation.num;
         let earlier = &operations[..at];
-        let value = value_of(values[num as usize], num, earlier);
+        let value = value_of(semaphores[num as usize].value, num, earlier);
         let adjustment = adjustment_of(adjustments[at], num, earlier);
         match operation.judge(value, adjustment) {
             Verdict::Passes => {}
@@ -60,25 +64,16 @@ fn adjustment_of(mut adjustment: i16, num: u16, operations: &[Operation]) -> i16
     adjustment
 }
 
-/// Performs the operations, each of which passes.
-pub(crate) fn perform(values: &mut [u16], operations: &[Operation])
-    requires nums { All (λ o. o.num < length values.old) operations.now }
+/// Performs the operations, each of which passes, and notes who did.
+pub(crate) fn perform(semaphores: &mut [Semaphore], operations: &[Operation], pid: Pid)
+    requires nums { All (λ o. o.num < length semaphores.old) operations.now }
     requires range { (k n : ℕ) → k ≤ length operations.now
-        → slice_index (fold performed values.old (take k operations.now)) n ≤ most_value }
-    ensures { values.new ≡ fold performed values.old operations.now }
+        → slice_index (fold performed (map (λ x. x.value) semaphores.old) (take k operations.now)) n ≤ most_value }
+    ensures { semaphores.new ≡ fold (changed_by pid) semaphores.old operations.now }
 {
     for operation in operations {
         let num = operation.num as usize;
-        values[num] = value_after(values[num], operation.sem_op);
-    }
-}
-
-/// Notes who changed the semaphores that the operations name.
-pub(crate) fn mark(pids: &mut [Pid], operations: &[Operation], pid: Pid)
-    requires { All (λ o. o.num < length pids.old) operations.now }
-    ensures { pids.new ≡ fold (marked pid) pids.old operations.now }
-{
-    for operation in operations {
-        pids[operation.num as usize] = pid;
+        let value = value_after(semaphores[num].value, operation.sem_op);
+        semaphores[num] = Semaphore { value, pid };
     }
 }

@@ -162,6 +162,17 @@ fn has_the_queue(state: &State) -> bool {
         && has_the_message(&entry.object)
 }
 
+const SEMAPHORES: [Semaphore; 2] = [
+    Semaphore {
+        value: 32767,
+        pid: Pid(3),
+    },
+    Semaphore {
+        value: 0,
+        pid: Pid(0),
+    },
+];
+
 fn has_the_set(state: &State) -> bool {
     let [item] = state.sets() else {
         return false;
@@ -176,8 +187,7 @@ fn has_the_set(state: &State) -> bool {
         && entry.key == -9
         && entry.perm == PERM
         && entry.object.stat() == stat
-        && entry.object.values() == [32767, 0].as_slice()
-        && entry.object.pids() == [Pid(3), Pid(0)].as_slice()
+        && entry.object.semaphores() == SEMAPHORES.as_slice()
 }
 
 #[test]

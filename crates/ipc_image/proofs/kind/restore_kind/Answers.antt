@@ -1,34 +1,55 @@
-use Rattle.std.proofs.Common.{◌≡◌, ◌∙◌, ℕ, ◌++◌, ◌∷◌, [], ◌+◌, ap, sym, map, drop, arith}
+use Rattle.std.proofs.Common.{◌≡◌, ◌∙◌, ℕ, List, ◌++◌, ◌∷◌, [], ◌+◌, ap, sym, refl, map, drop, arith}
 use Rattle.std.specs.Prelude.{Err, slice_get}
-use Rattle.std.proofs.lemmas.List.{append_assoc, drop_all}
-use Rattle.std.proofs.lemmas.List.Elements.{All-push}
+use Rattle.std.proofs.lemmas.List.{drop_all}
+use Rattle.std.proofs.lemmas.List.Elements.{All-nil, All-push}
 use Rattle.ipc_base.specs.Objects.{PlainObjects}
-use Rattle.ipc_image.specs.Shape.{bytes_in}
+use Rattle.ipc_state.specs.declared.keyed.Entry.{Entry}
+use Rattle.ipc_state.specs.Keyed.{entry_map}
 use Rattle.ipc_image.specs.Kind.{object_in, FitsIn}
+use Rattle.ipc_image.specs.Saved.{entry_bytes, FitsEntry}
+use Rattle.ipc_image.specs.SavedParts.{with_more}
+use Rattle.ipc_image.proofs.ReadLists.{none-more, more-more}
 use Rattle.ipc_image.proofs.ReadKinds.{both_parts, object_at, other-at, one-more, left-over, none-left, not-read}
+use Rattle.ipc_image.proofs.kind.restore_kind.Given as given
 use Rattle.ipc_image.proofs.kind.restore_kind.Goals as goal
+
+abbrev bytes_of : (g : given.Over) → Entry g.T.Kind.Plain → List ℕ
+bytes_of g = let t = g.T.Kind in entry_bytes t.sizes t.numbers t.part_bytes t.parts
+
+abbrev Fits : (g : given.Over) → Entry g.T.Kind.Plain → Type 0
+Fits g = let t = g.T.Kind in FitsEntry t.sizes t.numbers t.FitsPart t.parts
 
 pub returns-in_default-clause-whole : goal.returns-in_default-clause-whole
 returns-in_default-clause-whole g c xs rest other same fit =
     let t = g.T.Kind in
     let so_far = c.loop-i.invariant in
     let here = drop c.loop-i.i c.args.objects.now in
-    let over = left-over t.FIRST (bytes_in t.shape t.tree) t.Fits so_far.items xs here rest so_far.fit fit other (sym so_far.read ∙ same) in
-    none-left t.FIRST (bytes_in t.shape t.tree) t.Fits over.0 here rest over.1
+    let over = left-over t.FIRST (bytes_of g) (Fits g) so_far.items xs here rest so_far.fit fit other (sym so_far.read ∙ same) in
+    none-left t.FIRST (bytes_of g) (Fits g) over.0 here rest over.1
     (other-at c.args.objects.now c.loop-i.i t.FIRST c.number.result c.number.ensures (rw c.FIRST.ensures at c.in_default.ensures.none)) over.2
 
-pub returns-in_err-thing-clause-damaged : goal.returns-in_err-thing-clause-damaged
-returns-in_err-thing-clause-damaged g c is xs rest other fit same =
+pub returns-in_err-entry-clause-damaged : goal.returns-in_err-entry-clause-damaged
+returns-in_err-entry-clause-damaged g c is xs rest other fit same =
     let t = g.T.Kind in
     let why = rw is at c.from_residual.ensures in
     let objects = c.args.objects.now in
     let so_far = c.loop-i.invariant in
     let here = object_at objects c.loop-i.i (c.number.result, c.object.result.now)
     (both_parts (slice_get objects c.loop-i.i) c.number.result c.object.result.now c.number.ensures c.object.ensures) in
-    let over = left-over t.FIRST (bytes_in t.shape t.tree) t.Fits so_far.items xs (drop c.loop-i.i objects) rest so_far.fit fit other
+    let over = left-over t.FIRST (bytes_of g) (Fits g) so_far.items xs (drop c.loop-i.i objects) rest so_far.fit fit other
     (sym so_far.read ∙ same) in
-    not-read t.FIRST (bytes_in t.shape t.tree) t.Fits over.0 c.number.result c.in-Some.id.0 c.object.result.now (drop (c.loop-i.i + 1) objects) rest
-    over.1 other (omega arith) (rw c.FIRST.ensures at c.in-Some.ensures.some) (sym here ∙ over.2) (c.in_err-thing.ensures.damaged (ap (λ e. Err e) (sym why.1)))
+    not-read t.FIRST (bytes_of g) (Fits g) over.0 c.number.result c.in-Some.id.0 c.object.result.now (drop (c.loop-i.i + 1) objects) rest
+    over.1 other (omega arith) (rw c.FIRST.ensures at c.in-Some.ensures.some) (sym here ∙ over.2) (c.in_err-entry.ensures.damaged (ap (λ e. Err e) (sym why.1)))
+
+pub loop-i-init : goal.loop-i-init
+loop-i-init g c =
+    let t = g.T.Kind in
+    record {
+      items = [];
+      fit = All-nil _;
+      read = refl;
+      added = sym (none-more t.items t.put g.met.T.Kind.place (c.args.state.now.state, c.args.state.now.limits));
+    }
 
 pub loop-i-preserved : goal.loop-i-preserved
 loop-i-preserved g c =
@@ -37,17 +58,17 @@ loop-i-preserved g c =
     let so_far = c.loop-i.invariant in
     let here = object_at objects c.loop-i.i (c.number.result, c.object.result.now)
     (both_parts (slice_get objects c.loop-i.i) c.number.result c.object.result.now c.number.ensures c.object.ensures) in
-    let x : ℕ × t.Plain = (c.in-Some.id.0, t.plain c.in_ok-thing.thing) in
-    let read = c.in_ok-thing.ensures.ok in
+    let x : ℕ × Entry t.Plain = (c.in-Some.id.0, entry_map t.plain c.in_ok-entry.entry) in
+    let read = c.in_ok-entry.ensures.ok in
     let added = c.in_ok-add.ensures in
     record {
       items = so_far.items ++ x ∷ [];
-      fit = All-push (FitsIn t.Fits) so_far.items x so_far.fit (omega arith, read.0);
-      read = one-more t.FIRST (bytes_in t.shape t.tree) t.Fits so_far.items x (drop c.args.from objects) (drop (c.loop-i.i + 1) objects) c.number.result
-          c.object.result.now (so_far.read ∙ ap (λ (l : PlainObjects). map (object_in t.FIRST (bytes_in t.shape t.tree)) so_far.items ++ l) here)
+      fit = All-push (FitsIn (Fits g)) so_far.items x so_far.fit (omega arith, read.0);
+      read = one-more t.FIRST (bytes_of g) (Fits g) so_far.items x (drop c.args.from objects) (drop (c.loop-i.i + 1) objects) c.number.result
+          c.object.result.now (so_far.read ∙ ap (λ (l : PlainObjects). map (object_in t.FIRST (bytes_of g)) so_far.items ++ l) here)
           (rw c.FIRST.ensures at c.in-Some.ensures.some) read.1;
-      added = added.0 ∙ ap (λ l. l ++ x ∷ []) so_far.added ∙ append_assoc (t.items c.args.state.now) so_far.items (x ∷ []);
-      others = added.1 ∙ so_far.others;
+      added = added ∙ ap (λ s. with_more t.items t.put s (x ∷ [])) so_far.added
+          ∙ more-more t.items t.put g.met.T.Kind.place (c.args.state.now.state, c.args.state.now.limits) so_far.items (x ∷ []);
     }
 
 pub returns-clause-whole : goal.returns-clause-whole
@@ -56,7 +77,7 @@ returns-clause-whole g c xs rest other same fit =
     let objects = c.args.objects.now in
     let so_far = c.loop-i.invariant in
     let past : drop c.loop-i.i objects ≡ [] = drop_all c.loop-i.i objects (omega (arith, c.loop-i-test.false, c.count-i-end.ensures.count)) in
-    let read = so_far.read ∙ ap (λ (l : PlainObjects). map (object_in t.FIRST (bytes_in t.shape t.tree)) so_far.items ++ l) past in
-    let over = left-over t.FIRST (bytes_in t.shape t.tree) t.Fits so_far.items xs [] rest so_far.fit fit other (sym read ∙ same) in
+    let read = so_far.read ∙ ap (λ (l : PlainObjects). map (object_in t.FIRST (bytes_of g)) so_far.items ++ l) past in
+    let over = left-over t.FIRST (bytes_of g) (Fits g) so_far.items xs [] rest so_far.fit fit other (sym read ∙ same) in
     drop_all c.count.result objects (omega (arith, c.count.ensures.count))
-    ∙ none-left t.FIRST (bytes_in t.shape t.tree) t.Fits over.0 [] rest over.1 tt over.2
+    ∙ none-left t.FIRST (bytes_of g) (Fits g) over.0 [] rest over.1 tt over.2

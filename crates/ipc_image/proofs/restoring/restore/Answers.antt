@@ -7,11 +7,11 @@ use Rattle.ipc_base.specs.Numbers.{fields_bytes}
 use Rattle.ipc_base.specs.Objects.{PlainObjects}
 use Rattle.ipc_state.specs.Restored.{with_numbers}
 use Rattle.ipc_state.specs.State.{State, start}
-use Rattle.ipc_image.specs.Relations.Restored.{with_processes, with_queues, with_sets}
+use Rattle.ipc_image.specs.SavedParts.{put_queues, put_sets}
 use Rattle.ipc_image.specs.Kind.{IsOther}
-use Rattle.ipc_image.specs.Saved.{clock_sizes, clock_numbers, count_bytes, processes_bytes, queue_object, set_bytes, set_object, saved}
+use Rattle.ipc_image.specs.Saved.{clock_sizes, clock_numbers, count_bytes, processes_bytes, queue_object, set_bytes, set_object}
 use Rattle.ipc_image.proofs.ReadKinds.{later-kind}
-use Rattle.ipc_image.proofs.WholeState.{parts_of, same_object, all_restored, processes_added, queues_added, sets_added}
+use Rattle.ipc_image.proofs.WholeState.{parts_of, same_object, all-added, all_restored}
 use Rattle.ipc_image.proofs.restoring.restore.Goals as goal
 use Rattle.ipc_image.proofs.restoring.restore.Goals.{then-not-is_none_counted-via-then-not-is_none_counted}
 use Rattle.ipc_image.proofs.restoring.restore.Goals.{then-not-is_none_counted-via-else-not-is_none_counted+then-not-is_none_counted-2}
@@ -94,24 +94,25 @@ pub returns-clause-ok : goal.returns-clause-ok
 returns-clause-ok c =
     let objects = c.args.objects.now in
     let n = c.in-Some-read_clock.numbers in
-    let one : State = c.restore_numbers.new.self.state in
-    let from : one ≡ with_numbers start n = c.restore_numbers.ensures.state ∙ ap (λ (s : State). with_numbers s n) c.requires in
     let ps = c.in_ok-read_counted.ensures.ok in
     let es = c.in_ok-next.ensures.ok in
     let fs = c.in_ok-next-2.ensures.ok in
-    let two : State = c.read_counted.new.into.state in
-    let three : State = c.restore_kind.new.state.state in
-    let four : State = c.restore_kind-2.new.state.state in
-    let is : four ≡ with_sets (with_queues (with_processes (with_numbers start n) ps.0) es.0) fs.0 =
-    sets_added three four fs.0 fs.3 (ap (λ (o : State × Limits). o.0) fs.4)
-    ∙ ap (λ (s : State). with_sets s fs.0) (queues_added two three es.0 es.3 (ap (λ (o : State × Limits). o.0) es.4)
-    ∙ ap (λ (s : State). with_queues s es.0) (processes_added one two ps.0 ps.4 (ap (λ (o : State × Limits). o.0) ps.5)
-    ∙ ap (λ (s : State). with_processes s ps.0) from)) in
+    let from : (c.restore_numbers.new.self.state, c.restore_numbers.new.self.limits) ≡ (with_numbers start n, c.restore_numbers.new.self.limits) =
+    ap (λ (s : State). let r : State × Limits = (s, c.restore_numbers.new.self.limits) in r)
+    (c.restore_numbers.ensures.state ∙ ap (λ (s : State). with_numbers s n) c.requires) in
+    let is = all-added n c.restore_numbers.new.self.limits _ _ _ (c.restore_kind-2.new.state.state, c.restore_kind-2.new.state.limits) ps.0 es.0 fs.0
+    from ps.4 es.3 fs.3 in
     let past : drop c.in_ok-next-2.next objects ≡ [] = drop_all c.in_ok-next-2.next objects (omega (arith, c.if-next-count.false, c.count.ensures.count)) in
     let sets : drop c.in_ok-next.next objects ≡ map set_object fs.0 =
     fs.2 ∙ ap (λ (l : PlainObjects). map set_object fs.0 ++ l) past ∙ append-nil (map set_object fs.0) in
-    all_restored objects n ps.0 es.0 fs.0 four c.in-Some.clock.now c.in-Some-object_numbered.processes.now
+    all_restored objects n ps.0 es.0 fs.0 _ c.in-Some.clock.now c.in-Some-object_numbered.processes.now
     c.in-Some-object_numbered-2.calls.now c.in-Some-object_numbered-3.adjustments.now c.in-Some.ensures.some c.in-Some-object_numbered.ensures.some
     c.in-Some-object_numbered-2.ensures.some c.in-Some-object_numbered-3.ensures.some (c.is_none_counted.ensures.0 c.if-not-is_none_counted.false)
     (c.is_none_counted-else-not-is_none_counted.ensures.0 c.if-not-is_none_counted-2.false) c.in-Some-read_clock.ensures.some ps.1 ps.2 ps.3 es.1 fs.1
-    (es.2 ∙ ap (λ (l : PlainObjects). map queue_object es.0 ++ l) sets) is
+    (es.2 ∙ ap (λ (l : PlainObjects). map queue_object es.0 ++ l) sets) (ap (λ (r : State × Limits). r.0) is)
+
+pub returns-clause-limits : goal.returns-clause-limits
+returns-clause-limits c =
+    ap (λ (r : State × Limits). r.1) (c.in_ok-next-2.ensures.ok.3 ∙ ap (λ (s : State × Limits). put_sets s (s.0.sem.entries ++ c.in_ok-next-2.ensures.ok.0))
+    (c.in_ok-next.ensures.ok.3 ∙ ap (λ (s : State × Limits). put_queues s (s.0.msg.entries ++ c.in_ok-next.ensures.ok.0)) c.in_ok-read_counted.ensures.ok.4))
+    ∙ c.restore_numbers.ensures.limits

@@ -9,7 +9,7 @@ use Rattle.ipc_state.specs.Sound.{IsSoundSet}
 use Rattle.ipc_state.proofs.sets.are_sound.Goals as goal
 
 abbrev size : Item (Entry Set) → ℕ
-size e = length e.value.object.values
+size e = length e.value.object.semaphores
 
 pub loop-item-preserved : goal.loop-item-preserved
 loop-item-preserved c =

@@ -7,5 +7,5 @@ use Rattle.ipc_state.proofs.sets.are_sound.Given as goal
 abbrev pub invariant-loop-item : goal.invariant-loop-item
 invariant-loop-item l = record {
   each : All (λ e. IsSoundSet l.limits e.value.object) (take l.item-index l.sets);
-  count : sum_by (λ e. length e.value.object.values) (take l.item-index l.sets) + l.left ≡ l.limits.semmns;
+  count : sum_by (λ e. length e.value.object.semaphores) (take l.item-index l.sets) + l.left ≡ l.limits.semmns;
 }

@@ -17,7 +17,7 @@ returns-then-are_keyed c =
     let t = c.self.inside in
     let items = c.items.result.now in
     let P : ℕ × Entry Set → Type 0 = λ e. IsSoundSet t.limits e.1.object in
-    let size : ℕ × Entry Set → ℕ = λ e. length e.1.object.values in
+    let size : ℕ × Entry Set → ℕ = λ e. length e.1.object.semaphores in
     let keyed = c.are_keyed.ensures.0 c.if-are_keyed.true in
     let count : sum_by (λ e. size (item_row e)) items ≡ semaphore_count t.sem.objects =
     sym (sum-map (λ e. size (item_row e)) items) ∙ ap sum (sym (map-map size item_row items)) ∙ sum-map size (map item_row items)

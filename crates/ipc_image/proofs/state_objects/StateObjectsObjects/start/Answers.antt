@@ -1,0 +1,13 @@
+use Rattle.std.proofs.Common.{◌-◌, refl}
+use Rattle.ipc_image.specs.SavedParts.{IsMarkOfQueue, IsMarkOfSet}
+use Rattle.ipc_image.proofs.Marks.{mark-each}
+use Rattle.ipc_image.proofs.state_objects.StateObjectsObjects.start.Goals as goal
+
+pub returns : goal.returns
+returns c =
+    let s = c.args.self.now in
+    record {
+      processes = λ one. refl;
+      things = λ le. mark-each IsMarkOfQueue _ (record { parts = 0; bytes = 0 }) (λ e. refl)
+          (mark-each IsMarkOfSet _ (record { parts = 0; bytes = 0 }) (λ e. refl) (λ at. tt) s.sem.entries) s.msg.entries (c.args.i - 4);
+    }
