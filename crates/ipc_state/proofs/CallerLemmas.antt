@@ -2,7 +2,7 @@
 -- whose steps do.
 use Rattle.std.proofs.Common.{◌≡◌, ℕ, ℤ, ◌<◌, Bool, true, false, Option, Some, None, refl, arith, sym, ap, subst, ◌∙◌, List}
 use Rattle.std.proofs.lemmas.Nat.{and_le_r}
-use Rattle.std.specs.Prelude.{Ok, Err, nat_eq, nat_le, nat_lt, option_map, IfSome, ◌||◌, if◌then◌else◌, pos, ⊤}
+use Rattle.std.specs.Prelude.{Ok, Err, nat_eq, nat_le, nat_lt, option_map, IfSome, ◌||◌, if◌then◌else◌, pos}
 use Rattle.std.specs.Ordering.{int_eq}
 use Rattle.std.proofs.lemmas.List.{length-map}
 use Rattle.std.specs.Borrow.{MutBor}
@@ -54,9 +54,6 @@ module _ (limits : Limits) where
   pub set-msg : (s : State) (msg : Keyed Queue) → HasSoundParts limits s → AreKeyed limits.msgmni (IsSoundQueue limits) msg
       → HasSoundParts limits (record s { msg = msg })
   set-msg s msg h good = record { processes = h.processes; msg = good; sem = h.sem }
-
-  pub set-sem : (s : State) (sem : Keyed Set) → HasSoundParts limits s → AreSoundSets limits sem → HasSoundParts limits (record s { sem = sem })
-  set-sem s sem h good = record { processes = h.processes; msg = h.msg; sem = good }
 
   pub start-sound : HasSoundParts limits start
   start-sound =
@@ -124,8 +121,8 @@ module _ (o : HeldObjects Kept) (s : Keyed Queue) (same : queues_of o ≡ s) whe
       ∙ ap (λ (t : Keyed Queue). without_entry t id) same)
 
   module _ (limits : Limits) (sound : AreKeyed limits.msgmni (IsSoundQueue limits) s) where
-    held-sound : AreKeyed limits.msgmni (λ (k : Kept). ⊤) o.objects
-    held-sound = queues.queues-keyed limits o (subst (AreKeyed limits.msgmni (IsSoundQueue limits)) (sym same) sound)
+    held-sound : AreKeyed limits.msgmni (λ (k : Kept). IsSoundQueue limits k.queue) o.objects
+    held-sound = keying.keyed-unseen queue_in limits.msgmni (IsSoundQueue limits) o.objects (subst (AreKeyed limits.msgmni (IsSoundQueue limits)) (sym same) sound)
 
     -- their identifiers are above 0, and their keys name them
     pub held-named : AreNamed o.objects
@@ -235,13 +232,6 @@ module _ (o : HeldObjects Kept) (id : ℕ) (k : Kept) (h : Holds o id k) where
   had-room bytes has = subst (λ (r : Option (Option ℕ)). IfSome r (λ n. n ≡ Some bytes)) held-room has
 
   module _ (left : Kept) (new : HeldObjects Kept) (put : HasPutObject o id left new) where
-    -- the same object leaves all as it is
-    pub left-same : left ≡ k → new ≡ o
-    left-same same =
-        put h.entry h.is
-        ∙ (ap (λ (q : Kept). record o { objects = with_entry o.objects id (holding h.entry q) }) (same ∙ sym h.object)
-        ∙ ap (λ (es : List (ℕ × Entry Kept)). record o { objects = record { next = o.objects.next; entries = es } }) (own o.objects.entries id h.entry h.is))
-
     -- the same queue leaves the queues as they are
     pub left-queues : left.queue ≡ k.queue → queues_of new ≡ queues_of o
     left-queues same =

@@ -6,12 +6,12 @@ use Rattle.std.specs.Ordering.{int_cmp, int_eq}
 use Rattle.std.proofs.lemmas.Bool.Decides.{nat_tests, Decides-int_eq}
 use Rattle.std.proofs.lemmas.List.{map-append}
 use Rattle.std.proofs.lemmas.List.Elements.{All-nil, All-cons, All-head, All-tail}
-use Rattle.ipc_base.specs.Table.{value_at, with_value, without, keys_of, IsRising}
+use Rattle.ipc_base.specs.Table.{value_at, without, keys_of, IsRising}
 use Rattle.ipc_base.proofs.CallerLemmas.{keys_of-with_value}
 use Rattle.ipc_state.specs.declared.keyed.Entry.{Entry}
 use Rattle.ipc_state.specs.Directory.{ArePositive, Agree, named_by, added, or_else}
 use Rattle.ipc_state.specs.Keyed.{Keyed, key_row, keys_in, keyed, AreNamed}
-use Rattle.ipc_state.specs.Numbered.{Numbered, entry_of, with_entry, with_new, with_last, without_entry, AreNumbered}
+use Rattle.ipc_state.specs.Numbered.{entry_of, with_entry, without_entry}
 use Rattle.ipc_state.proofs.Keying.{IsNamed, All-seen, named_without, same_keys}
 
 -- ---- numbers above 0

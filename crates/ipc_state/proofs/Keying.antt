@@ -196,8 +196,8 @@ module _ {X Y : Type 0} (see : X → Y) (most : ℕ) (P : Y → Type 0) (o : Key
   count : length seen.entries ≡ length o.entries
   count = length-map o.entries row
 
-  pub keyed-seen : AreKeyed most (λ (x : X). ⊤) o → All (λ (e : ℕ × Entry X). P (see e.1.object)) o.entries → AreKeyed most P seen
-  keyed-seen h each =
+  pub keyed-seen : AreKeyed most (λ (x : X). P (see x)) o → AreKeyed most P seen
+  keyed-seen h =
       record {
         numbered = record {
           numbers = subst (λ (ns : List ℕ). IsRising 1 ns o.next) (sym ids) h.numbered.numbers;
@@ -206,10 +206,10 @@ module _ {X Y : Type 0} (see : X → Y) (most : ℕ) (P : Y → Type 0) (o : Key
         };
         keys = subst (λ (ks : List (ℤ × ℕ)). All (IsNamed ks) ks) (sym (keys-map see o)) h.keys;
         modes = All-map HasMode row o.entries h.modes;
-        each = All-map (λ (e : ℕ × Entry Y). P e.1.object) row o.entries each;
+        each = All-map (λ (e : ℕ × Entry Y). P e.1.object) row o.entries h.each;
       }
 
-  pub keyed-unseen : AreKeyed most P seen → AreKeyed most (λ (x : X). ⊤) o
+  pub keyed-unseen : AreKeyed most P seen → AreKeyed most (λ (x : X). P (see x)) o
   keyed-unseen h =
       record {
         numbered = record {
@@ -219,11 +219,8 @@ module _ {X Y : Type 0} (see : X → Y) (most : ℕ) (P : Y → Type 0) (o : Key
         };
         keys = subst (λ (ks : List (ℤ × ℕ)). All (IsNamed ks) ks) (keys-map see o) h.keys;
         modes = All-seen HasMode row o.entries h.modes;
-        each = λ k d within. tt;
+        each = All-seen (λ (e : ℕ × Entry Y). P e.1.object) row o.entries h.each;
       }
-
-  pub each-seen : AreKeyed most P seen → All (λ (e : ℕ × Entry X). P (see e.1.object)) o.entries
-  each-seen h = All-seen (λ (e : ℕ × Entry Y). P e.1.object) row o.entries h.each
 
 -- ---- how it is told
 

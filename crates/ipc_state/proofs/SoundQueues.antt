@@ -1,6 +1,6 @@
 -- Message queues stay sound as they change, and how it is told whether they are.
-use Rattle.std.proofs.Common.{◌≡◌, ℕ, suc, pos, ◌+◌, ◌<◌, ◌≤◌, false, List, [], length, map, refl, subst, arith}
-use Rattle.std.specs.Prelude.{nat_lt, nat_le, int_lt, ⊤, All}
+use Rattle.std.proofs.Common.{◌≡◌, ℕ, suc, pos, ◌+◌, ◌<◌, ◌≤◌, false, [], length, refl, arith}
+use Rattle.std.specs.Prelude.{nat_lt, nat_le, int_lt}
 use Rattle.std.specs.Bool.{Decides}
 use Rattle.std.specs.List.{list_all}
 use Rattle.std.proofs.lemmas.Bool.{leb-true, le-leb}
@@ -12,15 +12,10 @@ use Rattle.std.proofs.lemmas.List.Sums.{sum_by-append, sum_by-remove}
 use Rattle.ipc_base.specs.declared.limits.Limits.{Limits}
 use Rattle.ipc_base.specs.Limits.{ArePassed}
 use Rattle.ipc_base.proofs.CallerLemmas.{passed-bounds}
-use Rattle.sysv_msg.specs.Queue.{Queue, Kept, PlainMessage, new_queue, full, byte_count, sent, taken, changed}
-use Rattle.ipc_state.specs.declared.keyed.Entry.{Entry}
-use Rattle.ipc_state.specs.declared.numbered.Item.{Item}
-use Rattle.ipc_state.specs.Keyed.{AreKeyed}
+use Rattle.sysv_msg.specs.Queue.{Queue, PlainMessage, new_queue, full, byte_count, sent, taken, changed}
 use Rattle.ipc_state.specs.Sound.{IsSoundMessage, IsSoundQueue, HasNumbers}
-use Rattle.ipc_state.specs.Tables.{HeldObjects, item_row, queue_in, queues_of}
 use Rattle.ipc_state.specs.Tests.{is_sound_message, is_sound_queue}
 use Rattle.ipc_state.proofs.Numbering.{neither}
-use Rattle.ipc_state.proofs.Keying.{each-decides, keyed-seen, keyed-unseen, each-seen}
 
 module _ (limits : Limits) where
   pub new_queue-sound : (moment : ℕ) → IsSoundQueue limits (new_queue limits.msgmnb moment)
@@ -75,21 +70,3 @@ module _ (limits : Limits) where
         λ yes. let h = all.0 yes in record { bytes = h.0; count = h.1.0; qbytes = h.1.1.0; messages = h.1.1.1 },
         λ h. all.1 (h.bytes, (h.count, (h.qbytes, h.messages))),
       )
-
-  module _ (o : HeldObjects Kept) (items : List (Item (Entry Kept))) (is : map item_row items ≡ o.objects.entries) where
-    -- the queues are sound by what is told of keys and of each queue
-    pub queues-decide : AreKeyed limits.msgmni (λ (k : Kept). ⊤) o.objects
-        → Decides (list_all (λ (e : Item (Entry Kept)). is_sound_queue limits e.value.object.queue) items)
-        (AreKeyed limits.msgmni (IsSoundQueue limits) (queues_of o))
-    queues-decide h =
-        let each = subst (λ (es : List (ℕ × Entry Kept)). Decides (list_all (λ (e : Item (Entry Kept)). is_sound_queue limits e.value.object.queue) items)
-        (All (λ (e : ℕ × Entry Kept). IsSoundQueue limits e.1.object.queue) es)) is
-        (each-decides (λ (e : ℕ × Entry Kept). is_sound_queue limits e.1.object.queue) (λ (e : ℕ × Entry Kept). IsSoundQueue limits e.1.object.queue) item_row
-        items (λ e. queue-decides e.1.object.queue)) in (
-          λ yes. keyed-seen queue_in limits.msgmni (IsSoundQueue limits) o.objects h (each.0 yes),
-          λ sound. each.1 (each-seen queue_in limits.msgmni (IsSoundQueue limits) o.objects sound),
-        )
-
-  pub queues-keyed : (o : HeldObjects Kept) → AreKeyed limits.msgmni (IsSoundQueue limits) (queues_of o)
-      → AreKeyed limits.msgmni (λ (k : Kept). ⊤) o.objects
-  queues-keyed o h = keyed-unseen queue_in limits.msgmni (IsSoundQueue limits) o.objects h

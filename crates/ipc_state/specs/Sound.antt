@@ -1,7 +1,7 @@
 -- What holds of each part of the state by itself, after every event: numbers rise and are never given twice, no limit
 -- is passed, each key is the key of one object that is there, and no object holds more than it may. What holds between
 -- parts is told where calls are put together.
-use Rattle.std.specs.Prelude.{◌≡◌, ℕ, ◌^◌, ◌<◌, ◌≤◌, pos, int_lt, length, All, sum_by, IsTrue}
+use Rattle.std.specs.Prelude.{ℕ, ◌^◌, ◌<◌, ◌≤◌, pos, int_lt, length, All, sum_by, IsTrue}
 use Rattle.ipc_base.specs.declared.limits.Limits.{Limits}
 use Rattle.ipc_base.specs.Limits.{longest_body}
 use Rattle.ipc_wire.specs.Reply.{PlainBody, body_bytes}

@@ -7,6 +7,7 @@ mod numbered;
 mod processes;
 mod queues;
 mod sets;
+mod sound;
 mod state;
 
 pub use keyed::{Entry, IPC_PRIVATE, Keyed};

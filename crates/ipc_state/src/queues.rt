@@ -30,6 +30,7 @@ ghost use Rattle.sysv_msg.specs.Queue.{plain};
 
 use crate::keyed::{Entry, Keyed};
 use crate::numbered::Item;
+use crate::sound::SoundAlone;
 use crate::state::State;
 use ipc_base::{Id, Limits};
 use ipc_perm::Perm;
@@ -102,17 +103,16 @@ impl State {
         ensures { IsTrue result
             ↔ AreKeyed self.now.limits.msgmni (IsSoundQueue self.now.limits) self.now.state.msg }
     {
-        self.msg.are_keyed(self.limits.msgmni) && each_is_sound(self.msg.items(), &self.limits)
+        self.msg.are_sound(self.limits.msgmni, &self.limits)
     }
 }
 
-/// Whether each of these queues is sound by itself.
-fn each_is_sound(queues: &[Item<Entry<MsgQueue>>], limits: &Limits) -> bool
-    ensures { result ≡ list_all (λ e. is_sound_queue limits.now e.value.object.queue) queues.now }
-{
-    queues
-        .iter()
-        .all(|item| is_sound_queue(&item.value.object, limits))
+impl SoundAlone for MsgQueue {
+    ghost IsSound = { λ limits k. IsSoundQueue limits k.queue };
+
+    fn is_sound(&self, limits: &Limits) -> bool {
+        is_sound_queue(self, limits)
+    }
 }
 
 /// Whether a queue is sound.

@@ -10,6 +10,7 @@ ghost use Rattle.ipc_state.specs.Tables.{item_row};
 
 use crate::keyed::{Entry, Keyed};
 use crate::numbered::Item;
+use crate::sound::SoundAlone;
 use crate::state::State;
 use ipc_base::{Id, Limits};
 use std::alloc::AllocError;
@@ -61,30 +62,31 @@ impl State {
     pub(crate) fn are_sets_sound(&self) -> bool
         ensures { IsTrue result ↔ AreSoundSets self.now.limits self.now.state.sem }
     {
-        self.sem.are_keyed(self.limits.semmni) && are_sound(self.sem.items(), &self.limits)
+        self.sem.are_sound(self.limits.semmni, &self.limits)
+            && are_few(self.sem.items(), self.limits.semmns)
     }
 }
 
-/// Whether each of these sets is sound, and they have together no more semaphores than the limit says.
-fn are_sound(sets: &[Item<Entry<SemSet>>], limits: &Limits) -> bool
-    ensures { IsTrue result ↔ All (λ e. IsSoundSet limits.now e.value.object) sets.now
-        × (sum_by (λ e. length e.value.object.semaphores) sets.now ≤ limits.now.semmns) }
+impl SoundAlone for SemSet {
+    ghost IsSound = { IsSoundSet };
+
+    fn is_sound(&self, limits: &Limits) -> bool {
+        let semaphores = self.semaphores();
+        0 < semaphores.len() && semaphores.len() <= limits.semmsl as usize
+    }
+}
+
+/// Whether these sets have together no more semaphores than `most`.
+fn are_few(sets: &[Item<Entry<SemSet>>], most: u32) -> bool
+    ensures { IsTrue result ↔ (sum_by (λ e. length e.value.object.semaphores) sets.now ≤ most) }
 {
-    let mut left = limits.semmns as usize;
+    let mut left = most as usize;
     for item in sets {
         let nsems = item.value.object.stat().nsems;
-        if !is_sound_set(&item.value.object, limits) || left < nsems {
+        if left < nsems {
             return false;
         }
         left -= nsems;
     }
     true
-}
-
-/// Whether a set has as many semaphores as it may.
-fn is_sound_set(set: &SemSet, limits: &Limits) -> bool
-    ensures { IsTrue result ↔ IsSoundSet limits.now set.now }
-{
-    let semaphores = set.semaphores();
-    0 < semaphores.len() && semaphores.len() <= limits.semmsl as usize
 }

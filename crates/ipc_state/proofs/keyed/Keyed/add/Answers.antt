@@ -1,4 +1,4 @@
-use Rattle.std.proofs.Common.{◌≡◌, ℕ, ℤ, subst, sym, ap, ◌∙◌}
+use Rattle.std.proofs.Common.{◌≡◌, ℕ, ℤ, ap, ◌∙◌}
 use Rattle.std.specs.Int.{w32, cast_signed as to_z, cast_unsigned as of_z}
 use Rattle.std.proofs.lemmas.Int.{to_z-of_z}
 use Rattle.ipc_keys.specs.Directory.{is_vacant}

@@ -1,4 +1,4 @@
-use Rattle.std.proofs.Common.{◌≡◌, map, sym, ap, subst, ◌∙◌}
+use Rattle.std.proofs.Common.{map, sym, ap, subst, ◌∙◌}
 use Rattle.std.specs.Prelude.{⊤, Bool}
 use Rattle.std.specs.Bool.{Decides}
 use Rattle.ipc_state.specs.Keyed.{AreKeyed}

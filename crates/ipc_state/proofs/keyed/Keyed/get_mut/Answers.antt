@@ -1,4 +1,4 @@
-use Rattle.std.proofs.Common.{◌≡◌, refl, sym, ap, ◌∙◌}
+use Rattle.std.proofs.Common.{refl, sym, ap}
 use Rattle.ipc_state.specs.Tables.{numbered_of}
 use Rattle.ipc_state.proofs.Directories.{agree-same, agree-put}
 use Rattle.ipc_state.proofs.keyed.Keyed.get_mut.Goals as goal

@@ -1,4 +1,4 @@
-use Rattle.std.proofs.Common.{◌≡◌, sym, subst}
+use Rattle.std.proofs.Common.{sym, subst}
 use Rattle.ipc_state.specs.Directory.{Agree}
 use Rattle.ipc_state.specs.Keyed.{Keyed}
 use Rattle.ipc_state.proofs.keyed.Keyed.set_next.Goals as goal

@@ -1,0 +1,10 @@
+use Rattle.std.proofs.Common.{sym, subst}
+use Rattle.std.specs.Bool.{Decides}
+use Rattle.ipc_state.specs.Sound.{IsSoundQueue}
+use Rattle.ipc_state.proofs.SoundQueues.{queue-decides}
+use Rattle.ipc_state.proofs.queues.MsgQueueSoundAlone.is_sound.Goals as goal
+
+pub returns : goal.returns
+returns c =
+    subst (λ b. Decides b (IsSoundQueue c.args.limits.now c.args.self.now.queue)) (sym c.is_sound_queue.ensures)
+    (queue-decides c.args.limits.now c.args.self.now.queue)

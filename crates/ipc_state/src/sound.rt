@@ -1,0 +1,39 @@
+//! Whether the objects of one kind are sound: by their identifiers, keys and modes, and each by itself.
+
+ghost use Rattle.std.specs.Prelude.{◌↔◌, All, IsTrue};
+ghost use Rattle.ipc_base.specs.declared.limits.Limits.{Limits};
+ghost use Rattle.ipc_state.specs.Keyed.{AreKeyed};
+
+use crate::keyed::{Entry, Keyed};
+use crate::numbered::Item;
+use ipc_base::Limits;
+
+/// An object of which it is told whether it is sound by itself.
+pub(crate) trait SoundAlone {
+    ghost IsSound: { Limits → Self → Type 0 };
+
+    /// Whether it is.
+    fn is_sound(&self, limits: &Limits) -> bool
+        ensures { IsTrue result ↔ IsSound limits.now self.now };
+}
+
+impl<T: SoundAlone> Keyed<T> {
+    /// Whether they are sound, and no more than `most`.
+    pub(crate) fn are_sound(&self, most: u32, limits: &Limits) -> bool
+        ensures { IsTrue result ↔ AreKeyed most (T.IsSound limits.now) self.now.objects }
+    {
+        self.are_keyed(most) && each_is_sound(self.items(), limits)
+    }
+}
+
+/// Whether each is sound by itself.
+fn each_is_sound<T: SoundAlone>(items: &[Item<Entry<T>>], limits: &Limits) -> bool
+    ensures { IsTrue result ↔ All (λ e. T.IsSound limits.now e.value.object) items.now }
+{
+    for item in items {
+        if !item.value.object.is_sound(limits) {
+            return false;
+        }
+    }
+    true
+}
