@@ -58,6 +58,10 @@ def hello_request(uid: int, gid: int) -> bytes:
     return struct.pack(">BII", 0x01, uid, gid)
 
 
+def interrupt_request() -> bytes:
+    return struct.pack(">B", 0x02)
+
+
 def msgget_request(key: int, msgflg: int) -> bytes:
     return struct.pack(">BiI", 0x0A, key, msgflg)
 
@@ -131,6 +135,10 @@ class Connection:
     def hello(self, uid: int, gid: int) -> int:
         """Makes the connection a process of this user and group, and answers its pid."""
         return _number(self.call(hello_request(uid, gid)))
+
+    def interrupt(self) -> None:
+        """Ends the call that waits; none waits yet, so this only waits for the reply."""
+        self.call(interrupt_request())
 
     def msgget(self, key: int, msgflg: int) -> int:
         """The identifier of the queue with this key, see msgget(2)."""

@@ -61,6 +61,8 @@ from device_layout import (  # noqa: E402
     connect,
     header,
     hello,
+    interrupt,
+    interrupted,
     leave,
     msgget,
     msgrcv,
@@ -79,6 +81,7 @@ from device_runs import (  # noqa: E402
     GOOD_LISTED,
     GOOD_QUEUE,
     HELLO_RECORD,
+    INTERRUPT_RECORD,
     LATE,
     NEW_HEADER,
     NEW_OBJECTS,
@@ -125,6 +128,7 @@ def spelled() -> None:
         (area(one), SAVED_OBJECTS),
         (connect(7, 1, 1000, 100), HELLO_RECORD),
         (request(LATE, 1, msgsnd(3, 1, 5, b"hi")), SEND_RECORD),
+        (interrupted(258, 3, 7), INTERRUPT_RECORD),
         (tick(258), TICK_RECORD),
         (leave(9, 3), EXIT_RECORD),
         (RESTART, RESTART_RECORD),
@@ -273,15 +277,17 @@ def events() -> None:
     script = ["0 open 1", "0 open 2", "0 open 3"]
     script += [sends(7, number, hello(number)) for number in (1, 2, 3)]
     script += ["9 end 3", "258 tick", "stop", "258 open 5", sends(LATE, 5, hello(1, 0, 2**32 - 1))]
-    script += [sends(LATE, 5, msgget(2, 1234), msgsnd(3, 1, 5, b"hi")), f"{2**64 - 1} tick"]
+    script += [sends(LATE, 5, msgget(2, 1234), msgsnd(3, 1, 5, b"hi")), sends(LATE, 5, interrupt(7))]
+    script += [f"{2**64 - 1} tick"]
     printed = [numbered(number, number, number) for number in (1, 2, 3)]
-    printed += [numbered(5, 1, 4), numbered(5, 2, 1), errored(5, 3, 0)]
+    printed += [numbered(5, 1, 4), numbered(5, 2, 1), errored(5, 3, 0), errored(5, 7, 0)]
     batches = [batch(RESTART)]
     batches += [batch(tick(7), connect(7, number, 1000, 100)) for number in (1, 2, 3)]
     batches += [batch(tick(9), EXIT_RECORD), batch(TICK_RECORD), batch(RESTART_RECORD)]
     batches += [batch(tick(LATE), connect(LATE, 1, 0, 2**32 - 1))]
     asked = (request(LATE, 4, msgget(2, 1234)), request(LATE, 4, msgsnd(3, 1, 5, b"hi")))
-    batches += [batch(tick(LATE), *asked), batch(tick(2**64 - 1))]
+    batches += [batch(tick(LATE), *asked), batch(tick(LATE), interrupted(LATE, 4, 7))]
+    batches += [batch(tick(2**64 - 1))]
     check(batches[1][4 + 13 :] == HELLO_RECORD, "the record of a HELLO")
     check(asked[1][:13] + asked[1][17:] == SEND_RECORD[:13] + SEND_RECORD[17:], "that of a send")
     runs(Device(), script, printed, Device().journal(1, *batches), "an event of each kind")

@@ -27,6 +27,8 @@ from device_layout import (
     clock,
     connect,
     hello,
+    interrupt,
+    interrupted,
     leave,
     msgget,
     msgrcv,
@@ -46,6 +48,7 @@ from device_runs import (
     GOOD_BATCHES,
     GOOD_LISTED,
     HELLO_RECORD,
+    INTERRUPT_RECORD,
     NEW_HEADER,
     NEW_OBJECTS,
     NEW_ROOT,
@@ -528,6 +531,7 @@ BEGINNING = batch(*3 * [connect(0, 1, 1000, 100)], request(0, 1, msgget(2, 1234)
 KINDS = {
     "a HELLO": HELLO_RECORD,
     "a send": SEND_RECORD,
+    "an INTERRUPT": INTERRUPT_RECORD,
     "a tick": TICK_RECORD,
     "an exit": EXIT_RECORD,
     "a restart": RESTART_RECORD,
@@ -568,9 +572,10 @@ def other_records() -> Iterator[Check]:
 
 
 def requests() -> Iterator[Check]:
-    """A request of a record is one that the server reads of a connection; HELLO is one too."""
+    """A request of a record is one that the server reads of a connection; HELLO and INTERRUPT are, too."""
     frames = {
         "HELLO": hello(9),
+        "INTERRUPT": interrupt(9),
         "msgget": msgget(9, 1000, 100),
         "a send of no bytes": msgsnd(9, 1, 1, b""),
         "a receive": msgrcv(9, 1),
@@ -614,6 +619,8 @@ def connections() -> Iterator[Check]:
         "a process of the objects": (four, 9, [leave(0, 3)], True),
         "one that is not of the objects": (four, 9, [leave(0, 4)], False),
         "one that was": (four, 9, [leave(0, 3), leave(0, 3)], False),
+        "an INTERRUPT": (four, 9, [interrupted(0, 3, 1), leave(0, 3)], True),
+        "an INTERRUPT of none": (four, 9, [leave(0, 3), interrupted(0, 3, 1)], False),
         "a fifth process": (four, 9, [came, leave(0, 9)], False),
         "a fourth after an exit": (four, 9, [leave(0, 3), came, leave(0, 9)], True),
         "no number twice": (four, 9, [leave(0, 7), came, leave(0, 7)], False),

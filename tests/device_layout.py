@@ -107,6 +107,10 @@ def request(moment: int, pid: int, frame: bytes) -> bytes:
     return record(2, moment, struct.pack(">I", pid) + frame)
 
 
+def interrupted(moment: int, pid: int, serial: int) -> bytes:
+    return record(3, moment, struct.pack(">II", pid, serial))
+
+
 def tick(moment: int) -> bytes:
     return record(4, moment)
 
@@ -128,6 +132,10 @@ def batch(*records: bytes) -> bytes:
 
 def hello(serial: int, uid: int = 1000, gid: int = 100) -> bytes:
     return struct.pack(">IBII", serial, 0x01, uid, gid)
+
+
+def interrupt(serial: int) -> bytes:
+    return struct.pack(">IB", serial, 0x02)
 
 
 def msgget(serial: int, key: int, flags: int = 0x380) -> bytes:
@@ -369,7 +377,8 @@ def is_request(frame: bytes) -> bool:
     if len(frame) < 5 or not any(frame[:4]):
         return False
     fields = len(frame) - 5
-    sizes = {0x01: (8, 8), 0x0A: (8, 8), 0x0B: (16, 8443), 0x0C: (20, 20)}
+    sizes = {0x01: (8, 8), 0x02: (0, 0), 0x0A: (8, 8), 0x0B: (16, 8443), 0x0C: (20, 20)}
+    sizes |= {0x0D: (4, 4), 0x0E: (20, 20), 0x0F: (4, 4)}
     least, most = sizes.get(frame[4], (1, 0))
     return least <= fields <= most
 
@@ -379,7 +388,7 @@ def is_record(kind: int, moment: int, rest: bytes) -> bool:
         return is_request(rest[4:])
     if kind == 6 and moment:
         return False
-    return len(rest) == {1: 12, 4: 0, 5: 4, 6: 0}.get(kind)
+    return len(rest) == {1: 12, 3: 8, 4: 0, 5: 4, 6: 0}.get(kind)
 
 
 def read_batch(data: bytes, sector: int) -> list[bytes]:
@@ -408,7 +417,7 @@ class Connected:
         if kind == 1 and len(self.pids) < self.most and self.next_pid <= LAST_NUMBER:
             self.pids.add(self.next_pid)
             self.next_pid += 1
-        if kind in (2, 5):
+        if kind in (2, 3, 5):
             (pid,) = struct.unpack(">I", rest[:4])
             if pid not in self.pids:
                 return False

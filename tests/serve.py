@@ -197,6 +197,7 @@ def unfinished_requests() -> None:
         gone.send_bytes(frame(9, msgsnd_request(queue, 1, b"gone"))[:-1])
         time.sleep(0.3)
         other.msgsnd(queue, 1, b"other")
+        other.interrupt()
         slow.send_bytes(request[-1:])
         slow.is_answered(reply(9, 0))
         gone.close()
@@ -210,11 +211,13 @@ def faults_of_the_stream() -> None:
         ("00000004", 0),
         ("00002101", 0),
         ("00000005 00000000 0a", 0),
+        ("00000005 00000006 02", 6),
         ("00000005 00000007 ff", 7),
         ("0000000d 00000008 0a 000004d2 00000380", 8),
         ("0000000c 00000009 01 000003e8 000000", 9),
         ("0000000d 00000001 01 000003e8 00000064 00000005 0000000a 0a", 10),
         ("0000000d 00000001 01 000003e8 00000064 0000000d 0000000b 01 000003e8 00000064", 11),
+        ("0000000d 00000001 01 000003e8 00000064 00000006 0000000c 02 00", 12),
     ]
     rng = random.Random(SEED)
     garbage = [rng.randbytes(rng.randint(3, 20000)) for _ in range(50)]
