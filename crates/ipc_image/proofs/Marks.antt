@@ -1,8 +1,8 @@
 -- Lists of things in saved objects: one of them by its place, and how many bytes the first ones have.
-use Rattle.std.proofs.Common.{◌≡◌, ℕ, zero, suc, ◌-◌, ◌+◌, ◌<◌, ◌≤◌, List, [], ◌∷◌, ◌++◌}
+use Rattle.std.proofs.Common.{◌≡◌, ℕ, zero, suc, ◌+◌, ◌<◌, ◌≤◌, List, [], ◌∷◌, ◌++◌}
 use Rattle.std.proofs.Common.{length, map, take, drop, get_or, Some, refl, ap, sym, subst, ◌∙◌, arith}
 use Rattle.std.specs.Prelude.{All, option_map}
-use Rattle.std.proofs.lemmas.List.{length-append, flat_map_more, take_more, take-append-drop}
+use Rattle.std.proofs.lemmas.List.{append-nil, length-append, flat_map_more, take_more, take-append-drop}
 use Rattle.std.proofs.lemmas.List.Elements.{All-get_or}
 use Rattle.std.proofs.lemmas.Grind.{flat_map-append}
 use Rattle.std.proofs.lemmas.Option.{get_or_from_slice_get, slice_get_within, slice_get_read, slice_get-map, slice_get-get_or}
@@ -20,11 +20,9 @@ row-at row ys i a within is = slice_get-map row ys i ∙ ap (option_map row) (sl
 pub each-at : {X : Type 0} (P : X → Type 0) (xs : List X) (i : ℕ) (x : X) → All P xs → slice_get xs i ≡ Some x → P x
 each-at P xs i x each is = subst P (get_or_from_slice_get xs i x x is) (All-get_or P xs i x (slice_get_within xs i x is) each)
 
--- the one at a place of a table, as the state has it
-pub row_at : {T X : Type 0} (row : T → X) (items : List T) (rows : List X) (at : ℕ) (d : T) → map row items ≡ rows → at < length items
-    → slice_get rows at ≡ Some (row (get_or items at d))
-row_at row items rows at d are low =
-    ap (λ l. slice_get l at) (sym are) ∙ slice_get-map row items at ∙ ap (option_map row) (slice_get-get_or items at d low)
+-- the one at a place of a table
+pub table-at : {A X : Type 0} (row : A → X) (ys : List A) (i : ℕ) (d : A) → i < length ys → slice_get (map row ys) i ≡ Some (row (get_or ys i d))
+table-at row ys i d within = slice_get-map row ys i ∙ ap (option_map row) (slice_get-get_or ys i d within)
 
 -- what is a mark of each is one at each place
 pub mark-each : {X : Type 0} (IsMark : X → Mark → Type 0) (next : ℕ → Mark → Type 0) (m : Mark) → ((x : X) → IsMark x m) → ((at : ℕ) → next at m)
@@ -44,13 +42,16 @@ module _ {X : Type 0} (object : X → ℕ × List ℕ) (IsMark : X → Mark → 
       (record { object = refl; marks = λ m. (λ h. h, λ h. h) })
   here (y ∷ xs) more (suc at) x is = let h = here xs more at x is in record { object = h.object; marks = h.marks }
 
-  pub past : (xs : List X) (more : PlainObjects) (at : ℕ) (o : ℕ × List ℕ) (IsOfIt : Mark → Type 0) → length xs ≤ at
-      → Stands more next (at - length xs) o IsOfIt → Stands (map object xs ++ more) (MarkAt IsMark next xs) at o IsOfIt
-  past [] more at o IsOfIt le h = let whole : at - 0 ≡ at = omega arith in subst (λ (n : ℕ). Stands more next n o IsOfIt) whole h
-  past (y ∷ xs) more zero o IsOfIt le h = absurd (omega arith)
-  past (y ∷ xs) more (suc at) o IsOfIt le h =
-      let less : suc at - length (y ∷ xs) ≡ at - length xs = omega arith in
-      let r = past xs more at o IsOfIt (omega arith) (subst (λ (n : ℕ). Stands more next n o IsOfIt) less h) in
+  pub here-last : (xs : List X) (at : ℕ) (x : X) → slice_get xs at ≡ Some x → Stands (map object xs) (MarkAt IsMark next xs) at (object x) (IsMark x)
+  here-last xs at x is =
+      subst (λ (l : PlainObjects). Stands l (MarkAt IsMark next xs) at (object x) (IsMark x)) (append-nil (map object xs)) (here xs [] at x is)
+
+  pub past : (xs : List X) (more : PlainObjects) (at j : ℕ) (o : ℕ × List ℕ) (IsOfIt : Mark → Type 0) → at ≡ length xs + j → Stands more next j o IsOfIt
+      → Stands (map object xs ++ more) (MarkAt IsMark next xs) at o IsOfIt
+  past [] more at j o IsOfIt is h = let same : j ≡ at = omega (arith, is) in subst (λ (n : ℕ). Stands more next n o IsOfIt) same h
+  past (y ∷ xs) more zero j o IsOfIt is h = absurd (omega (arith, is))
+  past (y ∷ xs) more (suc at) j o IsOfIt is h =
+      let r = past xs more at j o IsOfIt (omega (arith, is)) h in
       record { object = r.object; marks = r.marks }
 
 module _ {X : Type 0} (bytes_of : X → List ℕ) (xs : List X) (k : ℕ) where

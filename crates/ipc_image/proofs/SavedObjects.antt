@@ -1,5 +1,5 @@
 -- The state as objects: how many bytes each has, that they are objects, and that they fit where they are kept.
-use Rattle.std.proofs.Common.{◌≡◌, ℕ, zero, suc, ◌+◌, ◌*◌, ◌^◌, ◌<◌, ◌≤◌, ◌-◌, drop, List, [], ◌∷◌, ◌++◌, length, map, Some, refl, sym, ap, subst, ◌∙◌, arith}
+use Rattle.std.proofs.Common.{◌≡◌, ℕ, zero, suc, ◌+◌, ◌*◌, ◌^◌, ◌<◌, ◌≤◌, ◌-◌, List, [], ◌∷◌, ◌++◌, length, map, Some, refl, sym, ap, subst, ◌∙◌, arith}
 use Rattle.std.specs.Prelude.{All, sum_by, option_map}
 use Rattle.std.proofs.lemmas.List.{append-nil, length-map, length-append}
 use Rattle.std.proofs.lemmas.List.Concat.{flat_map-cons}
@@ -30,7 +30,8 @@ use Rattle.ipc_image.specs.Saved.{counted_bytes, queue_sizes, queue_numbers, set
 use Rattle.ipc_image.specs.Saved.{clock_sizes, clock_numbers, count_bytes, process_bytes, processes_bytes, message_bytes}
 use Rattle.ipc_image.specs.Kind.{object_in}
 use Rattle.ipc_image.specs.Saved.{queue_bytes, queue_object, semaphore_bytes, set_bytes, set_object, saved, HasAllPlaces}
-use Rattle.ipc_image.specs.SavedParts.{IsMarkAfter, Stands}
+use Rattle.ipc_state.specs.declared.state.Numbers.{Numbers}
+use Rattle.ipc_image.specs.SavedParts.{IsMarkAfter, IsFound, Stands, seen_state}
 use Rattle.ipc_image.proofs.Marks.{each-at}
 use Rattle.ipc_base.specs.declared.objects.Mark.{Mark}
 use Rattle.ipc_image.specs.Sizes.{sectors, process_sectors, area_of}
@@ -115,14 +116,14 @@ module _ (s : State) where
   saved-number (suc (suc (suc (suc i)))) few = absurd (omega arith)
 
   -- an object after the four
-  pub found-thing : AreObjects (saved s) → (i : ℕ) → 4 ≤ i → (o : ℕ × List ℕ) (IsOfIt : Mark → Type 0)
-      → Stands (things s) (IsMarkAfter s) (i - 4) o IsOfIt
-      → Stands (drop 4 (saved s)) (IsMarkAfter s) (i - 4) o IsOfIt × (slice_get (saved s) i ≡ Some o) × (length o.1 < 2 ^ 64)
+  pub found-thing : AreObjects (saved s) → (i : ℕ) → 4 ≤ i → (o : ℕ × List ℕ) (IsOfIt : Mark → Type 0) (Fits : Type 0) → Fits
+      → Stands (things s) (IsMarkAfter s) (i - 4) o IsOfIt → IsFound s i o IsOfIt Fits
   unfolding saved
-  found-thing are i four o IsOfIt stands =
+  found-thing are i four o IsOfIt Fits fits stands =
       let deep : i ≡ suc (suc (suc (suc (i - 4)))) = omega (arith, four) in
       let found = ap (slice_get (saved s)) deep ∙ stands.object in
-      (stands, found, each-at (λ (p : ℕ × List ℕ). length p.1 < 2 ^ 64) (saved s) i o are.lengths found)
+      let short = each-at (λ (p : ℕ × List ℕ). length p.1 < 2 ^ 64) (saved s) i o are.lengths found in
+      record { stands = stands; object = found; short = short; fits = fits }
 
   -- what holds of the four, of each queue and of each set holds of all
   each-saved : (P : ℕ × List ℕ → Type 0) → P (0, fields_bytes clock_sizes (clock_numbers s)) → P (1, processes_bytes s.processes.entries)
@@ -137,6 +138,21 @@ module _ (s : State) where
       (All-cons P _ (things s) adjustments
       (All-append P (map queue_object s.msg.entries) (map set_object s.sem.entries) (All-map P queue_object s.msg.entries each)
       (All-map P set_object s.sem.entries others)))))
+
+-- the state that tables are, and how many objects it has
+module _ (n : Numbers) (ps : List (Item Process)) (qs : List (Item (Entry Kept))) (xs : List (Item (Entry Set))) where
+  pub seen-is : (s : State) → n.clock.0 ≡ s.clock → n.next_pid ≡ s.processes.next → n.next_queue ≡ s.msg.next → n.next_set ≡ s.sem.next
+      → map item_row ps ≡ s.processes.entries → map queue_row qs ≡ s.msg.entries → map item_row xs ≡ s.sem.entries → seen_state n ps qs xs ≡ s
+  seen-is s clock pid queue set processes queues sets =
+      λ i. record {
+        clock = clock i;
+        processes = record { next = pid i; entries = processes i };
+        msg = record { next = queue i; entries = queues i };
+        sem = record { next = set i; entries = sets i };
+      }
+
+  pub seen_count : length (saved (seen_state n ps qs xs)) ≡ 4 + (length qs + length xs)
+  seen_count = omega (arith, saved-count (seen_state n ps qs xs), length-map qs queue_row, length-map xs item_row)
 
 -- ---- they are objects
 

@@ -1,6 +1,6 @@
 -- What is known of numbers once they are read, marks, and what a tree is of.
-use Rattle.std.specs.Prelude.{◌≡◌, ℕ, zero, suc, ◌-◌, ◌≤◌, ◌↔◌, List, [], ◌∷◌, ◌++◌, length, take, Some, slice_get}
-use Rattle.std.specs.Prelude.{ℤ, slice_index, map}
+use Rattle.std.specs.Prelude.{◌≡◌, ℕ, zero, suc, ◌-◌, ◌<◌, ◌≤◌, ◌^◌, ◌↔◌, List, [], ◌∷◌, ◌++◌, length}
+use Rattle.std.specs.Prelude.{ℤ, take, drop, Some, slice_get, slice_index, map}
 use Rattle.std.specs.List.{flat_map}
 use Rattle.std.specs.Int.{w64, cast_signed}
 use Rattle.ipc_base.specs.declared.limits.Limits.{Limits}
@@ -20,7 +20,7 @@ use Rattle.ipc_image.specs.declared.state_objects.Thing.{Thing}
 use Rattle.ipc_image.specs.declared.state_objects.Thing.TheVariants as thing
 use Rattle.ipc_image.specs.Kind.{FitsIn}
 use Rattle.ipc_image.specs.Saved.{process_bytes, message_bytes, queue_object, FitsQueue}
-use Rattle.ipc_image.specs.Saved.{semaphore_bytes, set_object, FitsSet}
+use Rattle.ipc_image.specs.Saved.{semaphore_bytes, set_object, FitsSet, saved}
 
 -- ---- what was added
 
@@ -96,6 +96,13 @@ FitsThing (thing.Set e) = FitsIn FitsSet (item_row e.now)
 abbrev pub IsMarkOfThing : Thing → Mark → Type 0
 IsMarkOfThing (thing.Queue q) m = IsMarkOfQueue (queue_row q.now) m
 IsMarkOfThing (thing.Set e) m = IsMarkOfSet (item_row e.now) m
+
+-- this is the i-th object, and of what it is each number has its place
+pub record IsFound (s : State) (i : ℕ) (o : ℕ × List ℕ) (IsOfIt : Mark → Type 0) (Fits : Type 0) : Type 0 where
+  pub stands : Stands (drop 4 (saved s)) (IsMarkAfter s) (i - 4) o IsOfIt
+  pub object : slice_get (saved s) i ≡ Some o
+  pub short : length o.1 < 2 ^ 64
+  pub fits : Fits
 
 -- ---- what a tree is of, and what has these numbers and these parts
 

@@ -1,12 +1,12 @@
 //! The state as objects, without any memory.
 
-ghost use Rattle.std.specs.Prelude.{◌≡◌, ◌≤◌, ◌<◌, ◌-◌, ◌^◌, length, drop, true, Some, slice_get, option_map};
+ghost use Rattle.std.specs.Prelude.{◌≡◌, ◌≤◌, ◌<◌, ◌-◌, ◌^◌, length, true, Some, slice_get, option_map};
 ghost use Rattle.ipc_base.specs.declared.limits.Limits.{Limits};
 ghost use Rattle.ipc_base.specs.Limits.{ArePassed};
 ghost use Rattle.ipc_base.specs.Objects.{Fit};
 ghost use Rattle.ipc_state.specs.State.{start};
 ghost use Rattle.ipc_image.specs.Saved.{saved, StandForState};
-ghost use Rattle.ipc_image.specs.SavedParts.{IsMarkAfter, IsMarkOf, IsMarkOfThing, FitsThing, Stands, object_of};
+ghost use Rattle.ipc_image.specs.SavedParts.{IsFound, IsMarkOf, IsMarkOfThing, FitsThing, object_of};
 ghost use Rattle.ipc_image.specs.Sizes.{area_of};
 ghost use Rattle.ipc_image.specs.Window.{passed};
 
@@ -104,6 +104,7 @@ impl<'a> Objects for StateObjects<'a> {
 
     ghost marks = { λ s i m. IsMarkOf s i m };
 
+    #[tactic(auto, using(crate::proofs::SavedObjects::seen_count))]
     fn count(&self) -> u32 {
         ALWAYS + self.queues.len() as u32 + self.sets.len() as u32
     }
@@ -146,11 +147,7 @@ impl<'a> Objects for StateObjects<'a> {
 fn thing_at<'a, 'b>(objects: &'b StateObjects<'a>, i: u32) -> Thing<'a>
     requires thing { 4 ≤ i }
     requires object { i < length (saved objects.now) }
-    ensures stands { Stands (drop 4 (saved objects.now)) (IsMarkAfter objects.now) (i - 4)
-        (object_of result) (IsMarkOfThing result) }
-    ensures object { slice_get (saved objects.now) i ≡ Some (object_of result) }
-    ensures short { length (object_of result).1 < 2 ^ 64 }
-    ensures fits { FitsThing result }
+    ensures { IsFound objects.now i (object_of result) (IsMarkOfThing result) (FitsThing result) }
 {
     let at = (i - ALWAYS) as usize;
     if at < objects.queues.len() {
