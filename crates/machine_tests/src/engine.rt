@@ -91,6 +91,7 @@ fn hello(rt: &impl Abort, engine: &mut Engine, serial: u32) -> Result<(), AllocE
 #[derive(Clone, Copy)]
 enum Ask<'a> {
     Hello,
+    Interrupt,
     Get(i32, u32),
     Send(u32, i64, &'a [u8]),
     Receive(u32, u32, i64),
@@ -99,6 +100,7 @@ enum Ask<'a> {
 fn kind_of(ask: Ask<'_>) -> RequestKind<'_> {
     match ask {
         Ask::Hello => RequestKind::Hello(Cred { uid: 0, gid: 0 }),
+        Ask::Interrupt => RequestKind::Interrupt,
         Ask::Get(key, flags) => RequestKind::Call(Call::Msgget {
             key,
             flags: GetFlags(flags),
@@ -175,6 +177,28 @@ fn exit(rt: &impl Abort, engine: &mut Engine, pid: u32) -> Result<(), AllocError
     take(rt, engine, Event::Exit { pid, moment })
 }
 
+/// An INTERRUPT of a process, which no call of it waits for.
+fn interrupt(
+    rt: &impl Abort,
+    engine: &mut Engine,
+    pid: u32,
+    serial: u32,
+) -> Result<(), AllocError> {
+    let (pid, moment) = (Pid(pid), Moment(8));
+    assert!(rt; engine.connected(pid));
+    take(
+        rt,
+        engine,
+        Event::Interrupt {
+            pid,
+            serial,
+            moment,
+        },
+    )?;
+    assert!(rt; is_answer(engine, pid, serial, Answer::Done));
+    Ok(())
+}
+
 /// A process comes, and is told its number.
 fn join(rt: &impl Abort, engine: &mut Engine, serial: u32, number: u32) -> Result<(), AllocError> {
     hello(rt, engine, serial)?;
@@ -200,6 +224,7 @@ fn come_after_an_exit(rt: &impl Abort, engine: &mut Engine) -> Result<(), AllocE
     assert!(rt; is_quiet(engine));
     assert!(rt; !is_connected(engine, 2) && is_connected(engine, 1));
     join(rt, engine, 16, 5)?;
+    interrupt(rt, engine, 5, 17)?;
     tick(rt, engine)?;
     assert!(rt; is_quiet(engine) && is_connected(engine, 5));
     Ok(())
@@ -259,8 +284,9 @@ fn sends_until_a_queue_is_full(rt: HostRuntime) -> Result<(), Fail> {
     Ok(())
 }
 
-const RECEIVES: [Line; 16] = [
+const RECEIVES: [Line; 17] = [
     (Ask::Hello, Answer::Refused(Errno::EPROTO)),
+    (Ask::Interrupt, Answer::Done),
     (Ask::Get(0, 0o600), Answer::Number(1)),
     (Ask::Receive(1, 8, 0), Answer::Refused(Errno::ENOMSG)),
     (Ask::Receive(2, 8, 0), Answer::Refused(Errno::EINVAL)),

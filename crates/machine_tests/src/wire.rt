@@ -150,7 +150,7 @@ fn a_refusal_is_written(rt: HostRuntime) {
 }
 
 /// A request of each kind, and its frame.
-const FRAMES: [(Request<'static>, &[u8]); 4] = [
+const FRAMES: [(Request<'static>, &[u8]); 5] = [
     (
         Request {
             serial: 1,
@@ -162,6 +162,13 @@ const FRAMES: [(Request<'static>, &[u8]); 4] = [
         &[
             0, 0, 0, 0x0d, 0, 0, 0, 1, 1, 0, 0, 0x03, 0xe8, 0, 0, 0, 0x64,
         ],
+    ),
+    (
+        Request {
+            serial: 9,
+            kind: RequestKind::Interrupt,
+        },
+        &[0, 0, 0, 5, 0, 0, 0, 9, 2],
     ),
     (
         Request {
@@ -216,7 +223,7 @@ fn requests_are_written(rt: HostRuntime) {
         assert!(rt; write_request(&request, &mut out));
         assert!(rt; out.starts_with(frame));
         assert!(rt; out.iter().skip(len).all(|byte| *byte == 0xee));
-        assert!(rt; !write_request(&request, &mut [0; 16]));
+        assert!(rt; !write_request(&request, &mut [0; 8]));
     }
 }
 

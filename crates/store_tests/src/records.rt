@@ -16,7 +16,7 @@ const SENT: Request<'static> = Request {
 };
 
 // An event of each kind, and its record.
-const RECORDS: [(Event<'static>, &[u8]); 5] = [
+const RECORDS: [(Event<'static>, &[u8]); 6] = [
     (
         Event::Connect {
             cred: Cred {
@@ -39,6 +39,16 @@ const RECORDS: [(Event<'static>, &[u8]); 5] = [
         &[
             0, 0, 0, 0x24, 2, 1, 2, 3, 4, 5, 6, 7, 8, 0, 0, 0, 1, 0, 0, 0, 3, 0x0b, 0, 0, 0, 1, 0,
             0, 8, 0, 0, 0, 0, 0, 0, 0, 0, 5, 0x68, 0x69,
+        ],
+    ),
+    (
+        Event::Interrupt {
+            pid: Pid(3),
+            serial: 7,
+            moment: Moment(258),
+        },
+        &[
+            0, 0, 0, 0x11, 3, 0, 0, 0, 0, 0, 0, 1, 2, 0, 0, 0, 3, 0, 0, 0, 7,
         ],
     ),
     (
