@@ -1,17 +1,18 @@
 -- What the crates above cite of a step.
-use Rattle.std.proofs.Common.{◌≡◌, ℕ, ◌<◌, ◌≤◌, List, [], ◌∷◌, ◌++◌, refl}
+use Rattle.std.proofs.Common.{◌≡◌, ℕ, ◌+◌, ◌<◌, ◌≤◌, true, false, List, [], ◌∷◌, ◌++◌, refl}
 use Rattle.std.specs.Prelude.{All}
+use Rattle.ipc_base.specs.declared.identity.Cred.{Cred}
 use Rattle.ipc_base.specs.declared.limits.Limits.{Limits}
 use Rattle.ipc_wire.specs.Request.{PlainKind, Hello, Interrupt as Interrupts, Calls}
-use Rattle.ipc_engine.specs.Event.{PlainEvent, PlainOutcome}
+use Rattle.ipc_engine.specs.Event.{PlainEvent, PlainOutcome, Connect}
 use Rattle.ipc_state.specs.Sound.{FitsBody}
 use Rattle.ipc_engine.specs.Sound.{IsSound}
-use Rattle.ipc_state.specs.State.{State}
+use Rattle.ipc_state.specs.State.{State, is_process}
 use Rattle.ipc_engine.specs.Step.{step, run, asked}
 use Rattle.sysv_calls.proofs.CallerLemmas.{attempt-keeps}
 use Rattle.ipc_state.specs.State.{start}
 use Rattle.ipc_state.proofs.CallerLemmas.{start-sound as start-parts}
-use Rattle.ipc_engine.specs.Bytes.{bytes_to, allowed}
+use Rattle.ipc_engine.specs.Bytes.{IsGreeted, allowed, asks, bytes_to, most_owed, owed}
 use Rattle.ipc_engine.proofs.Soundness as soundness
 use Rattle.ipc_engine.proofs.Answered as answered
 
@@ -40,7 +41,23 @@ pub run-parts : (limits : Limits) (s : State) (before after : List PlainEvent)
 run-parts limits s [] after = refl
 run-parts limits s (e ∷ before) after = run-parts limits (step limits s e).state before after
 
--- an event sends a process no more bytes than it asked for
-pub step-bytes : (limits : Limits) (s : State) (e : PlainEvent) (pid : ℕ) → IsSound limits s → 0 < pid
-    → bytes_to pid (step limits s e).outcomes ≤ allowed limits s e pid
-step-bytes = answered.step-bytes
+-- an event sends a process no more bytes than it has asked for
+pub step-owes : (limits : Limits) (s : State) (e : PlainEvent) (pid : ℕ) → IsSound limits s → 0 < pid
+    → bytes_to pid (step limits s e).outcomes + owed limits (step limits s e).state pid ≤ owed limits s pid + allowed limits s e pid
+step-owes = answered.step-owes
+
+-- no process is owed more than that, and what is no process is owed nothing
+pub owed-most : (limits : Limits) (s : State) (pid : ℕ) → IsSound limits s → owed limits s pid ≤ most_owed limits
+owed-most limits s pid sound = answered.owed-most limits s pid
+
+pub owed-none : (limits : Limits) (s : State) (pid : ℕ) → IsSound limits s → is_process s pid ≡ false → owed limits s pid ≡ 0
+owed-none limits s pid sound = answered.owed-none limits s pid
+
+-- a request that is not answered is owed
+pub unanswered-owed : (limits : Limits) (s : State) (e : PlainEvent) (pid : ℕ) → IsSound limits s → is_process s pid ≡ true → asks s e pid ≡ true
+    → bytes_to pid (step limits s e).outcomes ≡ 0 → (owed limits s pid ≡ 0) × (0 < owed limits (step limits s e).state pid)
+unanswered-owed = answered.unanswered-owed
+
+-- the last reply of a HELLO is its own
+pub hello-greets : (limits : Limits) (s : State) (cred : Cred) (serial moment : ℕ) → IsSound limits s → IsGreeted s (step limits s (Connect cred serial moment))
+hello-greets limits s cred serial moment sound = answered.hello-greets limits s cred serial moment

@@ -1,10 +1,11 @@
--- How many bytes of frames an event sends a process: none but the reply to what the process asked for.
-use Rattle.std.specs.Prelude.{ℕ, ◌+◌, Bool, false, ◌==◌, if◌then◌else◌, List, [], ◌∷◌, length}
+-- How many bytes of frames an event sends a process: none but the replies to what the process has asked for.
+use Rattle.std.specs.Prelude.{◌≡◌, ◌⊎◌, ℕ, ◌+◌, Bool, true, false, ◌==◌, if◌then◌else◌, List, [], ◌∷◌, ◌++◌, length}
 use Rattle.ipc_base.specs.declared.limits.Limits.{Limits}
 use Rattle.ipc_base.specs.Limits.{longest_reply}
 use Rattle.ipc_wire.specs.Reply.{reply_bytes}
-use Rattle.ipc_state.specs.State.{State}
+use Rattle.ipc_state.specs.State.{State, is_process}
 use Rattle.ipc_engine.specs.Event.{PlainEvent, Connect, Call, Interrupt, Tick, Exit, Restart, PlainOutcome}
+use Rattle.ipc_engine.specs.Step.{Step}
 use Rattle.ipc_engine.specs.View.{reply_of}
 
 -- the bytes of those frames that are for a process
@@ -21,6 +22,21 @@ asks s (Tick moment) pid = false
 asks s (Exit gone moment) pid = false
 asks s Restart pid = false
 
--- how many bytes a process may be sent for an event: the longest reply if it asks, and else none
+-- how many bytes a process is still owed for what it asked by earlier events; none, since no call waits yet
+unfoldable pub owed : Limits → State → ℕ → ℕ
+owed limits s pid = 0
+
+-- no process is owed more
+abbrev pub most_owed : Limits → ℕ
+most_owed limits = longest_reply limits
+
+-- how many bytes an event adds to what a process is owed: the longest reply if it asks, and else none
 abbrev pub allowed : Limits → State → PlainEvent → ℕ → ℕ
 allowed limits s e pid = if asks s e pid then longest_reply limits else 0
+
+-- the replies of a HELLO end with its own: it names the new process, which is connected then, or none
+pub record IsGreeted (s : State) (now : Step) : Type 0 where
+  pub front : List PlainOutcome
+  pub reply : PlainOutcome
+  pub last : now.outcomes ≡ front ++ reply ∷ []
+  pub process : (reply.pid ≡ 0) ⊎ ((reply.pid ≡ s.processes.next) × (is_process now.state reply.pid ≡ true))

@@ -26,6 +26,7 @@ ghost use Rattle.ipc_state.specs.Sound.{HasSoundParts, FitsBody};
 ghost use Rattle.ipc_state.specs.State.{State as PlainState, has_all_processes, is_process, start};
 ghost use Rattle.sysv_calls.specs.Spare.{IsSpare, IsKept, room_of, room_in as room_in_answer};
 ghost use Rattle.ipc_engine.specs.Buffer.{room_in};
+ghost use Rattle.ipc_engine.specs.Bytes.{most_owed, owed};
 ghost use Rattle.ipc_engine.specs.Engine.{kind_takes_memory, IsReadyFor, IsReadyForHello};
 ghost use Rattle.ipc_engine.specs.Step.{step as step_on, asked, connect as connect_step, replied, most_replies};
 ghost use Rattle.ipc_engine.specs.Listing.{rows_of};
@@ -147,6 +148,21 @@ impl Engine {
         ensures { result ≡ is_process self.now.state pid.0 }
     {
         self.state.has_process(pid)
+    }
+
+    /// How many bytes of replies a process is still owed for what it asked before. No call waits yet, so none.
+    pub fn owed(&self, pid: Pid) -> usize
+        ensures { result ≡ owed self.now.limits self.now.state pid.0 }
+    {
+        let _pid = pid;
+        0
+    }
+
+    /// The most that a process is ever owed.
+    pub fn most_owed(&self) -> usize
+        ensures { result ≡ most_owed self.now.limits }
+    {
+        self.limits().longest_reply() as usize
     }
 
     /// Whether the process that an event names is connected: the condition of `step`.

@@ -1,6 +1,6 @@
 //! Laws of the definitions alone. A call of one does nothing; its contract is the law.
 
-ghost use Rattle.std.specs.Prelude.{◌≡◌, ◌≢◌, ◌<◌, ◌≤◌, ℕ, true, false};
+ghost use Rattle.std.specs.Prelude.{◌≡◌, ◌≢◌, ◌+◌, ◌<◌, ◌≤◌, ℕ, true, false};
 ghost use Rattle.std.specs.Prelude.{List, [], ◌++◌, length, max};
 ghost use Rattle.std.specs.Prelude.{Option, None, All, IsSome};
 ghost use Rattle.ipc_base.specs.declared.limits.Limits.{Limits};
@@ -10,7 +10,7 @@ ghost use Rattle.ipc_state.specs.State.{State, start, is_process, at_moment, res
 ghost use Rattle.ipc_engine.specs.Event.{PlainEvent, Connect, Call, Interrupt, Tick, Exit, Restart, moment_of};
 ghost use Rattle.ipc_engine.specs.Step.{step, run, asked, most_replies};
 ghost use Rattle.ipc_state.specs.Sound.{FitsBody};
-ghost use Rattle.ipc_engine.specs.Bytes.{bytes_to, allowed};
+ghost use Rattle.ipc_engine.specs.Bytes.{IsGreeted, allowed, asks, bytes_to, most_owed, owed};
 ghost use Rattle.ipc_engine.specs.Sound.{IsSound};
 
 /// The state is sound before the first event, and after each event if it was before.
@@ -31,11 +31,32 @@ pub fn replies_are_few()
     ensures { (limits : Limits) (s : State) (e : PlainEvent) → length (step limits s e).outcomes ≤ most_replies }
 {}
 
-/// An event sends a process no more bytes of frames than it asked for: one longest reply if it made the request, or is
-/// the one that a HELLO makes, and else none.
+/// An event sends a process no more bytes of frames than it has asked for: what it is sent and what it is owed then are
+/// no more than what it was owed, and one longest reply if it makes a request, or is the one that a HELLO makes.
 pub fn replies_are_asked_for()
     ensures { (limits : Limits) (s : State) (e : PlainEvent) (pid : ℕ) → IsSound limits s → 0 < pid
-        → bytes_to pid (step limits s e).outcomes ≤ allowed limits s e pid }
+        → bytes_to pid (step limits s e).outcomes + owed limits (step limits s e).state pid
+        ≤ owed limits s pid + allowed limits s e pid }
+{}
+
+/// No process is owed more than `most_owed`, and what is no process is owed nothing.
+pub fn debts_are_bounded()
+    ensures most { (limits : Limits) (s : State) (pid : ℕ) → IsSound limits s → owed limits s pid ≤ most_owed limits }
+    ensures none { (limits : Limits) (s : State) (pid : ℕ) → IsSound limits s → is_process s pid ≡ false
+        → owed limits s pid ≡ 0 }
+{}
+
+/// If a process makes a request and is sent nothing for it, then it was owed nothing before, and is owed something now.
+pub fn unanswered_request_is_owed()
+    ensures { (limits : Limits) (s : State) (e : PlainEvent) (pid : ℕ) → IsSound limits s → is_process s pid ≡ true
+        → asks s e pid ≡ true → bytes_to pid (step limits s e).outcomes ≡ 0
+        → (owed limits s pid ≡ 0) × (0 < owed limits (step limits s e).state pid) }
+{}
+
+/// The last reply of a HELLO is its own.
+pub fn hello_is_answered_last()
+    ensures { (limits : Limits) (s : State) (cred : Cred) (serial moment : ℕ) → IsSound limits s
+        → IsGreeted s (step limits s (Connect cred serial moment)) }
 {}
 
 /// A tick at a moment that has been changes nothing and says nothing.

@@ -11,10 +11,11 @@ pub use engine::Engine;
 pub use event::{Event, Outcome};
 pub use fault::StateFault;
 pub use laws::{
-    call_interrupt_and_tick_keep_processes, connect_adds_one_process, event_sets_clock,
-    exit_removes_one_process, interrupt_call_is_an_interrupt, late_tick_does_nothing,
-    pid_is_below_next, refused_call_changes_nothing, replies_are_asked_for, replies_are_few,
-    replies_fit, restart_keeps_objects, restart_leaves_no_process, restart_twice_is_once,
-    run_of_parts, step_keeps_soundness,
+    call_interrupt_and_tick_keep_processes, connect_adds_one_process, debts_are_bounded,
+    event_sets_clock, exit_removes_one_process, hello_is_answered_last,
+    interrupt_call_is_an_interrupt, late_tick_does_nothing, pid_is_below_next,
+    refused_call_changes_nothing, replies_are_asked_for, replies_are_few, replies_fit,
+    restart_keeps_objects, restart_leaves_no_process, restart_twice_is_once, run_of_parts,
+    step_keeps_soundness, unanswered_request_is_owed,
 };
 pub use listing::Row;
