@@ -1,14 +1,17 @@
 -- What the crates above cite of a step.
-use Rattle.std.proofs.Common.{◌≡◌, ℕ, ◌+◌, ◌<◌, ◌≤◌, true, false, List, [], ◌∷◌, ◌++◌, refl}
-use Rattle.std.specs.Prelude.{All}
+use Rattle.std.proofs.Common.{◌≡◌, ◌≢◌, ℕ, ◌+◌, ◌<◌, ◌≤◌, is_some, true, false, List, [], ◌∷◌, ◌++◌, refl, ap, ◌∙◌}
+use Rattle.std.specs.Prelude.{All, nat_eq}
+use Rattle.ipc_base.proofs.CallerLemmas.{choice, is_some-append, value_at-without}
 use Rattle.ipc_base.specs.declared.identity.Cred.{Cred}
 use Rattle.ipc_base.specs.declared.limits.Limits.{Limits}
-use Rattle.ipc_wire.specs.Request.{PlainKind, Hello, Interrupt as Interrupts, Calls}
-use Rattle.ipc_engine.specs.Event.{PlainEvent, PlainOutcome, Connect}
+use Rattle.ipc_wire.specs.Request.{PlainKind, PlainRequest, Hello, Interrupt as Interrupts, Calls}
+use Rattle.ipc_engine.specs.Event.{PlainEvent, PlainOutcome, Connect, Call, Interrupt, Tick, Exit, Restart}
 use Rattle.ipc_state.specs.Sound.{FitsBody}
 use Rattle.ipc_engine.specs.Sound.{IsSound}
-use Rattle.ipc_state.specs.State.{State, is_process}
-use Rattle.ipc_engine.specs.Step.{step, run, asked}
+use Rattle.ipc_state.specs.Numbered.{Numbered, entry_of}
+use Rattle.ipc_state.specs.State.{State, at_moment, has_all_processes, is_process, restart}
+use Rattle.ipc_state.specs.declared.processes.Process.{Process}
+use Rattle.ipc_engine.specs.Step.{Step, step, run, asked}
 use Rattle.sysv_calls.proofs.CallerLemmas.{attempt-keeps}
 use Rattle.ipc_state.specs.State.{start}
 use Rattle.ipc_state.proofs.CallerLemmas.{start-sound as start-parts}
@@ -61,3 +64,33 @@ unanswered-owed = answered.unanswered-owed
 -- the last reply of a HELLO is its own
 pub hello-greets : (limits : Limits) (s : State) (cred : Cred) (serial moment : ℕ) → IsSound limits s → IsGreeted s (step limits s (Connect cred serial moment))
 hello-greets limits s cred serial moment sound = answered.hello-greets limits s cred serial moment
+
+-- the state that a restart leaves
+pub restart-is : (limits : Limits) (s : State) → (step limits s Restart).state ≡ restart s
+restart-is limits s = refl
+
+-- ---- a process stays connected, unless it exits
+
+pub connect-stays : (limits : Limits) (s : State) (cred : Cred) (serial moment pid : ℕ) → is_process s pid ≡ true
+    → is_process (step limits s (Connect cred serial moment)).state pid ≡ true
+connect-stays limits s cred serial moment pid is =
+    choice (λ (t : Step). is_process t.state pid ≡ true) (has_all_processes limits (at_moment s moment)) _ _
+    (λ _. is)
+    (λ _. is_some-append nat_eq s.processes.entries ((s.processes.next, record { cred = cred }) ∷ []) pid is)
+
+pub call-stays : (limits : Limits) (s : State) (asker : ℕ) (request : PlainRequest) (moment pid : ℕ) → is_process s pid ≡ true
+    → is_process (step limits s (Call asker request moment)).state pid ≡ true
+call-stays limits s asker request moment pid is =
+    ap (λ (ps : Numbered Process). is_some (entry_of ps pid)) (asked-keeps limits (at_moment s moment) asker request.kind) ∙ is
+
+pub interrupt-stays : (limits : Limits) (s : State) (asker serial moment pid : ℕ) → is_process s pid ≡ true
+    → is_process (step limits s (Interrupt asker serial moment)).state pid ≡ true
+interrupt-stays limits s asker serial moment pid is = is
+
+pub tick-stays : (limits : Limits) (s : State) (moment pid : ℕ) → is_process s pid ≡ true
+    → is_process (step limits s (Tick moment)).state pid ≡ true
+tick-stays limits s moment pid is = is
+
+pub exit-stays : (limits : Limits) (s : State) (gone moment pid : ℕ) → pid ≢ gone → is_process s pid ≡ true
+    → is_process (step limits s (Exit gone moment)).state pid ≡ true
+exit-stays limits s gone moment pid apart is = ap is_some (value_at-without s.processes.entries gone pid apart) ∙ is

@@ -13,7 +13,7 @@ use Rattle.ipc_store.proofs.CallerLemmas.{Takes-both}
 use Rattle.ipc_hub.specs.Clients.{Clients, accepted, tick, feed, leave, hangup}
 use Rattle.ipc_hub.specs.View.{ConnectionView, HubView, StoredHub, HasNoFrame, connection_of, ended_of, kept}
 use Rattle.ipc_hub.specs.Relations.Delivery.{released}
-use Rattle.ipc_hub.specs.Relations.Invariant.{SameButSeen}
+use Rattle.ipc_hub.specs.Relations.Invariant.{HasPassed, SameButSeen}
 use Rattle.ipc_hub.specs.Relations.Matches.{HubMatches, StoredMatches, Simulates, TakesIn, Comes, Accepts, Pends}
 use Rattle.ipc_hub.specs.Relations.Requests.{exit_of}
 use Rattle.ipc_hub.specs.Relations.Rows.{Table, hub_view, stored_view, process_in, goes_on_in}
@@ -37,16 +37,30 @@ module _ (old new : HubView) (same : SameButSeen old new) (conn : ℕ) where
       by_value None none = tt
       by_value (Some v) none = append-nil (kept v.outbox) ∙ none
 
-  pub still-ended : ended_of old conn ≡ true → goes_on_in new.connections conn ≡ false
-  still-ended over =
-      let both = by_value (connection_of old conn) over in
-      now-at (λ r. unwrap_or (option_map (λ c. not c.ended) r) false ≡ false) both.0 both.1
+  pub still-over : goes_on_in old.connections conn ≡ false → goes_on_in new.connections conn ≡ false
+  still-over over = now-at (λ r. unwrap_or (option_map (λ c. not c.ended) r) false ≡ false) over (by_value (connection_of old conn) over)
     where
-      by_value : (r : Option ConnectionView) → unwrap_or (option_map (λ (c : ConnectionView). c.ended) r) false ≡ true
-          → (unwrap_or (option_map (λ (c : ConnectionView). not c.ended) r) false ≡ false)
-          × (unwrap_or (option_map (λ (c : ConnectionView). not c.ended) (option_map released r)) false ≡ false)
-      by_value None never = cc
-      by_value (Some v) over = (ap not over, ap not over)
+      by_value : (r : Option ConnectionView) → unwrap_or (option_map (λ (c : ConnectionView). not c.ended) r) false ≡ false
+          → unwrap_or (option_map (λ (c : ConnectionView). not c.ended) (option_map released r)) false ≡ false
+      by_value None over = over
+      by_value (Some v) over = over
+
+-- and then time has passed
+pub passes-then : (old mid new : HubView) → SameButSeen old mid → HasPassed mid new → HasPassed old new
+passes-then old mid new same passed =
+    record {
+      ended = λ conn over. passed.ended conn (still-over old mid same conn over);
+      room = λ conn none. passed.room conn (still-empty old mid same conn none);
+    }
+
+-- a connection that has ended does not go on
+pub ended-over : (h : HubView) (conn : ℕ) → ended_of h conn ≡ true → goes_on_in h.connections conn ≡ false
+ended-over h conn = by_value (connection_of h conn)
+  where
+    by_value : (r : Option ConnectionView) → unwrap_or (option_map (λ (c : ConnectionView). c.ended) r) false ≡ true
+        → unwrap_or (option_map (λ (c : ConnectionView). not c.ended) r) false ≡ false
+    by_value None never = cc
+    by_value (Some v) over = ap not over
 
 -- ---- what a hub comes to
 

@@ -12,10 +12,10 @@ use Rattle.ipc_store.specs.declared.fault.CommitError.TheVariants as commit
 use Rattle.ipc_store.specs.Histories.{Takes}
 use Rattle.ipc_store.specs.View.{StoreView, IsAtLastEpoch, IsStopped}
 use Rattle.ipc_hub.specs.Clients.{Clients, accepted}
-use Rattle.ipc_hub.specs.View.{HubView, StoredHub, HasStopped}
+use Rattle.ipc_hub.specs.View.{HubView, StoredHub, HasStopped, most_events}
 use Rattle.ipc_hub.specs.Relations.Delivery.{released, failed, HasSpare}
 use Rattle.ipc_hub.specs.Relations.Faults.{Fails, Halts}
-use Rattle.ipc_hub.specs.Relations.Invariant.{IsKept, HubInvariant, StoredInvariant}
+use Rattle.ipc_hub.specs.Relations.Invariant.{IsKeptIn, HubInvariant, StoredInvariant}
 use Rattle.ipc_hub.specs.Relations.Matches.{Adds, StoredMatches}
 use Rattle.ipc_hub.specs.Relations.Rows.{Table, hub_view, stored_view}
 use Rattle.ipc_hub.proofs.Changes.{released-invariant, release-matches, fail-matches}
@@ -24,7 +24,7 @@ use Rattle.ipc_hub.proofs.Changes.{released-invariant, release-matches, fail-mat
 pub going : {D : Type 0} (v : StoredHub D) → ¬ HasStopped v → v.store.stopped ≡ false
 going v left = by_stop v.store.stopped left
   where
-    by_stop : (b : Bool) → ¬ ((if b then 0 else 2 ^ 64 - 1 - (v.store.confirmed + v.store.waiting)) < 2) → b ≡ false
+    by_stop : (b : Bool) → ¬ ((if b then 0 else 2 ^ 64 - 1 - (v.store.confirmed + v.store.waiting)) < most_events) → b ≡ false
     by_stop true left = absurd (left (omega arith))
     by_stop false left = refl
 
@@ -50,7 +50,7 @@ adds-both n first next fits = record {
 pub spare : (h : HubView) → HubInvariant h → EachValue HasSpare h.connections
 spare h inv = by_rows h.connections inv.each
   where
-    by_rows : (es : Table) → EachValue (IsKept h.limits) es → EachValue HasSpare es
+    by_rows : (es : Table) → EachValue (IsKeptIn h) es → EachValue HasSpare es
     by_rows [] each = tt
     by_rows (e ∷ es) each = (each.0.spare, by_rows es each.1)
 

@@ -12,7 +12,7 @@ use Rattle.ipc_engine.specs.Event.{Exit}
 use Rattle.ipc_engine.specs.View.{reply_of}
 use Rattle.ipc_hub.specs.Clients.{accepted, Client, Clients, client_at, with_client, refusal, over, leave, break_off}
 use Rattle.ipc_hub.specs.View.{ConnectionView, HubView, HasNoFrame}
-use Rattle.ipc_hub.specs.Relations.Delivery.{pushed, closed, last_frame}
+use Rattle.ipc_hub.specs.Relations.Delivery.{pushed, closed, last_frame, owed_to}
 use Rattle.ipc_hub.specs.Relations.Matches.{ClientMatches, HubMatches, IsAhead, Simulates, SimulatesAt}
 use Rattle.ipc_hub.specs.Relations.Requests.{exit_of}
 use Rattle.ipc_hub.proofs.Deliveries.{push-matches, table-matches}
@@ -20,7 +20,7 @@ use Rattle.ipc_hub.proofs.Keeping.{with_connection, changed-invariant, changed-k
 use Rattle.ipc_wire.proofs.CallerLemmas.{first_short, length-reply_bytes}
 use Rattle.ipc_engine.specs.Engine.{Machine}
 use Rattle.ipc_hub.specs.Relations.Rows.{Table, hub_view, changed, process_in, goes_on_in}
-use Rattle.ipc_hub.specs.Relations.Invariant.{IsKept, HubInvariant, GoesOn, IsConnected, IsNobodys, LeavesOthers}
+use Rattle.ipc_hub.specs.Relations.Invariant.{IsKeptIn, HubInvariant, GoesOn, IsConnected, IsNobodys, LeavesOthers}
 
 pub ended-matches : (confirmed accepted : ℕ) (v : ConnectionView) (c : Client) → ClientMatches confirmed accepted v c
     → ClientMatches confirmed accepted (closed v) (over c)
@@ -106,8 +106,8 @@ module _ (engine : Machine) (table : Table) (conn : ℕ) (inv : HubInvariant (hu
   found : value_at nat_eq table conn ≡ Some v
   found = (live-at table conn live).1.0
 
-  kept : IsKept engine.limits v
-  kept = each-at (IsKept engine.limits) table conn v inv.each found
+  kept : IsKeptIn (hub_view engine table) v
+  kept = each-at (IsKeptIn (hub_view engine table)) table conn v inv.each found
 
   -- the connection is over
   pub closed-invariant : HubInvariant (hub_view engine (changed closed conn table))
@@ -155,7 +155,8 @@ module _ (engine : Machine) (table : Table) (conn : ℕ) (inv : HubInvariant (hu
                 let free = ap (λ (c : ConnectionView). c.outbox.free) same in
                 let over = ap (λ (c : ConnectionView). c.ended) same in (
                   λ pid mine. mine,
-                  kept-pushed left.limits (refusal serial EPROTO) w k (omega (arith, kept.last (live-at table conn live).1.1, free, long))
+                  kept-pushed left.limits (owed_to left.limits left.state) (owed_to left.limits left.state) (refusal serial EPROTO) w k
+                      (omega (arith, kept.last (live-at table conn live).1.1, free, long))
                       (λ live'. let never : true ≡ false = sym over ∙ live' in cc),
                 ));
           }

@@ -1,7 +1,7 @@
 -- What holds of the hub's connections goes on holding when replies are put into their outboxes.
 use Rattle.std.proofs.Common.{◌≡◌, ◌≢◌, ℕ, ◌+◌, ◌≤◌, ◌^◌, true, false, List, [], ◌∷◌, ◌++◌, length, Option, Some, None}
 use Rattle.std.proofs.Common.{refl, sym, ap, subst, ◌∙◌, arith, ◌⊎◌, inl, inr}
-use Rattle.std.specs.Prelude.{nat_eq, ◌==◌, option_map, option_and_then, not, unwrap_or, Bool, IfSome}
+use Rattle.std.specs.Prelude.{nat_eq, ◌==◌, if◌then◌else◌, option_map, option_and_then, not, unwrap_or, Bool, IfSome}
 use Rattle.std.proofs.lemmas.Bool.{cases_eq}
 use Rattle.std.proofs.lemmas.List.{length-append}
 use Rattle.ipc_base.specs.Table.{value_at, with_value, keys_of, seen_as, EachValue, IsRising}
@@ -10,26 +10,67 @@ use Rattle.ipc_base.proofs.CallerLemmas.{choice, each-seen, each-at, each-by_key
 use Rattle.ipc_wire.specs.Reply.{reply_bytes}
 use Rattle.ipc_wire.specs.Reply.{PlainReply}
 use Rattle.ipc_wire.proofs.CallerLemmas.{length-reply_bytes}
-use Rattle.ipc_engine.specs.Bytes.{asks}
+use Rattle.ipc_engine.specs.Bytes.{asks, bytes_to, most_owed, owed}
 use Rattle.ipc_engine.specs.Event.{PlainEvent, PlainOutcome}
 use Rattle.ipc_engine.specs.Sound.{IsSound}
+use Rattle.ipc_engine.specs.Step.{step}
 use Rattle.ipc_engine.specs.View.{reply_of}
 use Rattle.ipc_engine.specs.Engine.{Machine}
+use Rattle.ipc_engine.proofs.CallerLemmas.{owed-most}
 use Rattle.ipc_state.specs.State.{State, is_process}
-use Rattle.ipc_hub.specs.Clients.{is_for}
+use Rattle.ipc_hub.specs.Clients.{accepted, Clients, accept, is_for}
 use Rattle.ipc_hub.specs.View.{ConnectionView, HubView, HasNoFrame, kept}
-use Rattle.ipc_hub.proofs.Requests.{Sends, connected-above}
+use Rattle.ipc_hub.specs.Relations.Matches.{HubMatches}
+use Rattle.ipc_hub.proofs.Deliveries.{accept-matches}
+use Rattle.ipc_hub.proofs.Requests.{quiet-owes, step-short}
 use Rattle.ipc_hub.proofs.Rows.{process_of, same-changed}
-use Rattle.ipc_base.specs.Limits.{longest_reply}
-use Rattle.ipc_hub.specs.Relations.Delivery.{last_frame, last_frames, HasRoomFor, pushed, put_for, put_all, HasRoom, HasRoomIn, HasRoomForAll, HaveRoom}
+use Rattle.ipc_base.specs.Limits.{ArePassed, longest_reply}
+use Rattle.ipc_hub.specs.Relations.Delivery.{last_frame, last_frames, owed_to, pushed, put_for, put_all}
+use Rattle.ipc_hub.specs.Relations.Delivery.{AllShort, HasRoomIn, HasRoomFor, HasRoomForAll, HaveRoom}
 use Rattle.ipc_hub.specs.Relations.Rows.{Table, hub_view, changed, process_in, goes_on_in}
-use Rattle.ipc_hub.specs.Relations.Invariant.{AreOwn, IsKept, HubInvariant, GoesOn, LeavesOthers, IsNobodys, IsConnected}
+use Rattle.ipc_hub.specs.Relations.Invariant.{AreOwn, IsKept, IsKeptIn, HubInvariant, GoesOn, HasPassed, LeavesOthers, IsNobodys, IsConnected}
 
 -- ---- one connection
 
-pub kept-pushed : (limits : Limits) (o : PlainOutcome) (v : ConnectionView) → IsKept limits v → length (reply_bytes (reply_of o)) + last_frame ≤ v.outbox.free
-    → (v.ended ≡ false → HasRoom o v) → IsKept limits (pushed (reply_of o) v)
-kept-pushed limits o v k fits room =
+-- what a process is owed, with the replies that are on their way to it
+abbrev pub owing : List PlainOutcome → (Option ℕ → ℕ) → Option ℕ → ℕ
+owing [] owed p = owed p
+owing (o ∷ os) owed p = (if is_for o.pid p then length (reply_bytes (reply_of o)) else 0) + owing os owed p
+
+pub owing-none : (os : List PlainOutcome) (owed : Option ℕ → ℕ) → owing os owed None ≡ owed None
+owing-none [] owed = refl
+owing-none (o ∷ os) owed = omega (arith, owing-none os owed)
+
+pub owing-some : (os : List PlainOutcome) (owed : Option ℕ → ℕ) (pid : ℕ) → owing os owed (Some pid) ≡ bytes_to pid os + owed (Some pid)
+owing-some [] owed pid = omega arith
+owing-some (o ∷ os) owed pid = omega (arith, owing-some os owed pid)
+
+-- each is owed so much more
+pub owing-more : (os : List PlainOutcome) (owed : Option ℕ → ℕ) (n : ℕ) (p : Option ℕ) → owing os (λ q. owed q + n) p ≡ owing os owed p + n
+owing-more [] owed n p = refl
+owing-more (o ∷ os) owed n p = omega (arith, owing-more os owed n p)
+
+-- it is owed otherwise, and so much has room, or it has another process
+pub kept-owing : (limits : Limits) (f g : Option ℕ → ℕ) (v : ConnectionView) (p : Option ℕ) → IsKept limits f v → v.ended ≡ false
+    → g p + last_frames ≤ v.outbox.free → IsKept limits g (record v { process = p })
+kept-owing limits f g v p k live room =
+    record {
+      input = k.input;
+      last = λ _. room;
+      over = λ ended. let never : false ≡ true = sym live ∙ ended in cc;
+      spare = k.spare;
+      size = k.size;
+    }
+
+-- the same, whether or not the connection has ended
+pub kept-less : (limits : Limits) (f g : Option ℕ → ℕ) (v : ConnectionView) → IsKept limits f v → g v.process ≤ f v.process → IsKept limits g v
+kept-less limits f g v k le =
+    record { input = k.input; last = λ live. omega (arith, k.last live, le); over = k.over; spare = k.spare; size = k.size }
+
+pub kept-pushed : (limits : Limits) (f g : Option ℕ → ℕ) (o : PlainOutcome) (v : ConnectionView) → IsKept limits f v
+    → length (reply_bytes (reply_of o)) + last_frame ≤ v.outbox.free
+    → (v.ended ≡ false → length (reply_bytes (reply_of o)) + (g v.process + last_frames) ≤ v.outbox.free) → IsKept limits g (pushed (reply_of o) v)
+kept-pushed limits f g o v k fits room =
     let bytes : List ℕ = reply_bytes (reply_of o) in
     record {
       input = k.input;
@@ -46,21 +87,42 @@ kept-pushed limits o v k fits room =
       );
     }
 
--- a connection that has a reply keeps something
-pub pushed-some : (reply : PlainReply) (v : ConnectionView) → kept (pushed reply v).outbox ≡ [] → ⊥
-pushed-some reply v none =
+-- how much more is kept of a connection that has a reply
+pub length-pushed : (reply : PlainReply) (v : ConnectionView) → length (kept (pushed reply v).outbox) ≡ length (kept v.outbox) + length (reply_bytes reply)
+length-pushed reply v =
     omega (
       arith,
-      ap length none,
+      length-append v.outbox.visible v.outbox.waiting,
       length-append v.outbox.visible (v.outbox.waiting ++ reply_bytes reply),
       length-append v.outbox.waiting (reply_bytes reply),
-      length-reply_bytes reply,
     )
 
-put-kept : (limits : Limits) (o : PlainOutcome) (v : ConnectionView) → IsKept limits v → HasRoomIn o v → IsKept limits (put_for o v)
-put-kept limits o v k room =
-    choice (IsKept limits) (is_for o.pid v.process) (pushed (reply_of o) v) v
-    (λ is. kept-pushed limits o v k (omega (arith, room is)) (λ _. room is)) (λ _. k)
+-- it keeps something
+pub pushed-some : (reply : PlainReply) (v : ConnectionView) → kept (pushed reply v).outbox ≡ [] → ⊥
+pushed-some reply v none = omega (arith, ap length none, length-pushed reply v, length-reply_bytes reply)
+
+-- a connection that goes on has a process or none; what is for its process has room
+live-for : (limits : Limits) (f : Option ℕ → ℕ) (v : ConnectionView) (pid : ℕ) → IsKept limits f v → v.process ≡ Some pid → v.ended ≡ false
+live-for limits f v pid k some = by_end v.ended refl
+  where
+    by_end : (b : Bool) → v.ended ≡ b → v.ended ≡ false
+    by_end true ended = let never : None ≡ Some pid = sym (k.over ended) ∙ some in cc
+    by_end false live = live
+
+for-some : (o : PlainOutcome) (p : Option ℕ) → is_for o.pid p ≡ true → (pid : ℕ) × (p ≡ Some pid)
+for-some o None is = cc
+for-some o (Some pid) is = (pid, refl)
+
+-- a reply that was on its way has come
+put-kept : (limits : Limits) (f : Option ℕ → ℕ) (o : PlainOutcome) (os : List PlainOutcome) (v : ConnectionView)
+    → IsKept limits (owing (o ∷ os) f) v → IsKept limits (owing os f) (put_for o v)
+put-kept limits f o os v k =
+    choice (IsKept limits (owing os f)) (is_for o.pid v.process) (pushed (reply_of o) v) v
+    (λ is.
+    let some = for-some o v.process is in
+    let room = rw is at (k.last (live-for limits (owing (o ∷ os) f) v some.0 k some.1)) in
+    kept-pushed limits (owing (o ∷ os) f) (owing os f) o v k (omega (arith, room)) (λ _. omega (arith, room)))
+    (λ is. kept-less limits (owing (o ∷ os) f) (owing os f) v k (omega arith))
 
 put-process : (o : PlainOutcome) (r : Option ConnectionView)
     → option_and_then (λ (v : ConnectionView). v.process) (option_map (put_for o) r) ≡ option_and_then (λ (v : ConnectionView). v.process) r
@@ -71,13 +133,17 @@ put-process o (Some v) =
 put-none : (o : PlainOutcome) (v : ConnectionView) → v.process ≡ None → put_for o v ≡ v
 put-none o v none = rw none refl
 
+-- the replies that are on their way have room
+pub owing-room : (limits : Limits) (f : Option ℕ → ℕ) (os : List PlainOutcome) (v : ConnectionView) → IsKept limits (owing os f) v → HasRoomForAll os v
+owing-room limits f os v k pid some =
+    omega (arith, k.last (live-for limits (owing os f) v pid k some), ap (owing os f) some, owing-some os f pid)
+
 -- the first of some replies has room if all have
 room-first : (o : PlainOutcome) (os : List PlainOutcome) (v : ConnectionView) → HasRoomForAll (o ∷ os) v → HasRoomIn o v
-room-first o os v room = by_process v.process refl
-  where
-    by_process : (p : Option ℕ) → v.process ≡ p → is_for o.pid p ≡ true → HasRoom o v
-    by_process None none is = cc
-    by_process (Some pid) some is = let all = rw is at (room pid some) in omega (arith, all)
+room-first o os v room is =
+    let some = for-some o v.process is in
+    let mine = rw some.1 at is in
+    let all = rw mine at (room some.0 some.1) in omega (arith, all)
 
 -- and then the others have
 room-rest : (o : PlainOutcome) (os : List PlainOutcome) (v : ConnectionView) → HasRoomForAll (o ∷ os) v → HasRoomForAll os (put_for o v)
@@ -85,6 +151,46 @@ room-rest o os v room =
     choice (HasRoomForAll os) (is_for o.pid v.process) (pushed (reply_of o) v) v
     (λ is pid mine. let this : (pid == o.pid) ≡ true = rw mine at is in let all = rw this at (room pid mine) in omega (arith, all))
     (λ is pid mine. omega (arith, room pid mine))
+
+-- a connection that has heard some replies
+abbrev pub heard : List PlainOutcome → ConnectionView → ConnectionView
+heard [] v = v
+heard (o ∷ os) v = heard os (put_for o v)
+
+pub heard-kept : (limits : Limits) (f : Option ℕ → ℕ) (os : List PlainOutcome) (v : ConnectionView) → IsKept limits (owing os f) v
+    → IsKept limits f (heard os v)
+heard-kept limits f [] v k = k
+heard-kept limits f (o ∷ os) v k = heard-kept limits f os (put_for o v) (put-kept limits f o os v k)
+
+-- nothing else of it has changed, and it keeps so much more
+put-same : (o : PlainOutcome) (v : ConnectionView) → ((put_for o v).process ≡ v.process) × ((put_for o v).ended ≡ v.ended)
+put-same o v =
+    choice (λ (w : ConnectionView). (w.process ≡ v.process) × (w.ended ≡ v.ended)) (is_for o.pid v.process) (pushed (reply_of o) v) v
+    (λ _. (refl, refl)) (λ _. (refl, refl))
+
+pub heard-same : (os : List PlainOutcome) (v : ConnectionView) → ((heard os v).process ≡ v.process) × ((heard os v).ended ≡ v.ended)
+heard-same [] v = (refl, refl)
+heard-same (o ∷ os) v =
+    let rest = heard-same os (put_for o v) in
+    let first = put-same o v in (rest.0 ∙ first.0, rest.1 ∙ first.1)
+
+abbrev pub nothing : Option ℕ → ℕ
+nothing p = 0
+
+length-put : (o : PlainOutcome) (v : ConnectionView)
+    → length (kept (put_for o v).outbox) ≡ length (kept v.outbox) + (if is_for o.pid v.process then length (reply_bytes (reply_of o)) else 0)
+length-put o v = by_test (is_for o.pid v.process)
+  where
+    by_test : (b : Bool) → length (kept (if b then pushed (reply_of o) v else v).outbox)
+        ≡ length (kept v.outbox) + (if b then length (reply_bytes (reply_of o)) else 0)
+    by_test true = length-pushed (reply_of o) v
+    by_test false = omega arith
+
+pub length-heard : (os : List PlainOutcome) (v : ConnectionView)
+    → length (kept (heard os v).outbox) ≡ length (kept v.outbox) + owing os nothing v.process
+length-heard [] v = omega arith
+length-heard (o ∷ os) v =
+    omega (arith, length-heard os (put_for o v), length-put o v, ap (owing os nothing) (put-same o v).0)
 
 -- ---- all connections
 
@@ -100,13 +206,22 @@ rest-room o os table room =
           (λ v has _. room-rest o os v has);
     }
 
-pub put-each : (limits : Limits) (os : List PlainOutcome) (table : Table) → EachValue (IsKept limits) table → HaveRoom os table
-    → EachValue (IsKept limits) (put_all os table)
-put-each limits [] table each room = each
-put-each limits (o ∷ os) table each room =
-    put-each limits os (seen_as (put_for o) table)
-    (each-seen (IsKept limits) (HasRoomForAll (o ∷ os)) (IsKept limits) table (put_for o) each room.each
-    (λ v k has. put-kept limits o v k (room-first o os v has))) (rest-room o os table room)
+-- the replies that are on their way have room in each connection
+pub owing-have_room : (limits : Limits) (f : Option ℕ → ℕ) (os : List PlainOutcome) (table : Table) → AllShort os
+    → EachValue (IsKept limits (owing os f)) table → HaveRoom os table
+owing-have_room limits f os table short each = record { short = short; each = by_rows table each }
+  where
+    by_rows : (es : Table) → EachValue (IsKept limits (owing os f)) es → EachValue (HasRoomForAll os) es
+    by_rows [] all = tt
+    by_rows (e ∷ es) all = (owing-room limits f os e.1 all.0, by_rows es all.1)
+
+pub put-each : (limits : Limits) (f : Option ℕ → ℕ) (os : List PlainOutcome) (table : Table) → EachValue (IsKept limits (owing os f)) table
+    → EachValue (IsKept limits f) (put_all os table)
+put-each limits f [] table each = each
+put-each limits f (o ∷ os) table each =
+    put-each limits f os (seen_as (put_for o) table)
+    (each-seen (IsKept limits (owing (o ∷ os) f)) (IsKept limits (owing (o ∷ os) f)) (IsKept limits (owing os f)) table (put_for o) each each
+    (λ v k _. put-kept limits f o os v k))
 
 pub put-keys : (os : List PlainOutcome) (table : Table) → keys_of (put_all os table) ≡ keys_of table
 put-keys [] table = refl
@@ -124,27 +239,40 @@ put-others (o ∷ os) table conn v is none =
     put-others os (seen_as (put_for o) table) conn v
     (at-map (put_for o) table conn ∙ ap (option_map (put_for o)) is ∙ ap Some (put-none o v none)) none
 
--- a connection whose process does not ask is sent nothing, and has room
-pub quiet-for : (limits : Limits) (s : State) (e : PlainEvent) (os : List PlainOutcome) → IsSound limits s → Sends limits s e os → (v : ConnectionView)
-    → IsKept limits v → ((pid : ℕ) → v.process ≡ Some pid → (is_process s pid ≡ true) × (asks s e pid ≡ false)) → HasRoomForAll os v
-quiet-for limits s e os sound sends v k none pid some =
-    let is = none pid some in
-    omega (arith, sends.quiet pid (connected-above limits s pid sound is.0) is.1, k.last (by_end v.ended refl))
+pub put-at : (os : List PlainOutcome) (table : Table) (conn : ℕ) → value_at nat_eq (put_all os table) conn ≡ option_map (heard os) (value_at nat_eq table conn)
+put-at [] table conn = same (value_at nat_eq table conn)
   where
-    by_end : (b : Bool) → v.ended ≡ b → v.ended ≡ false
-    by_end true ended = let never : None ≡ Some pid = sym (k.over ended) ∙ some in cc
-    by_end false live = live
+    same : (r : Option ConnectionView) → r ≡ option_map (heard []) r
+    same None = refl
+    same (Some v) = refl
+put-at (o ∷ os) table conn =
+    put-at os (seen_as (put_for o) table) conn ∙ ap (option_map (heard os)) (at-map (put_for o) table conn) ∙ both (value_at nat_eq table conn)
+  where
+    both : (r : Option ConnectionView) → option_map (heard os) (option_map (put_for o) r) ≡ option_map (heard (o ∷ os)) r
+    both None = refl
+    both (Some v) = refl
 
--- so has each, if none asks
-pub quiet-room : (h : HubView) (e : PlainEvent) (os : List PlainOutcome) → IsSound h.limits h.state → Sends h.limits h.state e os → HubInvariant h
-    → ((pid : ℕ) → asks h.state e pid ≡ false) → HaveRoom os h.connections
-quiet-room h e os sound sends inv none =
-    record {
-      short = sends.short;
-      each = each-by_key (HasRoomForAll os) 0 h.connections (2 ^ 32) inv.rising (λ k v is.
-          quiet-for h.limits h.state e os sound sends v (each-at (IsKept h.limits) h.connections k v inv.each is)
-          (λ pid some. (inv.own.connected k pid (ap process_of is ∙ some), none pid)));
-    }
+-- no process is owed more than the most
+owed_to-most : (limits : Limits) (s : State) (p : Option ℕ) → IsSound limits s → owed_to limits s p ≤ most_owed limits
+owed_to-most limits s None sound = omega arith
+owed_to-most limits s (Some pid) sound = owed-most limits s pid sound
+
+-- ---- an event that no connection's process asks by
+
+module _ (limits : Limits) (s : State) (e : PlainEvent) (sound : IsSound limits s) where
+  -- what such a process is sent, and owed then, it was owed
+  pub quiet-less : (p : Option ℕ) → ((pid : ℕ) → p ≡ Some pid → (is_process s pid ≡ true) × (asks s e pid ≡ false))
+      → owing (step limits s e).outcomes (owed_to limits (step limits s e).state) p ≤ owed_to limits s p
+  quiet-less None none = omega (arith, owing-none (step limits s e).outcomes (owed_to limits (step limits s e).state))
+  quiet-less (Some pid) none =
+      let is = none pid refl in
+      omega (arith, quiet-owes limits s e pid sound is.0 is.1, owing-some (step limits s e).outcomes (owed_to limits (step limits s e).state) pid)
+
+  -- so its connection has room for what it is sent, and is owed then
+  pub quiet-kept : (v : ConnectionView) → IsKept limits (owed_to limits s) v
+      → ((pid : ℕ) → v.process ≡ Some pid → (is_process s pid ≡ true) × (asks s e pid ≡ false))
+      → IsKept limits (owing (step limits s e).outcomes (owed_to limits (step limits s e).state)) v
+  quiet-kept v k none = kept-less limits (owed_to limits s) _ v k (quiet-less v.process none)
 
 -- ---- the hub
 
@@ -159,7 +287,7 @@ own-less s s' table table' own less =
 
 -- other connections of the same hub
 pub table-invariant : (h : HubView) (table : Table) → HubInvariant h
-    → ((conn pid : ℕ) → process_in table conn ≡ Some pid → process_in h.connections conn ≡ Some pid) → EachValue (IsKept h.limits) table
+    → ((conn pid : ℕ) → process_in table conn ≡ Some pid → process_in h.connections conn ≡ Some pid) → EachValue (IsKeptIn h) table
     → IsRising 0 (keys_of table) (2 ^ 32) → HubInvariant (record h { connections = table })
 table-invariant h table inv less each rising =
     record {
@@ -168,24 +296,106 @@ table-invariant h table inv less each rising =
       rising = rising;
     }
 
--- replies to processes of which none has left
-pub delivery-goes-on : (old new : HubView) (os : List PlainOutcome) → HubInvariant old → HaveRoom os old.connections → new.limits ≡ old.limits
-    → new.connections ≡ put_all os old.connections
-    → ((conn pid : ℕ) → process_in old.connections conn ≡ Some pid → is_process new.state pid ≡ true) → GoesOn old new
-delivery-goes-on old new os inv room same rows stay =
-    let keys : keys_of new.connections ≡ keys_of old.connections = ap keys_of rows ∙ put-keys os old.connections in
-    let processes : (conn : ℕ) → process_in new.connections conn ≡ process_in old.connections conn =
-    λ conn. ap (λ (t : Table). process_in t conn) rows ∙ put-processes os old.connections conn in
+-- replies are put into the outboxes of connections that have room for them, and for what is owed then
+pub delivery-goes-on : (mid new : HubView) (os : List PlainOutcome) → AreOwn new.state mid.connections
+    → EachValue (IsKept mid.limits (owing os (owed_to mid.limits new.state))) mid.connections → IsRising 0 (keys_of mid.connections) (2 ^ 32)
+    → new.limits ≡ mid.limits → new.connections ≡ put_all os mid.connections → GoesOn mid new
+delivery-goes-on mid new os own each rising same rows =
+    let keys : keys_of new.connections ≡ keys_of mid.connections = ap keys_of rows ∙ put-keys os mid.connections in
+    let processes : (conn : ℕ) → process_in new.connections conn ≡ process_in mid.connections conn =
+    λ conn. ap (λ (t : Table). process_in t conn) rows ∙ put-processes os mid.connections conn in
     record {
       limits = same;
       numbers = keys;
       invariant = record {
-        own = own-less old.state new.state old.connections new.connections inv.own
-            (λ conn pid is. (sym (processes conn) ∙ is, stay conn pid (sym (processes conn) ∙ is)));
-        each = rw same (rw rows (put-each old.limits os old.connections inv.each room));
-        rising = rw keys inv.rising;
+        own = own-less new.state new.state mid.connections new.connections own
+            (λ conn pid is. let was = sym (processes conn) ∙ is in (was, own.connected conn pid was));
+        each = rw same (rw rows (put-each mid.limits (owed_to mid.limits new.state) os mid.connections each));
+        rising = rw keys rising;
       };
     }
+
+-- an event has come over a hub: its machine took the step, and the replies went where they go
+pub record Happened (old new : HubView) (e : PlainEvent) : Type 0 where
+  pub passed : ArePassed old.limits
+  pub sound : IsSound old.limits old.state
+  pub limits : new.limits ≡ old.limits
+  pub state : new.state ≡ (step old.limits old.state e).state
+  pub rows : new.connections ≡ put_all (step old.limits old.state e).outcomes old.connections
+
+pub happened-matches : (limits : Limits) (confirmed : ℕ) (old new : HubView) (e : PlainEvent) → Happened old new e → (h : Clients)
+    → HubMatches limits confirmed old h → HubMatches limits confirmed new (accept limits h e)
+happened-matches limits confirmed old new e is h m =
+    (accept-matches limits confirmed (accepted h) old new h e old.connections h.clients m (omega (arith, length-append h.events (e ∷ []))) m.clients
+    is.limits is.state is.rows (step-short old.limits old.state e is.passed is.sound)).matches
+
+-- an event by which nobody asks
+module _ (old : HubView) (e : PlainEvent) (sound : IsSound old.limits old.state) (inv : HubInvariant old)
+    (none : (pid : ℕ) → asks old.state e pid ≡ false) where
+  abbrev sent : List PlainOutcome
+  sent = (step old.limits old.state e).outcomes
+
+  abbrev after : State
+  after = (step old.limits old.state e).state
+
+  quiet-each : EachValue (IsKept old.limits (owing sent (owed_to old.limits after))) old.connections
+  quiet-each = each-by_key (IsKept old.limits _) 0 old.connections (2 ^ 32) inv.rising (λ k v is.
+      quiet-kept old.limits old.state e sound v (each-at (IsKeptIn old) old.connections k v inv.each is)
+      (λ pid some. (inv.own.connected k pid (ap process_of is ∙ some), none pid)))
+
+  pub quiet-room : ArePassed old.limits → HaveRoom sent old.connections
+  quiet-room passed =
+      owing-have_room old.limits (owed_to old.limits after) sent old.connections (step-short old.limits old.state e passed sound) quiet-each
+
+  -- a connection that kept no frame has room for what its process is owed then, and for a request
+  quiet-roomy : (v : ConnectionView) → IsKeptIn old v → ((pid : ℕ) → v.process ≡ Some pid → is_process old.state pid ≡ true) → kept v.outbox ≡ []
+      → v.ended ≡ false → owed_to old.limits after v.process + longest_reply old.limits + last_frames ≤ (heard sent v).outbox.free
+  quiet-roomy v k is empty live =
+      let more : Option ℕ → ℕ = λ p. owed_to old.limits after p + longest_reply old.limits in
+      let less = quiet-less old.limits old.state e sound v.process (λ pid some. (is pid some, none pid)) in
+      let most = owed_to-most old.limits old.state v.process sound in
+      let same = heard-same sent v in
+      let room : IsKept old.limits (owing sent more) v =
+      kept-owing old.limits (owed_to old.limits old.state) (owing sent more) v v.process k live
+      (omega (arith, k.size, ap length empty, less, most, owing-more sent (owed_to old.limits after) (longest_reply old.limits) v.process)) in
+      omega (arith, (heard-kept old.limits more sent v room).last (same.1 ∙ live), ap more same.0)
+
+  module _ (new : HubView) (is : Happened old new e) where
+    pub quiet-goes-on : ((conn pid : ℕ) → process_in old.connections conn ≡ Some pid → is_process after pid ≡ true)
+        → GoesOn old new
+    quiet-goes-on stay =
+        delivery-goes-on old new sent
+        (rw is.state (own-less old.state after old.connections old.connections inv.own (λ conn pid mine. (mine, stay conn pid mine))))
+        (rw is.state quiet-each) inv.rising is.limits is.rows
+
+    pub quiet-passes : HasPassed old new
+    quiet-passes =
+        record {
+          ended = λ conn over.
+              subst (λ (r : Option ConnectionView). unwrap_or (option_map (λ c. not c.ended) r) false ≡ false) (sym (at conn))
+              (still-over (value_at nat_eq old.connections conn) over);
+          room = λ conn empty.
+              subst (λ (r : Option ConnectionView). IfSome r (λ c. c.ended ≡ false
+              → owed_to new.limits new.state c.process + longest_reply new.limits + last_frames ≤ c.outbox.free)) (sym (at conn))
+              (roomy conn (value_at nat_eq old.connections conn) refl empty);
+        }
+      where
+        at : (conn : ℕ) → value_at nat_eq new.connections conn ≡ option_map (heard sent) (value_at nat_eq old.connections conn)
+        at conn = ap (λ (t : Table). value_at nat_eq t conn) is.rows ∙ put-at sent old.connections conn
+
+        still-over : (r : Option ConnectionView) → unwrap_or (option_map (λ (c : ConnectionView). not c.ended) r) false ≡ false
+            → unwrap_or (option_map (λ (c : ConnectionView). not c.ended) (option_map (heard sent) r)) false ≡ false
+        still-over None over = over
+        still-over (Some v) over = ap not (heard-same sent v).1 ∙ over
+
+        roomy : (conn : ℕ) (r : Option ConnectionView) → value_at nat_eq old.connections conn ≡ r → IfSome r (λ c. kept c.outbox ≡ [])
+            → IfSome (option_map (heard sent) r) (λ c. c.ended ≡ false
+            → owed_to new.limits new.state c.process + longest_reply new.limits + last_frames ≤ c.outbox.free)
+        roomy conn None here empty = tt
+        roomy conn (Some v) here empty = λ live.
+            let room = quiet-roomy v (each-at (IsKeptIn old) old.connections conn v inv.each here)
+            (λ pid some. inv.own.connected conn pid (ap process_of here ∙ some)) empty (sym (heard-same sent v).1 ∙ live) in
+            rw is.limits (rw is.state (rw (heard-same sent v).0 room))
 
 -- ---- one connection of the hub is changed
 
@@ -204,26 +414,26 @@ process-with table conn k pid was v found is =
 
 -- it has the process that it had, or none
 pub change-invariant : (h : HubView) (conn : ℕ) (was v : ConnectionView) → HubInvariant h → value_at nat_eq h.connections conn ≡ Some was
-    → ((pid : ℕ) → v.process ≡ Some pid → was.process ≡ Some pid) → IsKept h.limits v → HubInvariant (with_connection h conn v)
+    → ((pid : ℕ) → v.process ≡ Some pid → was.process ≡ Some pid) → IsKeptIn h v → HubInvariant (with_connection h conn v)
 change-invariant h conn was v inv found less kept =
     table-invariant h (with_value nat_eq h.connections conn v) inv
     (λ k pid is. elim (process-with h.connections conn k pid was v found is) [
       | inl here ↦ ap (process_in h.connections) here.0 ∙ ap process_of found ∙ less pid here.1
       | inr there ↦ there.1
     ])
-    (each-with (IsKept h.limits) h.connections conn v inv.each kept) (rw (keys_of-with_value nat_eq h.connections conn v) inv.rising)
+    (each-with (IsKeptIn h) h.connections conn v inv.each kept) (rw (keys_of-with_value nat_eq h.connections conn v) inv.rising)
 
 -- the same, where it is changed if it is there
 pub changed-invariant : (h : HubView) (conn : ℕ) (see : ConnectionView → ConnectionView) → HubInvariant h
-    → ((v : ConnectionView) → value_at nat_eq h.connections conn ≡ Some v → IsKept h.limits v
-    → ((pid : ℕ) → (see v).process ≡ Some pid → v.process ≡ Some pid) × IsKept h.limits (see v))
+    → ((v : ConnectionView) → value_at nat_eq h.connections conn ≡ Some v → IsKeptIn h v
+    → ((pid : ℕ) → (see v).process ≡ Some pid → v.process ≡ Some pid) × IsKeptIn h (see v))
     → HubInvariant (record h { connections = changed see conn h.connections })
 changed-invariant h conn see inv kept = by_value (value_at nat_eq h.connections conn) refl
   where
     by_value : (r : Option ConnectionView) → value_at nat_eq h.connections conn ≡ r → HubInvariant (record h { connections = changed see conn h.connections })
     by_value None is = rw is inv
     by_value (Some v) is =
-        let k = kept v is (each-at (IsKept h.limits) h.connections conn v inv.each is) in
+        let k = kept v is (each-at (IsKeptIn h) h.connections conn v inv.each is) in
         rw is (change-invariant h conn v (see v) inv is k.0 k.1)
 
 pub changed-keys : (see : ConnectionView → ConnectionView) (conn : ℕ) (table : Table) → keys_of (changed see conn table) ≡ keys_of table
@@ -263,14 +473,15 @@ pushed-frame engine table conn reply v found none =
     pushed-some reply v (subst (λ (r : Option ConnectionView). IfSome r (λ c. kept c.outbox ≡ []))
     (at-changed (pushed reply) conn table ∙ ap (option_map (pushed reply)) found) none)
 
--- one that keeps none has room for the longest reply
-pub empty-room : (h : HubView) (conn reply : ℕ) → HubInvariant h → reply ≡ longest_reply h.limits → HasNoFrame h conn → HasRoomFor reply h.connections conn
-empty-room h conn reply inv long = by_value (value_at nat_eq h.connections conn) refl
+-- one that keeps none has room for a request
+pub empty-room : (h : HubView) (conn : ℕ) → IsSound h.limits h.state → HubInvariant h → HasNoFrame h conn → HasRoomFor h (longest_reply h.limits) conn
+empty-room h conn sound inv = by_value (value_at nat_eq h.connections conn) refl
   where
     by_value : (r : Option ConnectionView) → value_at nat_eq h.connections conn ≡ r → IfSome r (λ c. kept c.outbox ≡ [])
-        → IfSome r (λ c. c.ended ≡ false → reply + last_frames ≤ c.outbox.free)
+        → IfSome r (λ c. c.ended ≡ false → owed_to h.limits h.state c.process + longest_reply h.limits + last_frames ≤ c.outbox.free)
     by_value None is none = tt
-    by_value (Some v) is none = λ live. omega (arith, (each-at (IsKept h.limits) h.connections conn v inv.each is).size, long, ap length none)
+    by_value (Some v) is none = λ live.
+        omega (arith, (each-at (IsKeptIn h) h.connections conn v inv.each is).size, ap length none, owed_to-most h.limits h.state v.process sound)
 
 -- nobody has the process that it had if it has none now
 pub change-nobodys : (h : HubView) (conn : ℕ) (was v : ConnectionView) → HubInvariant h → value_at nat_eq h.connections conn ≡ Some was

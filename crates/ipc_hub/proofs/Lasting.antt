@@ -9,6 +9,7 @@ use Rattle.ipc_base.specs.declared.limits.Limits.{Limits}
 use Rattle.ipc_base.proofs.CallerLemmas.{each-at, test_cases, paired-at, paired-none}
 use Rattle.ipc_disk.specs.Medium.{Image, Medium}
 use Rattle.ipc_state.specs.State.{State, restart}
+use Rattle.ipc_engine.proofs.CallerLemmas.{restart-is}
 use Rattle.ipc_engine.specs.Event.{PlainEvent, Restart}
 use Rattle.ipc_store.specs.Histories.{History, acknowledged, accepted, state_after, reopened, Keeps, Takes, OpensOn}
 use Rattle.ipc_store.specs.Lives.{IsLeft, StoppedOpens, Rests, Found}
@@ -221,7 +222,7 @@ module _ {D : Type 0} (medium : D → Medium) (law : (d : D) (image : Image) →
     matches = matches.hub;
     within = omega arith;
     lasts = All-nil (IsWithin hub.store.confirmed);
-    told = record { state = state; each = tt };
+    told = record { state = state ∙ sym (restart-is limits (state_after limits kept)); each = tt };
     answers = All-nil (IsAnswer limits (state_after limits kept) (Restart ∷ []));
   }
   lived kept opened next then seen keeps under state (Call last _ now _ _ serving call) =

@@ -9,7 +9,7 @@ use Rattle.ipc_wire.specs.Stream.PlainFrame.{More}
 use Rattle.ipc_wire.specs.Stream.Ending.{Rest, Broken}
 use Rattle.ipc_wire.proofs.CallerLemmas.{stream_begun, stream_pieces as pieces}
 use Rattle.ipc_base.specs.Table.{value_at, with_value}
-use Rattle.ipc_engine.specs.Event.{PlainEvent, PlainOutcome}
+use Rattle.ipc_engine.specs.Event.{PlainEvent, PlainOutcome, Exit}
 use Rattle.ipc_engine.specs.Step.{step}
 use Rattle.ipc_engine.specs.Engine.{takes_memory}
 use Rattle.ipc_hub.specs.Clients.{Client, Clients, client_at, with_client, with_frame, delivered, deliver, deliver_all, is_for, leave, over, break_off}
@@ -76,6 +76,15 @@ delivers-keep mark conn [] clients none = none
 delivers-keep mark conn (o ∷ os) clients none =
     delivers-keep mark conn os (deliver mark clients o)
     (λ c is. delivered-keeps mark o (value_at nat_eq clients conn) none c (sym (at-map (delivered mark o) clients conn) ∙ is))
+
+-- a client without a process hears no reply
+delivers-none : (mark conn : ℕ) (os : List PlainOutcome) (clients : List (ℕ × Client)) (c : Client) → value_at nat_eq clients conn ≡ Some c
+    → c.process ≡ None → value_at nat_eq (deliver_all mark clients os) conn ≡ Some c
+delivers-none mark conn [] clients c here none = here
+delivers-none mark conn (o ∷ os) clients c here none =
+    let same : delivered mark o c ≡ c = rw none refl in
+    delivers-none mark conn os (deliver mark clients o) c
+    (at-map (delivered mark o) clients conn ∙ ap (option_map (delivered mark o)) here ∙ ap Some same) none
 
 welcome-keeps : (mark : ℕ) (reply : Option PlainOutcome) (c : Client) → c.input ≡ [] → (welcomed mark reply c).input ≡ []
 welcome-keeps mark reply c none = by_process c.process
@@ -175,10 +184,12 @@ module _ (limits : Limits) where
   take_in-acts h conn moment c bytes refused here live =
       acts h conn (λ d. settled (emptied h conn d) conn moment (stream_of (d.input ++ bytes)) refused) c here live
 
-  -- the clients stay as a process leaves
-  left_at : (h : Clients) (conn moment : ℕ) (p : Option ℕ) → client_at (leave limits h p moment) conn ≡ client_at h conn
-  left_at h conn moment None = refl
-  left_at h conn moment (Some pid) = refl
+  -- a client without a process stays as it is when a process leaves
+  left_at : (h : Clients) (conn moment : ℕ) (c : Client) (p : Option ℕ) → client_at h conn ≡ Some c → c.process ≡ None
+      → client_at (leave limits h p moment) conn ≡ Some c
+  left_at h conn moment c None here none = here
+  left_at h conn moment c (Some pid) here none =
+      delivers-none (length (h.events ++ Exit pid moment ∷ [])) conn (step limits h.state (Exit pid moment)).outcomes h.clients c here none
 
   -- a stream that broke: the connection is over
   broken-over : (h : Clients) (conn moment serial : ℕ) → IsOver (on_ending limits h conn moment (Broken serial)) conn
@@ -189,7 +200,8 @@ module _ (limits : Limits) where
         | inr l ↦
             let gone : Client = over l.c in
             let left : Clients = leave limits (with_client h conn gone) l.c.process moment in
-            let there : client_at left conn ≡ Some gone = left_at (with_client h conn gone) conn moment l.c.process ∙ at-with h.clients conn gone l.c l.here in
+            let there : client_at left conn ≡ Some gone =
+            left_at (with_client h conn gone) conn moment gone l.c.process (at-with h.clients conn gone l.c l.here) refl in
             subst (λ (t : Clients). unless_ended t conn act ≡ t) (sym (acts h conn does l.c l.here l.live))
             (ended-stays (does l.c) conn act _ (at-with left.clients conn _ gone there) refl)
       ]

@@ -1,77 +1,58 @@
 -- A connection has received bytes, and a whole frame was taken off it: what the hub is then, and what is done next.
-use Rattle.std.proofs.Common.{◌≡◌, ◌≢◌, ℕ, ◌≤◌, true, false, List, [], ◌∷◌, ◌++◌, Option, Some, refl, sym, ap, ◌∙◌, subst, arith, inl, inr}
+use Rattle.std.proofs.Common.{◌≡◌, ℕ, ◌<◌, ◌≤◌, true, List, [], ◌∷◌, ◌++◌, length, Option, Some, refl, sym, ap, ◌∙◌, subst, arith, inl, inr}
 use Rattle.std.specs.Prelude.{nat_eq, option_map, not, IfSome}
-use Rattle.ipc_base.specs.Table.{value_at, with_value, keys_of}
+use Rattle.ipc_base.specs.Table.{value_at, keys_of}
 use Rattle.ipc_base.specs.declared.errno.Errno.TheVariants.{ENOMEM}
 use Rattle.ipc_base.specs.declared.limits.Limits.{Limits}
-use Rattle.ipc_base.proofs.CallerLemmas.{choice, same_key, at-with, at-map}
-use Rattle.ipc_wire.specs.Reply.{PlainReply}
+use Rattle.ipc_base.proofs.CallerLemmas.{at-with}
 use Rattle.ipc_wire.specs.Stream.{first}
 use Rattle.ipc_wire.specs.Stream.PlainFrame.{More}
 use Rattle.ipc_wire.proofs.CallerLemmas.{first_short, length-reply_bytes}
 use Rattle.ipc_disk.specs.Medium.{Image, Medium}
 use Rattle.ipc_store.specs.View.{StoreView}
-use Rattle.ipc_state.specs.State.{is_process}
-use Rattle.ipc_engine.specs.Bytes.{asks}
+use Rattle.ipc_state.specs.State.{State}
 use Rattle.ipc_engine.specs.Event.{PlainEvent, PlainOutcome}
 use Rattle.ipc_engine.specs.Step.{Step, step}
 use Rattle.ipc_engine.specs.View.{reply_of}
 use Rattle.ipc_hub.specs.declared.serving.Asked.{Asked}
 use Rattle.ipc_hub.specs.declared.serving.Asked.TheVariants as asks
-use Rattle.ipc_hub.specs.Clients.{Client, Clients, is_for, refusal, break_off, refuse, over as over-client, with_client}
+use Rattle.ipc_hub.specs.Clients.{Client, Clients, last_reply, refusal, break_off, refuse, over as over-client, with_client}
 use Rattle.ipc_hub.specs.View.{ConnectionView, HubView, HasNoFrame, kept as outbox_kept}
 use Rattle.ipc_hub.specs.Relations.Rows.{Table, hub_view, changed, process_in, goes_on_in}
-use Rattle.ipc_hub.specs.Relations.Delivery.{last_frame, pushed, put_for, put_all, answered as answered-by, with_answer, HasRoomToAnswer}
+use Rattle.ipc_hub.specs.Relations.Delivery.{last_frame, owed_to, pushed, put_all, answered as answered-by, with_answer, HasRoomToAnswer}
 use Rattle.ipc_hub.specs.Relations.Invariant.{IsKept, GoesOn}
 use Rattle.ipc_hub.specs.Relations.Matches.{IsAhead, SimulatesAt, Pends, Accepts}
-use Rattle.ipc_hub.specs.Relations.Requests.{Steps, ComesTo, exit_of, taken_off, Received, Took}
+use Rattle.ipc_hub.specs.Relations.Requests.{Steps, ComesTo, exit_of, taken_off, Received, Took, Waits}
 use Rattle.ipc_hub.proofs.Rows.{same_value, process_of}
-use Rattle.ipc_hub.proofs.Keeping.{pushed-some, changed-invariant, changed-keys, pushed-frame, kept-pushed}
+use Rattle.ipc_hub.proofs.Keeping.{at-changed, changed-invariant, changed-keys, heard, heard-same, pushed-frame, kept-pushed, put-at}
 use Rattle.ipc_hub.proofs.Ending.{leave-adds}
-use Rattle.ipc_hub.proofs.Requests.{Answers, Sends, request-answers, request-asks, step-sends}
-use Rattle.ipc_hub.proofs.Answering.{by-told, answer-room, answer-goes-on, serve-matches}
+use Rattle.ipc_hub.proofs.Requests.{Asks, request-asks}
+use Rattle.ipc_hub.proofs.Answering.{answer-room, answer-goes-on, told-none, serve-matches}
 use Rattle.ipc_hub.proofs.Taking.{Open, bare, mine, emptied_hub, bare-here, emptied-matches, refused-matches}
 use Rattle.ipc_hub.proofs.Taking.{more-taken, fault-taken, served-taken, broken-taken, refused-taken, same-accepts}
 
 -- ---- bytes come, and a whole frame is taken off
 
-other-input : (limits : Limits) (v : ConnectionView) (xs : List ℕ) → IsKept limits v → first xs ≡ More → IsKept limits (record v { input = xs })
-other-input limits v xs k more = record { input = more; last = k.last; over = k.over; spare = k.spare; size = k.size }
+other-input : (limits : Limits) (owed : Option ℕ → ℕ) (v : ConnectionView) (xs : List ℕ) → IsKept limits owed v → first xs ≡ More
+    → IsKept limits owed (record v { input = xs })
+other-input limits owed v xs k more = record { input = more; last = k.last; over = k.over; spare = k.spare; size = k.size }
 
 -- whether or not a frame was whole, what is left is none, and the process is the one that it had
-pub still-kept : {D : Type 0} (medium : D → Medium) (old new : StoreView D) (limits : Limits) (v : ConnectionView) (bytes : List ℕ) (moment : ℕ) (asked : Asked)
-    → IsKept limits v → ComesTo medium old new v.process (first bytes) moment asked
-    → IsKept limits (taken_off asked (record v { input = bytes })) × ((taken_off asked (record v { input = bytes })).process ≡ v.process)
-still-kept medium old new limits v bytes moment asks.More k comes = (other-input limits v bytes k comes.0, refl)
-still-kept medium old new limits v bytes moment asks.Served k comes = (other-input limits v [] k (first_short [] (omega arith)), refl)
-still-kept medium old new limits v bytes moment (asks.NoMemory n) k comes = (other-input limits v [] k (first_short [] (omega arith)), refl)
-still-kept medium old new limits v bytes moment (asks.Broken n) k comes = (other-input limits v [] k (first_short [] (omega arith)), refl)
-
--- ---- a connection that has a reply keeps something
-
-heard-some : (o : PlainOutcome) (v : ConnectionView) → ((pid : ℕ) → v.process ≡ Some pid → o.pid ≡ pid)
-    → outbox_kept (put_for o (answered-by (Some o) v)).outbox ≡ [] → ⊥
-heard-some o v own =
-    by-told o v IsSome
-    (λ _. choice HasSome (is_for o.pid v.process) (pushed r (pushed r v)) (pushed r v) (λ _. pushed-some r (pushed r v)) (λ _. pushed-some r v))
-    (λ _ _. mine (record v { process = Some o.pid }) (same_key o.pid))
-    (λ pid some. mine v (ap (is_for o.pid) some ∙ subst (λ (n : ℕ). nat_eq pid n ≡ true) (sym (own pid some)) (same_key pid)))
-  where
-    r : PlainReply
-    r = reply_of o
-
-    HasSome : ConnectionView → Type 0
-    HasSome w = outbox_kept w.outbox ≡ [] → ⊥
-
-    IsSome : ConnectionView → Type 0
-    IsSome w = HasSome (put_for o w)
-
-    mine : (w : ConnectionView) → is_for o.pid w.process ≡ true → IsSome w
-    mine w is = rw is (pushed-some r w)
+pub still-kept : {D : Type 0} (medium : D → Medium) (old new : StoreView D) (limits : Limits) (owed : Option ℕ → ℕ) (v : ConnectionView) (bytes : List ℕ)
+    (moment : ℕ) (asked : Asked) → IsKept limits owed v → ComesTo medium old new v.process (first bytes) moment asked
+    → IsKept limits owed (taken_off asked (record v { input = bytes })) × ((taken_off asked (record v { input = bytes })).process ≡ v.process)
+still-kept medium old new limits owed v bytes moment asks.More k comes = (other-input limits owed v bytes k comes.0, refl)
+still-kept medium old new limits owed v bytes moment asks.Served k comes = (other-input limits owed v [] k (first_short [] (omega arith)), refl)
+still-kept medium old new limits owed v bytes moment (asks.NoMemory n) k comes = (other-input limits owed v [] k (first_short [] (omega arith)), refl)
+still-kept medium old new limits owed v bytes moment (asks.Broken n) k comes = (other-input limits owed v [] k (first_short [] (omega arith)), refl)
 
 -- what a crash may leave now is among what it may leave since now
 abbrev Law : {D : Type 0} → (D → Medium) → Type 0
 Law {D} medium = (d : D) (image : Image) → (medium d).images_since (medium d).moment image → (medium d).images_now image
+
+none-of : (xs : List ℕ) → length xs ≡ 0 → xs ≡ []
+none-of [] none = refl
+none-of (x ∷ xs) none = absurd (omega (arith, none))
 
 -- the same hub goes on with other connections
 pub goes-further : (old mid new : HubView) → mid.limits ≡ old.limits → keys_of mid.connections ≡ keys_of old.connections → GoesOn mid new → GoesOn old new
@@ -102,7 +83,14 @@ module _ {D : Type 0} {medium : D → Medium} {old new : StoreView D} {before af
             (Accepts medium old new h) (hub_view new.machine after)
             (ap (λ (s : StoreView D). s.machine.limits) r.comes.1) (ap (λ (s : StoreView D). s.machine.state) r.comes.1) r.table r.comes.0
             (λ now stay is. (is, same-accepts medium law old new h now stay r.comes.1));
-        answers = λ none. r.comes.1;
+        answers = λ none. record {
+          empty = rw r.found (rw (found' r) at none);
+          event = inl (
+            r.comes.1,
+            ap (owed_to old.machine.limits old.machine.state) (ap process_of r.found ∙ sym (ap process_of (found' r)))
+                ∙ ap (λ (s : StoreView D). owed_to s.machine.limits s.machine.state (process_in after conn)) (sym r.comes.1),
+          );
+        };
       }
 
 -- ---- a step of the machine
@@ -118,15 +106,8 @@ module _ {D : Type 0} {medium : D → Medium} {old new : StoreView D} {before af
   abbrev now : Step
   now = step old.machine.limits old.machine.state e
 
-  answers : Answers old.machine.limits old.machine.state r.was.process now
-  answers = request-answers old.machine.limits old.machine.state r.was.process r.comes.1.0.request moment e steps.sound r.comes.1.0.event
-
-  sends : Sends old.machine.limits old.machine.state e now.outcomes
-  sends = step-sends old.machine.limits old.machine.state e r.passed steps.sound
-
-  -- no other process asks by it
-  asks-none : (pid : ℕ) → is_process old.machine.state pid ≡ true → r.was.process ≢ Some pid → asks old.machine.state e pid ≡ false
-  asks-none = request-asks old.machine.limits old.machine.state r.was.process r.comes.1.0.request moment e steps.sound r.comes.1.0.event
+  made : Asks old.machine.limits old.machine.state r.was.process e
+  made = request-asks old.machine.limits old.machine.state r.was.process r.comes.1.0.request moment e steps.sound r.comes.1.0.event
 
   abbrev mid : HubView
   mid = hub_view old.machine after
@@ -137,37 +118,52 @@ module _ {D : Type 0} {medium : D → Medium} {old new : StoreView D} {before af
   pub served-room : HasRoomToAnswer new.machine.outcomes conn after
   served-room =
       subst (λ (os : List PlainOutcome). HasRoomToAnswer os conn after) (sym steps.outcomes)
-      (answer-room mid conn bare-now now r.still (found' r) r.live r.room steps.sound e sends asks-none answers)
+      (answer-room mid conn bare-now e r.still (found' r) r.live r.room r.passed steps.sound made)
 
   module _ (last : Table) (answered : last ≡ put_all new.machine.outcomes (with_answer new.machine.outcomes conn after)) where
     told : last ≡ put_all now.outcomes (with_answer now.outcomes conn after)
     told = answered ∙ ap (λ (os : List PlainOutcome). put_all os (with_answer os conn after)) steps.outcomes
 
-    -- the connection that asked has its reply
-    served-answered : HasNoFrame (hub_view new.machine last) conn → ⊥
-    served-answered none =
-        let asked_one : ConnectionView = answered-by (Some answers.o) bare-now in
-        let one : last ≡ put_all (answers.o ∷ []) (with_value nat_eq after conn asked_one) =
-        told ∙ ap (λ (os : List PlainOutcome). put_all os (with_answer os conn after)) answers.one ∙ rw (found' r) refl in
-        let found-now : value_at nat_eq last conn ≡ Some (put_for answers.o asked_one) =
-        ap (λ (t : Table). value_at nat_eq t conn) one ∙ at-map (put_for answers.o) (with_value nat_eq after conn asked_one) conn
-        ∙ ap (option_map (put_for answers.o)) (at-with after conn asked_one bare-now (found' r)) in
-        heard-some answers.o bare-now answers.own (subst (λ (v : Option ConnectionView). IfSome v (λ c. outbox_kept c.outbox ≡ [])) found-now none)
+    -- the connection that asked
+    abbrev asked_one : ConnectionView
+    asked_one = answered-by (last_reply now.outcomes) bare-now
+
+    found-now : value_at nat_eq last conn ≡ Some (heard now.outcomes asked_one)
+    found-now =
+        ap (λ (t : Table). value_at nat_eq t conn) told ∙ put-at now.outcomes (with_answer now.outcomes conn after) conn
+        ∙ ap (option_map (heard now.outcomes)) (at-changed (answered-by (last_reply now.outcomes)) conn after
+        ∙ ap (option_map (answered-by (last_reply now.outcomes))) (found' r))
+
+    -- if it keeps no frame, its process is owed the reply
+    served-waits : HasNoFrame (hub_view new.machine last) conn → Waits old new before last conn
+    served-waits none =
+        let waits = told-none mid conn bare-now e r.still (found' r) r.live r.room r.passed steps.sound made (rw found-now at none) in
+        let process : process_in last conn ≡ asked_one.process = ap process_of found-now ∙ (heard-same now.outcomes asked_one).0 in
+        let owes = subst (λ (s : State). 0 < owed_to new.machine.limits s asked_one.process) (sym steps.state)
+        (subst (λ (l : Limits). 0 < owed_to l now.state asked_one.process) (sym steps.limits) waits.2) in
+        record {
+          empty = rw r.found (none-of (outbox_kept r.was.outbox) waits.0);
+          event = inr (
+            ap (owed_to old.machine.limits old.machine.state) (ap process_of r.found) ∙ waits.1,
+            subst (λ (p : Option ℕ). 0 < owed_to new.machine.limits new.machine.state p) (sym process) owes,
+            steps.less 1,
+          );
+        }
 
     pub served-took : Took medium old new before last conn next moment
     served-took =
         record {
           goes_on = goes-further (hub_view old.machine before) mid (hub_view new.machine last) refl r.numbers
-              (answer-goes-on mid conn bare-now now r.still (found' r) r.live r.room steps.sound e sends asks-none answers
+              (answer-goes-on mid conn bare-now e r.still (found' r) r.live r.room r.passed steps.sound made
               (hub_view new.machine last) steps.limits steps.state told);
           bytes = λ limits confirmed h ahead.
               let o = opened r ahead in
               served-taken o next moment (IsAhead limits confirmed (hub_view new.machine last)) (Accepts medium old new h) r.comes.1.0 r.partial r.few e refl (
                 serve-matches limits confirmed mid (hub_view new.machine last) (emptied_hub o) conn bare-now (bare o) e
-                    (emptied-matches o mid refl refl r.table).matches (found' r) (bare-here o) sends answers steps.limits steps.state told,
+                    (emptied-matches o mid refl refl r.table).matches (found' r) (bare-here o) r.passed steps.sound steps.limits steps.state told,
                 record { events = e ∷ []; adds = refl; pends = steps.pends },
               );
-          answers = λ none. absurd (served-answered none);
+          answers = served-waits;
         }
 
 -- ---- a want of memory
@@ -193,9 +189,11 @@ module _ {D : Type 0} {medium : D → Medium} {old new : StoreView D} {before af
           limits = refl;
           numbers = changed-keys nack conn after ∙ r.numbers;
           invariant = changed-invariant (hub_view old.machine after) conn nack r.still (λ v is k.
-              let free = ap (λ (c : ConnectionView). c.outbox.free) (same_value v bare-n (sym is ∙ found' r)) in (
+              let free = ap (λ (c : ConnectionView). c.outbox.free) (same_value v bare-n (sym is ∙ found' r)) in
+              let owes = ap (λ (c : ConnectionView). owed_to old.machine.limits old.machine.state c.process) (same_value v bare-n (sym is ∙ found' r)) in (
                 λ pid mine. mine,
-                kept-pushed old.machine.limits (refusal serial ENOMEM) v k (omega (arith, r.room, free, long)) (λ _. omega (arith, r.room, free, long)),
+                kept-pushed old.machine.limits (owed_to old.machine.limits old.machine.state) (owed_to old.machine.limits old.machine.state)
+                    (refusal serial ENOMEM) v k (omega (arith, r.room, free, long)) (λ _. omega (arith, r.room, free, owes, long)),
               ));
         });
         bytes = λ limits confirmed h ahead.

@@ -27,7 +27,7 @@ use Rattle.ipc_hub.proofs.Deliveries.{push-matches}
 use Rattle.ipc_hub.proofs.Ending.{change-matches, pair-at}
 use Rattle.ipc_hub.proofs.Rows.{same_value}
 use Rattle.ipc_hub.specs.Relations.Rows.{goes_on_in}
-use Rattle.ipc_hub.specs.Relations.Invariant.{IsKept, HubInvariant}
+use Rattle.ipc_hub.specs.Relations.Invariant.{IsKeptIn, HubInvariant}
 use Rattle.ipc_hub.proofs.Pieces.{KeepsNone, over_or_live, acts, ended-stays, settled, emptied, take_in-acts, take_in-nothing, take_in-pieces, request-keeps}
 
 -- nothing is behind the requests, and nothing is kept
@@ -205,7 +205,7 @@ module _ {D : Type 0} (medium : D → Medium) (law : (d : D) (image : Image) →
           | inl none ↦ let never : None ≡ Some c = sym none.1 ∙ is in cc
           | inr p ↦
               ap (λ (d : Client). first d.input) (same_value c p.c (sym is ∙ p.here)) ∙ ap first (sym p.mine.input)
-              ∙ (each-at (IsKept old.hub.limits) old.hub.connections conn p.v inv.each p.at).input
+              ∙ (each-at (IsKeptIn old.hub) old.hub.connections conn p.v inv.each p.at).input
         ]))
 
     -- the connection has ended, or there is none

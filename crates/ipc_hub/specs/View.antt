@@ -38,9 +38,10 @@ pub record StoredHub (D : Type 0) : Type 0 where
   pub hub : HubView
   pub store : StoreView D
 
--- how many events a call may come to before the next request of it is looked at: a tick, and one more
+-- how many events a call may come to while a connection keeps no frame, and one more: a tick, a request whose reply
+-- comes later, and the next one, which has its reply at once
 abbrev pub most_events : ℕ
-most_events = 2
+most_events = 3
 
 -- it goes on no more: its store has stopped, or has not so many events left
 abbrev pub HasStopped : {D : Type 0} → StoredHub D → Type 0

@@ -11,11 +11,11 @@ ghost use Rattle.ipc_hub.specs.Clients.{refusal as refusal_of};
 
 use crate::outbox::Outbox;
 use ipc_base::{Errno, Pid};
-use ipc_engine::Outcome;
+use ipc_engine::{Engine, Outcome};
 use ipc_wire::{Body, GREATEST_FRAME, Reply, bytes_missing};
 use std::alloc::{AllocError, Global};
 
-/// The bytes of frames that may wait before a request is left untaken: some 400 short replies, so that a client
+/// At least so many bytes of frames may wait before a request is left untaken: some 400 short replies, so that a client
 /// that sends ahead is served many requests at a time.
 const AHEAD: usize = 4096;
 
@@ -44,6 +44,7 @@ impl Connection {
     ghost use Rattle.ipc_hub.specs.Relations.Delivery.{
       last_frame,
       last_frames,
+      owed_to,
       closed,
       IsShort,
       HasRoomIn,
@@ -56,17 +57,18 @@ impl Connection {
       failed,
     };
 
-    /// A connection without a process. A reply of `reply` bytes has room in it, some others before it, and the last
-    /// frames behind it.
-    pub(crate) fn new(alloc: Global, number: u32, reply: u32) -> Result<Connection, AllocError>
+    /// A connection without a process. Replies of so many bytes have room in it, some others before them, and the last
+    /// frames behind them.
+    pub(crate) fn new(alloc: Global, number: u32, replies: usize) -> Result<Connection, AllocError>
+        requires { replies < 2 ^ 32 }
         ensures number { IfOk result (λ c. c.number ≡ number) }
-        ensures new { IfOk result (λ c. IsNew reply (view_of c)) }
+        ensures new { IfOk result (λ c. IsNew replies (view_of c)) }
     {
         Ok(Connection {
             number,
             process: None,
             input: Vec::with_capacity(alloc, GREATEST_FRAME)?,
-            outbox: Outbox::new(alloc, AHEAD + reply as usize + LAST_FRAMES)?,
+            outbox: Outbox::new(alloc, AHEAD + replies + LAST_FRAMES)?,
             ended: false,
         })
     }
@@ -99,11 +101,23 @@ impl Connection {
         !self.ended && self.outbox.visible().is_empty()
     }
 
-    /// Whether a reply of so many bytes, and the last frames behind it, have room.
-    pub(crate) fn has_room(&self, reply: u32) -> bool
-        ensures { IsTrue result ↔ (reply + last_frames ≤ self.now.outbox.free) }
+    /// Whether what its process is owed has room, and behind it a reply of so many bytes and the last frames.
+    pub(crate) fn has_room(&self, engine: &Engine, reply: u32) -> bool
+        ensures { IsTrue result ↔ (owed_to engine.now.limits engine.now.state (pid_of self.now.process) + reply
+            + last_frames ≤ self.now.outbox.free) }
     {
-        reply as usize + LAST_FRAMES <= self.outbox.free()
+        let left = self.outbox.free().saturating_sub(self.owed(engine));
+        reply as usize + LAST_FRAMES <= left
+    }
+
+    /// How many bytes of replies its process is owed, if it has one.
+    fn owed(&self, engine: &Engine) -> usize
+        ensures { result ≡ owed_to engine.now.limits engine.now.state (pid_of self.now.process) }
+    {
+        match self.process {
+            Some(pid) => engine.owed(pid),
+            None => 0,
+        }
     }
 
     /// Takes bytes of a piece, up to the end of a frame at most. Answers how many.

@@ -10,13 +10,13 @@ ghost use Rattle.ipc_engine.specs.View.{plain_outcome};
 ghost use Rattle.ipc_hub.specs.declared.connection.Connection.{Connection};
 ghost use Rattle.ipc_hub.specs.Relations.Delivery.{released, failed, consumed, put_for, put_all};
 ghost use Rattle.ipc_hub.specs.Relations.Delivery.{HasSpare, IsShort, HasRoomIn, HaveRoom, HasRoomFor};
-ghost use Rattle.ipc_hub.specs.Relations.Rows.{pid_of, view_of, rows, table_of, changed};
+ghost use Rattle.ipc_hub.specs.Relations.Rows.{pid_of, view_of, rows, table_of, hub_view, changed};
 ghost use Rattle.ipc_hub.specs.Relations.Rows.{process_in, goes_on_in, ended_in, output_in};
 ghost use Rattle.ipc_hub.specs.Relations.Lends.{lends_connection};
 
 use crate::connection::Connection;
 use ipc_base::Pid;
-use ipc_engine::Outcome;
+use ipc_engine::{Engine, Outcome};
 use ipc_store::CommitError;
 use std::alloc::{AllocError, Global};
 
@@ -130,13 +130,14 @@ impl Connections {
         }
     }
 
-    /// Whether a reply of so many bytes to a connection that goes on has room, and the last frames behind it.
-    pub(crate) fn has_room(&self, conn: u32, reply: u32) -> bool
+    /// Whether in a connection, if it goes on, what its process is owed has room, and behind it a reply of so many
+    /// bytes and the last frames.
+    pub(crate) fn has_room(&self, conn: u32, engine: &Engine, reply: u32) -> bool
         requires { IsRising 0 (keys_of (table_of self.now)) (2 ^ 32) }
-        ensures { IsTrue result ↔ HasRoomFor reply (table_of self.now) conn }
+        ensures { IsTrue result ↔ HasRoomFor (hub_view engine.now (table_of self.now)) reply conn }
     {
         match self.get(conn) {
-            Some(connection) => connection.ended || connection.has_room(reply),
+            Some(connection) => connection.ended || connection.has_room(engine, reply),
             None => true,
         }
     }

@@ -10,10 +10,10 @@ ghost use Rattle.ipc_store.specs.Histories.{Takes};
 ghost use Rattle.ipc_store.specs.View.{HasTurned, IsReadyFor, Spends};
 ghost use Rattle.ipc_hub.specs.Clients.{Clients, no_clients, connect, hangup, tick, consume, shown_at, ended_at};
 ghost use Rattle.ipc_hub.specs.View.{HasNoFrame, HasStopped, is_connected, numbers_of, output_of, ended_of};
-ghost use Rattle.ipc_hub.specs.View.{of_commit_error};
+ghost use Rattle.ipc_hub.specs.View.{most_events, of_commit_error};
 ghost use Rattle.ipc_hub.specs.Relations.Matches.{HubMatches, StoredMatches, Simulates, Serves, ServesFeed};
 ghost use Rattle.ipc_hub.specs.Relations.Faults.{Halts, Refuses};
-ghost use Rattle.ipc_hub.specs.Relations.Invariant.{SameButSeen};
+ghost use Rattle.ipc_hub.specs.Relations.Invariant.{HasPassed, SameButSeen};
 
 use crate::connection::Connection;
 use crate::connections::Connections;
@@ -25,8 +25,9 @@ use ipc_store::{CommitError, Store};
 use std::alloc::{AllocError, Global};
 use std::marker::Model;
 
-/// How many events a call may come to before the next request of it is looked at: a tick, and one more.
-const MOST_EVENTS: usize = 2;
+/// How many events a call may come to while a connection keeps no frame, and one more: a tick, a request whose reply
+/// comes later, and the next one, which has its reply at once.
+const MOST_EVENTS: usize = 3;
 
 /// The server as its clients see it: bytes in, bytes out. A frame is seen once its event was made to last. A contract
 /// sees its limits, the state of its machine, its connections by number, and its store.
@@ -103,17 +104,18 @@ impl<D: SectorDisk> Hub<D> {
         ensures store { self.new.store ≡ self.old.store }
         ensures err { OnErr result (self.new ≡ self.old) }
     {
-        let reply = self.store.engine().limits().longest_reply();
-        let connection = Connection::new(self.alloc, conn, reply)?;
+        let engine = self.store.engine();
+        let replies = engine.most_owed() + engine.limits().longest_reply() as usize;
+        let connection = Connection::new(self.alloc, conn, replies)?;
         self.connections.insert(connection)?;
         Ok(())
     }
 
     /// Gives a connection the next bytes of its stream, at a moment. Answers how many it took: all of them if
     /// no frame of the connection is kept when it returns, or if the server has ended it. Requests are taken
-    /// while the longest reply has room behind the frames that are kept, and an event has room among those that wait.
-    /// Where the first has none, the call begins with a release, which may be `Stopped` once if the epochs are at their
-    /// end.
+    /// while the longest reply has room behind the frames that are kept and those that are owed, and an event has room
+    /// among those that wait. Where the first events may have none, the call begins with a release, which may be
+    /// `Stopped` once if the epochs are at their end.
     pub fn feed(&mut self, conn: u32, piece: &[u8], moment: Moment) -> Result<usize, ServeError>
         ensures ok { IfOk result (λ taken.
             ServesFeed D.medium self.old self.new conn (take taken piece.now) moment.0) }
@@ -184,14 +186,14 @@ impl<D: SectorDisk> Hub<D> {
         self.pass(moment)
     }
 
-    // Time passes, and one event more has room then. The call begins with a release if two events may have no room.
+    // Time passes, and two events more have room then. The call begins with a release if three may have no room.
     fn pass(&mut self, moment: Moment) -> Result<(), CommitError>
         requires { ¬ HasStopped self.old }
         ensures ok { OnOk result (Serves D.medium self.old self.new (λ limits h. tick limits h moment.0)) }
         ensures numbers { numbers_of self.new.hub ≡ numbers_of self.old.hub }
-        ensures ready { OnOk result (IsReadyFor self.new.store 1) }
+        ensures ready { OnOk result (IsReadyFor self.new.store 2) }
         ensures later { OnOk result (0 < self.new.store.waiting) }
-        ensures same { OnOk result (SameButSeen self.old.hub self.new.hub) }
+        ensures passed { OnOk result (HasPassed self.old.hub self.new.hub) }
         ensures refused { IfErr result (λ e. Halts D.medium D.counts self.old self.new e) }
         ensures spends { OnOk result (Spends D.counts 2 self.old.store self.new.store) }
         ensures honest { IsHonest (D.medium self.old.store.disk) → IsHonest (D.medium self.new.store.disk) }
@@ -215,7 +217,7 @@ impl<D: SectorDisk> Hub<D> {
         ensures confirmed { OnOk result (self.new.store.confirmed
             ≡ self.old.store.confirmed + self.old.store.waiting) }
         ensures waiting { OnOk result (self.new.store.waiting ≡ 0) }
-        ensures ready { OnOk result (IsReadyFor self.new.store 2) }
+        ensures ready { OnOk result (IsReadyFor self.new.store most_events) }
         ensures nothing { self.old.store.waiting ≡ 0 → self.new.store ≡ self.old.store }
         ensures refused { IfErr result (λ e. Halts D.medium D.counts self.old self.new e) }
         ensures stopped { HasStopped self.old → result ≡ Err CommitError.Stopped }
@@ -240,7 +242,7 @@ impl<D: SectorDisk> Hub<D> {
         ensures confirmed { OnOk result (self.new.store.confirmed
             ≡ self.old.store.confirmed + self.old.store.waiting) }
         ensures waiting { OnOk result (self.new.store.waiting ≡ 0) }
-        ensures ready { OnOk result (IsReadyFor self.new.store 2) }
+        ensures ready { OnOk result (IsReadyFor self.new.store most_events) }
         // What stands on the disk is the whole state.
         ensures turned { OnOk result (HasTurned self.old.store self.new.store) }
         ensures refused { IfErr result (λ e. Halts D.medium D.counts self.old self.new e) }
@@ -270,7 +272,7 @@ impl<D: SectorDisk> Hub<D> {
             → StoredMatches limits self.new h) }
         ensures takes { OnOk result (Takes D.medium self.old.store [] self.new.store) }
         ensures numbers { numbers_of self.new.hub ≡ numbers_of self.old.hub }
-        ensures ready { OnOk result (IsReadyFor self.new.store 2) }
+        ensures ready { OnOk result (IsReadyFor self.new.store most_events) }
         ensures same { OnOk result (SameButSeen self.old.hub self.new.hub) }
         ensures refused { IfErr result (λ e. Halts D.medium D.counts self.old self.new e) }
         ensures spends { OnOk result (Spends D.counts 1 self.old.store self.new.store) }

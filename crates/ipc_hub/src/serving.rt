@@ -16,7 +16,8 @@ ghost use Rattle.ipc_hub.specs.Relations.Rows.{pid_of, view_of, table_of, hub_vi
 ghost use Rattle.ipc_hub.specs.Relations.Rows.{changed, process_in, goes_on_in};
 ghost use Rattle.ipc_hub.specs.Relations.Delivery.{last_frame, closed, pushed, put_all, with_answer};
 ghost use Rattle.ipc_hub.specs.Relations.Delivery.{HasRoomToAnswer, HasRoomFor};
-ghost use Rattle.ipc_hub.specs.Relations.Invariant.{HubInvariant, GoesOn, IsConnected, IsNobodys, LeavesOthers};
+ghost use Rattle.ipc_hub.specs.Relations.Invariant.{HubInvariant, GoesOn, HasPassed, IsConnected, IsNobodys};
+ghost use Rattle.ipc_hub.specs.Relations.Invariant.{LeavesOthers};
 ghost use Rattle.ipc_hub.specs.Relations.Matches.{Adds, Simulates, SimulatesAt, TakesIn, Pends};
 ghost use Rattle.ipc_hub.specs.Relations.Requests.{ComesTo, exit_of, taken_off, Received, Took};
 ghost use Rattle.ipc_image.specs.Records.{HasRecord};
@@ -77,15 +78,16 @@ pub(crate) fn tick<D: SectorDisk>(
     moment: Moment,
 )
     requires hub { HubInvariant (hub_view store.old.machine (table_of connections.old)) }
-    requires ready { IsReadyFor store.old 2 }
-    ensures ready { IsReadyFor store.new 1 }
+    requires ready { IsReadyFor store.old 3 }
+    ensures ready { IsReadyFor store.new 2 }
     ensures accepts { Pends D.medium store.old (Tick moment.0 ∷ []) store.new }
     ensures goes_on { GoesOn (hub_view store.old.machine (table_of connections.old))
         (hub_view store.new.machine (table_of connections.new)) }
     ensures ticks { Simulates (hub_view store.old.machine (table_of connections.old))
         (hub_view store.new.machine (table_of connections.new))
         (λ limits h. ticks limits h moment.0) }
-    ensures quiet { table_of connections.new ≡ table_of connections.old }
+    ensures passed { HasPassed (hub_view store.old.machine (table_of connections.old))
+        (hub_view store.new.machine (table_of connections.new)) }
     ensures adds { Adds 1 store.old store.new }
 {
     store.step(Event::Tick { moment }).unwrap();
@@ -234,7 +236,8 @@ fn receive<D: SectorDisk>(
     requires passed { ArePassed store.old.machine.limits }
     requires hub { HubInvariant (hub_view store.old.machine (table_of connections.old)) }
     requires live { goes_on_in (table_of connections.old) conn ≡ true }
-    requires room { HasRoomFor (longest_reply store.old.machine.limits) (table_of connections.old) conn }
+    requires room { HasRoomFor (hub_view store.old.machine (table_of connections.old))
+        (longest_reply store.old.machine.limits) conn }
     requires ready { IsReadyFor store.old 1 }
     ensures received { Received D.medium store.old store.new (table_of connections.old) (table_of connections.new)
         conn (take result.0 piece.now) moment.0 result.1 }
@@ -259,7 +262,8 @@ fn take<D: SectorDisk>(
 ) -> usize
     requires passed { ArePassed store.old.machine.limits }
     requires hub { HubInvariant (hub_view store.old.machine (table_of connections.old)) }
-    requires room { HasRoomFor (longest_reply store.old.machine.limits) (table_of connections.old) conn }
+    requires room { HasRoomFor (hub_view store.old.machine (table_of connections.old))
+        (longest_reply store.old.machine.limits) conn }
     requires ready { IsReadyFor store.old 1 }
     ensures took { Took D.medium store.old store.new (table_of connections.old) (table_of connections.new)
         conn (take result piece.now) moment.0 }
@@ -280,8 +284,10 @@ fn take<D: SectorDisk>(
     count
 }
 
-/// Takes bytes of a piece while a request has room for its event and for its reply, and serves each request that they
-/// complete; of a connection that has ended it takes and drops all. Answers how many bytes it took.
+/// Takes bytes of a piece while a request has room for its event and, behind what its process is owed, for its reply,
+/// and serves each request that they complete; of a connection that has ended it takes and drops all. Answers how many
+/// bytes it took. A request of a process that is owed nothing may leave no frame, and the next one leaves one: so two
+/// events have room.
 pub(crate) fn take_in<D: SectorDisk>(
     store: &mut Store<D>,
     connections: &mut Connections,
@@ -290,7 +296,7 @@ pub(crate) fn take_in<D: SectorDisk>(
     moment: Moment,
 ) -> usize
     requires hub { HubInvariant (hub_view store.old.machine (table_of connections.old)) }
-    requires ready { IsReadyFor store.old 1 }
+    requires ready { IsReadyFor store.old 2 }
     ensures goes_on { GoesOn (hub_view store.old.machine (table_of connections.old))
         (hub_view store.new.machine (table_of connections.new)) }
     ensures bytes { TakesIn D.medium (stored_view store.old (table_of connections.old))
@@ -298,21 +304,21 @@ pub(crate) fn take_in<D: SectorDisk>(
     ensures within { result ≤ length piece.now }
     ensures whole { HasNoFrame (hub_view store.new.machine (table_of connections.new)) conn
         → result ≡ length piece.now }
-    ensures starts { HasNoFrame (hub_view store.old.machine (table_of connections.old)) conn
-        → 0 < length piece.now → 0 < result }
+    ensures starts { HasRoomFor (hub_view store.old.machine (table_of connections.old))
+        (longest_reply store.old.machine.limits) conn → 0 < length piece.now → 0 < result }
     ensures dropped { goes_on_in (table_of connections.old) conn ≡ false → result ≡ length piece.now }
     ensures adds { Adds result store.old store.new }
 {
     if !connections.goes_on(conn) {
         return piece.len();
     }
-    let reply = store.engine().limits().longest_reply();
     let mut taken = 0;
     while taken < piece.len() {
         if !store.is_ready_for(1) {
             return taken;
         }
-        if !connections.has_room(conn, reply) {
+        let reply = store.engine().limits().longest_reply();
+        if !connections.has_room(conn, store.engine(), reply) {
             return taken;
         }
         taken += take(store, connections, conn, &piece[taken..], moment);

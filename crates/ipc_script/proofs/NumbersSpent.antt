@@ -9,7 +9,7 @@ use Rattle.ipc_store.specs.View.{StoreView, Spends}
 use Rattle.ipc_hub.specs.declared.fault.ServeError.{ServeError}
 use Rattle.ipc_hub.specs.declared.fault.ServeError.TheVariants as serve
 use Rattle.ipc_hub.specs.Relations.Faults.{Halts, Refuses}
-use Rattle.ipc_hub.specs.View.{StoredHub, HasStopped}
+use Rattle.ipc_hub.specs.View.{StoredHub, HasStopped, most_events}
 use Rattle.ipc_script.specs.declared.fault.ScriptFault.{ScriptFault}
 use Rattle.ipc_script.specs.declared.fault.ScriptFault.TheVariants.{NoMemory, Input, Output, Device, NotFormatted, Version, Damaged}
 use Rattle.ipc_script.specs.declared.fault.ScriptFault.TheVariants.{TooLong, BadLine, InUse, Unknown}
@@ -74,7 +74,7 @@ spends-none has = record { goes_on = has.goes_on; failures = refl; numbers = ome
 goes-on : {D : Type 0} (n : ℕ) (v : StoredHub D) → HasNumbers n v.store → ¬ HasStopped v
 goes-on n v has stopped = by_stop v.store.stopped has.goes_on stopped
   where
-    by_stop : (b : Bool) → b ≡ false → (if b then 0 else 2 ^ 64 - 1 - (v.store.confirmed + v.store.waiting)) < 2 → ⊥
+    by_stop : (b : Bool) → b ≡ false → (if b then 0 else 2 ^ 64 - 1 - (v.store.confirmed + v.store.waiting)) < most_events → ⊥
     by_stop true is few = let never : true ≡ false = is in cc
     by_stop false is few = absurd (omega (arith, few, has.left))
 

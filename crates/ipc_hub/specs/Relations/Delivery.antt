@@ -5,13 +5,15 @@ use Rattle.std.specs.Prelude.{if◌then◌else◌}
 use Rattle.std.specs.Prelude.{Option, Some, None, IfSome, nat_eq}
 use Rattle.ipc_base.specs.declared.errno.Errno.TheVariants.{EIO}
 use Rattle.ipc_base.specs.Table.{seen_as, value_at, EachValue}
+use Rattle.ipc_base.specs.declared.limits.Limits.{Limits}
 use Rattle.ipc_wire.specs.Reply.{PlainReply, reply_bytes, body_bytes}
-use Rattle.ipc_engine.specs.Bytes.{bytes_to}
+use Rattle.ipc_state.specs.State.{State}
+use Rattle.ipc_engine.specs.Bytes.{bytes_to, owed}
 use Rattle.ipc_engine.specs.Event.{PlainOutcome}
 use Rattle.ipc_engine.specs.View.{reply_of}
 use Rattle.ipc_hub.specs.Clients.{is_for, last_reply, refusal}
-use Rattle.ipc_hub.specs.View.{Outgoing, ConnectionView, kept}
-use Rattle.ipc_hub.specs.Relations.Rows.{Table, changed}
+use Rattle.ipc_hub.specs.View.{Outgoing, ConnectionView, HubView, kept}
+use Rattle.ipc_hub.specs.Relations.Rows.{Table, changed, process_in}
 
 -- the bytes of a frame without a body, such as the last one of a connection that the server ends
 abbrev pub last_frame : ℕ
@@ -121,7 +123,18 @@ pub record HasRoomToAnswer (os : List PlainOutcome) (conn : ℕ) (table : Table)
   pub own : IfSome (value_at nat_eq table conn) (λ c. c.process ≡ None → HasRoomToGreet (last_reply os) c)
   pub all : HaveRoom os (with_answer os conn table)
 
--- a reply of so many bytes to a connection that goes on has room, and the last frames behind it
-abbrev pub HasRoomFor : ℕ → Table → ℕ → Type 0
-HasRoomFor reply table conn =
-    IfSome (value_at nat_eq table conn) (λ c. c.ended ≡ false → reply + last_frames ≤ c.outbox.free)
+-- how many bytes of replies a process, if there is one, is owed
+abbrev pub owed_to : Limits → State → Option ℕ → ℕ
+owed_to limits s None = 0
+owed_to limits s (Some pid) = owed limits s pid
+
+-- the same of the process of a connection
+abbrev pub owed_at : HubView → ℕ → ℕ
+owed_at h conn = owed_to h.limits h.state (process_in h.connections conn)
+
+-- in a connection that goes on, what its process is owed has room, and behind it a reply of so many bytes and the last
+-- frames
+abbrev pub HasRoomFor : HubView → ℕ → ℕ → Type 0
+HasRoomFor h reply conn =
+    IfSome (value_at nat_eq h.connections conn) (λ c. c.ended ≡ false
+    → owed_to h.limits h.state c.process + reply + last_frames ≤ c.outbox.free)

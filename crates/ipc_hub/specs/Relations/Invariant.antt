@@ -7,9 +7,10 @@ use Rattle.ipc_base.specs.declared.limits.Limits.{Limits}
 use Rattle.ipc_wire.specs.Stream.{first}
 use Rattle.ipc_wire.specs.Stream.PlainFrame.{More}
 use Rattle.ipc_state.specs.State.{State, is_process}
-use Rattle.ipc_hub.specs.View.{ConnectionView, HubView, StoredHub, kept}
-use Rattle.ipc_hub.specs.Relations.Delivery.{last_frames, released, HasSpare}
-use Rattle.ipc_hub.specs.Relations.Rows.{Table, process_in}
+use Rattle.ipc_engine.specs.Bytes.{most_owed}
+use Rattle.ipc_hub.specs.View.{ConnectionView, HubView, StoredHub, HasNoFrame, kept}
+use Rattle.ipc_hub.specs.Relations.Delivery.{last_frames, owed_to, released, HasRoomFor, HasSpare}
+use Rattle.ipc_hub.specs.Relations.Rows.{Table, goes_on_in, process_in}
 
 -- each process of a connection is connected, and no other connection has it
 pub record AreOwn (s : State) (table : Table) : Type 0 where
@@ -17,28 +18,33 @@ pub record AreOwn (s : State) (table : Table) : Type 0 where
   pub one : (conn other pid : ℕ) → process_in table conn ≡ Some pid → process_in table other ≡ Some pid
       → conn ≡ other
 
--- The bytes kept of a request are no whole frame. There is room for the frames that may still be the last: both, or
--- one where the server has ended the connection, which has no process then. The longest reply and both have room in an
--- empty outbox.
-pub record IsKept (limits : Limits) (c : ConnectionView) : Type 0 where
+-- The bytes kept of a request are no whole frame. There is room for what the process is owed, and behind it for the
+-- frames that may still be the last: both, or one where the server has ended the connection, which has no process then.
+-- The most that a process is owed, the longest reply and both have room in an empty outbox, so that this always takes a
+-- request.
+pub record IsKept (limits : Limits) (owed : Option ℕ → ℕ) (c : ConnectionView) : Type 0 where
   pub input : first c.input ≡ More
-  pub last : c.ended ≡ false → last_frames ≤ c.outbox.free
+  pub last : c.ended ≡ false → owed c.process + last_frames ≤ c.outbox.free
   pub over : c.ended ≡ true → c.process ≡ None
   pub spare : HasSpare c
-  pub size : longest_reply limits + last_frames ≤ length (kept c.outbox) + c.outbox.free
+  pub size : most_owed limits + longest_reply limits + last_frames ≤ length (kept c.outbox) + c.outbox.free
 
--- a connection that was just made, with so much room for a reply
-pub record IsNew (reply : ℕ) (c : ConnectionView) : Type 0 where
+-- the same in a hub, of what it owes
+abbrev pub IsKeptIn : HubView → ConnectionView → Type 0
+IsKeptIn h = IsKept h.limits (owed_to h.limits h.state)
+
+-- a connection that was just made, with so much room for replies
+pub record IsNew (replies : ℕ) (c : ConnectionView) : Type 0 where
   pub process : c.process ≡ None
   pub input : c.input ≡ []
   pub ended : c.ended ≡ false
   pub visible : c.outbox.visible ≡ []
   pub waiting : c.outbox.waiting ≡ []
-  pub room : reply + last_frames ≤ c.outbox.free
+  pub room : replies + last_frames ≤ c.outbox.free
 
 pub record HubInvariant (h : HubView) : Type 0 where
   pub own : AreOwn h.state h.connections
-  pub each : EachValue (IsKept h.limits) h.connections
+  pub each : EachValue (IsKeptIn h) h.connections
   -- the numbers of the connections rise
   pub rising : IsRising 0 (keys_of h.connections) (2 ^ 32)
 
@@ -57,6 +63,11 @@ pub record GoesOn (old new : HubView) : Type 0 where
 abbrev pub SameButSeen : HubView → HubView → Type 0
 SameButSeen old new =
     (new.connections ≡ old.connections) ⊎ (new.connections ≡ seen_as released old.connections)
+
+-- Time has passed: no connection goes on that did not before, and in one that kept no frame a request has room.
+pub record HasPassed (old new : HubView) : Type 0 where
+  pub ended : (conn : ℕ) → goes_on_in old.connections conn ≡ false → goes_on_in new.connections conn ≡ false
+  pub room : (conn : ℕ) → HasNoFrame old conn → HasRoomFor new (longest_reply new.limits) conn
 
 -- the process, if there is one, is connected
 abbrev pub IsConnected : State → Option ℕ → Type 0

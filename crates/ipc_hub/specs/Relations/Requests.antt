@@ -1,5 +1,5 @@
 -- What a request comes to: a step of the machine, or none.
-use Rattle.std.specs.Prelude.{◌≡◌, ◌⊎◌, ℕ, ◌+◌, ◌≤◌, true, false, List, [], ◌∷◌, ◌++◌}
+use Rattle.std.specs.Prelude.{◌≡◌, ◌⊎◌, ℕ, ◌+◌, ◌<◌, ◌≤◌, true, false, List, [], ◌∷◌, ◌++◌}
 use Rattle.std.specs.Prelude.{length, nat_eq, Option, Some, None}
 use Rattle.ipc_base.specs.Limits.{ArePassed, longest_reply}
 use Rattle.ipc_base.specs.Table.{value_at, with_value, keys_of}
@@ -11,13 +11,13 @@ use Rattle.ipc_engine.specs.Sound.{IsSound}
 use Rattle.ipc_engine.specs.Engine.{takes_memory}
 use Rattle.ipc_engine.specs.Event.{PlainEvent, Exit}
 use Rattle.ipc_engine.specs.Step.{step}
-use Rattle.ipc_store.specs.View.{StoreView}
+use Rattle.ipc_store.specs.View.{StoreView, IsReadyFor}
 use Rattle.ipc_hub.specs.declared.serving.Asked.{Asked}
 use Rattle.ipc_hub.specs.declared.serving.Asked.TheVariants as asked
 use Rattle.ipc_hub.specs.Clients.{event_of}
 use Rattle.ipc_hub.specs.View.{ConnectionView, HasNoFrame}
 use Rattle.ipc_hub.specs.Relations.Rows.{Table, hub_view, stored_view}
-use Rattle.ipc_hub.specs.Relations.Delivery.{last_frames}
+use Rattle.ipc_hub.specs.Relations.Delivery.{last_frames, owed_at, owed_to}
 use Rattle.ipc_hub.specs.Relations.Invariant.{HubInvariant, GoesOn}
 use Rattle.ipc_hub.specs.Relations.Matches.{Pends, TakesIn}
 
@@ -34,6 +34,8 @@ pub record Steps {D : Type 0} (medium : D → Medium) (old new : StoreView D) (e
   pub passed : ArePassed old.machine.limits
   pub sound : IsSound old.machine.limits old.machine.state
   pub pends : Pends medium old (e ∷ []) new
+  -- it is ready for one event less
+  pub less : (n : ℕ) → IsReadyFor old (n + 1) → IsReadyFor new n
 
 -- what stands at the front is a request, and makes this event or none
 pub record IsRequest (frame : PlainFrame) (process : Option ℕ) (moment : ℕ) (made : Option PlainEvent)
@@ -77,15 +79,17 @@ taken_off (asked.Broken serial) c = record c { input = [] }
 
 -- ---- a connection takes bytes
 
--- The connection with a number, which goes on and has room for a reply, has received bytes up to the end of a frame at
--- most; this came of them, and a whole frame was taken off it. What holds of the hub still holds.
+-- The connection with a number, which goes on and has room for what its process is owed and for a reply, has received
+-- bytes up to the end of a frame at most; this came of them, and a whole frame was taken off it. What holds of the hub
+-- still holds.
 pub record Received {D : Type 0} (medium : D → Medium) (old new : StoreView D) (before after : Table) (conn : ℕ)
     (bytes : List ℕ) (moment : ℕ) (asked : Asked) : Type 0 where
   pub passed : ArePassed old.machine.limits
   pub was : ConnectionView
   pub found : value_at nat_eq before conn ≡ Some was
   pub live : was.ended ≡ false
-  pub room : longest_reply old.machine.limits + last_frames ≤ was.outbox.free
+  pub room : owed_to old.machine.limits old.machine.state was.process + longest_reply old.machine.limits + last_frames
+      ≤ was.outbox.free
   pub partial : first was.input ≡ More
   pub few : length bytes ≤ missing was.input
   pub comes : ComesTo medium old new was.process (first (was.input ++ bytes)) moment asked
@@ -93,10 +97,17 @@ pub record Received {D : Type 0} (medium : D → Medium) (old new : StoreView D)
   pub numbers : keys_of after ≡ keys_of before
   pub still : HubInvariant (hub_view old.machine after)
 
--- The connection with a number has taken bytes, and what they complete was served. If it keeps no frame then, no event
--- came of them.
+-- The connection with a number keeps no frame after it has taken bytes. It kept none before, and no event came of them,
+-- or one event whose reply its process is owed now, and it was owed nothing before.
+pub record Waits {D : Type 0} (old new : StoreView D) (before after : Table) (conn : ℕ) : Type 0 where
+  pub empty : HasNoFrame (hub_view old.machine before) conn
+  pub event : ((new ≡ old) × (owed_at (hub_view old.machine before) conn ≡ owed_at (hub_view new.machine after) conn))
+      ⊎ ((owed_at (hub_view old.machine before) conn ≡ 0) × (0 < owed_at (hub_view new.machine after) conn)
+      × (IsReadyFor old 2 → IsReadyFor new 1))
+
+-- The connection with a number has taken bytes, and what they complete was served.
 pub record Took {D : Type 0} (medium : D → Medium) (old new : StoreView D) (before after : Table) (conn : ℕ)
     (piece : List ℕ) (moment : ℕ) : Type 0 where
   pub goes_on : GoesOn (hub_view old.machine before) (hub_view new.machine after)
   pub bytes : TakesIn medium (stored_view old before) (stored_view new after) conn piece moment
-  pub answers : HasNoFrame (hub_view new.machine after) conn → new ≡ old
+  pub answers : HasNoFrame (hub_view new.machine after) conn → Waits old new before after conn

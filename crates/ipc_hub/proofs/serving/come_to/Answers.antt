@@ -7,6 +7,9 @@ use Rattle.ipc_wire.specs.Stream.PlainFrame.{Whole}
 use Rattle.ipc_engine.specs.Engine.{takes_memory}
 use Rattle.ipc_engine.specs.View.{plain_event}
 use Rattle.ipc_hub.specs.Clients.{event_of}
+use Rattle.ipc_image.specs.Records.{HasRecord}
+use Rattle.ipc_store.proofs.CallerLemmas.{ready-less}
+use Rattle.ipc_hub.specs.Relations.Requests.{Steps}
 use Rattle.ipc_hub.specs.Relations.Rows.{pid_of}
 use Rattle.ipc_hub.proofs.serving.come_to.Goals as goal
 
@@ -40,3 +43,24 @@ returns-in-Err-NoMemory-clause-comes g c =
       takes = takes;
       same = search rules;
     }
+
+pub returns-in-Ok-clause-comes : goal.returns-in-Ok-clause-comes
+returns-in-Ok-clause-comes g c =
+    let old = c.args.store.now in
+    let new = c.step.new.self in
+    let e = plain_event c.in-Some.event in
+    let whole : first c.args.connection.now.input.items ≡ Whole c.in-Whole.used (plain_request c.in-Whole.request) = search rules in
+    let made : event_of (pid_of c.args.connection.now.process) (plain_request c.in-Whole.request) c.args.moment.0 ≡ Some e =
+    sym c.event_of.ensures.event ∙ ap (option_map plain_event) c.in-Some.is in
+    let framed : plain_frame c.read_frame.result ≡ Whole c.in-Whole.used (plain_request c.in-Whole.request) = search rules in
+    let has : HasRecord e = c.in-Some.ensures.record (c.read_frame.ensures.has_frame c.in-Whole.used (plain_request c.in-Whole.request) framed) in
+    let steps : Steps g.D.SectorDisk.medium old new e = record {
+      limits = c.in-Ok.ensures.limits;
+      state = c.in-Ok.ensures.state;
+      outcomes = c.in-Ok.ensures.outcomes;
+      passed = c.in-Ok.ensures.passed;
+      sound = c.in-Ok.ensures.was_sound;
+      pends = record { confirmed = c.in-Ok.ensures.confirmed; waiting = c.in-Ok.ensures.waiting; takes = c.in-Ok.ensures.takes.0 };
+      less = λ n ready. ready-less old new e n has c.in-Ok.ensures.records c.in-Ok.ensures.waiting c.in-Ok.ensures.confirmed c.in-Ok.ensures.goes_on ready;
+    } in
+    (e, (record { used = c.in-Whole.used; request = plain_request c.in-Whole.request; whole = whole; event = made }, steps))

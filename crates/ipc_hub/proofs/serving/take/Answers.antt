@@ -1,4 +1,4 @@
-use Rattle.std.proofs.Common.{◌≡◌, List, refl, sym, ap, ◌∙◌, subst}
+use Rattle.std.proofs.Common.{◌≡◌, List, inl, refl, sym, ap, ◌∙◌, subst}
 use Rattle.ipc_engine.specs.Engine.{Machine}
 use Rattle.ipc_engine.specs.Event.{PlainOutcome}
 use Rattle.ipc_hub.specs.Relations.Delivery.{HasRoomToAnswer}
@@ -16,7 +16,7 @@ returns-then-not-goes_on-clause-took g c = record {
   goes_on = record { limits = refl; numbers = refl; invariant = c.requires.hub };
   bytes = over-takes g.D.SectorDisk.medium g.met.D.SectorDisk.only_now (stored_view c.args.store.now (table_of c.args.connections.now)) c.args.conn
       c.args.moment.0 _ (sym c.goes_on.ensures ∙ c.if-not-goes_on.true);
-  answers = λ _. refl;
+  answers = λ none. record { empty = none; event = inl (refl, refl) };
 }
 
 pub answer-requires-clause-room : goal.answer-requires-clause-room

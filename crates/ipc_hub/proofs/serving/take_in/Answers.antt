@@ -1,8 +1,8 @@
-use Rattle.std.proofs.Common.{◌≡◌, ◌+◌, ◌-◌, ℕ, false, List, ◌++◌, length, take, drop, true, refl, sym, ap, ◌∙◌, subst, arith, inl, inr}
+use Rattle.std.proofs.Common.{◌≡◌, ◌⊎◌, ◌+◌, ◌-◌, ◌<◌, ℕ, false, List, ◌++◌, length, take, drop, true, refl, sym, ap, ◌∙◌, subst, arith, inl, inr}
 use Rattle.std.proofs.lemmas.Bool.{cases_eq}
 use Rattle.std.proofs.Math.Seq.{take-add}
 use Rattle.std.proofs.lemmas.List.{take_all, length-drop}
-use Rattle.ipc_base.specs.Limits.{ArePassed, longest_reply}
+use Rattle.ipc_base.specs.Limits.{longest_reply}
 use Rattle.ipc_base.specs.declared.limits.Limits.{Limits}
 use Rattle.ipc_engine.specs.Engine.{Machine}
 use Rattle.ipc_store.specs.View.{StoreView, IsReadyFor}
@@ -11,7 +11,8 @@ use Rattle.ipc_hub.specs.Relations.Rows.{table_of, hub_view, stored_view}
 use Rattle.ipc_hub.proofs.Committing.{adds-both}
 use Rattle.ipc_hub.proofs.Receiving.{goes-further}
 use Rattle.ipc_hub.proofs.Taking.{over-takes, nothing-takes, takes-then}
-use Rattle.ipc_hub.specs.View.{HasNoFrame}
+use Rattle.ipc_engine.specs.Sound.{IsSound}
+use Rattle.ipc_hub.specs.Relations.Delivery.{owed_at, HasRoomFor}
 use Rattle.ipc_hub.proofs.Keeping.{empty-room}
 use Rattle.ipc_hub.proofs.serving.take_in.Given.{Over}
 use Rattle.ipc_hub.proofs.serving.take_in.Goals.{After-has_room}
@@ -25,39 +26,83 @@ returns-then-not-goes_on-clause-bytes g c =
 pub loop-taken-init : goal.loop-taken-init
 loop-taken-init g c = record {
   within = omega arith;
-  passed = subst ArePassed (c.limits.ensures.limits ∙ ap (λ (m : Machine). m.limits) c.engine.ensures) c.limits.ensures.passed;
   goes_on = record { limits = refl; numbers = refl; invariant = c.requires.hub };
   bytes = nothing-takes g.D.SectorDisk.medium g.met.D.SectorDisk.only_now (stored_view c.args.store.now (table_of c.args.connections.now)) c.args.conn
       c.args.moment.0 c.requires.hub;
   first = λ _. (refl, refl);
   adds = record { disk = refl; stopped = refl; checkpoint = refl; confirmed = refl; waiting = omega arith };
-  ready = λ _. c.requires.ready;
+  ready = λ _. inl c.requires.ready;
 }
 
-longest : {reply : ℕ} {asked engine now : Limits} → reply ≡ longest_reply asked → asked ≡ engine → now ≡ engine → reply ≡ longest_reply now
-longest is same kept = is ∙ ap longest_reply (same ∙ sym kept)
+-- while no frame is kept an event has room
+has-ready : {D some : Type 0} (store : StoreView D) → (IsReadyFor store 2) ⊎ (some × IsReadyFor store 1) → IsReadyFor store 1
+has-ready store (inl two) = (omega (arith, two.0), omega (arith, two.1))
+has-ready store (inr one) = one.1
 
--- a connection that keeps no frame has room
-roomy : (g : Over) (c : After-has_room g) → HasNoFrame (hub_view c.loop-taken.store.machine (table_of c.loop-taken.connections)) c.args.conn
-    → c.has_room.result ≡ true
-roomy g c none =
-    let goes = c.loop-taken.invariant.goes_on in
-    let long = longest c.longest_reply-reply.ensures.longest (c.limits.ensures.limits ∙ ap (λ (m : Machine). m.limits) c.engine.ensures) goes.limits in
-    c.has_room.ensures.1
-    (empty-room (hub_view c.loop-taken.store.machine (table_of c.loop-taken.connections)) c.args.conn c.longest_reply-reply.result goes.invariant long none)
+pub returns-then-not-is_ready_for-clause-whole : goal.returns-then-not-is_ready_for-clause-whole
+returns-then-not-is_ready_for-clause-whole g c none =
+    let ready = has-ready c.loop-taken.store (c.loop-taken.invariant.ready none) in
+    let never : true ≡ false = sym (c.is_ready_for.ensures.1 ready) ∙ c.if-not-is_ready_for.true in cc
 
-pub returns-then-not-has_room-clause-whole : goal.returns-then-not-has_room-clause-whole
-returns-then-not-has_room-clause-whole g c none =
-    let never : true ≡ false = sym (roomy g (goal.at.returns-then-not-has_room-clause-whole g c).After-has_room none) ∙ c.if-not-has_room.true in cc
-
-pub returns-then-not-has_room-clause-starts : goal.returns-then-not-has_room-clause-starts
-returns-then-not-has_room-clause-starts g c none some =
+pub returns-then-not-is_ready_for-clause-starts : goal.returns-then-not-is_ready_for-clause-starts
+returns-then-not-is_ready_for-clause-starts g c room some =
     elim (cases_eq c.loop-taken.taken 0) [
       | inr more ↦ omega (arith, more)
       | inl first ↦
-          let room = roomy g (goal.at.returns-then-not-has_room-clause-starts g c).After-has_room (rw (c.loop-taken.invariant.first first).0 none) in
-          let never : true ≡ false = sym room ∙ c.if-not-has_room.true in cc
+          let two = subst (λ (s : StoreView g.row.D.Denot). IsReadyFor s 2) (sym (c.loop-taken.invariant.first first).1) c.requires.ready in
+          let never : true ≡ false = sym (c.is_ready_for.ensures.1 (has-ready {some = ⊥} c.loop-taken.store (inl two))) ∙ c.if-not-is_ready_for.true in cc
     ]
+
+-- the limits of a store that lends its machine
+longest : {reply : ℕ} {asked : Limits} {machine engine : Machine} → reply ≡ longest_reply asked → asked ≡ engine.limits → engine ≡ machine
+    → reply ≡ longest_reply machine.limits
+longest is same lent = is ∙ ap longest_reply (same ∙ ap (λ (m : Machine). m.limits) lent)
+
+-- a connection in which a request has room
+roomy : (g : Over) (c : After-has_room g)
+    → HasRoomFor (hub_view c.loop-taken.store.machine (table_of c.loop-taken.connections)) (longest_reply c.loop-taken.store.machine.limits) c.args.conn
+    → c.has_room.result ≡ true
+roomy g c room =
+    let reply = longest c.longest_reply-reply.ensures.longest c.limits.ensures.limits c.engine.ensures in
+    c.has_room.ensures.1
+    (subst (λ (m : Machine). HasRoomFor (hub_view m (table_of c.loop-taken.connections)) c.longest_reply-reply.result c.args.conn)
+    (sym c.engine-in-loop-taken.ensures)
+    (subst (λ (n : ℕ). HasRoomFor (hub_view c.loop-taken.store.machine (table_of c.loop-taken.connections)) n c.args.conn) (sym reply) room))
+
+pub returns-then-not-has_room-clause-whole : goal.returns-then-not-has_room-clause-whole
+returns-then-not-has_room-clause-whole g c none =
+    let now = hub_view c.loop-taken.store.machine (table_of c.loop-taken.connections) in
+    let sound = subst (λ (m : Machine). IsSound m.limits m.state) c.engine.ensures c.limits.ensures.sound in
+    let room = roomy g (goal.at.returns-then-not-has_room-clause-whole g c).After-has_room
+    (empty-room now c.args.conn sound c.loop-taken.invariant.goes_on.invariant none) in
+    let never : true ≡ false = sym room ∙ c.if-not-has_room.true in cc
+
+pub returns-then-not-has_room-clause-starts : goal.returns-then-not-has_room-clause-starts
+returns-then-not-has_room-clause-starts g c room some =
+    elim (cases_eq c.loop-taken.taken 0) [
+      | inr more ↦ omega (arith, more)
+      | inl first ↦
+          let same = c.loop-taken.invariant.first first in
+          let here : HasRoomFor (hub_view c.loop-taken.store.machine (table_of c.loop-taken.connections)) (longest_reply c.loop-taken.store.machine.limits)
+          c.args.conn = rw (same.0, same.1) room in
+          let never : true ≡ false = sym (roomy g (goal.at.returns-then-not-has_room-clause-starts g c).After-has_room here) ∙ c.if-not-has_room.true in cc
+    ]
+
+pub take-taken-requires-clause-room : goal.take-taken-requires-clause-room
+take-taken-requires-clause-room g c =
+    let reply = longest c.longest_reply-reply.ensures.longest c.limits.ensures.limits c.engine.ensures in
+    subst (λ (n : ℕ). HasRoomFor (hub_view c.loop-taken.store.machine (table_of c.loop-taken.connections)) n c.args.conn) reply
+    (subst (λ (m : Machine). HasRoomFor (hub_view m (table_of c.loop-taken.connections)) c.longest_reply-reply.result c.args.conn)
+    c.engine-in-loop-taken.ensures (c.has_room.ensures.0 c.if-not-has_room.false))
+
+-- no event came, or one after which its process is owed a reply
+still-ready : {D : Type 0} (old new : StoreView D) (before after : ℕ)
+    → ((new ≡ old) × (before ≡ after)) ⊎ ((before ≡ 0) × (0 < after) × (IsReadyFor old 2 → IsReadyFor new 1))
+    → (IsReadyFor old 2) ⊎ ((0 < before) × IsReadyFor old 1) → (IsReadyFor new 2) ⊎ ((0 < after) × IsReadyFor new 1)
+still-ready old new before after (inl none) (inl two) = inl (rw none.0 two)
+still-ready old new before after (inl none) (inr one) = inr (omega (arith, none.1, one.0), rw none.0 one.1)
+still-ready old new before after (inr some) (inl two) = inr (some.1, some.2 two)
+still-ready old new before after (inr some) (inr one) = absurd (omega (arith, some.0, one.0))
 
 pub loop-taken-preserved : goal.loop-taken-preserved
 loop-taken-preserved g c =
@@ -76,12 +121,13 @@ loop-taken-preserved g c =
     let took = c.take-taken.ensures.took in
     record {
       within = omega (arith, c.take-taken.ensures.within, ap length whole, length-drop i piece);
-      passed = subst ArePassed (sym took.goes_on.limits) held.passed;
       goes_on = goes-further old.hub mid.hub new.hub held.goes_on.limits held.goes_on.numbers took.goes_on;
       bytes = subst (λ (bs : List ℕ). TakesIn med old new conn bs c.args.moment.0)
           (sym (take-add i n piece ∙ ap (λ (r : List ℕ). take i piece ++ take n r) (sym whole)))
           (takes-then med g.met.D.SectorDisk.only_now old mid new conn c.args.moment.0 (take i piece) (take n rest) held.bytes took.bytes);
       first = λ none. absurd (omega (arith, none, some));
       adds = adds-both (i + n) held.adds c.take-taken.ensures.adds (omega (arith, some));
-      ready = λ none. subst (λ (s : StoreView g.row.D.Denot). IsReadyFor s 1) (sym (took.answers none)) (c.is_ready_for.ensures.0 c.if-not-is_ready_for.false);
+      ready = λ none.
+          let waits = took.answers none in
+          still-ready mid.store new.store (owed_at mid.hub conn) (owed_at new.hub conn) waits.event (held.ready waits.empty);
     }

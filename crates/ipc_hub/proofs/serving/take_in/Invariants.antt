@@ -1,24 +1,24 @@
-use Rattle.std.proofs.Common.{◌≡◌, ◌-◌, ◌≤◌, length, take}
-use Rattle.ipc_base.specs.Limits.{ArePassed}
+use Rattle.std.proofs.Common.{◌≡◌, ◌⊎◌, ◌-◌, ◌<◌, ◌≤◌, length, take}
 use Rattle.ipc_store.specs.View.{IsReadyFor}
 use Rattle.ipc_hub.specs.View.{HasNoFrame}
+use Rattle.ipc_hub.specs.Relations.Delivery.{owed_at}
 use Rattle.ipc_hub.specs.Relations.Rows.{table_of, hub_view, stored_view}
 use Rattle.ipc_hub.specs.Relations.Invariant.{GoesOn}
 use Rattle.ipc_hub.specs.Relations.Matches.{Adds, TakesIn}
 use Rattle.ipc_hub.proofs.serving.take_in.Given as goal
 
 -- The hub goes on and has taken in the bytes so far; before the first it is as it was. While the connection keeps no
--- frame, the store is ready for an event.
+-- frame, the store is ready for two events, or for one if its process is owed a reply.
 abbrev pub invariant-loop-taken : goal.invariant-loop-taken
 invariant-loop-taken g l = record {
   within : l.taken ≤ length l.piece;
-  passed : ArePassed l.store.machine.limits;
   goes_on : GoesOn (hub_view l.fn.store.machine (table_of l.fn.connections)) (hub_view l.store.machine (table_of l.connections));
   bytes : TakesIn g.D.SectorDisk.medium (stored_view l.fn.store (table_of l.fn.connections)) (stored_view l.store (table_of l.connections)) l.conn
       (take l.taken l.piece) l.moment.0;
   first : l.taken ≡ 0 → (l.connections ≡ l.fn.connections) × (l.store ≡ l.fn.store);
   adds : Adds l.taken l.fn.store l.store;
-  ready : HasNoFrame (hub_view l.store.machine (table_of l.connections)) l.conn → IsReadyFor l.store 1;
+  ready : HasNoFrame (hub_view l.store.machine (table_of l.connections)) l.conn
+      → (IsReadyFor l.store 2) ⊎ ((0 < owed_at (hub_view l.store.machine (table_of l.connections)) l.conn) × IsReadyFor l.store 1);
 }
 
 -- the bytes that are left

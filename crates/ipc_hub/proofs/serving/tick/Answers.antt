@@ -1,53 +1,59 @@
-use Rattle.std.proofs.Common.{◌≡◌, [], ◌∷◌, map, refl, ap, ◌∙◌, arith, rules}
-use Rattle.ipc_base.specs.Limits.{ArePassed}
-use Rattle.ipc_state.specs.State.{State, at_moment, is_process}
-use Rattle.ipc_engine.specs.Event.{PlainEvent, Tick}
-use Rattle.ipc_engine.specs.Sound.{IsSound}
+use Rattle.std.proofs.Common.{◌≡◌, map, refl, ap, ◌∙◌, rules}
+use Rattle.ipc_engine.specs.Engine.{Machine}
+use Rattle.ipc_engine.specs.Event.{Tick}
 use Rattle.ipc_engine.specs.Step.{step}
 use Rattle.ipc_engine.specs.View.{plain_outcome}
-use Rattle.ipc_hub.specs.Clients.{accepted}
+use Rattle.ipc_engine.proofs.CallerLemmas.{tick-stays}
+use Rattle.ipc_hub.specs.Relations.Delivery.{put_all}
 use Rattle.ipc_hub.specs.Relations.Rows.{table_of, hub_view}
-use Rattle.std.proofs.lemmas.List.{length-append}
-use Rattle.ipc_hub.proofs.Deliveries.{accept-matches}
-use Rattle.ipc_hub.proofs.Keeping.{delivery-goes-on, quiet-room}
-use Rattle.ipc_hub.proofs.Requests.{step-sends}
+use Rattle.ipc_hub.proofs.Keeping.{Happened, happened-matches, quiet-goes-on, quiet-passes, quiet-room}
 use Rattle.ipc_store.proofs.CallerLemmas.{ready-less}
+use Rattle.ipc_hub.proofs.serving.tick.Given.{Over}
+use Rattle.ipc_hub.proofs.serving.tick.Goals.{After-outcomes, After-deliver}
 use Rattle.ipc_hub.proofs.serving.tick.Goals as goal
+
+-- the replies are those of the step
+are : (g : Over) (c : After-outcomes g)
+    → map plain_outcome c.outcomes.result.now ≡ (step c.args.store.now.machine.limits c.args.store.now.machine.state (Tick c.args.moment.0)).outcomes
+are g c = c.outcomes.ensures ∙ ap (λ (m : Machine). m.outcomes) c.engine.ensures ∙ rw c.unwrap.ensures at c.step.ensures.outcomes
 
 pub deliver-requires : goal.deliver-requires
 deliver-requires g c =
     let old = hub_view c.args.store.now.machine (table_of c.args.connections.now) in
-    let e : PlainEvent = Tick c.args.moment.0 in
-    let passed : ArePassed old.limits = search rules in
-    let sound : IsSound old.limits old.state = search rules in
-    let are : map plain_outcome c.outcomes.result.now ≡ (step old.limits old.state e).outcomes = search rules in
     record {
-      room = rw are
-          (quiet-room old e (step old.limits old.state e).outcomes sound (step-sends old.limits old.state e passed sound) c.requires.hub (λ pid. refl));
+      room = rw (are g (goal.at.deliver-requires g c).After-outcomes)
+          (quiet-room old (Tick c.args.moment.0) (rw c.unwrap.ensures at c.step.ensures.was_sound) c.requires.hub (λ pid. refl)
+          (rw c.unwrap.ensures at c.step.ensures.passed));
     }
+
+happened : (g : Over) (c : After-deliver g) → Happened (hub_view c.args.store.now.machine (table_of c.args.connections.now))
+    (hub_view c.step.new.self.machine (table_of c.deliver.new.self)) (Tick c.args.moment.0)
+happened g c = record {
+  passed = rw c.unwrap.ensures at c.step.ensures.passed;
+  sound = rw c.unwrap.ensures at c.step.ensures.was_sound;
+  limits = c.step.ensures.limits;
+  state = rw c.unwrap.ensures at c.step.ensures.state;
+  rows = c.deliver.ensures ∙ ap (λ os. put_all os (table_of c.args.connections.now)) (are g c.before);
+}
 
 pub returns-clause-goes_on : goal.returns-clause-goes_on
 returns-clause-goes_on g c =
-    let old = hub_view c.args.store.now.machine (table_of c.args.connections.now) in
-    let e : PlainEvent = Tick c.args.moment.0 in
-    let passed : ArePassed old.limits = search rules in
-    let sound : IsSound old.limits old.state = search rules in
-    let state : c.step.new.self.machine.state ≡ at_moment c.args.store.now.machine.state c.args.moment.0 = search rules in
-    let same : table_of c.deliver.new.self ≡ table_of c.args.connections.now = search rules in
-    delivery-goes-on old (hub_view c.step.new.self.machine (table_of c.deliver.new.self)) [] c.requires.hub
-    (quiet-room old e [] sound (step-sends old.limits old.state e passed sound) c.requires.hub (λ pid. refl)) c.step.ensures.limits same
-    (λ conn pid is. ap (λ (s : State). is_process s pid) state ∙ c.requires.hub.own.connected conn pid is)
+    let machine = c.args.store.now.machine in
+    let is = happened g (goal.at.returns-clause-goes_on g c).After-deliver in
+    quiet-goes-on _ (Tick c.args.moment.0) is.sound c.requires.hub (λ pid. refl) _ is
+    (λ conn pid mine. tick-stays machine.limits machine.state c.args.moment.0 pid (c.requires.hub.own.connected conn pid mine))
+
+pub returns-clause-passed : goal.returns-clause-passed
+returns-clause-passed g c =
+    let is = happened g (goal.at.returns-clause-passed g c).After-deliver in
+    quiet-passes _ (Tick c.args.moment.0) is.sound c.requires.hub (λ pid. refl) _ is
 
 pub returns-clause-ticks : goal.returns-clause-ticks
 returns-clause-ticks g c limits confirmed h m =
-    let old = hub_view c.args.store.now.machine (table_of c.args.connections.now) in
-    let state : c.step.new.self.machine.state ≡ at_moment c.args.store.now.machine.state c.args.moment.0 = search rules in
-    let same : table_of c.deliver.new.self ≡ table_of c.args.connections.now = search rules in
-    (accept-matches limits confirmed (accepted h) old (hub_view c.step.new.self.machine (table_of c.deliver.new.self)) h (Tick c.args.moment.0)
-    old.connections h.clients m (omega (arith, length-append h.events (Tick c.args.moment.0 ∷ []))) m.clients c.step.ensures.limits state same tt).matches
+    happened-matches limits confirmed _ _ (Tick c.args.moment.0) (happened g (goal.at.returns-clause-ticks g c).After-deliver) h m
 
 pub returns-clause-ready : goal.returns-clause-ready
 returns-clause-ready g c =
-    ready-less c.args.store.now c.step.new.self (Tick c.args.moment.0) 1 (search rules) (search rules)
+    ready-less c.args.store.now c.step.new.self (Tick c.args.moment.0) 2 (search rules) (search rules)
     (search rules) c.step.ensures.confirmed c.step.ensures.goes_on
     c.requires.ready

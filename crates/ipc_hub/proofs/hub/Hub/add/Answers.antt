@@ -1,9 +1,10 @@
-use Rattle.std.proofs.Common.{rules, ◌≡◌, ℕ, false, None, refl, sym, ap, ◌∙◌, subst}
+use Rattle.std.proofs.Common.{rules, ◌≡◌, ◌+◌, ℕ, false, None, refl, sym, ap, ◌∙◌, subst}
 use Rattle.std.specs.Prelude.{nat_eq, is_some, ◌==◌, ◌||◌}
 use Rattle.ipc_hub.specs.View.{is_connected}
 use Rattle.ipc_base.specs.Limits.{longest_reply}
 use Rattle.ipc_base.specs.Table.{value_at, with_entry}
 use Rattle.ipc_base.proofs.CallerLemmas.{nobody}
+use Rattle.ipc_engine.specs.Bytes.{most_owed}
 use Rattle.ipc_engine.specs.Engine.{Machine}
 use Rattle.ipc_hub.specs.Relations.Matches.{HubMatches}
 use Rattle.ipc_hub.specs.Relations.Invariant.{IsNew, HubInvariant}
@@ -25,23 +26,26 @@ pub invariant_of-self-2 : goal.invariant_of-self-2
 invariant_of-self-2 g c =
     let new = c.in_ok-connection.connection in
     let number : new.number ≡ c.args.conn = search rules in
-    let is : IsNew c.longest_reply-reply.result (view_of new) = search rules in
+    let is : IsNew (c.most_owed.result + c.longest_reply.result) (view_of new) = search rules in
     let goes_on = ap (λ v. v.store.stopped) c.self.view_is ∙ going c.args.self.now c.requires.goes_on in
     let added : table_of c.insert.new.self ≡ with_entry (table_of c.self.inside.connections) c.args.conn (view_of new) =
     rw number at c.in_ok-insert.ensures.ok in
-    let long = c.longest_reply-reply.ensures.longest ∙ ap longest_reply (c.limits.ensures.limits ∙ ap (λ (m : Machine). m.limits) c.engine.ensures) in
+    let limits = ap (λ (m : Machine). m.limits) c.engine-engine.ensures in
+    let long = c.longest_reply.ensures.longest ∙ ap longest_reply (c.limits.ensures.limits ∙ limits) in
+    let most = c.most_owed.ensures ∙ ap most_owed limits in
     let inv : HubInvariant (hub_view c.self.inside.store.machine (table_of c.insert.new.self)) =
     rw added (entry-invariant (hub_view c.self.inside.store.machine (table_of c.self.inside.connections)) c.args.conn (view_of new)
-    (c.self.invariant.goes_on goes_on) c.ranges.conn.fits (free c.args.conn (ap (λ v. v.hub.connections) c.self.view_is) c.requires.free) (rw long at is)) in
+    (c.self.invariant.goes_on goes_on) c.ranges.conn.fits (free c.args.conn (ap (λ v. v.hub.connections) c.self.view_is) c.requires.free)
+    (rw (most, long) at is)) in
     record { rising = inv.rising; goes_on = λ _. inv }
 
 pub returns-clause-ok : goal.returns-clause-ok
 returns-clause-ok g c limits confirmed h m =
     let new = c.in_ok-connection.connection in
     let number : new.number ≡ c.args.conn = search rules in
-    let is : IsNew c.longest_reply-reply.result (view_of new) = search rules in
+    let is : IsNew (c.most_owed.result + c.longest_reply.result) (view_of new) = search rules in
     entry-matches limits confirmed (hub_view c.self.inside.store.machine (table_of c.self.inside.connections))
-    (hub_view c.self.inside.store.machine (table_of c.insert.new.self)) h c.args.conn (view_of new) c.longest_reply-reply.result
+    (hub_view c.self.inside.store.machine (table_of c.insert.new.self)) h c.args.conn (view_of new) (c.most_owed.result + c.longest_reply.result)
     (subst (λ v. HubMatches limits confirmed v h) (sym (ap (λ v. v.hub) c.self.view_is)) m) refl refl (rw number at c.in_ok-insert.ensures.ok) is
 
 pub returns-clause-joins : goal.returns-clause-joins

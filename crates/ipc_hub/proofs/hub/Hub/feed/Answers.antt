@@ -1,7 +1,7 @@
 use Rattle.std.proofs.Common.{sym, ap, ◌∙◌, take, arith}
 use Rattle.ipc_hub.specs.View.{numbers_of}
 use Rattle.ipc_hub.specs.Relations.Rows.{table_of, stored_view}
-use Rattle.ipc_hub.proofs.Coming.{comes-fed, still-empty, still-ended}
+use Rattle.ipc_hub.proofs.Coming.{comes-fed, ended-over}
 use Rattle.ipc_hub.proofs.hub.Hub.feed.Goals as goal
 
 pub returns-clause-ok : goal.returns-clause-ok
@@ -13,12 +13,12 @@ returns-clause-ok g c limits h m =
 pub returns-clause-starts : goal.returns-clause-starts
 returns-clause-starts g c none =
     c.take_in-taken.ensures.starts
-    (rw (sym c.self-2.view_is) at (still-empty c.args.self.now.hub c.pass.new.self.hub c.in_default.ensures.same c.args.conn none))
+    (rw (sym c.self-2.view_is) at (c.in_default.ensures.passed.room c.args.conn none))
 
 pub returns-clause-dropped : goal.returns-clause-dropped
 returns-clause-dropped g c over =
     c.take_in-taken.ensures.dropped
-    (rw (sym c.self-2.view_is) at (still-ended c.args.self.now.hub c.pass.new.self.hub c.in_default.ensures.same c.args.conn over))
+    (rw (sym c.self-2.view_is) at (c.in_default.ensures.passed.ended c.args.conn (ended-over c.args.self.now.hub c.args.conn over)))
 
 pub returns-clause-numbers : goal.returns-clause-numbers
 returns-clause-numbers g c =

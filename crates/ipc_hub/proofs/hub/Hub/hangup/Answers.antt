@@ -13,7 +13,7 @@ use Rattle.ipc_hub.proofs.hub.Hub.hangup.Goals as goal
 invariant : (g : Over) (c : After-remove-process g) → HubInvariant (hub_view c.self-2.inside.store.machine (table_of c.self-2.inside.connections))
 invariant g c =
     c.self-2.invariant.goes_on
-    (ap (λ v. v.store.stopped) c.self-2.view_is ∙ ready-goes-on c.pass.new.self.store 1 (omega arith) c.in_default.ensures.ready)
+    (ap (λ v. v.store.stopped) c.self-2.view_is ∙ ready-goes-on c.pass.new.self.store 2 (omega arith) c.in_default.ensures.ready)
 
 pub leave-requires-clause-hub : goal.leave-requires-clause-hub
 leave-requires-clause-hub g c =

@@ -1,9 +1,10 @@
-use Rattle.std.proofs.Common.{[], ◌∷◌, refl}
+use Rattle.std.proofs.Common.{[], ◌∷◌, refl, sym, subst}
 use Rattle.ipc_engine.specs.Event.{Tick}
 use Rattle.ipc_hub.specs.Clients.{tick}
+use Rattle.ipc_hub.specs.Relations.Invariant.{SameButSeen}
 use Rattle.ipc_hub.specs.Relations.Matches.{StoredMatches}
 use Rattle.ipc_hub.specs.Relations.Rows.{table_of, stored_view}
-use Rattle.ipc_hub.proofs.Coming.{comes-further, comes-same}
+use Rattle.ipc_hub.proofs.Coming.{comes-further, comes-same, passes-then}
 use Rattle.ipc_hub.proofs.hub.Hub.pass.Goals as goal
 
 pub returns-clause-ok : goal.returns-clause-ok
@@ -16,3 +17,9 @@ returns-clause-ok g c limits h m =
     (rw c.self.view_is (comes-same medium limits c.args.self.now c.make_room.new.self h kept c.in_default.ensures.takes))
     (c.tick.ensures.ticks limits _ h here.hub)
     (record { events = Tick c.args.moment.0 ∷ []; adds = refl; pends = c.tick.ensures.accepts })
+
+pub returns-clause-passed : goal.returns-clause-passed
+returns-clause-passed g c =
+    let mid = stored_view c.self.inside.store (table_of c.self.inside.connections) in
+    passes-then c.args.self.now.hub mid.hub _ (subst (λ v. SameButSeen c.args.self.now.hub v.hub) (sym c.self.view_is) c.in_default.ensures.same)
+    c.tick.ensures.passed
