@@ -24,6 +24,9 @@ from typing import Generator, Iterator
 sys.dont_write_bytecode = True
 
 from device_damage import (  # noqa: E402
+    SENDING,
+    TAKING,
+    calls,
     connections,
     damages,
     each_byte,
@@ -74,6 +77,7 @@ from device_layout import (  # noqa: E402
     state,
     superblock,
     tick,
+    waits,
 )
 from device_runs import (  # noqa: E402
     EXIT_RECORD,
@@ -421,6 +425,16 @@ def open_that_saves() -> None:
     runs(device, [], [], wanted, "an open that saves")
 
 
+def open_with_calls() -> None:
+    """No call waits after an open, and the queue is as it was."""
+    queues = {1: GOOD_QUEUE}
+    them = processes((1, 1000, 100), (2, 1000, 100))
+    device = holding(state(clock(9, 3, 2), them, queues, {}, waits(SENDING, TAKING)))
+    wanted = device.copy().journal(1, batch(RESTART))
+    wanted.save(2, 1, state(clock(9, 3, 2), processes(), queues))
+    runs(device, ["save"], [], wanted, "an open with calls that wait")
+
+
 def journal_of_all() -> None:
     """All sectors of the body count: those after the batches are batches without records."""
     device = good().put(JOURNAL, 8, b"\0\0\1\0")
@@ -483,7 +497,7 @@ def checks() -> Generator[Check, None, None]:
     yield partial(last_commit, 513, False)
     yield many_ticks
     yield from (partial(many_opens, opens_made) for opens_made in (1, 256, 257, 300))
-    yield from (open_that_saves, journal_of_all, last_save, last_sector, last_turn)
+    yield from (open_that_saves, open_with_calls, journal_of_all, last_save, last_sector, last_turn)
     yield from superblocks()
     yield from sizes()
     yield from damages()
@@ -491,6 +505,7 @@ def checks() -> Generator[Check, None, None]:
     yield from free_bytes()
     yield from turned()
     yield from no_states()
+    yield from calls()
     yield from long_objects()
     yield from record_cuts()
     yield from other_records()

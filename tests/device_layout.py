@@ -18,6 +18,7 @@ LAST_EPOCH = 2**64 - 1
 QUEUE_KIND = 4294967296
 SET_KIND = 2 * QUEUE_KIND
 NONE = bytes(4)
+NO_DEADLINE = 2**64 - 1
 
 # ---- limits and sizes
 
@@ -142,12 +143,14 @@ def msgget(serial: int, key: int, flags: int = 0x380) -> bytes:
     return struct.pack(">IBiI", serial, 0x0A, key, flags)
 
 
-def msgsnd(serial: int, queue: int, mtype: int, text: bytes) -> bytes:
-    return struct.pack(">IBIIq", serial, 0x0B, queue, 0x800, mtype) + text
+def msgsnd(serial: int, queue: int, mtype: int, text: bytes, flags: int = 0x800) -> bytes:
+    return struct.pack(">IBIIq", serial, 0x0B, queue, flags, mtype) + text
 
 
-def msgrcv(serial: int, queue: int, size: int = 64, mtype: int = 0) -> bytes:
-    return struct.pack(">IBIIIq", serial, 0x0C, queue, 0x800, size, mtype)
+def msgrcv(
+    serial: int, queue: int, size: int = 64, mtype: int = 0, flags: int = 0x800
+) -> bytes:
+    return struct.pack(">IBIIIq", serial, 0x0C, queue, flags, size, mtype)
 
 
 # ---- objects of a state
@@ -160,6 +163,19 @@ def clock(moment: int, next_pid: int, next_queue: int, next_set: int = 1) -> byt
 def processes(*them: tuple[int, int, int]) -> bytes:
     """Of each its pid, uid and gid."""
     return struct.pack(">I", len(them)) + b"".join(struct.pack(">IIII", *one, 0) for one in them)
+
+
+class Waiting(NamedTuple):
+    """A call that waits: of which process, and its frame without the length."""
+
+    pid: int
+    frame: bytes
+    deadline: int = NO_DEADLINE
+
+
+def waits(*calls: Waiting) -> bytes:
+    parts = [struct.pack(">IQI", one.pid, one.deadline, len(one.frame)) + one.frame for one in calls]
+    return struct.pack(">I", len(calls)) + b"".join(parts)
 
 
 class Queue(NamedTuple):
@@ -205,8 +221,9 @@ def state(
     the_processes: bytes,
     queues: dict[int, Queue],
     sets: dict[int, Set] | None = None,
+    calls: bytes = NONE,
 ) -> list[tuple[int, bytes]]:
-    parts = [(0, the_clock), (1, the_processes), (2, NONE), (3, NONE)]
+    parts = [(0, the_clock), (1, the_processes), (2, calls), (3, NONE)]
     parts += [(QUEUE_KIND + number, queue.data()) for number, queue in queues.items()]
     return parts + [(SET_KIND + number, one.data()) for number, one in (sets or {}).items()]
 
@@ -327,6 +344,23 @@ def read_processes(data: bytes, limits: Limits, next_pid: int) -> set[int]:
     return pids
 
 
+def read_waits(data: bytes, limits: Limits) -> None:
+    demand(len(data) >= 4, ROOT)
+    (count,) = struct.unpack(">I", data[:4])
+    demand(count <= limits.processes, ROOT)
+    at = 4
+    pids: set[int] = set()
+    for _ in range(count):
+        demand(at + 16 <= len(data), ROOT)
+        pid, deadline, length = struct.unpack(">IQI", data[at : at + 16])
+        frame = data[at + 16 : at + 16 + length]
+        demand(len(frame) == length and is_request(frame) and frame[4] in (0x0B, 0x0C), ROOT)
+        demand(pid not in pids and deadline == NO_DEADLINE, ROOT)
+        pids.add(pid)
+        at += 16 + length
+    demand(at == len(data), ROOT)
+
+
 def read_queue(data: bytes, limits: Limits) -> int:
     """Its key."""
     demand(len(data) >= 64, ROOT)
@@ -357,7 +391,8 @@ def read_state(objects: list[tuple[int, bytes]], limits: Limits) -> tuple[int, s
     demand([number for number, _ in objects[:4]] == [0, 1, 2, 3], ROOT)
     next_pid, next_queue, next_set = read_clock(objects[0][1])
     pids = read_processes(objects[1][1], limits, next_pid)
-    demand(objects[2][1] == NONE and objects[3][1] == NONE, ROOT)
+    read_waits(objects[2][1], limits)
+    demand(objects[3][1] == NONE, ROOT)
     queues = [one for one in objects[4:] if one[0] < SET_KIND]
     sets = objects[4 + len(queues) :]
     demand(len(queues) <= limits.msgmni and len(sets) <= limits.semmni, ROOT)

@@ -12,4 +12,5 @@ pub mod CallerLemmas
 mod Windows
 mod SavedObjects
 mod Marks
+mod WaitingCalls
 pub mod Shapes

@@ -11,6 +11,7 @@ emptied s =
     record {
       clock = s.clock;
       processes = record { next = s.processes.next; entries = [] };
+      wait = [];
       msg = record { next = s.msg.next; entries = [] };
       sem = record { next = s.sem.next; entries = [] };
     }
@@ -23,6 +24,7 @@ clock_one s t fit also same =
     let made : List ℕ → State = λ ns. record {
       clock = get_or ns 0 0;
       processes = record { next = get_or ns 1 0; entries = [] };
+      wait = [];
       msg = record { next = get_or ns 2 0; entries = [] };
       sem = record { next = get_or ns 3 0; entries = [] };
     } in

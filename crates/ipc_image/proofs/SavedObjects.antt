@@ -1,7 +1,7 @@
 -- The state as objects: how many bytes each has, that they are objects, and that they fit where they are kept.
 use Rattle.std.proofs.Common.{◌≡◌, ℕ, zero, suc, ◌+◌, ◌*◌, ◌^◌, ◌<◌, ◌≤◌, ◌-◌, List, [], ◌∷◌, ◌++◌, length, map, Some, refl, sym, ap, subst, ◌∙◌, arith}
 use Rattle.std.specs.Prelude.{All, sum_by, option_map}
-use Rattle.std.proofs.lemmas.List.{append-nil, length-map, length-append}
+use Rattle.std.proofs.lemmas.List.{append-nil, length-map, length-append, map-id}
 use Rattle.std.proofs.lemmas.List.Concat.{flat_map-cons}
 use Rattle.std.proofs.lemmas.List.Elements.{All-append, All-cons, All-map, All-nil, All-weaker}
 use Rattle.std.proofs.lemmas.List.Sums.{sum_by-append, sum_by-cons, sum_by-le, sum_by_from}
@@ -24,15 +24,18 @@ use Rattle.sysv_sem.specs.declared.set.SemStat.{SemStat}
 use Rattle.ipc_state.proofs.CallerLemmas.{All-seen, queue-numbers}
 use Rattle.ipc_engine.specs.Sound.{IsSound}
 use Rattle.ipc_state.specs.State.{State, start}
+use Rattle.ipc_state.specs.Waiting.{PlainWaiting}
 use Rattle.ipc_state.specs.Tables.{item_row, queue_row}
 use Rattle.ipc_base.specs.Numbers.{fields_bytes}
 use Rattle.ipc_image.specs.Saved.{counted_bytes, queue_sizes, queue_numbers, set_sizes, set_numbers}
 use Rattle.ipc_image.specs.Saved.{clock_sizes, clock_numbers, count_bytes, process_bytes, processes_bytes, message_bytes}
+use Rattle.ipc_image.specs.Saved.{waiting_bytes, waits_bytes}
 use Rattle.ipc_image.specs.Kind.{object_in}
 use Rattle.ipc_image.specs.Saved.{queue_bytes, queue_object, semaphore_bytes, set_bytes, set_object, saved, HasAllPlaces}
 use Rattle.ipc_state.specs.declared.state.Numbers.{Numbers}
 use Rattle.ipc_image.specs.SavedParts.{IsMarkAfter, IsFound, Stands, seen_state}
 use Rattle.ipc_image.proofs.Marks.{each-at}
+use Rattle.ipc_image.proofs.WaitingCalls.{length-waits}
 use Rattle.ipc_base.specs.declared.objects.Mark.{Mark}
 use Rattle.ipc_image.specs.Sizes.{sectors, process_sectors, area_of}
 
@@ -51,6 +54,9 @@ length-processes processes = length-each process_bytes 16 (λ p. refl) processes
 
 pub processes-long : (processes : List (ℕ × Process)) → length (processes_bytes processes) ≡ 4 + 16 * length processes
 processes-long processes = omega (arith, length-append (count_bytes (length processes)) (flat_map process_bytes processes), length-processes processes)
+
+pub waits-long : (ws : List PlainWaiting) → length (waits_bytes ws) ≡ 4 + length (flat_map waiting_bytes ws)
+waits-long ws = length-append (count_bytes (length ws)) (flat_map waiting_bytes ws)
 
 pub length-messages : (messages : List PlainMessage) → length (flat_map message_bytes messages) ≡ 12 * length messages + byte_count messages
 length-messages [] = refl
@@ -98,14 +104,13 @@ module _ (s : State) where
   unfolding saved
   saved-processes = refl
 
-  -- the waiting calls and the adjustments
-  pub saved-none : (i : ℕ) → 1 < i → i < 4 → slice_get (saved s) i ≡ Some (i, count_bytes 0)
+  pub saved-waits : slice_get (saved s) 2 ≡ Some (2, waits_bytes s.wait)
   unfolding saved
-  saved-none zero some few = absurd (omega arith)
-  saved-none (suc zero) some few = absurd (omega arith)
-  saved-none (suc (suc zero)) some few = refl
-  saved-none (suc (suc (suc zero))) some few = refl
-  saved-none (suc (suc (suc (suc i)))) some few = absurd (omega arith)
+  saved-waits = refl
+
+  pub saved-adjustments : slice_get (saved s) 3 ≡ Some (3, count_bytes 0)
+  unfolding saved
+  saved-adjustments = refl
 
   pub saved-number : (i : ℕ) → i < 4 → option_map (λ o. o.0) (slice_get (saved s) i) ≡ Some i
   unfolding saved
@@ -127,11 +132,11 @@ module _ (s : State) where
 
   -- what holds of the four, of each queue and of each set holds of all
   each-saved : (P : ℕ × List ℕ → Type 0) → P (0, fields_bytes clock_sizes (clock_numbers s)) → P (1, processes_bytes s.processes.entries)
-      → P (2, count_bytes 0) → P (3, count_bytes 0) → All (λ e. P (queue_object e)) s.msg.entries → All (λ e. P (set_object e)) s.sem.entries
+      → P (2, waits_bytes s.wait) → P (3, count_bytes 0) → All (λ e. P (queue_object e)) s.msg.entries → All (λ e. P (set_object e)) s.sem.entries
       → All P (saved s)
   unfolding saved
   each-saved P clock processes waiting adjustments each others =
-      let two : List (ℕ × List ℕ) = (2, count_bytes 0) ∷ (3, count_bytes 0) ∷ things s in
+      let two : List (ℕ × List ℕ) = (2, waits_bytes s.wait) ∷ (3, count_bytes 0) ∷ things s in
       All-cons P _ ((1, processes_bytes s.processes.entries) ∷ two) clock
       (All-cons P _ two processes
       (All-cons P _ ((3, count_bytes 0) ∷ things s) waiting
@@ -140,19 +145,28 @@ module _ (s : State) where
       (All-map P set_object s.sem.entries others)))))
 
 -- the state that tables are, and how many objects it has
-module _ (n : Numbers) (ps : List (Item Process)) (qs : List (Item (Entry Kept))) (xs : List (Item (Entry Set))) where
+module _ (n : Numbers) (ps : List (Item Process)) (ws : List PlainWaiting) (qs : List (Item (Entry Kept))) (xs : List (Item (Entry Set))) where
   pub seen-is : (s : State) → n.clock.0 ≡ s.clock → n.next_pid ≡ s.processes.next → n.next_queue ≡ s.msg.next → n.next_set ≡ s.sem.next
-      → map item_row ps ≡ s.processes.entries → map queue_row qs ≡ s.msg.entries → map item_row xs ≡ s.sem.entries → seen_state n ps qs xs ≡ s
-  seen-is s clock pid queue set processes queues sets =
+      → map item_row ps ≡ s.processes.entries → ws ≡ s.wait → map queue_row qs ≡ s.msg.entries → map item_row xs ≡ s.sem.entries
+      → seen_state n ps ws qs xs ≡ s
+  seen-is s clock pid queue set processes waits queues sets =
       λ i. record {
         clock = clock i;
         processes = record { next = pid i; entries = processes i };
+        wait = waits i;
         msg = record { next = queue i; entries = queues i };
         sem = record { next = set i; entries = sets i };
       }
 
-  pub seen_count : length (saved (seen_state n ps qs xs)) ≡ 4 + (length qs + length xs)
-  seen_count = omega (arith, saved-count (seen_state n ps qs xs), length-map qs queue_row, length-map xs item_row)
+  pub seen_count : length (saved (seen_state n ps ws qs xs)) ≡ 4 + (length qs + length xs)
+  seen_count = omega (arith, saved-count (seen_state n ps ws qs xs), length-map qs queue_row, length-map xs item_row)
+
+  -- the bytes of the waiting calls can be counted
+  pub waits-counted : AreObjects (saved (seen_state n ps ws qs xs)) → 4 + length (flat_map waiting_bytes (map (λ w. w) ws)) < 2 ^ 64
+  waits-counted are =
+      let s : State = seen_state n ps ws qs xs in
+      let short = each-at (λ (p : ℕ × List ℕ). length p.1 < 2 ^ 64) (saved s) 2 _ are.lengths (saved-waits s) in
+      omega (arith, short, waits-long ws, ap (λ (l : List PlainWaiting). length (flat_map waiting_bytes l)) (map-id ws))
 
 -- ---- they are objects
 
@@ -208,6 +222,9 @@ module _ (limits : Limits) (s : State) (passed : ArePassed limits) (sound : IsSo
       All-weaker (λ (e : ℕ × Entry Set). IsSoundSet limits e.1.object) (λ e. length (set_bytes e.1) ≤ 44 + 6 * limits.semmsl)
       (λ e good. omega (arith, set-long e.1, good.few)) s.sem.entries sound.parts.sem.keyed.each
 
+  waits-short : length (waits_bytes s.wait) ≤ 4 + limits.processes * 8464
+  waits-short = omega (arith, waits-long s.wait, length-waits s.wait sound.parts.wait.each, sound.parts.wait.few)
+
   numbers-rise : IsRising 0 (keys_of (saved s)) (2 ^ 64)
   unfolding saved
   numbers-rise =
@@ -230,12 +247,13 @@ module _ (limits : Limits) (s : State) (passed : ArePassed limits) (sound : IsSo
       let IsShort : ℕ × Entry Set → Type 0 = λ e. length (set_bytes e.1) ≤ 44 + 6 * limits.semmsl in
       record {
         numbers = numbers-rise;
-        some = each-saved s Some-bytes (omega arith) (omega (arith, processes-long s.processes.entries)) (omega arith) (omega arith)
+        some = each-saved s Some-bytes (omega arith) (omega (arith, processes-long s.processes.entries)) (omega (arith, waits-long s.wait)) (omega arith)
             (All-weaker (λ (e : ℕ × Entry Queue). length (queue_bytes e.1) ≤ 64 + 13 * limits.msgmnb) (λ e. Some-bytes (queue_object e))
             (λ e short. omega (arith, queue-long e.1)) s.msg.entries queues-short)
             (All-weaker IsShort (λ e. Some-bytes (set_object e)) (λ e short. omega (arith, set-long e.1)) s.sem.entries sets-short);
         lengths = each-saved s Few-bytes (omega arith)
-            (omega (arith, processes-long s.processes.entries, sound.parts.processes.count, b.processes.1)) (omega arith) (omega arith)
+            (omega (arith, processes-long s.processes.entries, sound.parts.processes.count, b.processes.1))
+            (omega (arith, waits-short, b.processes.1)) (omega arith)
             (All-weaker (λ (e : ℕ × Entry Queue). length (queue_bytes e.1) ≤ 64 + 13 * limits.msgmnb) (λ e. Few-bytes (queue_object e))
             (λ e short. omega (arith, short, b.msgmnb.1)) s.msg.entries queues-short)
             (All-weaker IsShort (λ e. Few-bytes (set_object e)) (λ e short. omega (arith, short, b.semmsl)) s.sem.entries sets-short);
@@ -254,12 +272,13 @@ module _ (limits : Limits) (s : State) (passed : ArePassed limits) (sound : IsSo
       sound.parts.sem.keyed.numbered.count in
       let processes : 16 * length s.processes.entries ≤ limits.processes * (16 + 16 * limits.descriptors) =
       omega (arith, mul-le (length s.processes.entries) 16 limits.processes (16 + 16 * limits.descriptors) sound.parts.processes.count (omega arith)) in
-      let first : ℕ = sectors 32 + sectors (length (processes_bytes s.processes.entries)) + sectors 4 + sectors 4 in
+      let first : ℕ = sectors 32 + sectors (length (processes_bytes s.processes.entries)) + sectors (length (waits_bytes s.wait)) + sectors 4 in
       omega (
         arith,
         sum_by_from of first (things s),
         sum_by-append of (map queue_object s.msg.entries) (map set_object s.sem.entries),
         processes-long s.processes.entries,
+        waits-short,
       )
 
   pub saved-fit : Fit (area_of limits) (saved s)
@@ -272,6 +291,9 @@ start-places = record {
   clock = (omega arith, (omega arith, (omega arith, (omega arith, (omega arith, (omega arith, (omega arith, tt)))))));
   count = omega arith;
   processes = All-nil _;
+  wait_count = omega arith;
+  waits = All-nil _;
+  pids = tt;
   queues = All-nil _;
   sets = All-nil _;
 }

@@ -1,12 +1,16 @@
 -- The state as objects, each of them some bytes under a number: what a checkpoint keeps. There are four that every
 -- state has, one for each queue, and one for each semaphore set. Kinds that are still to come have their place: their
--- next number is 1, and no process has a descriptor, no call waits, and no semaphore is adjusted.
-use Rattle.std.specs.Prelude.{◌≡◌, ◌*◌, ◌<◌, ◌≤◌, ◌^◌, ℕ, ℤ, List, [], ◌∷◌, ◌++◌}
-use Rattle.std.specs.Prelude.{length, map, All, FitsSigned}
+-- next number is 1, and no process has a descriptor, and no semaphore is adjusted. Of a call that waits the object on
+-- which it waits is not kept: its request says it.
+use Rattle.std.specs.Prelude.{◌≡◌, ◌*◌, ◌-◌, ◌<◌, ◌≤◌, ◌^◌, ℕ, ℤ, List, [], ◌∷◌, ◌++◌}
+use Rattle.std.specs.Prelude.{length, map, All, FitsSigned, Option, Some, None, IfSome}
 use Rattle.std.specs.Int.{w32, w64, cast_unsigned}
 use Rattle.std.specs.List.{flat_map}
+use Rattle.ipc_base.specs.declared.identity.Moment.{Moment}
 use Rattle.ipc_base.specs.declared.limits.Limits.{Limits}
 use Rattle.ipc_base.specs.Objects.{PlainObjects}
+use Rattle.ipc_wait.specs.Waits.{HaveDistinctPids}
+use Rattle.ipc_wire.specs.Spelling.{HasFrame, request_bytes}
 use Rattle.sysv_msg.specs.Queue.{Queue, PlainMessage}
 use Rattle.sysv_sem.specs.Operation.{most_value}
 use Rattle.sysv_sem.specs.declared.set.Semaphore.{Semaphore}
@@ -16,6 +20,7 @@ use Rattle.ipc_state.specs.declared.keyed.Entry.{Entry}
 use Rattle.ipc_state.specs.declared.processes.Process.{Process}
 use Rattle.ipc_engine.specs.Sound.{IsSound}
 use Rattle.ipc_state.specs.State.{State}
+use Rattle.ipc_state.specs.Waiting.{PlainWaiting, awaited_by}
 use Rattle.ipc_base.specs.declared.field.Size.{Size}
 use Rattle.ipc_base.specs.declared.field.Size.TheVariants.{Two, Four, Eight}
 use Rattle.ipc_base.specs.Numbers.{fields_bytes, FitFields}
@@ -55,6 +60,31 @@ process_bytes = bytes_in process_shape process_numbers
 -- how many processes there are, and each of them, by pid
 abbrev pub processes_bytes : List (ℕ × Process) → List ℕ
 processes_bytes processes = counted_bytes process_bytes processes
+
+-- a deadline as a number, of which the greatest is none
+abbrev pub deadline_number : Option Moment → ℕ
+deadline_number None = 2 ^ 64 - 1
+deadline_number (Some deadline) = deadline.0
+
+-- a call that waits: its pid, its deadline, how long its request is, and the request: its frame without the length
+abbrev pub waiting_sizes : List Size
+waiting_sizes = Four ∷ Eight ∷ Four ∷ []
+
+abbrev pub waiting_shape : Shape
+waiting_shape = Texts waiting_sizes (2 ∷ [])
+
+abbrev pub waiting_numbers : PlainWaiting → List ℕ
+waiting_numbers w = w.pid.0 ∷ deadline_number w.deadline ∷ length (request_bytes w.call) ∷ []
+
+abbrev pub waiting_tree : PlainWaiting → Tree waiting_shape
+waiting_tree w = (waiting_numbers w, request_bytes w.call)
+
+abbrev pub waiting_bytes : PlainWaiting → List ℕ
+waiting_bytes = bytes_in waiting_shape waiting_tree
+
+-- how many calls wait, and each of them, in the order in which they came
+abbrev pub waits_bytes : List PlainWaiting → List ℕ
+waits_bytes calls = counted_bytes waiting_bytes calls
 
 -- ---- objects with a key
 
@@ -146,12 +176,19 @@ set_object = object_in (2 * 2 ^ 32) set_bytes
 unfoldable pub saved : State → PlainObjects
 saved s =
     (0, fields_bytes clock_sizes (clock_numbers s)) ∷ (1, processes_bytes s.processes.entries)
-    ∷ (2, count_bytes 0) ∷ (3, count_bytes 0) ∷ map queue_object s.msg.entries ++ map set_object s.sem.entries
+    ∷ (2, waits_bytes s.wait) ∷ (3, count_bytes 0) ∷ map queue_object s.msg.entries ++ map set_object s.sem.entries
 
 -- ---- each number has its place
 
 abbrev pub FitsProcess : ℕ × Process → Type 0
 FitsProcess p = IsTree process_shape (process_numbers p)
+
+-- its request has a frame and waits on that object, and its deadline, if it has one, is not the number of none
+pub record FitsWaiting (w : PlainWaiting) : Type 0 where
+  pub tree : IsTree waiting_shape (waiting_tree w)
+  pub frame : HasFrame w.call
+  pub on : awaited_by w.call.kind ≡ Some w.on
+  pub deadline : IfSome w.deadline (λ deadline. deadline.0 < 2 ^ 64 - 1)
 
 abbrev pub FitsMessage : PlainMessage → Type 0
 FitsMessage m = FitsSigned w64 m.mtype × IsTree message_shape (message_tree m)
@@ -179,6 +216,10 @@ pub record HasAllPlaces (s : State) : Type 0 where
   pub clock : FitFields clock_sizes (clock_numbers s)
   pub count : length s.processes.entries < 2 ^ 32
   pub processes : All FitsProcess s.processes.entries
+  pub wait_count : length s.wait < 2 ^ 32
+  pub waits : All FitsWaiting s.wait
+  -- no process has two calls that wait
+  pub pids : HaveDistinctPids s.wait
   pub queues : All (FitsIn FitsQueue) s.msg.entries
   pub sets : All (FitsIn FitsSet) s.sem.entries
 

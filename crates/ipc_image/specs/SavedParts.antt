@@ -1,25 +1,33 @@
 -- What is known of numbers once they are read, marks, and what a tree is of.
 use Rattle.std.specs.Prelude.{◌≡◌, ℕ, zero, suc, ◌-◌, ◌<◌, ◌≤◌, ◌^◌, ◌↔◌, List, [], ◌∷◌, ◌++◌, length}
-use Rattle.std.specs.Prelude.{ℤ, take, drop, Some, slice_get, slice_index, map}
+use Rattle.std.specs.Prelude.{ℤ, take, drop, Option, Some, None, slice_get, slice_index, map, unwrap_or}
+use Rattle.std.specs.Prelude.{◌==◌, if◌then◌else◌}
 use Rattle.std.specs.List.{flat_map}
 use Rattle.std.specs.Int.{w64, cast_signed}
+use Rattle.ipc_base.specs.declared.identity.Moment.{Moment}
 use Rattle.ipc_base.specs.declared.limits.Limits.{Limits}
 use Rattle.ipc_base.specs.declared.objects.Mark.{Mark}
 use Rattle.ipc_base.specs.Objects.{PlainObjects}
+use Rattle.ipc_wire.specs.Request.{PlainRequest, Interrupt}
+use Rattle.ipc_wire.specs.Stream.{PlainFrame, frame_of}
+use Rattle.ipc_wire.specs.Stream.PlainFrame.{Whole}
 use Rattle.sysv_msg.specs.Queue.{Kept, Queue, PlainMessage}
 use Rattle.sysv_sem.specs.declared.set.Semaphore.{Semaphore}
 use Rattle.sysv_sem.specs.Set.{Set}
 use Rattle.ipc_perm.specs.declared.perm.Perm.{Perm}
+use Rattle.ipc_state.specs.declared.parked.Awaited.{Awaited}
+use Rattle.ipc_state.specs.declared.parked.Awaited.TheVariants as awaited
 use Rattle.ipc_state.specs.declared.processes.Process.{Process}
 use Rattle.ipc_state.specs.declared.keyed.Entry.{Entry}
 use Rattle.ipc_state.specs.declared.numbered.Item.{Item}
 use Rattle.ipc_state.specs.declared.state.Numbers.{Numbers}
 use Rattle.ipc_state.specs.State.{State}
 use Rattle.ipc_state.specs.Tables.{item_row, queue_row}
+use Rattle.ipc_state.specs.Waiting.{PlainWaiting, awaited_by}
 use Rattle.ipc_image.specs.declared.state_objects.Thing.{Thing}
 use Rattle.ipc_image.specs.declared.state_objects.Thing.TheVariants as thing
 use Rattle.ipc_image.specs.Kind.{FitsIn}
-use Rattle.ipc_image.specs.Saved.{process_bytes, message_bytes, queue_object, FitsQueue}
+use Rattle.ipc_image.specs.Saved.{process_bytes, waiting_bytes, message_bytes, queue_object, FitsQueue}
 use Rattle.ipc_image.specs.Saved.{semaphore_bytes, set_object, FitsSet, saved}
 
 -- ---- what was added
@@ -74,6 +82,7 @@ IsMarkAfter s = MarkAt IsMarkOfQueue (MarkAt IsMarkOfSet (λ at m. Unit {0}) s.s
 -- it is a mark of the i-th object; those of objects without a list are never looked at
 pub record IsMarkOf (s : State) (i : ℕ) (m : Mark) : Type 0 where
   pub processes : i ≡ 1 → IsMarkIn process_bytes s.processes.entries m
+  pub waits : i ≡ 2 → IsMarkIn waiting_bytes s.wait m
   pub things : 4 ≤ i → IsMarkAfter s (i - 4) m
 
 -- this object stands at a place, and the marks there are of it
@@ -108,6 +117,29 @@ pub record IsFound (s : State) (i : ℕ) (o : ℕ × List ℕ) (IsOfIt : Mark �
 
 abbrev pub process_of : List ℕ → ℕ × Process
 process_of ns = (slice_index ns 0, record { cred = record { uid = slice_index ns 1; gid = slice_index ns 2 } })
+
+-- the request of which this is the frame; where it is none's, any one
+abbrev pub request_in : PlainFrame → PlainRequest
+request_in (Whole used request) = request
+request_in _ = record { serial = 0; kind = Interrupt }
+
+abbrev pub awaited_or_any : Option Awaited → Awaited
+awaited_or_any on = unwrap_or on (awaited.Queue (record { 0 = 0 }))
+
+abbrev pub deadline_from : ℕ → Option Moment
+deadline_from n = if n == 2 ^ 64 - 1 then None else Some (record { 0 = n })
+
+abbrev pub waiting_from : List ℕ → PlainRequest → PlainWaiting
+waiting_from ns request =
+    record {
+      pid = record { 0 = slice_index ns 0 };
+      on = awaited_or_any (awaited_by request.kind);
+      deadline = deadline_from (slice_index ns 1);
+      call = request;
+    }
+
+abbrev pub waiting_of : List ℕ × List ℕ → PlainWaiting
+waiting_of t = waiting_from t.0 (request_in (frame_of t.1))
 
 abbrev pub message_from : List ℕ → ℤ → PlainMessage
 message_from text mtype = record { mtype = mtype; text = text }
@@ -150,11 +182,13 @@ abbrev pub set_from : List ℕ → List Semaphore → Set
 set_from ns semaphores = record { semaphores = semaphores; otime = slice_index ns 0; ctime = slice_index ns 1 }
 
 -- the state that has these tables
-abbrev pub seen_state : Numbers → List (Item Process) → List (Item (Entry Kept)) → List (Item (Entry Set)) → State
-seen_state n processes queues sets =
+abbrev pub seen_state : Numbers → List (Item Process) → List PlainWaiting → List (Item (Entry Kept))
+    → List (Item (Entry Set)) → State
+seen_state n processes waits queues sets =
     record {
       clock = n.clock.0;
       processes = record { next = n.next_pid; entries = map item_row processes };
+      wait = waits;
       msg = record { next = n.next_queue; entries = map queue_row queues };
       sem = record { next = n.next_set; entries = map item_row sets };
     }

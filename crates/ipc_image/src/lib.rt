@@ -18,6 +18,7 @@ mod set;
 mod sizes;
 mod state_objects;
 mod superblock;
+mod waiting;
 mod widths;
 mod window;
 

@@ -9,6 +9,7 @@ ghost use Rattle.ipc_image.specs.Saved.{count_bytes, saved, HasAllPlaces, StandF
 use crate::clock::read_clock;
 use crate::kind::restore_kind;
 use crate::saved::read_counted;
+use crate::waiting::restore_waits;
 use ipc_base::{Limits, ObjectMap, Objects};
 use ipc_engine::{Engine, StateFault};
 use ipc_state::{Item, Process, State};
@@ -57,7 +58,7 @@ fn restore(state: &mut State, alloc: Global, objects: &ObjectMap) -> Result<(), 
     let Some(adjustments) = object_numbered(objects, 3) else {
         return Err(StateFault::Unsound);
     };
-    if !is_none_counted(calls) || !is_none_counted(adjustments) {
+    if !is_none_counted(adjustments) {
         return Err(StateFault::Unsound);
     }
     let Some(numbers) = read_clock(clock) else {
@@ -65,6 +66,7 @@ fn restore(state: &mut State, alloc: Global, objects: &ObjectMap) -> Result<(), 
     };
     state.restore_numbers(numbers);
     read_counted::<Item<Process>>(state, processes)?;
+    restore_waits(state, alloc, calls)?;
     let next = restore_kind::<MsgQueue>(state, alloc, objects, ALWAYS)?;
     let next = restore_kind::<SemSet>(state, alloc, objects, next)?;
     if next < objects.count() {

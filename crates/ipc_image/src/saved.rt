@@ -71,6 +71,19 @@ pub(crate) trait Saved {
     ghost place: { IsPlace items put };
 }
 
+/// How many bytes all of them have.
+pub(crate) fn list_len<T: Saved>(items: &[T]) -> u64
+    requires fit { All T.Fits (map T.plain items.now) }
+    requires short { length (flat_map (bytes_in T.shape T.tree) (map T.plain items.now)) < 2 ^ 64 }
+    ensures { result ≡ length (flat_map (bytes_in T.shape T.tree) (map T.plain items.now)) }
+{
+    let mut len = 0;
+    for item in items {
+        len += item.len();
+    }
+    len
+}
+
 /// All of them pass the window. The mark is of them.
 pub(crate) fn put_list<T: Saved>(window: &mut Window, items: &[T], mark: &mut Mark)
     requires fit { All T.Fits (map T.plain items.now) }

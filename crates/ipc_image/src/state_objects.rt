@@ -15,12 +15,13 @@ use crate::entry::{entry_len, put_entry};
 use crate::fields::put_count;
 use crate::kind::Kind;
 use crate::restoring::ALWAYS;
-use crate::saved::{START, put_counted};
+use crate::saved::{START, list_len, put_counted};
 use crate::widths::read_state;
 use crate::window::Window;
 use ipc_base::{Mark, Moment, Objects};
 use ipc_engine::Engine;
-use ipc_state::{Entry, Item, Numbers, Process};
+use ipc_state::{Awaited, Entry, Item, Numbers, Parked, Process};
+use ipc_wait::Waiting;
 use std::marker::Model;
 use sysv_msg::MsgQueue;
 use sysv_sem::SemSet;
@@ -31,6 +32,7 @@ use sysv_sem::SemSet;
 pub struct StateObjects<'a> {
     numbers: Numbers,
     processes: &'a [Item<Process>],
+    waits: &'a [Waiting<Awaited, Parked>],
     queues: &'a [Item<Entry<MsgQueue>>],
     sets: &'a [Item<Entry<SemSet>>],
 }
@@ -50,11 +52,11 @@ impl<'a> Model for StateObjects<'a> {
 
     ghost Value = { PlainState };
 
-    ghost view = { λ o. seen_state o.numbers o.processes.now o.queues.now o.sets.now };
+    ghost view = { λ o. seen_state o.numbers o.processes.now o.waits.now o.queues.now o.sets.now };
 
     ghost invariant = { λ o.
-        HasAllPlaces (seen_state o.numbers o.processes.now o.queues.now o.sets.now)
-        × AreObjects (saved (seen_state o.numbers o.processes.now o.queues.now o.sets.now)) };
+        HasAllPlaces (seen_state o.numbers o.processes.now o.waits.now o.queues.now o.sets.now)
+        × AreObjects (saved (seen_state o.numbers o.processes.now o.waits.now o.queues.now o.sets.now)) };
 }
 
 /// The state of the machine as objects. It takes no memory. They stand for that state, and fit where
@@ -74,6 +76,7 @@ pub fn objects_of<'a>(engine: &'a Engine) -> StateObjects<'a>
             next_set: state.next_set(),
         },
         processes: state.processes(),
+        waits: state.waits(),
         queues: state.queues(),
         sets: state.sets(),
     }
@@ -92,6 +95,7 @@ pub fn start_objects() -> StateObjects<'static>
             next_set: 1,
         },
         processes: &[],
+        waits: &[],
         queues: &[],
         sets: &[],
     }
@@ -127,7 +131,8 @@ impl<'a> Objects for StateObjects<'a> {
         match i {
             0 => 32,
             1 => 4 + 16 * self.processes.len() as u64,
-            2 | 3 => 4,
+            2 => 4 + list_len(self.waits),
+            3 => 4,
             _ => thing_len(&thing_at(self, i)),
         }
     }
@@ -193,7 +198,8 @@ fn put_object(window: &mut Window, objects: &StateObjects<'_>, i: u32, mark: &mu
     match i {
         0 => put_clock(window, objects.numbers),
         1 => put_counted(window, objects.processes, mark),
-        2 | 3 => put_count(window, 0),
+        2 => put_counted(window, objects.waits, mark),
+        3 => put_count(window, 0),
         _ => put_thing(window, &thing_at(objects, i), mark),
     }
 }

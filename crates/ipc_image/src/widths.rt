@@ -1,19 +1,21 @@
 //! That each number of a state has its place in a field. The type of a number says how large it is
 //! at most, and says so once the number is read; so each is read here, and nothing else is done.
-//! Messages are not read: a queue says of them what is needed.
+//! Messages are not read: a queue says of them what is needed; nor are the requests of calls that wait, which have frames.
 
 ghost use Rattle.std.specs.Prelude.{All, ⊤};
 ghost use Rattle.ipc_base.specs.Limits.{ArePassed};
 ghost use Rattle.ipc_base.specs.Numbers.{FitFields};
 ghost use Rattle.ipc_state.specs.Keyed.{entry_map};
 ghost use Rattle.ipc_state.specs.Tables.{item_row};
+ghost use Rattle.ipc_state.specs.Waiting.{IsSoundWaiting};
 ghost use Rattle.ipc_engine.specs.Sound.{IsSound};
 ghost use Rattle.ipc_image.specs.Kind.{FitsIn};
-ghost use Rattle.ipc_image.specs.Saved.{clock_sizes, clock_numbers, FitsEntry, FitsProcess, HasAllPlaces};
+ghost use Rattle.ipc_image.specs.Saved.{clock_sizes, clock_numbers, FitsEntry, FitsProcess, FitsWaiting, HasAllPlaces};
 
 use crate::entry::read_head;
 use crate::kind::Kind;
-use ipc_state::{Entry, Item, Process, State};
+use ipc_state::{Awaited, Entry, Item, Parked, Process, State};
+use ipc_wait::Waiting;
 
 /// What has numbers.
 pub(crate) trait Wide {
@@ -38,6 +40,16 @@ impl Wide for Item<Process> {
         let _pid = self.number;
         let _uid = self.value.cred.uid;
         let _gid = self.value.cred.gid;
+    }
+}
+
+impl Wide for Waiting<Awaited, Parked> {
+    ghost IsSmall = { IsSoundWaiting };
+
+    ghost IsWide = { FitsWaiting };
+
+    fn read(&self) {
+        let _pid = self.pid.0;
     }
 }
 
@@ -72,6 +84,7 @@ pub(crate) fn read_state(state: &State)
 {
     read_clock(state);
     read_each(state.processes());
+    read_each(state.waits());
     read_each(state.queues());
     read_each(state.sets());
 }

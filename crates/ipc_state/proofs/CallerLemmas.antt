@@ -1,10 +1,12 @@
 -- What the crates above cite: each change of the state leads from a sound state to a sound state, and so does a call
 -- whose steps do.
-use Rattle.std.proofs.Common.{◌≡◌, ℕ, ℤ, ◌<◌, Bool, true, false, Option, Some, None, refl, arith, sym, ap, subst, ◌∙◌, List}
+use Rattle.std.proofs.Common.{◌≡◌, ℕ, ℤ, ◌<◌, Bool, true, false, Option, Some, None, refl, arith, sym, ap, subst, ◌∙◌, List, [], not}
 use Rattle.std.proofs.lemmas.Nat.{and_le_r}
 use Rattle.std.specs.Prelude.{Ok, Err, nat_eq, nat_le, nat_lt, option_map, IfSome, ◌||◌, if◌then◌else◌, pos}
 use Rattle.std.specs.Ordering.{int_eq}
 use Rattle.std.proofs.lemmas.List.{length-map}
+use Rattle.std.proofs.lemmas.List.Elements.{All-nil, All-filter}
+use Rattle.std.proofs.lemmas.List.Filters.{length-filter_both}
 use Rattle.std.specs.Borrow.{MutBor}
 use Rattle.std.specs.Option.{option_copied_mut, IsSome}
 use Rattle.ipc_base.specs.Table.{value_at}
@@ -17,7 +19,10 @@ use Rattle.ipc_state.specs.Lends.{HasPutObject}
 use Rattle.ipc_state.specs.Tables.{HeldObjects, queue_in, queue_entry, queues_of, texts_of}
 use Rattle.ipc_base.specs.declared.errno.Errno.{Errno}
 use Rattle.ipc_base.specs.declared.identity.Cred.{Cred}
+use Rattle.ipc_base.specs.declared.identity.Pid.{Pid}
 use Rattle.ipc_base.specs.declared.limits.Limits.{Limits}
+use Rattle.ipc_wait.specs.Waits.{is_of, without}
+use Rattle.ipc_wait.proofs.CallerLemmas.{without-distinct}
 use Rattle.sysv_msg.specs.Queue.{Queue, Kept, new_queue}
 use Rattle.sysv_sem.specs.Set.{Set}
 use Rattle.ipc_wire.specs.Reply.{PlainBody}
@@ -29,6 +34,7 @@ use Rattle.ipc_state.specs.Keyed.{Keyed, holding, permitting, keyed, AreKeyed, A
 use Rattle.ipc_state.specs.declared.processes.Process.{Process}
 use Rattle.ipc_state.specs.State.{State, start, at_moment, has_all_processes, with_process, exit, restart, queue_of, with_queue, with_new_queue}
 use Rattle.ipc_state.specs.Sound.{HasSoundParts, IsSoundQueue, IsSoundSet, AreSoundSets, FitsBody}
+use Rattle.ipc_state.specs.Waiting.{PlainWaiting, AreSoundWaits, IsSoundWaiting}
 use Rattle.ipc_state.specs.Finish.{Finish, Attempt, Done, ended, answer, refuse, ◌orelse◌, ◌>>◌, ◌>>=◌, if_some}
 use Rattle.ipc_state.proofs.Numbering.{none_yet-numbered, with_new-numbered, without_entry-numbered, cleared-numbered}
 use Rattle.ipc_state.proofs.Keying as keying
@@ -49,28 +55,48 @@ module _ (limits : Limits) where
   -- a state with another part that is sound is sound
   pub set-processes : (s : State) (processes : Numbered Process) → HasSoundParts limits s → AreNumbered limits.processes processes
       → HasSoundParts limits (record s { processes = processes })
-  set-processes s processes h good = record { processes = good; msg = h.msg; sem = h.sem }
+  set-processes s processes h good = record { processes = good; wait = h.wait; msg = h.msg; sem = h.sem }
+
+  pub set-wait : (s : State) (calls : List PlainWaiting) → HasSoundParts limits s → AreSoundWaits limits calls → HasSoundParts limits (record s { wait = calls })
+  set-wait s calls h good = record { processes = h.processes; wait = good; msg = h.msg; sem = h.sem }
 
   pub set-msg : (s : State) (msg : Keyed Queue) → HasSoundParts limits s → AreKeyed limits.msgmni (IsSoundQueue limits) msg
       → HasSoundParts limits (record s { msg = msg })
-  set-msg s msg h good = record { processes = h.processes; msg = good; sem = h.sem }
+  set-msg s msg h good = record { processes = h.processes; wait = h.wait; msg = good; sem = h.sem }
+
+  none-waits : AreSoundWaits limits []
+  none-waits = record { pids = tt; few = omega arith; each = All-nil IsSoundWaiting }
+
+  -- without the call of a process
+  pub without-waits : (pid : Pid) (calls : List PlainWaiting) → AreSoundWaits limits calls → AreSoundWaits limits (without pid calls)
+  without-waits pid calls h =
+      record {
+        pids = without-distinct pid calls h.pids;
+        few = omega (arith, length-filter_both (is_of pid) (λ (w : PlainWaiting). not (is_of pid w)) (λ w. refl) calls, h.few);
+        each = All-filter (λ (w : PlainWaiting). not (is_of pid w)) IsSoundWaiting calls h.each;
+      }
 
   pub start-sound : HasSoundParts limits start
   start-sound =
       record {
         processes = none_yet-numbered limits.processes;
+        wait = none-waits;
         msg = keying.none_yet-keyed limits.msgmni (IsSoundQueue limits);
         sem = record { keyed = keying.none_yet-keyed limits.semmni (IsSoundSet limits); count = omega arith };
       }
 
   pub begin-sound : (s : State) (moment : ℕ) → HasSoundParts limits s → HasSoundParts limits (at_moment s moment)
-  begin-sound s moment h = record { processes = h.processes; msg = h.msg; sem = h.sem }
+  begin-sound s moment h = record { processes = h.processes; wait = h.wait; msg = h.msg; sem = h.sem }
 
   pub exit-sound : (s : State) (pid : ℕ) → HasSoundParts limits s → HasSoundParts limits (exit s pid)
-  exit-sound s pid h = set-processes s _ h (without_entry-numbered limits.processes s.processes pid h.processes)
+  exit-sound s pid h =
+      set-wait (record s { processes = without_entry s.processes pid }) _
+      (set-processes s _ h (without_entry-numbered limits.processes s.processes pid h.processes)) (without-waits (record { 0 = pid }) s.wait h.wait)
 
   pub restart-sound : (s : State) → HasSoundParts limits s → HasSoundParts limits (restart s)
-  restart-sound s h = set-processes s _ h (cleared-numbered limits.processes s.processes h.processes)
+  restart-sound s h =
+      set-wait (record s { processes = record { next = s.processes.next; entries = [] } }) _
+      (set-processes s _ h (cleared-numbered limits.processes s.processes h.processes)) none-waits
 
   pub with_process-sound : (s : State) (cred : Cred) → has_all_processes limits s ≡ false → HasSoundParts limits s → HasSoundParts limits (with_process s cred)
   with_process-sound s cred room h = set-processes s _ h (with_new-numbered limits.processes s.processes (record { cred = cred }) room h.processes)

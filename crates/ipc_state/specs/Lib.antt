@@ -1,5 +1,6 @@
 pub mod Numbered
 pub mod Keyed
+pub mod Waiting
 pub mod State
 pub mod Sound
 pub mod Tests

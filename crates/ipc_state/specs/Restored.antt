@@ -1,5 +1,5 @@
 -- The state with a part more that was read. A state is rebuilt part by part, and is sound only as a whole.
-use Rattle.std.specs.Prelude.{ℕ}
+use Rattle.std.specs.Prelude.{ℕ, List}
 use Rattle.sysv_msg.specs.Queue.{Queue}
 use Rattle.sysv_sem.specs.Set.{Set}
 use Rattle.ipc_state.specs.declared.keyed.Entry.{Entry}
@@ -7,11 +7,12 @@ use Rattle.ipc_state.specs.declared.processes.Process.{Process}
 use Rattle.ipc_state.specs.declared.state.Numbers.{Numbers}
 use Rattle.ipc_state.specs.Numbered.{with_last}
 use Rattle.ipc_state.specs.State.{State}
+use Rattle.ipc_state.specs.Waiting.{PlainWaiting}
 
 -- with this clock and these next numbers
 abbrev pub with_numbers : State → Numbers → State
 with_numbers s n =
-    record {
+    record s {
       clock = n.clock.0;
       processes = record { next = n.next_pid; entries = s.processes.entries };
       msg = record { next = n.next_queue; entries = s.msg.entries };
@@ -21,6 +22,10 @@ with_numbers s n =
 -- with a process at the end
 abbrev pub with_last_process : State → ℕ → Process → State
 with_last_process s pid p = record s { processes = with_last s.processes pid p }
+
+-- with these calls waiting
+abbrev pub with_waits : State → List PlainWaiting → State
+with_waits s ws = record s { wait = ws }
 
 -- with a queue at the end
 abbrev pub with_last_queue : State → ℕ → Entry Queue → State

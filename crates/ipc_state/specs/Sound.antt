@@ -11,6 +11,7 @@ use Rattle.sysv_sem.specs.Set.{Set}
 use Rattle.ipc_state.specs.Numbered.{AreNumbered}
 use Rattle.ipc_state.specs.Keyed.{Keyed, AreKeyed}
 use Rattle.ipc_state.specs.State.{State}
+use Rattle.ipc_state.specs.Waiting.{AreSoundWaits}
 
 -- a message has a type above 0 and at most msgmax bytes
 pub record IsSoundMessage (limits : Limits) (m : PlainMessage) : Type 0 where
@@ -48,6 +49,7 @@ pub record AreSoundSets (limits : Limits) (o : Keyed Set) : Type 0 where
 -- each part is sound
 pub record HasSoundParts (limits : Limits) (s : State) : Type 0 where
   pub processes : AreNumbered limits.processes s.processes
+  pub wait : AreSoundWaits limits s.wait
   pub msg : AreKeyed limits.msgmni (IsSoundQueue limits) s.msg
   pub sem : AreSoundSets limits s.sem
 

@@ -1,9 +1,10 @@
 -- The state of the server between two events (sysvipc(7)): what it knows of processes and objects. All of it
 -- lasts; nothing in it tells how it is kept.
-use Rattle.std.specs.Prelude.{ℕ, ℤ, Bool, max, Option, [], option_map}
+use Rattle.std.specs.Prelude.{ℕ, ℤ, Bool, max, List, Option, [], option_map}
 use Rattle.std.specs.Prelude.{is_some, unwrap_or}
 use Rattle.ipc_base.specs.declared.identity.Cred.{Cred}
 use Rattle.ipc_base.specs.declared.limits.Limits.{Limits}
+use Rattle.ipc_wait.specs.Waits.{without}
 use Rattle.sysv_msg.specs.Queue.{Queue, new_queue}
 use Rattle.sysv_sem.specs.Set.{Set}
 use Rattle.ipc_state.specs.declared.keyed.Entry.{Entry}
@@ -11,12 +12,15 @@ use Rattle.ipc_perm.specs.declared.perm.Perm.{Perm}
 use Rattle.ipc_state.specs.declared.processes.Process.{Process}
 use Rattle.ipc_state.specs.Numbered.{Numbered, none_yet, entry_of, is_full, with_entry, with_new, without_entry}
 use Rattle.ipc_state.specs.Keyed.{Keyed}
+use Rattle.ipc_state.specs.Waiting.{PlainWaiting}
 
 pub record State : Type 0 where
   -- the greatest moment so far
   pub clock : ℕ
   -- the connected processes, by pid
   pub processes : Numbered Process
+  -- the calls that wait, in the order in which they came
+  pub wait : List PlainWaiting
   -- the message queues
   pub msg : Keyed Queue
   -- the semaphore sets
@@ -24,7 +28,7 @@ pub record State : Type 0 where
 
 -- nothing has happened yet
 abbrev pub start : State
-start = record { clock = 0; processes = none_yet; msg = none_yet; sem = none_yet }
+start = record { clock = 0; processes = none_yet; wait = []; msg = none_yet; sem = none_yet }
 
 -- the state as the moment comes
 abbrev pub at_moment : State → ℕ → State
@@ -48,13 +52,14 @@ has_all_processes limits s = is_full limits.processes s.processes
 abbrev pub with_process : State → Cred → State
 with_process s cred = record s { processes = with_new s.processes (record { cred = cred }) }
 
--- the process leaves
+-- the process leaves, and so does the call of it that waits
 abbrev pub exit : State → ℕ → State
-exit s pid = record s { processes = without_entry s.processes pid }
+exit s pid = record s { processes = without_entry s.processes pid; wait = without (record { 0 = pid }) s.wait }
 
--- The server has stopped and begun anew: no process is left. The clock, the next numbers and all objects stay.
+-- The server has stopped and begun anew: no process is left, and no call waits. The clock, the next numbers and all
+-- objects stay.
 abbrev pub restart : State → State
-restart s = record s { processes = record { next = s.processes.next; entries = [] } }
+restart s = record s { processes = record { next = s.processes.next; entries = [] }; wait = [] }
 
 -- ---- message queues
 

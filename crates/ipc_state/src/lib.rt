@@ -1,16 +1,19 @@
-//! The state between two events: processes, and the objects of each kind with their keys. See sysvipc(7).
+//! The state between two events: processes, calls that wait, and the objects of each kind with their keys. See sysvipc(7).
 #![tactic(auto)]
 
 mod keyed;
 mod keys;
 mod numbered;
+mod parked;
 mod processes;
 mod queues;
 mod sets;
 mod sound;
 mod state;
+mod waits;
 
 pub use keyed::{Entry, IPC_PRIVATE, Keyed};
 pub use numbered::{Item, LAST_NUMBER};
+pub use parked::{Awaited, Parked, ParkedCall};
 pub use processes::Process;
 pub use state::{Numbers, State};

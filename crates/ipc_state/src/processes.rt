@@ -83,20 +83,23 @@ impl State {
         Pid(self.processes.add(Process { cred }))
     }
 
-    /// Takes a process out, if it is there.
+    /// Takes a process out, if it is there, and its call that waits.
     pub fn remove_process(&mut self, pid: Pid)
         ensures state { self.new.state ≡ exit self.old.state pid.0 }
         ensures limits { self.new.limits ≡ self.old.limits }
     {
         self.processes.remove(pid.0);
+        let _waiting = self.wait.leave(pid);
     }
 
-    /// The server has stopped and begun anew: no process is left, and all else stays. It takes no memory.
+    /// The server has stopped and begun anew: no process is left, no call waits, and all else stays. It takes no
+    /// memory.
     pub fn restart(&mut self)
         ensures state { self.new.state ≡ restart self.old.state }
         ensures limits { self.new.limits ≡ self.old.limits }
     {
         self.processes.clear();
+        self.wait.clear();
     }
 
     /// Adds a process that was read, at the end. Refused for want of memory, all is as before.

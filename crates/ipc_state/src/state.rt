@@ -8,8 +8,10 @@ ghost use Rattle.ipc_state.specs.State.{start, at_moment};
 
 use crate::keyed::Keyed;
 use crate::numbered::Numbered;
+use crate::parked::{Awaited, Parked};
 use crate::processes::Process;
 use ipc_base::{Limits, Moment};
+use ipc_wait::WaitList;
 use std::alloc::Global;
 use std::marker::Model;
 use sysv_msg::MsgQueue;
@@ -23,6 +25,7 @@ pub struct State {
     pub(crate) limits: Limits,
     pub(crate) clock: Moment,
     pub(crate) processes: Numbered<Process>,
+    pub(crate) wait: WaitList<Awaited, Parked>,
     pub(crate) msg: Keyed<MsgQueue>,
     pub(crate) sem: Keyed<SemSet>,
 }
@@ -43,6 +46,7 @@ impl Model for State {
       state = record {
         clock = s.clock.0;
         processes = numbered_of s.processes;
+        wait = s.wait.calls;
         msg = queues_of s.msg;
         sem = s.sem.objects;
       };
@@ -80,6 +84,7 @@ impl State {
             limits,
             clock: Moment(0),
             processes: Numbered::new(alloc),
+            wait: WaitList::new(alloc),
             msg: Keyed::new(alloc),
             sem: Keyed::new(alloc),
         }
@@ -123,6 +128,7 @@ impl State {
         ensures { IsTrue result ↔ HasSoundParts self.now.limits self.now.state }
     {
         self.processes.are_numbered(self.limits.processes)
+            && self.are_waits_sound()
             && self.are_queues_sound()
             && self.are_sets_sound()
     }

@@ -54,6 +54,10 @@ module _ {O C : Type 0} where
             | false ↦ λ h. refl
           ] refl
 
+  -- after a call has left, no process has two
+  pub without-distinct : (pid : Pid) (calls : List (Waiting O C)) → HaveDistinctPids calls → HaveDistinctPids (without pid calls)
+  without-distinct pid calls = HaveDistinctPids-filter (λ w. not (is_of pid w)) calls
+
   -- those that pass a test stay in their order
   pub filter-without : (test : Waiting O C → Bool) (pid : Pid) (calls : List (Waiting O C)) → filter test (without pid calls) ≡ without pid (filter test calls)
   filter-without test pid calls = filter-filter test (λ w. not (is_of pid w)) calls

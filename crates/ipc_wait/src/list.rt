@@ -53,6 +53,26 @@ impl<O: Copy + Eq, C: Drop> WaitList<O, C> {
         }
     }
 
+    /// These calls; none, only if two are of one process. It takes no memory.
+    pub fn from_calls(calls: Vec<Waiting<O, C>>) -> Option<WaitList<O, C>>
+        ensures some { IfSome result (λ list. list.calls ≡ calls.items) }
+        ensures none { IfNone result (¬ HaveDistinctPids calls.items) }
+    {
+        if !have_distinct_pids(&calls) {
+            return None;
+        }
+        let earliest = earliest_of(&calls);
+        Some(WaitList { calls, earliest })
+    }
+
+    /// The calls, in order.
+    pub fn calls(&self) -> &[Waiting<O, C>]
+        ensures calls { result.now ≡ self.now.calls }
+        ensures pids { HaveDistinctPids self.now.calls }
+    {
+        &self.calls
+    }
+
     /// How many calls wait.
     pub fn len(&self) -> usize
         ensures len { result ≡ length self.now.calls }
@@ -68,20 +88,16 @@ impl<O: Copy + Eq, C: Drop> WaitList<O, C> {
         self.calls.is_empty()
     }
 
-    /// Makes room for so many calls in all. Refused for want of memory, and then all is as before; never
-    /// refused if there is that much room.
-    pub fn reserve(&mut self, count: usize) -> Result<(), AllocError>
+    /// Makes room for one call more. Refused for want of memory, and then all is as before; never refused if the
+    /// room is there.
+    pub fn reserve(&mut self) -> Result<(), AllocError>
         ensures calls { self.new.calls ≡ self.old.calls }
-        ensures ok { OnOk result (count ≤ self.new.room) }
+        ensures ok { OnOk result (length self.new.calls < self.new.room) }
         ensures room { self.old.room ≤ self.new.room }
-        ensures succeeds { count ≤ self.old.room → IsOk result }
+        ensures succeeds { length self.old.calls < self.old.room → IsOk result }
         ensures err { OnErr result (self.new ≡ self.old) }
     {
-        let len = self.calls.len();
-        if count > len {
-            self.calls.reserve(count - len)?;
-        }
-        Ok(())
+        self.calls.reserve(1)
     }
 
     /// Puts a call at the end; its process has none. It takes no memory: there is room.
@@ -115,7 +131,7 @@ impl<O: Copy + Eq, C: Drop> WaitList<O, C> {
     pub fn get(&self, pid: Pid) -> Option<&Waiting<O, C>>
         ensures { option_copied result ≡ call_of pid self.now.calls }
     {
-        self.calls.iter().find(|w| w.pid == pid)
+        call_among(&self.calls, pid)
     }
 
     /// Whether a call of the process waits.
@@ -189,6 +205,27 @@ fn has_come(now: Moment, deadline: Option<Moment>) -> bool
         Some(deadline) => deadline.0 <= now.0,
         None => false,
     }
+}
+
+/// Whether no process has two of these calls.
+fn have_distinct_pids<O, C>(calls: &[Waiting<O, C>]) -> bool
+    ensures { IsTrue result ↔ HaveDistinctPids calls.now }
+{
+    let mut rest = calls;
+    while let Some((first, others)) = rest.split_first() {
+        if call_among(others, first.pid).is_some() {
+            return false;
+        }
+        rest = others;
+    }
+    true
+}
+
+/// The call of a process among these.
+fn call_among<O, C>(calls: &[Waiting<O, C>], pid: Pid) -> Option<&Waiting<O, C>>
+    ensures { option_copied result ≡ call_of pid calls.now }
+{
+    calls.iter().find(|w| w.pid == pid)
 }
 
 /// The place of the call of a process.

@@ -2,8 +2,8 @@
 use Rattle.std.proofs.Common.{◌≡◌, ℕ, true, refl, ◌+◌, ◌≤◌, ◌<◌, List, ◌++◌, length, drop, Some, ap, ◌∙◌, arith}
 use Rattle.ipc_wire.specs.Reply.{PlainReply, body_bytes, reply_bytes}
 use Rattle.ipc_wire.specs.Request.{PlainRequest}
-use Rattle.ipc_wire.specs.Spelling.{HasFrame, request_bytes}
-use Rattle.ipc_wire.specs.Stream.{PlainFrame, is_more, TakesBytes, first, missing, begins_with, stream_of, continued}
+use Rattle.ipc_wire.specs.Spelling.{HasFrame, fields_of, request_bytes}
+use Rattle.ipc_wire.specs.Stream.{PlainFrame, is_more, TakesBytes, first, missing, frame_of, begins_with, stream_of, continued}
 use Rattle.ipc_wire.specs.Stream.PlainFrame.{More, Whole, Fault}
 use Rattle.ipc_wire.proofs.Frames as frames
 use Rattle.ipc_wire.proofs.Read as read
@@ -52,3 +52,7 @@ length-reply_bytes r = omega arith
 -- no two requests have the same bytes
 pub one_text : (request other : PlainRequest) → HasFrame request → HasFrame other → request_bytes request ≡ request_bytes other → Some request ≡ Some other
 one_text = read.one_text
+
+-- the bytes of a request are its frame without the length
+pub framed : (r : PlainRequest) → HasFrame r → frame_of (request_bytes r) ≡ Whole (9 + length (fields_of r.kind)) r
+framed r has = (read.request_text (request_bytes r) r has refl).whole

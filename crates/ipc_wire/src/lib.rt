@@ -16,8 +16,8 @@ pub use laws::{
 pub use reading::{
     GREATEST_FRAME, GREATEST_LENGTH, LEAST_LENGTH, bytes_missing, read_frame, read_request,
 };
-pub use record::push_fields;
+pub use record::{Record, push_fields};
 pub use reply::{Body, Reply};
 pub use request::{Call, Frame, Request, RequestKind};
-pub use spelling::{put_request, request_len, write_request};
+pub use spelling::{RequestParts, put_request, request_len, request_parts, write_request};
 pub use writing::{reply_len, write_reply};

@@ -30,7 +30,7 @@ const RECORD: usize = 68;
 
 /// The fields of a request. A contract sees them as their bytes.
 #[derive(Drop)]
-pub(crate) struct Record {
+pub struct Record {
     bytes: [u8; RECORD],
     len: usize,
 }
@@ -63,7 +63,7 @@ impl Record {
     }
 
     /// The bytes.
-    pub(crate) fn as_slice(&self) -> &[u8]
+    pub fn as_slice(&self) -> &[u8]
         ensures { result.now ≡ self.now }
     {
         &self.bytes[..self.len]

@@ -27,13 +27,13 @@ use crate::request::{Call, Request, RequestKind};
 use crate::writing::text_len;
 use ipc_base::{Field, Put};
 
-/// A request taken apart, as it stands in its frame.
+/// A request taken apart, as it stands in its frame after its serial.
 #[derive(Drop)]
-struct Parts<'a> {
-    opcode: u8,
-    fields: Record,
+pub struct RequestParts<'a> {
+    pub opcode: u8,
+    pub fields: Record,
     /// What follows the fields, to the end of the frame.
-    rest: &'a [u8],
+    pub rest: &'a [u8],
 }
 
 /// How many bytes the frame of the request takes.
@@ -43,7 +43,7 @@ pub fn request_len(request: &Request<'_>) -> usize
     ensures bounded { HasFrame (plain_request request.now) → result ≤ 8452 }
     ensures far_from_overflow { result + 2 ^ 32 < 2 ^ 64 }
 {
-    let parts = parts_of(request.kind);
+    let parts = request_parts(request.kind);
     9 + parts.fields.as_slice().len() + text_len(parts.rest)
 }
 
@@ -75,15 +75,15 @@ pub fn put_request(put: &mut Put, out: &mut [u8], request: &Request<'_>)
     requires { put.old + length (request_bytes (plain_request request.now)) ≤ length out.old }
     ensures { Puts (request_bytes (plain_request request.now)) put.old put.new out.old out.new true }
 {
-    let parts = parts_of(request.kind);
+    let parts = request_parts(request.kind);
     put.u32(out, request.serial);
     put.u8(out, parts.opcode);
     put.bytes(out, parts.fields.as_slice());
     put.bytes(out, parts.rest);
 }
 
-/// A request in its parts.
-fn parts_of(kind: RequestKind<'_>) -> Parts<'_>
+/// A request in its parts, for a caller who has no buffer for all of it.
+pub fn request_parts(kind: RequestKind<'_>) -> RequestParts<'_>
     ensures opcode { result.opcode ≡ opcode_of (plain_kind kind.entry) }
     ensures fields { result.fields ++ result.rest.now ≡ fields_of (plain_kind kind.entry) }
 {
@@ -98,7 +98,7 @@ fn parts_of(kind: RequestKind<'_>) -> Parts<'_>
     }
 }
 
-fn call_parts(call: Call<'_>) -> Parts<'_>
+fn call_parts(call: Call<'_>) -> RequestParts<'_>
     ensures opcode { result.opcode ≡ opcode_of (Calls (plain_call call.entry)) }
     ensures fields { result.fields ++ result.rest.now ≡ fields_of (Calls (plain_call call.entry)) }
 {
@@ -156,12 +156,12 @@ fn call_parts(call: Call<'_>) -> Parts<'_>
 }
 
 /// These parts.
-fn spelled<'a>(opcode: u8, fields: &[Field], rest: &'a [u8]) -> Parts<'a>
+fn spelled<'a>(opcode: u8, fields: &[Field], rest: &'a [u8]) -> RequestParts<'a>
     requires { length (record_bytes fields.now) ≤ 68 }
     ensures opcode { result.opcode ≡ opcode }
     ensures fields { result.fields ++ result.rest.now ≡ record_bytes fields.now ++ rest.now }
 {
-    Parts {
+    RequestParts {
         opcode,
         fields: Record::new(fields),
         rest,

@@ -7,14 +7,11 @@ use Rattle.ipc_base.specs.Numbers.{fields_bytes}
 use Rattle.ipc_base.specs.Objects.{PlainObjects}
 use Rattle.ipc_state.specs.Restored.{with_numbers}
 use Rattle.ipc_state.specs.State.{State, start}
-use Rattle.ipc_image.specs.SavedParts.{put_queues, put_sets}
 use Rattle.ipc_image.specs.Kind.{IsOther}
-use Rattle.ipc_image.specs.Saved.{clock_sizes, clock_numbers, count_bytes, processes_bytes, queue_object, set_bytes, set_object}
+use Rattle.ipc_image.specs.Saved.{clock_sizes, clock_numbers, count_bytes, processes_bytes, waits_bytes, queue_object, set_bytes, set_object}
 use Rattle.ipc_image.proofs.ReadKinds.{later-kind}
 use Rattle.ipc_image.proofs.WholeState.{parts_of, same_object, all-added, all_restored}
 use Rattle.ipc_image.proofs.restoring.restore.Goals as goal
-use Rattle.ipc_image.proofs.restoring.restore.Goals.{then-not-is_none_counted-via-then-not-is_none_counted}
-use Rattle.ipc_image.proofs.restoring.restore.Goals.{then-not-is_none_counted-via-else-not-is_none_counted+then-not-is_none_counted-2}
 
 pub returns-in_default-clause-damaged : goal.returns-in_default-clause-damaged
 returns-in_default-clause-damaged c is s all are =
@@ -26,7 +23,7 @@ returns-in_default-object_numbered-clause-damaged c is s all are =
 
 pub returns-in_default-object_numbered-2-clause-damaged : goal.returns-in_default-object_numbered-2-clause-damaged
 returns-in_default-object_numbered-2-clause-damaged c is s all are =
-    c.in_default-object_numbered-2.ensures.none (count_bytes 0) (parts_of s c.args.objects.now are).calls
+    c.in_default-object_numbered-2.ensures.none (waits_bytes s.wait) (parts_of s c.args.objects.now are).calls
 
 pub returns-in_default-object_numbered-3-clause-damaged : goal.returns-in_default-object_numbered-3-clause-damaged
 returns-in_default-object_numbered-3-clause-damaged c is s all are =
@@ -34,22 +31,11 @@ returns-in_default-object_numbered-3-clause-damaged c is s all are =
 
 pub returns-then-not-is_none_counted-clause-damaged : goal.returns-then-not-is_none_counted-clause-damaged
 returns-then-not-is_none_counted-clause-damaged c is s all are =
-    let parts = parts_of s c.args.objects.now are in
-    elim c.then-not-is_none_counted.branch [
-      | then-not-is_none_counted-via-then-not-is_none_counted w ↦
-          let none =
-          same_object c.args.objects.now 2 c.in-Some-object_numbered-2.calls.now (count_bytes 0)
-          c.in-Some-object_numbered-2.ensures.some parts.calls in
-          let yes = c.is_none_counted.ensures.1 none in
-          let no = w.if-not-is_none_counted.true in
-          absurd cc
-      | then-not-is_none_counted-via-else-not-is_none_counted+then-not-is_none_counted-2 w ↦
-          let none = same_object c.args.objects.now 3 c.in-Some-object_numbered-3.adjustments.now (count_bytes 0) c.in-Some-object_numbered-3.ensures.some
-          parts.adjustments in
-          let yes = w.is_none_counted-else-not-is_none_counted.ensures.1 none in
-          let no = w.if-not-is_none_counted-2.true in
-          absurd cc
-    ]
+    let none = same_object c.args.objects.now 3 c.in-Some-object_numbered-3.adjustments.now (count_bytes 0) c.in-Some-object_numbered-3.ensures.some
+    (parts_of s c.args.objects.now are).adjustments in
+    let yes = c.is_none_counted.ensures.1 none in
+    let no = c.if-not-is_none_counted.true in
+    absurd cc
 
 pub returns-in_default-read_clock-clause-damaged : goal.returns-in_default-read_clock-clause-damaged
 returns-in_default-read_clock-clause-damaged c is s all are =
@@ -63,6 +49,13 @@ returns-in_err-read_counted-clause-damaged c is s all are =
     let same = same_object c.args.objects.now 1 c.in-Some-object_numbered.processes.now (processes_bytes s.processes.entries)
     c.in-Some-object_numbered.ensures.some (parts_of s c.args.objects.now are).processes in
     c.in_err-read_counted.ensures.damaged (ap (λ e. Err e) (sym why.1)) s.processes.entries all.count all.processes same
+
+pub returns-in_err-restore_waits-clause-damaged : goal.returns-in_err-restore_waits-clause-damaged
+returns-in_err-restore_waits-clause-damaged c is s all are =
+    let why = rw is at c.from_residual-in_err-restore_waits.ensures in
+    let same = same_object c.args.objects.now 2 c.in-Some-object_numbered-2.calls.now (waits_bytes s.wait)
+    c.in-Some-object_numbered-2.ensures.some (parts_of s c.args.objects.now are).calls in
+    c.in_err-restore_waits.ensures.damaged (ap (λ e. Err e) (sym why.1)) s.wait all.wait_count all.waits all.pids same
 
 -- the sets follow the queues, and are all that is left then
 sets_of : (s : State) → map set_object s.sem.entries ≡ map set_object s.sem.entries ++ []
@@ -95,24 +88,25 @@ returns-clause-ok c =
     let objects = c.args.objects.now in
     let n = c.in-Some-read_clock.numbers in
     let ps = c.in_ok-read_counted.ensures.ok in
+    let ws = c.in_ok-restore_waits.ensures.ok in
     let es = c.in_ok-next.ensures.ok in
     let fs = c.in_ok-next-2.ensures.ok in
     let from : (c.restore_numbers.new.self.state, c.restore_numbers.new.self.limits) ≡ (with_numbers start n, c.restore_numbers.new.self.limits) =
     ap (λ (s : State). let r : State × Limits = (s, c.restore_numbers.new.self.limits) in r)
     (c.restore_numbers.ensures.state ∙ ap (λ (s : State). with_numbers s n) c.requires) in
-    let is = all-added n c.restore_numbers.new.self.limits _ _ _ (c.restore_kind-2.new.state.state, c.restore_kind-2.new.state.limits) ps.0 es.0 fs.0
-    from ps.4 es.3 fs.3 in
+    let is = all-added n c.restore_numbers.new.self.limits _ _ _ _ (c.restore_kind-2.new.state.state, c.restore_kind-2.new.state.limits) ps.0 ws.0 es.0 fs.0
+    from ps.4 (λ i. (ws.5 i, c.in_ok-restore_waits.ensures.limits i)) es.3 fs.3 in
     let past : drop c.in_ok-next-2.next objects ≡ [] = drop_all c.in_ok-next-2.next objects (omega (arith, c.if-next-count.false, c.count.ensures.count)) in
     let sets : drop c.in_ok-next.next objects ≡ map set_object fs.0 =
     fs.2 ∙ ap (λ (l : PlainObjects). map set_object fs.0 ++ l) past ∙ append-nil (map set_object fs.0) in
-    all_restored objects n ps.0 es.0 fs.0 _ c.in-Some.clock.now c.in-Some-object_numbered.processes.now
+    all_restored objects n ps.0 ws.0 es.0 fs.0 _ c.in-Some.clock.now c.in-Some-object_numbered.processes.now
     c.in-Some-object_numbered-2.calls.now c.in-Some-object_numbered-3.adjustments.now c.in-Some.ensures.some c.in-Some-object_numbered.ensures.some
     c.in-Some-object_numbered-2.ensures.some c.in-Some-object_numbered-3.ensures.some (c.is_none_counted.ensures.0 c.if-not-is_none_counted.false)
-    (c.is_none_counted-else-not-is_none_counted.ensures.0 c.if-not-is_none_counted-2.false) c.in-Some-read_clock.ensures.some ps.1 ps.2 ps.3 es.1 fs.1
+    c.in-Some-read_clock.ensures.some ps.1 ps.2 ps.3 ws.1 ws.2 ws.3 ws.4 es.1 fs.1
     (es.2 ∙ ap (λ (l : PlainObjects). map queue_object es.0 ++ l) sets) (ap (λ (r : State × Limits). r.0) is)
 
 pub returns-clause-limits : goal.returns-clause-limits
 returns-clause-limits c =
-    ap (λ (r : State × Limits). r.1) (c.in_ok-next-2.ensures.ok.3 ∙ ap (λ (s : State × Limits). put_sets s (s.0.sem.entries ++ c.in_ok-next-2.ensures.ok.0))
-    (c.in_ok-next.ensures.ok.3 ∙ ap (λ (s : State × Limits). put_queues s (s.0.msg.entries ++ c.in_ok-next.ensures.ok.0)) c.in_ok-read_counted.ensures.ok.4))
-    ∙ c.restore_numbers.ensures.limits
+    let limits : State × Limits → Limits = λ r. r.1 in
+    ap limits c.in_ok-next-2.ensures.ok.3 ∙ ap limits c.in_ok-next.ensures.ok.3 ∙ c.in_ok-restore_waits.ensures.limits
+    ∙ ap limits c.in_ok-read_counted.ensures.ok.4 ∙ c.restore_numbers.ensures.limits

@@ -1,12 +1,14 @@
 use Rattle.std.proofs.Common.{ℕ, List, Some, map, ap, sym, subst, arith, ◌∙◌}
 use Rattle.std.specs.Prelude.{option_map}
+use Rattle.std.proofs.lemmas.List.{map-id}
 use Rattle.ipc_state.specs.State.{State}
 use Rattle.ipc_state.specs.Tables.{item_row}
+use Rattle.ipc_state.specs.Waiting.{PlainWaiting}
 use Rattle.ipc_image.specs.SavedParts.{IsMarkIn}
 use Rattle.ipc_base.specs.Numbers.{fields_bytes}
-use Rattle.ipc_image.specs.Saved.{clock_sizes, clock_numbers, process_bytes, processes_bytes}
+use Rattle.ipc_image.specs.Saved.{clock_sizes, clock_numbers, process_bytes, processes_bytes, waits_bytes}
 use Rattle.ipc_image.specs.Window.{Shown, passed}
-use Rattle.ipc_image.proofs.SavedObjects.{saved-clock, saved-processes, saved-none, length-processes}
+use Rattle.ipc_image.proofs.SavedObjects.{saved-clock, saved-processes, saved-waits, saved-adjustments, waits-counted, length-processes}
 use Rattle.ipc_image.proofs.state_objects.put_object.Goals as goal
 
 module _ (w : Shown) where
@@ -35,9 +37,21 @@ returns-in-1-clause-passed c =
     (ap (option_map (after c.args.window.now)) (saved-processes c.args.objects.now)
     ∙ ap Some (ap (λ (t : State). passed (processes_bytes t.processes.entries) c.args.window.now) (sym c.objects.view_is) ∙ sym c.put_counted.ensures.passed))
 
+pub put_counted-requires-in-2-clause-short : goal.put_counted-requires-in-2-clause-short
+put_counted-requires-in-2-clause-short c =
+    let o = c.objects.inside in omega (arith, waits-counted o.numbers _ o.waits.now _ _ c.objects.invariant.1)
+
 pub returns-in-2-clause-passed : goal.returns-in-2-clause-passed
 returns-in-2-clause-passed c =
-    ap (option_map (after c.args.window.now)) (saved-none c.args.objects.now c.args.i (omega arith) (omega arith)) ∙ ap Some (sym c.put_count.ensures)
+    rw c.in-2.is
+    (ap (option_map (after c.args.window.now)) (saved-waits c.args.objects.now)
+    ∙ ap Some (ap (λ (t : State). passed (waits_bytes t.wait) c.args.window.now) (sym c.objects.view_is)
+    ∙ ap (λ (ws : List PlainWaiting). passed (waits_bytes ws) c.args.window.now) (sym (map-id c.objects.inside.waits.now))
+    ∙ sym c.put_counted-in-2.ensures.passed))
+
+pub returns-in-3-clause-passed : goal.returns-in-3-clause-passed
+returns-in-3-clause-passed c =
+    rw c.in-3.is (ap (option_map (after c.args.window.now)) (saved-adjustments c.args.objects.now) ∙ ap Some (sym c.put_count.ensures))
 
 pub returns-in_default-clause-passed : goal.returns-in_default-clause-passed
 returns-in_default-clause-passed c = ap (option_map (after c.args.window.now)) c.thing_at.ensures.object ∙ ap Some (sym c.put_thing.ensures.passed)
@@ -48,11 +62,13 @@ put_thing-requires-clause-mark c = (c.thing_at.ensures.stands.marks c.args.mark.
 pub returns-in-1-clause-mark : goal.returns-in-1-clause-mark
 returns-in-1-clause-mark c = record {
   processes = λ is. subst (λ (t : State). IsMarkIn process_bytes t.processes.entries c.put_counted.new.mark) c.objects.view_is c.put_counted.ensures.mark;
+  waits = λ two. absurd (omega (arith, two, c.in-1.is));
   things = λ le. absurd (omega (arith, le, c.in-1.is));
 }
 
 pub returns-in_default-clause-mark : goal.returns-in_default-clause-mark
 returns-in_default-clause-mark c = record {
   processes = λ one. absurd (omega (arith, one));
+  waits = λ two. absurd (omega (arith, two));
   things = λ le. (c.thing_at.ensures.stands.marks c.put_thing.new.mark).1 c.put_thing.ensures.mark;
 }

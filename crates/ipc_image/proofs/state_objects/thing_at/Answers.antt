@@ -17,7 +17,7 @@ last at m = Unit {0}
 pub returns-then-at-objects : goal.returns-then-at-objects
 returns-then-at-objects c =
     let o = c.objects.inside in
-    let s : State = seen_state o.numbers o.processes.now o.queues.now o.sets.now in
+    let s : State = seen_state o.numbers o.processes.now o.waits.now o.queues.now o.sets.now in
     let at : ℕ = c.args.i - 4 in
     let q = get_or o.queues.now at c.index-objects-at.result in
     let is = table-at queue_row o.queues.now at c.index-objects-at.result c.if-at-objects.true in
@@ -31,7 +31,7 @@ bounds-objects-inside-at-2 c =
     omega (
       arith,
       ap (λ (t : State). length (saved t)) c.objects.view_is,
-      seen_count o.numbers o.processes.now o.queues.now o.sets.now,
+      seen_count o.numbers o.processes.now o.waits.now o.queues.now o.sets.now,
       c.requires.object,
       c.requires.thing,
       c.if-at-objects.false,
@@ -40,14 +40,14 @@ bounds-objects-inside-at-2 c =
 pub returns : goal.returns
 returns c =
     let o = c.objects.inside in
-    let s : State = seen_state o.numbers o.processes.now o.queues.now o.sets.now in
+    let s : State = seen_state o.numbers o.processes.now o.waits.now o.queues.now o.sets.now in
     let at : ℕ = c.args.i - 4 - length o.queues.now in
     let e = get_or o.sets.now at c.index-objects-at-2.result in
     let long = length-map o.queues.now queue_row in
     let is = table-at item_row o.sets.now at c.index-objects-at-2.result (omega (
       arith,
       ap (λ (t : State). length (saved t)) c.objects.view_is,
-      seen_count o.numbers o.processes.now o.queues.now o.sets.now,
+      seen_count o.numbers o.processes.now o.waits.now o.queues.now o.sets.now,
       c.requires.object,
       c.requires.thing,
       c.if-at-objects.false,

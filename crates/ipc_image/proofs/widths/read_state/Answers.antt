@@ -1,19 +1,23 @@
-use Rattle.std.proofs.Common.{subst, arith}
+use Rattle.std.proofs.Common.{sym, subst, arith}
 use Rattle.std.specs.Prelude.{All}
 use Rattle.std.proofs.lemmas.List.Elements.{All-map}
 use Rattle.ipc_base.proofs.CallerLemmas.{passed-bounds}
 use Rattle.ipc_state.specs.Tables.{item_row, queue_row}
+use Rattle.ipc_state.specs.Waiting.{IsSoundWaiting}
 use Rattle.ipc_image.specs.Kind.{FitsIn}
-use Rattle.ipc_image.specs.Saved.{FitsProcess, FitsQueue, FitsSet}
+use Rattle.ipc_image.specs.Saved.{FitsProcess, FitsWaiting, FitsQueue, FitsSet}
 use Rattle.ipc_image.proofs.SavedObjects.{rows-numbers, sets-numbers}
 use Rattle.ipc_image.proofs.widths.read_state.Goals as goal
 
 pub read_each-requires-2 : goal.read_each-requires-2
-read_each-requires-2 c =
-    rows-numbers c.args.state.now.limits c.args.state.now.state c.requires.passed c.requires.sound c.queues.result.now c.queues.ensures
+read_each-requires-2 c = subst (All IsSoundWaiting) (sym c.waits.ensures) c.requires.sound.parts.wait.each
 
 pub read_each-requires-3 : goal.read_each-requires-3
 read_each-requires-3 c =
+    rows-numbers c.args.state.now.limits c.args.state.now.state c.requires.passed c.requires.sound c.queues.result.now c.queues.ensures
+
+pub read_each-requires-4 : goal.read_each-requires-4
+read_each-requires-4 c =
     sets-numbers c.args.state.now.limits c.args.state.now.state c.requires.passed c.requires.sound c.sets.result.now c.sets.ensures
 
 pub returns : goal.returns
@@ -23,6 +27,9 @@ returns c =
       clock = c.read_clock.ensures;
       count = omega (arith, b.processes.1, c.requires.sound.parts.processes.count);
       processes = subst (All FitsProcess) c.processes.ensures (All-map FitsProcess item_row c.processes.result.now c.read_each.ensures);
-      queues = subst (All (FitsIn FitsQueue)) c.queues.ensures (All-map (FitsIn FitsQueue) queue_row c.queues.result.now c.read_each-2.ensures);
-      sets = subst (All (FitsIn FitsSet)) c.sets.ensures (All-map (FitsIn FitsSet) item_row c.sets.result.now c.read_each-3.ensures);
+      wait_count = omega (arith, b.processes.1, c.requires.sound.parts.wait.few);
+      waits = subst (All FitsWaiting) c.waits.ensures c.read_each-2.ensures;
+      pids = c.requires.sound.parts.wait.pids;
+      queues = subst (All (FitsIn FitsQueue)) c.queues.ensures (All-map (FitsIn FitsQueue) queue_row c.queues.result.now c.read_each-3.ensures);
+      sets = subst (All (FitsIn FitsSet)) c.sets.ensures (All-map (FitsIn FitsSet) item_row c.sets.result.now c.read_each-4.ensures);
     }

@@ -9,8 +9,8 @@ use Rattle.ipc_wire.proofs.spelling.put_request.Goals as goal
 
 pub returns : goal.returns
 returns c =
-    let parts = c.parts_of-parts.result in
-    let is = c.parts_of-parts.ensures in
+    let parts = c.request_parts-parts.result in
+    let is = c.request_parts-parts.ensures in
     let old : List ℕ = c.args.out.now in
     let at : ℕ = c.args.put.now in
     let serial : List ℕ = to_be_bytes w32 c.args.request.now.serial in

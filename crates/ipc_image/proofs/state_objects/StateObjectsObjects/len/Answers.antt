@@ -1,9 +1,12 @@
 use Rattle.std.proofs.Common.{ℕ, List, length, Some, ap, arith, ◌∙◌}
 use Rattle.std.specs.Prelude.{option_map}
-use Rattle.std.proofs.lemmas.List.{length-map}
+use Rattle.std.specs.List.{flat_map}
+use Rattle.std.proofs.lemmas.List.{length-map, map-id}
 use Rattle.ipc_state.specs.State.{State}
 use Rattle.ipc_state.specs.Tables.{item_row}
-use Rattle.ipc_image.proofs.SavedObjects.{saved-clock, saved-processes, saved-none, processes-long}
+use Rattle.ipc_state.specs.Waiting.{PlainWaiting}
+use Rattle.ipc_image.specs.Saved.{waiting_bytes, waits_bytes}
+use Rattle.ipc_image.proofs.SavedObjects.{saved-clock, saved-processes, saved-waits, saved-adjustments, processes-long, waits-long, waits-counted}
 use Rattle.ipc_image.proofs.state_objects.StateObjectsObjects.len.Goals as goal
 
 abbrev long : ℕ × List ℕ → ℕ
@@ -24,5 +27,25 @@ returns-in-1 c =
       ap (λ (t : State). length t.processes.entries) c.self.view_is,
     )))
 
+pub list_len-requires-clause-short : goal.list_len-requires-clause-short
+list_len-requires-clause-short c = let o = c.self.inside in omega (arith, waits-counted o.numbers _ o.waits.now _ _ c.self.invariant.1)
+
+pub overflow_add-result-in-2 : goal.overflow_add-result-in-2
+overflow_add-result-in-2 c =
+    let o = c.self.inside in omega (arith, waits-counted o.numbers _ o.waits.now _ _ c.self.invariant.1, c.list_len.ensures)
+
 pub returns-in-2 : goal.returns-in-2
-returns-in-2 c = ap (option_map long) (saved-none c.args.self.now c.args.i (omega arith) (omega arith))
+returns-in-2 c =
+    let ws = c.self.inside.waits.now in
+    rw c.in-2.is
+    (ap (option_map long) (saved-waits c.args.self.now)
+    ∙ ap Some (omega (
+      arith,
+      waits-long ws,
+      c.list_len.ensures,
+      ap (λ (l : List PlainWaiting). length (flat_map waiting_bytes l)) (map-id ws),
+      ap (λ (t : State). length (waits_bytes t.wait)) c.self.view_is,
+    )))
+
+pub returns-in-3 : goal.returns-in-3
+returns-in-3 c = rw c.in-3.is (ap (option_map long) (saved-adjustments c.args.self.now))

@@ -8,6 +8,7 @@ returns c =
     let s = c.args.self.now in
     record {
       processes = λ one. refl;
+      waits = λ two. refl;
       things = λ le. mark-each IsMarkOfQueue _ (record { parts = 0; bytes = 0 }) (λ e. refl)
           (mark-each IsMarkOfSet _ (record { parts = 0; bytes = 0 }) (λ e. refl) (λ at. tt) s.sem.entries) s.msg.entries (c.args.i - 4);
     }

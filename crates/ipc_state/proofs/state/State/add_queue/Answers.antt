@@ -22,12 +22,14 @@ returns-clause-state c =
     λ (f : Entry Queue). record {
       clock = t.clock.0;
       processes = numbered_of t.processes;
+      wait = t.wait.calls;
       msg = record { next = o.next + 1; entries = (queues_of t.msg).entries ++ (o.next, f) ∷ [] };
       sem = t.sem.objects;
     } in
     ap (λ (n : Keyed Kept). let s : State = record {
       clock = t.clock.0;
       processes = numbered_of t.processes;
+      wait = t.wait.calls;
       msg = numbered_map (entry_map queue_in) n;
       sem = t.sem.objects;
     } in s)
@@ -35,6 +37,7 @@ returns-clause-state c =
     ∙ (ap (λ (es : List (ℕ × Entry Queue)). let s : State = record {
       clock = t.clock.0;
       processes = numbered_of t.processes;
+      wait = t.wait.calls;
       msg = record { next = o.next + 1; entries = es };
       sem = t.sem.objects;
     } in s) (map-append (λ (f : ℕ × Entry Kept). (f.0, entry_map queue_in f.1)) o.entries _)

@@ -1,4 +1,4 @@
-use Rattle.ipc_wire.proofs.spelling.parts_of.Goals as goal
+use Rattle.ipc_wire.proofs.spelling.request_parts.Goals as goal
 
 pub returns-in-Hello-clause-fields : goal.returns-in-Hello-clause-fields
 returns-in-Hello-clause-fields c = rw c.in-Hello.is c.spelled.ensures.fields

@@ -1,0 +1,39 @@
+-- Calls that wait (msgop(2)): on which object each of them waits, and what holds of one that does.
+use Rattle.std.specs.Prelude.{◌≡◌, ◌≤◌, List, length, Option, Some, None, All}
+use Rattle.ipc_base.specs.declared.limits.Limits.{Limits}
+use Rattle.ipc_wait.specs.Waits.{HaveDistinctPids}
+use Rattle.ipc_wait.specs.declared.list.Waiting.{Waiting}
+use Rattle.ipc_wire.specs.Request.{PlainKind, PlainRequest, Calls}
+use Rattle.ipc_wire.specs.Request as requests
+use Rattle.ipc_wire.specs.Spelling.{HasFrame}
+use Rattle.ipc_state.specs.declared.parked.Awaited.{Awaited}
+use Rattle.ipc_state.specs.declared.parked.Awaited.TheVariants as awaited
+use Rattle.ipc_state.specs.declared.parked.ParkedCall.{ParkedCall}
+use Rattle.ipc_state.specs.declared.parked.ParkedCall.TheVariants as parked
+
+-- a call that waits: of which process, on which object, until when, and the request
+abbrev pub PlainWaiting : Type 0
+PlainWaiting = Waiting Awaited PlainRequest
+
+-- the object on which a request waits, if it is of a call that may wait
+abbrev pub awaited_by : PlainKind → Option Awaited
+awaited_by (Calls (requests.Msgsnd id flags mtype text)) = Some (awaited.Queue (record { 0 = id }))
+awaited_by (Calls (requests.Msgrcv id flags size mtype)) = Some (awaited.Queue (record { 0 = id }))
+awaited_by _ = None
+
+-- the request of a call that is kept
+abbrev pub parked_kind : ParkedCall → PlainKind
+parked_kind (parked.Msgsnd id flags mtype text) = Calls (requests.Msgsnd id.0 flags.0 mtype text.items)
+parked_kind (parked.Msgrcv id flags size mtype) = Calls (requests.Msgrcv id.0 flags.0 size mtype)
+
+-- its request has a frame and waits on that object; the calls of message queues have no deadline
+pub record IsSoundWaiting (w : PlainWaiting) : Type 0 where
+  pub frame : HasFrame w.call
+  pub on : awaited_by w.call.kind ≡ Some w.on
+  pub deadline : w.deadline ≡ None
+
+-- no process has two, there are no more than processes, and each is sound
+pub record AreSoundWaits (limits : Limits) (calls : List PlainWaiting) : Type 0 where
+  pub pids : HaveDistinctPids calls
+  pub few : length calls ≤ limits.processes
+  pub each : All IsSoundWaiting calls
