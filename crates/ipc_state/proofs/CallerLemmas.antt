@@ -24,7 +24,6 @@ use Rattle.ipc_base.specs.declared.limits.Limits.{Limits}
 use Rattle.ipc_wait.specs.Waits.{is_of, without}
 use Rattle.ipc_wait.proofs.CallerLemmas.{without-distinct}
 use Rattle.sysv_msg.specs.Queue.{Queue, Kept, new_queue}
-use Rattle.sysv_sem.specs.Set.{Set}
 use Rattle.ipc_wire.specs.Reply.{PlainBody}
 use Rattle.ipc_state.specs.declared.keyed.Entry.{Entry}
 use Rattle.ipc_perm.specs.declared.perm.Perm.{Perm}
@@ -33,7 +32,7 @@ use Rattle.ipc_state.specs.Numbered.{Numbered, entry_of, with_entry, without_ent
 use Rattle.ipc_state.specs.Keyed.{Keyed, holding, permitting, keyed, AreKeyed, AreNamed}
 use Rattle.ipc_state.specs.declared.processes.Process.{Process}
 use Rattle.ipc_state.specs.State.{State, start, at_moment, has_all_processes, with_process, exit, restart, queue_of, with_queue, with_new_queue}
-use Rattle.ipc_state.specs.Sound.{HasSoundParts, IsSoundQueue, IsSoundSet, AreSoundSets, FitsBody}
+use Rattle.ipc_state.specs.Sound.{HasSoundParts, IsSoundQueue, IsSoundSet, FitsBody}
 use Rattle.ipc_state.specs.Waiting.{PlainWaiting, AreSoundWaits, IsSoundWaiting}
 use Rattle.ipc_state.specs.Finish.{Finish, Attempt, Done, ended, answer, refuse, ◌orelse◌, ◌>>◌, ◌>>=◌, if_some}
 use Rattle.ipc_state.proofs.Numbering.{none_yet-numbered, with_new-numbered, without_entry-numbered, cleared-numbered}

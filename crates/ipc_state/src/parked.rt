@@ -65,23 +65,27 @@ impl Parked {
         ensures none { IfOk result (λ r. IfNone r (awaited_by (plain_kind request.now.kind) ≡ None)) }
     {
         let call = match request.kind {
-            RequestKind::Call(Call::Msgsnd {
-                id,
-                flags,
-                mtype,
-                text,
-            }) => ParkedCall::Msgsnd {
+            RequestKind::Call(
+                Call::Msgsnd {
+                    id,
+                    flags,
+                    mtype,
+                    text,
+                },
+            ) => ParkedCall::Msgsnd {
                 id,
                 flags,
                 mtype,
                 text: text.to_vec(alloc)?,
             },
-            RequestKind::Call(Call::Msgrcv {
-                id,
-                flags,
-                size,
-                mtype,
-            }) => ParkedCall::Msgrcv {
+            RequestKind::Call(
+                Call::Msgrcv {
+                    id,
+                    flags,
+                    size,
+                    mtype,
+                },
+            ) => ParkedCall::Msgrcv {
                 id,
                 flags,
                 size,
