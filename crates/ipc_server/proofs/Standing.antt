@@ -1,6 +1,6 @@
 -- The clients in a slab, by number: what a step of a walk over them makes of them, and that each keeps its connection.
 use Rattle.std.proofs.Common.{◌≡◌, ◌≢◌, ℕ, ◌+◌, ◌<◌, ◌≤◌, Bool, true, false, List, Option, Some, None}
-use Rattle.std.proofs.Common.{is_some, map, refl, sym, ap, subst, ◌∙◌, inl, inr, get_or, set, arith}
+use Rattle.std.proofs.Common.{is_some, refl, sym, ap, subst, ◌∙◌, inl, inr, get_or, arith}
 use Rattle.std.specs.Prelude.{nat_eq, not, ◌==◌, ◌&&◌, ◌||◌, option_map, [], slice_index_or, unwrap_or, IfSome}
 use Rattle.std.proofs.lemmas.Bool.{cases_eq}
 use Rattle.std.proofs.lemmas.Bool.Decides.{nat_tests}

@@ -1,5 +1,5 @@
 -- Turns as calls on the hub.
-use Rattle.std.proofs.Common.{◌≤◌, ℕ, List, [], ◌∷◌, inl, inr, sym, subst, arith}
+use Rattle.std.proofs.Common.{◌≡◌, ◌≤◌, ℕ, List, [], ◌∷◌, inl, inr, sym, subst, arith}
 use Rattle.ipc_base.specs.declared.limits.Limits.{Limits}
 use Rattle.ipc_disk.specs.Counts.{Counts}
 use Rattle.ipc_disk.specs.Medium.{Medium}
@@ -14,11 +14,15 @@ use Rattle.ipc_hub.specs.Lives.Serving.{New as serving_new, Call, Look as servin
 use Rattle.ipc_hub.specs.View.{StoredHub}
 use Rattle.ipc_hub.specs.Relations.Faults.{Fails, Halts}
 use Rattle.ipc_hub.specs.Relations.Matches.{StoredMatches}
+use Rattle.ipc_server.specs.declared.fault.ServeFault.{ServeFault}
+use Rattle.ipc_server.specs.declared.fault.ServeFault.TheVariants.{Device, Socket, Stopped}
 use Rattle.ipc_server.specs.Acts.{Act, after, after_one}
 use Rattle.ipc_server.specs.Acts.Act.{Ticks, Consumes}
-use Rattle.ipc_server.specs.Goes.{Breaks, GoesRound, Sends, Steps}
+use Rattle.ipc_server.specs.Goes.{Breaks, BreaksOff, GoesRound, Sends, Steps}
 use Rattle.ipc_server.specs.Goes.Sends.{None as no_send, More as one_send}
 use Rattle.ipc_server.specs.Goes.Steps.{None as no_step, More as one_step}
+use Rattle.ipc_server.specs.Served.{Served, StopsShort}
+use Rattle.ipc_server.specs.Served.Served.{None as no_turn, More as one_turn}
 use Rattle.ipc_server.specs.Turns.{Turns}
 use Rattle.ipc_server.specs.Turns.Turns.{New, Go, Break, Look}
 use Rattle.ipc_server.proofs.Going.{after-both, consume-events}
@@ -68,6 +72,23 @@ module _ {D : Type 0} (medium : D → Medium) (limits : Limits) (opened : StoreV
         Go before moment last next now seen (Ticks moment ∷ a.0) turns later a.1.steps,
       )
 
+  -- as many as a server has served for
+  pub all-served : (since : ℕ) (last : StoredHub D) (now : Clients) (seen : List Frame) → StoredMatches limits last now
+      → Turns medium limits opened since last now seen → (turns moment : ℕ) (next : StoredHub D) → Served medium since last turns moment next
+      → (then : Clients) × StoredMatches limits next then × Turns medium limits opened moment next then seen
+  all-served _ last now seen m so_far _ _ _ no_turn = (now, m, so_far)
+  all-served since last now seen m so_far _ moment next (one_turn count before _ mid _ served later goes lasts) =
+      let went = all-served since last now seen m so_far count before mid served in
+      turned before moment mid next went.0 seen went.1 went.2 later goes
+
+  -- a turn that did nothing
+  stays : (before moment : ℕ) (last next : StoredHub D) (now : Clients) (seen : List Frame) → Turns medium limits opened before last now seen
+      → before ≤ moment → next ≡ last → (then : Clients) × Turns medium limits opened moment next then seen
+  stays before moment last next now seen turns later same = (
+    now,
+    subst (λ (v : StoredHub D). Turns medium limits opened moment v now seen) (sym same) (Go before moment last last now seen [] turns later no_step),
+  )
+
   module _ (counts : D → Counts) where
     -- the call that broke off a turn
     broke-off : (moment : ℕ) (last next : StoredHub D) (now : Clients) (seen : List Frame) (error : CommitError) → StoredMatches limits last now
@@ -97,3 +118,21 @@ module _ {D : Type 0} (medium : D → Medium) (limits : Limits) (opened : StoreV
         let gone = Go before moment last b.before now seen b.acts turns later b.makes.steps in
         let halted = broke-off moment b.before b.halted mid seen error b.makes.comes.matches gone b.halts in
         sent-on moment b.halted halted.0 seen next halted.1 b.sends
+
+    -- a turn that was broken off, by any fault
+    off : (fault : ServeFault) (before moment : ℕ) (last next : StoredHub D) (now : Clients) (seen : List Frame) → StoredMatches limits last now
+        → Turns medium limits opened before last now seen → before ≤ moment → BreaksOff medium counts moment last next fault
+        → (then : Clients) × Turns medium limits opened moment next then seen
+    off Socket before moment last next now seen m turns later same = stays before moment last next now seen turns later same
+    off Device before moment last next now seen m turns later breaks = broken before moment last next now seen commit.Device m turns later breaks
+    off Stopped before moment last next now seen m turns later (inl same) = stays before moment last next now seen turns later same.1
+    off Stopped before moment last next now seen m turns later (inr breaks) = broken before moment last next now seen commit.Stopped m turns later breaks
+
+    -- as many as a server has served for until a fault
+    pub short : (since turns : ℕ) (last next : StoredHub D) (now : Clients) (seen : List Frame) (fault : ServeFault) → StoredMatches limits last now
+        → Turns medium limits opened since last now seen → StopsShort medium counts since last turns next fault
+        → (moment : ℕ) × (then : Clients) × Turns medium limits opened moment next then seen
+    short since turns last next now seen fault m so_far stops =
+        let went = all-served since last now seen m so_far stops.count stops.before stops.last stops.served in
+        let ends = off fault stops.before stops.moment stops.last next went.0 seen went.1 went.2 stops.later stops.breaks in
+        (stops.moment, ends.0, ends.1)

@@ -4,5 +4,6 @@ pub mod Fault
 pub mod Goes
 pub mod Parts
 pub mod Rows
+pub mod Served
 pub mod Turns
 pub mod View

@@ -1,7 +1,7 @@
 -- The clients as a caller sees them, from what the code keeps of them.
 use Rattle.std.specs.Prelude.{◌≡◌, ℕ, ◌<◌, true, false, List, map, Option, Some, option_map}
 use Rattle.slab.specs.Slab.{Slab}
-use Rattle.ipc_hub.specs.View.{HubView, numbers_of}
+use Rattle.ipc_hub.specs.View.{HubView}
 use Rattle.ipc_server.specs.declared.client.Client.{Client}
 use Rattle.ipc_server.specs.View.{ClientView, HaveConnections, Writing, client_of, has_failed}
 

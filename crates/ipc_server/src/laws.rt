@@ -8,7 +8,9 @@ ghost use Rattle.ipc_hub.specs.Clients.{Clients, Frame};
 ghost use Rattle.ipc_hub.specs.Lives.{Serving};
 ghost use Rattle.ipc_hub.specs.View.{StoredHub};
 ghost use Rattle.ipc_hub.specs.Relations.Matches.{StoredMatches};
+ghost use Rattle.ipc_server.specs.declared.fault.ServeFault.{ServeFault};
 ghost use Rattle.ipc_server.specs.Goes.{GoesRound, Breaks};
+ghost use Rattle.ipc_server.specs.Served.{Served, StopsShort};
 ghost use Rattle.ipc_server.specs.Turns.{Turns};
 
 use ipc_disk::SectorDisk;
@@ -32,4 +34,14 @@ pub fn turns_are_calls_on_a_hub<D: SectorDisk>()
         → Turns D.medium limits opened before last now seen → StoredMatches limits last now → before ≤ moment
         → Breaks D.medium D.counts moment last next error
         → (then : Clients) × Turns D.medium limits opened moment next then seen }
+    // As many as a server serves for are so many more.
+    ensures served { (limits : Limits) (opened : StoreView D) (since moment turns : ℕ) (last next : StoredHub D)
+        (now : Clients) (seen : List Frame) → Turns D.medium limits opened since last now seen
+        → StoredMatches limits last now → Served D.medium since last turns moment next
+        → (then : Clients) × StoredMatches limits next then × Turns D.medium limits opened moment next then seen }
+    // So are those that it serves for until a fault.
+    ensures stops_short { (limits : Limits) (opened : StoreView D) (since turns : ℕ) (last next : StoredHub D)
+        (now : Clients) (seen : List Frame) (fault : ServeFault) → Turns D.medium limits opened since last now seen
+        → StoredMatches limits last now → StopsShort D.medium D.counts since last turns next fault
+        → (moment : ℕ) × (then : Clients) × Turns D.medium limits opened moment next then seen }
 {}

@@ -6,6 +6,7 @@ mod client;
 mod fault;
 mod laws;
 mod rounds;
+mod serve;
 mod server;
 
 pub use fault::{ServeFault, ServerError};

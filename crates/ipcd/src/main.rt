@@ -64,24 +64,14 @@ fn answer(
     request: &Request,
 ) -> Result<(), Fault> {
     match request {
-        Request::Replay { small } => run(rt, new_store(rt.alloc(), &limits_of(*small))?),
-        Request::Run { device } => run(rt, open_file(rt, device)?),
-        Request::Dump { device } => {
-            let store = open_file(rt, device)?;
-            dump(rt.alloc(), &store, &mut io::writer(rt))?;
-            Ok(())
-        }
+        Request::Replay { small } => replay(rt, *small),
+        Request::Run { device } => run(rt, device),
+        Request::Dump { device } => list(rt, device),
         Request::Format {
             device,
             small,
             sectors,
-        } => {
-            let made = format_file(rt, errors, device, &limits_of(*small), *sectors)?;
-            if println!(rt; "formatted {made} sectors").is_err() {
-                return Err(Fault::Run(ScriptFault::Output));
-            }
-            Ok(())
-        }
+        } => format(rt, errors, device, *small, *sectors),
         Request::Serve {
             device,
             socket,
@@ -90,11 +80,53 @@ fn answer(
     }
 }
 
-/// Runs the script on standard input.
-fn run<D: SectorDisk + Drop>(
+/// Runs the script on standard input, on a new device in memory.
+fn replay(rt: &(impl Input + Print + AllocGlobal), small: bool) -> Result<(), Fault> {
+    run_on(rt, new_store(rt.alloc(), &limits_of(small))?)
+}
+
+/// Runs it on the device in a file.
+fn run(
+    rt: &(impl Input + Print + AllocGlobal + Files<File = File>),
+    device: &str,
+) -> Result<(), Fault> {
+    run_on(rt, open_file(rt, device)?)
+}
+
+/// Runs it on the device of a store.
+fn run_on<D: SectorDisk + Drop>(
     rt: &(impl Input + Print + AllocGlobal),
     store: Store<D>,
 ) -> Result<(), Fault> {
     run_script(rt.alloc(), store, &mut rt.reader(), &mut io::writer(rt)).0?;
+    Ok(())
+}
+
+/// Writes what is on the device in a file.
+fn list(rt: &(impl Print + AllocGlobal + Files<File = File>), device: &str) -> Result<(), Fault> {
+    list_of(rt, open_file(rt, device)?)
+}
+
+/// Writes what is on the device of a store.
+fn list_of<D: SectorDisk + Drop>(
+    rt: &(impl Print + AllocGlobal),
+    store: Store<D>,
+) -> Result<(), Fault> {
+    dump(rt.alloc(), &store, &mut io::writer(rt))?;
+    Ok(())
+}
+
+/// Makes a device in a file, and says of how many sectors it is.
+fn format(
+    rt: &(impl Print + AllocGlobal + Files<File = File>),
+    errors: &(impl Eprint + IsTerminal),
+    device: &str,
+    small: bool,
+    sectors: Option<u32>,
+) -> Result<(), Fault> {
+    let made = format_file(rt, errors, device, &limits_of(small), sectors)?;
+    if println!(rt; "formatted {made} sectors").is_err() {
+        return Err(Fault::Run(ScriptFault::Output));
+    }
     Ok(())
 }

@@ -1,4 +1,4 @@
-use Rattle.ipc_server.proofs.Turning.{serving, turned, broken}
+use Rattle.ipc_server.proofs.Turning.{serving, turned, broken, all-served, short}
 use Rattle.ipc_server.proofs.laws.turns_are_calls_on_a_hub.Goals as goal
 
 pub returns-clause-calls : goal.returns-clause-calls
@@ -11,3 +11,11 @@ returns-clause-turn g c = λ limits opened before moment last next now seen turn
 pub returns-clause-broken : goal.returns-clause-broken
 returns-clause-broken g c = λ limits opened before moment last next now seen error turns matches later breaks.
     broken g.D.SectorDisk.medium limits opened g.D.SectorDisk.counts before moment last next now seen error matches turns later breaks
+
+pub returns-clause-served : goal.returns-clause-served
+returns-clause-served g c = λ limits opened since moment turns last next now seen so_far matches served.
+    all-served g.D.SectorDisk.medium limits opened since last now seen matches so_far turns moment next served
+
+pub returns-clause-stops_short : goal.returns-clause-stops_short
+returns-clause-stops_short g c = λ limits opened since turns last next now seen fault so_far matches stops.
+    short g.D.SectorDisk.medium limits opened g.D.SectorDisk.counts since turns last next now seen fault matches so_far stops

@@ -2,7 +2,7 @@ use Rattle.std.proofs.Common.{◌≡◌, None, false, refl, sym, ap, ◌∙◌, 
 use Rattle.std.proofs.lemmas.Result.{err_from_is_err_and}
 use Rattle.std.specs.Option.{option_copied}
 use Rattle.slab.specs.Slab.{get}
-use Rattle.ipc_server.specs.Rows.{clients_of, view_of}
+use Rattle.ipc_server.specs.Rows.{clients_of}
 use Rattle.ipc_server.specs.View.{ClientView}
 use Rattle.ipc_server.proofs.Going.{breaks-later}
 use Rattle.ipc_server.proofs.Parting.{hangs-both, hangs-goes, hangs-none}
