@@ -1,26 +1,60 @@
--- The buffer for bodies is there again after each step.
-use Rattle.std.proofs.Common.{◌≡◌, ◌≤◌, ℕ, List, [], ◌∷◌, max, vec_capacity, sym, subst, arith}
-use Rattle.std.specs.Prelude.{Result}
+-- The replies of an event, and the buffer for bodies, which is there again after each step.
+use Rattle.std.proofs.Common.{◌≡◌, ◌≤◌, ℕ, List, [], ◌∷◌, ◌++◌, map, max, vec_capacity, refl, sym, subst, ap, ◌∙◌, arith}
+use Rattle.std.proofs.lemmas.List.{map-append}
+use Rattle.std.specs.Prelude.{All, Result, Ok, Err}
 use Rattle.std.specs.Global.{Vec}
 use Rattle.ipc_base.specs.declared.errno.Errno.{Errno}
-use Rattle.ipc_base.specs.declared.limits.Limits.{Limits}
-use Rattle.ipc_base.specs.Limits.{longest_body}
 use Rattle.ipc_wire.specs.declared.reply.Body.{Body}
-use Rattle.sysv_calls.specs.Spare.{IsKept, room_of, room_in as room_in_answer}
+use Rattle.ipc_state.specs.Finish.{finish_of}
+use Rattle.ipc_state.specs.State.{State, at_moment}
+use Rattle.sysv_calls.specs.Spare.{room_of}
 use Rattle.ipc_engine.specs.declared.event.Outcome.{Outcome}
 use Rattle.ipc_engine.specs.Buffer.{room_in, HasBuffer}
+use Rattle.ipc_engine.specs.Engine.{IsForProcess, HasRequest}
+use Rattle.ipc_engine.specs.Sound.{IsSound}
+use Rattle.ipc_engine.specs.Step.{step}
+use Rattle.ipc_engine.proofs.Soundness.{due-sound, step-sound, step-fits}
+use Rattle.ipc_base.specs.declared.limits.Limits.{Limits}
+use Rattle.ipc_state.specs.Sound.{FitsBody}
+use Rattle.ipc_engine.specs.Event.{PlainEvent, PlainOutcome}
+use Rattle.ipc_engine.specs.View.{plain_outcome}
 
-module _ (limits now : Limits) (same : now ≡ limits) where
-  -- taken back, it is spare
-  pub buffer-spare : (old new : Vec ℕ) (os us : List Outcome) → HasBuffer limits old os → max (vec_capacity old) (room_in os) ≤ vec_capacity new
-      → HasBuffer now new us
-  buffer-spare old new os us has back =
-      subst (λ (l : Limits). HasBuffer l new us) (sym same) (omega (arith, has, back))
+pub room_in-append : (os us : List Outcome) → room_in (os ++ us) ≡ max (room_in os) (room_in us)
+room_in-append [] us = omega arith
+room_in-append (o ∷ os) us = omega (arith, room_in-append os us)
 
-  -- a call has it in its answer, or has given it back
-  pub buffer-answered : (spare : Vec ℕ) (r : Result (Body (Vec ℕ)) Errno) (o : Outcome) (os : List Outcome) → IsKept limits spare r
-      → room_of o.body ≡ room_in_answer r → os ≡ o ∷ [] → HasBuffer now spare os
-  buffer-answered spare r o os kept room is =
-      subst (λ (us : List Outcome). HasBuffer now spare us) (sym is)
-      (subst (λ (l : Limits). HasBuffer l spare (o ∷ [])) (sym same)
-      (subst (λ (n : ℕ). longest_body limits ≤ max (vec_capacity spare) n) (sym room) kept))
+-- a reply more
+pub pushed : (old new : List Outcome) (o : Outcome) (xs : List PlainOutcome) → new ≡ old ++ o ∷ [] → plain_outcome o ∷ [] ≡ xs
+    → map plain_outcome new ≡ map plain_outcome old ++ xs
+pushed old new o xs is as_said =
+    ap (map plain_outcome) is ∙ (map-append plain_outcome old (o ∷ []) ∙ ap (λ (ys : List PlainOutcome). map plain_outcome old ++ ys) as_said)
+
+-- an answer leaves the state that it was made of
+pub finish-state : (s : State) (r : Result (Body (Vec ℕ)) Errno) → (finish_of s r).state ≡ s
+finish-state s (Ok body) = refl
+finish-state s (Err e) = refl
+
+-- the buffer that was taken back is there whatever stands in the replies
+pub buffer-spare : (limits now : Limits) (old new : Vec ℕ) (os us : List Outcome) → now ≡ limits → HasBuffer limits old os
+    → max (vec_capacity old) (room_in os) ≤ vec_capacity new → HasBuffer now new us
+buffer-spare limits now old new os us same has back = subst (λ (l : Limits). HasBuffer l new us) (sym same) (omega (arith, has, back))
+
+pub buffer-same : (limits now : Limits) (spare : Vec ℕ) (os : List Outcome) → now ≡ limits → HasBuffer limits spare os → HasBuffer now spare os
+buffer-same limits now spare os same has = subst (λ (l : Limits). HasBuffer l spare os) (sym same) has
+
+-- a step leaves a sound state, told of what is known to be equal
+pub after-sound : (limits now : Limits) (s t : State) (e : PlainEvent) → now ≡ limits → t ≡ (step limits s e).state → IsSound limits s
+    → IsForProcess s e → HasRequest e
+    → IsSound now t
+after-sound limits now s t e same is h process request =
+    subst (λ (l : Limits). IsSound l t) (sym same) (subst (λ (u : State). IsSound limits u) (sym is) (step-sound limits s e h process request))
+
+pub after-fits : (limits now : Limits) (s : State) (os : List PlainOutcome) (e : PlainEvent) → now ≡ limits → os ≡ (step limits s e).outcomes
+    → IsSound limits s → All (λ (o : PlainOutcome). FitsBody now o.body) os
+after-fits limits now s os e same is h =
+    subst (λ (l : Limits). All (λ (o : PlainOutcome). FitsBody l o.body) os) (sym same)
+    (subst (λ (us : List PlainOutcome). All (λ (o : PlainOutcome). FitsBody limits o.body) us) (sym is) (step-fits limits s e h))
+
+pub begun-sound : (limits now : Limits) (s t : State) (moment : ℕ) → now ≡ limits → t ≡ at_moment s moment → IsSound limits s → IsSound now t
+begun-sound limits now s t moment same is h =
+    subst (λ (l : Limits). IsSound l t) (sym same) (subst (λ (u : State). IsSound limits u) (sym is) (due-sound limits s moment h))

@@ -1,42 +1,38 @@
 -- What the crates above cite of a step.
 use Rattle.std.proofs.Common.{◌≡◌, ◌≢◌, ℕ, ◌+◌, ◌<◌, ◌≤◌, is_some, true, false, List, [], ◌∷◌, ◌++◌, refl, ap, ◌∙◌}
 use Rattle.std.specs.Prelude.{All, nat_eq}
+use Rattle.std.proofs.lemmas.List.Elements.{All-nil}
 use Rattle.ipc_base.proofs.CallerLemmas.{choice, is_some-append, value_at-without}
 use Rattle.ipc_base.specs.declared.identity.Cred.{Cred}
 use Rattle.ipc_base.specs.declared.limits.Limits.{Limits}
-use Rattle.ipc_wire.specs.Request.{PlainKind, PlainRequest, Hello, Interrupt as Interrupts, Calls}
+use Rattle.ipc_wire.specs.Request.{PlainRequest}
 use Rattle.ipc_engine.specs.Event.{PlainEvent, PlainOutcome, Connect, Call, Interrupt, Tick, Exit, Restart}
 use Rattle.ipc_state.specs.Sound.{FitsBody}
-use Rattle.ipc_engine.specs.Sound.{IsSound}
+use Rattle.ipc_engine.specs.Engine.{IsForProcess, HasRequest}
+use Rattle.ipc_engine.specs.Sound.{IsSound, HasToWait}
 use Rattle.ipc_state.specs.Numbered.{Numbered, entry_of}
-use Rattle.ipc_state.specs.State.{State, at_moment, has_all_processes, is_process, restart}
+use Rattle.ipc_state.specs.State.{State, start, at_moment, has_all_processes, is_process, exit, restart}
 use Rattle.ipc_state.specs.declared.processes.Process.{Process}
-use Rattle.ipc_engine.specs.Step.{Step, step, run, asked}
-use Rattle.sysv_calls.proofs.CallerLemmas.{attempt-keeps}
-use Rattle.ipc_state.specs.State.{start}
+use Rattle.ipc_engine.specs.Step.{Step, step, run}
 use Rattle.ipc_state.proofs.CallerLemmas.{start-sound as start-parts}
 use Rattle.ipc_engine.specs.Bytes.{IsGreeted, allowed, asks, bytes_to, most_owed, owed}
+use Rattle.ipc_engine.proofs.Settled.{settle-kept}
 use Rattle.ipc_engine.proofs.Soundness as soundness
 use Rattle.ipc_engine.proofs.Answered as answered
+use Rattle.ipc_engine.proofs.Waiting.{asked-keeps, interrupt-keeps}
 
 -- nothing has happened yet
 pub start-sound : (limits : Limits) → IsSound limits start
-start-sound limits = record { parts = start-parts limits }
+start-sound limits = record { parts = start-parts limits; waits = All-nil (HasToWait limits start) }
 
 -- a sound state stays sound
-pub step-sound : (limits : Limits) (s : State) (e : PlainEvent) → IsSound limits s → IsSound limits (step limits s e).state
+pub step-sound : (limits : Limits) (s : State) (e : PlainEvent) → IsSound limits s → IsForProcess s e → HasRequest e → IsSound limits (step limits s e).state
 step-sound = soundness.step-sound
 
 -- no body of a reply is longer than the longest one
 pub step-fits : (limits : Limits) (s : State) (e : PlainEvent) → IsSound limits s
     → All (λ (o : PlainOutcome). FitsBody limits o.body) (step limits s e).outcomes
 step-fits = soundness.step-fits
-
--- a request leaves the processes as they are
-pub asked-keeps : (limits : Limits) (s : State) (pid : ℕ) (kind : PlainKind) → (asked limits s pid kind).state.processes ≡ s.processes
-asked-keeps limits s pid (Hello cred) = refl
-asked-keeps limits s pid Interrupts = refl
-asked-keeps limits s pid (Calls call) = attempt-keeps limits s pid call
 
 -- the state after a run is the state after its second part, begun where the first part ends
 pub run-parts : (limits : Limits) (s : State) (before after : List PlainEvent)
@@ -54,7 +50,7 @@ pub owed-most : (limits : Limits) (s : State) (pid : ℕ) → IsSound limits s �
 owed-most limits s pid sound = answered.owed-most limits s pid
 
 pub owed-none : (limits : Limits) (s : State) (pid : ℕ) → IsSound limits s → is_process s pid ≡ false → owed limits s pid ≡ 0
-owed-none limits s pid sound = answered.owed-none limits s pid
+owed-none = answered.owed-none
 
 -- a request that is not answered is owed
 pub unanswered-owed : (limits : Limits) (s : State) (e : PlainEvent) (pid : ℕ) → IsSound limits s → is_process s pid ≡ true → asks s e pid ≡ true
@@ -62,7 +58,8 @@ pub unanswered-owed : (limits : Limits) (s : State) (e : PlainEvent) (pid : ℕ)
 unanswered-owed = answered.unanswered-owed
 
 -- the last reply of a HELLO is its own
-pub hello-greets : (limits : Limits) (s : State) (cred : Cred) (serial moment : ℕ) → IsSound limits s → IsGreeted s (step limits s (Connect cred serial moment))
+pub hello-greets : (limits : Limits) (s : State) (cred : Cred) (serial moment : ℕ) → IsSound limits s
+    → IsGreeted s (step limits s (Connect cred serial moment))
 hello-greets limits s cred serial moment sound = answered.hello-greets limits s cred serial moment
 
 -- the state that a restart leaves
@@ -81,11 +78,12 @@ connect-stays limits s cred serial moment pid is =
 pub call-stays : (limits : Limits) (s : State) (asker : ℕ) (request : PlainRequest) (moment pid : ℕ) → is_process s pid ≡ true
     → is_process (step limits s (Call asker request moment)).state pid ≡ true
 call-stays limits s asker request moment pid is =
-    ap (λ (ps : Numbered Process). is_some (entry_of ps pid)) (asked-keeps limits (at_moment s moment) asker request.kind) ∙ is
+    ap (λ (ps : Numbered Process). is_some (entry_of ps pid)) (asked-keeps limits (at_moment s moment) asker request request.kind).0 ∙ is
 
 pub interrupt-stays : (limits : Limits) (s : State) (asker serial moment pid : ℕ) → is_process s pid ≡ true
     → is_process (step limits s (Interrupt asker serial moment)).state pid ≡ true
-interrupt-stays limits s asker serial moment pid is = is
+interrupt-stays limits s asker serial moment pid is =
+    ap (λ (ps : Numbered Process). is_some (entry_of ps pid)) (interrupt-keeps limits (at_moment s moment) asker serial).0 ∙ is
 
 pub tick-stays : (limits : Limits) (s : State) (moment pid : ℕ) → is_process s pid ≡ true
     → is_process (step limits s (Tick moment)).state pid ≡ true
@@ -93,4 +91,6 @@ tick-stays limits s moment pid is = is
 
 pub exit-stays : (limits : Limits) (s : State) (gone moment pid : ℕ) → pid ≢ gone → is_process s pid ≡ true
     → is_process (step limits s (Exit gone moment)).state pid ≡ true
-exit-stays limits s gone moment pid apart is = ap is_some (value_at-without s.processes.entries gone pid apart) ∙ is
+exit-stays limits s gone moment pid apart is =
+    ap (λ (ps : Numbered Process). is_some (entry_of ps pid)) (settle-kept limits (exit (at_moment s moment) gone)).0
+    ∙ (ap is_some (value_at-without s.processes.entries gone pid apart) ∙ is)

@@ -1,4 +1,9 @@
+mod Lists
+pub mod Settled
 pub mod Soundness
-mod Answered
+pub mod Answered
+pub mod Waiting
 pub mod CallerLemmas
+pub mod Going
 mod Buffers
+mod Resumes

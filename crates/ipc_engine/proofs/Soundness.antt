@@ -1,63 +1,261 @@
 -- A step leads from a sound state to a sound state, and its replies fit.
-use Rattle.std.proofs.Common.{◌≡◌, ℕ, List, [], sym, subst, arith}
-use Rattle.std.specs.Prelude.{All}
-use Rattle.std.proofs.lemmas.List.Elements.{All-nil, All-cons}
+use Rattle.std.proofs.Common.{◌≡◌, ◌≢◌, ℕ, ◌+◌, ◌<◌, ◌≤◌, Bool, true, false, not, cond, List, [], ◌∷◌, ◌++◌, length}
+use Rattle.std.proofs.Common.{get_or, Option, Some, None, is_some, unwrap_or}
+use Rattle.std.proofs.Common.{refl, sym, ap, subst, ◌∙◌, arith}
+use Rattle.std.specs.Prelude.{All, nat_eq, option_map, ◌==◌}
+use Rattle.std.proofs.lemmas.Bool.Decides.{nat_tests}
+use Rattle.std.proofs.lemmas.List.Elements.{All-nil, All-cons, All-append, All-filter, All-push}
 use Rattle.ipc_base.specs.declared.limits.Limits.{Limits}
 use Rattle.ipc_base.specs.declared.identity.Cred.{Cred}
-use Rattle.ipc_base.proofs.CallerLemmas.{choice}
-use Rattle.ipc_wire.specs.Request.{PlainKind, Hello, Interrupt as Interrupts, Calls}
+use Rattle.ipc_base.specs.declared.identity.Pid.{Pid}
+use Rattle.ipc_base.proofs.CallerLemmas.{choice, other-push, rising-found, value_at-without}
+use Rattle.ipc_wait.specs.Waits.{call_of, without, is_of}
+use Rattle.ipc_wire.specs.Request.{PlainCall, PlainKind, PlainRequest, Hello, Interrupt as Interrupts, Calls}
+use Rattle.ipc_wire.specs.Spelling.{HasFrame}
+use Rattle.ipc_wire.specs.declared.reply.Body.TheVariants.{Empty}
+use Rattle.ipc_state.specs.declared.parked.Awaited.{Awaited}
+use Rattle.ipc_state.specs.declared.processes.Process.{Process}
+use Rattle.ipc_state.specs.Finish.{Finish, Tried, Finishes, Waits, IfFinishes, has_to_wait, done, refused}
+use Rattle.ipc_state.specs.Numbered.{Numbered, entry_of, with_new, without_entry}
 use Rattle.ipc_state.specs.Sound.{HasSoundParts, FitsBody}
-use Rattle.ipc_engine.specs.Sound.{IsSound}
-use Rattle.ipc_state.specs.State.{State, at_moment, has_all_processes}
-use Rattle.ipc_state.proofs.CallerLemmas.{EndsSound, begin-sound, exit-sound, restart-sound, with_process-sound}
-use Rattle.sysv_calls.proofs.CallerLemmas.{attempt-sound}
+use Rattle.ipc_state.specs.State.{State, at_moment, cred_of, has_all_processes, is_process, is_waiting, exit, with_process, with_waiting, without_waiting}
+use Rattle.ipc_state.specs.Touching.{is_there, IsAsBefore}
+use Rattle.ipc_state.specs.Waiting.{PlainWaiting, IsSoundWaiting, awaited_by}
+use Rattle.ipc_state.proofs.CallerLemmas.{IsGood, begin-sound, exit-sound, restart-sound, with_process-sound, with_waiting-sound, without_waiting-sound}
+use Rattle.sysv_calls.specs.Calls.{attempt, touched}
+use Rattle.sysv_calls.proofs.CallerLemmas.{attempt-good, waits-alike}
+use Rattle.ipc_engine.specs.Engine.{IsForProcess, HasRequest}
 use Rattle.ipc_engine.specs.Event.{PlainEvent, Connect, Call, Interrupt, Tick, Exit, Restart, PlainOutcome}
-use Rattle.ipc_engine.specs.Step.{Step, step, connect, asked}
+use Rattle.ipc_engine.specs.Sound.{IsSound, HasToWait}
+use Rattle.ipc_engine.specs.Step.{Step, silent, after, step, connect, asked, called, told, joins, interrupt, interrupted, replied, settle, can_go_on}
+use Rattle.ipc_engine.proofs.Settled.{HasSettled, settle-has, settle-done, settle-nothing, as-before}
 
 module _ (limits : Limits) where
-  connect-parts : (s : State) (cred : Cred) (serial : ℕ) → HasSoundParts limits s → HasSoundParts limits (connect limits s cred serial).state
-  connect-parts s cred serial h =
-      choice (λ (t : Step). HasSoundParts limits t.state) (has_all_processes limits s) _ _ (λ _. h) (λ room. with_process-sound limits s cred room h)
-
-  asked-sound : (s : State) (pid : ℕ) (kind : PlainKind) → HasSoundParts limits s → EndsSound limits (asked limits s pid kind)
-  asked-sound s pid (Hello cred) h = record { state = h; body = omega arith }
-  asked-sound s pid Interrupts h = record { state = h; body = omega arith }
-  asked-sound s pid (Calls call) h = attempt-sound limits s pid call h
-
-  step-parts : (s : State) (e : PlainEvent) → HasSoundParts limits s → HasSoundParts limits (step limits s e).state
-  step-parts s (Connect cred serial moment) h = connect-parts (at_moment s moment) cred serial (begin-sound limits s moment h)
-  step-parts s (Call pid request moment) h = (asked-sound (at_moment s moment) pid request.kind (begin-sound limits s moment h)).state
-  step-parts s (Interrupt pid serial moment) h = begin-sound limits s moment h
-  step-parts s (Tick moment) h = begin-sound limits s moment h
-  step-parts s (Exit pid moment) h = exit-sound limits (at_moment s moment) pid (begin-sound limits s moment h)
-  step-parts s Restart h = restart-sound limits s h
-
-  pub step-sound : (s : State) (e : PlainEvent) → IsSound limits s → IsSound limits (step limits s e).state
-  step-sound s e h = record { parts = step-parts s e h.parts }
-
-  -- the body of a reply fits
   abbrev Fits : PlainOutcome → Type 0
   Fits o = FitsBody limits o.body
 
-  -- the replies of a step fit
+  -- ---- calls that still have to wait
+
+  -- of the same caller, and with the same object
+  pub still-waits : (s t : State) (w : PlainWaiting) → IsSoundWaiting w → cred_of t w.pid.0 ≡ cred_of s w.pid.0 → IsAsBefore w.on s t
+      → can_go_on limits t w ≡ can_go_on limits s w
+  still-waits s t w sound cred before = by_kind w.call.kind sound.on
+    where
+      by_kind : (kind : PlainKind) → awaited_by kind ≡ Some w.on
+          → can_go_on limits t (record w { call = record { serial = w.call.serial; kind = kind } }) ≡ can_go_on limits s
+          (record w { call = record { serial = w.call.serial; kind = kind } })
+      by_kind (Calls call) is = ap not (waits-alike limits s t w.pid.0 true true call w.on is cred before)
+      by_kind (Hello cred) is = cc
+      by_kind Interrupts is = cc
+
+  -- the same process has the same user and group
+  pub credited : (s t : State) (pid : ℕ) → entry_of t.processes pid ≡ entry_of s.processes pid → cred_of t pid ≡ cred_of s pid
+  credited s t pid same = ap (λ (p : Option Process). unwrap_or (option_map (λ (q : Process). q.cred) p) (record { uid = 65534; gid = 65534 })) same
+
+  -- the same process is there
+  abbrev IsSame : State → State → PlainWaiting → Type 0
+  IsSame s t w = entry_of t.processes w.pid.0 ≡ entry_of s.processes w.pid.0
+
+  -- those that waited do so still if the queues are the same, and their processes
+  pub all-wait : (s t : State) (ws : List PlainWaiting) → All IsSoundWaiting ws → t.msg ≡ s.msg → All (IsSame s t) ws → All (HasToWait limits s) ws
+      → All (HasToWait limits t) ws
+  all-wait s t ws sound queues same waits = λ k d h.
+      let w = get_or ws k d in
+      let process = same k d h in
+      record {
+        process = ap is_some process ∙ (waits k d h).process;
+        waits = still-waits s t w (sound k d h) (credited s t w.pid.0 process)
+            (as-before w.on s t queues) ∙ (waits k d h).waits;
+      }
+
+  -- settled, a state is sound whose parts are, and whose waiting calls are of its processes
+  pub settled-sound : (s : State) → HasSoundParts limits s → All (λ (w : PlainWaiting). is_process s w.pid.0 ≡ true) s.wait
+      → IsSound limits (settle limits s).state
+  unfolding settle
+  settled-sound s h linked =
+      let t = settle limits s in
+      let has = settle-has limits (length s.wait) s h in
+      let none = settle-done limits (length s.wait) s h (omega arith) in
+      let process = has.linked linked in
+      record {
+        parts = has.parts;
+        waits = λ k d i. record {
+          process = ap (λ (ps : Numbered Process). is_some (entry_of ps (get_or t.state.wait k d).pid.0)) has.kept ∙ process k d i;
+          waits = none k d i;
+        };
+      }
+
+  linked : (s : State) → IsSound limits s → All (λ (w : PlainWaiting). is_process s w.pid.0 ≡ true) s.wait
+  linked s h = λ k d i. (h.waits k d i).process
+
+  -- ---- what an event does
+
+  pub due-sound : (s : State) (moment : ℕ) → IsSound limits s → IsSound limits (at_moment s moment)
+  due-sound s moment h =
+      record {
+        parts = begin-sound limits s moment h.parts;
+        waits = all-wait s (at_moment s moment) s.wait h.parts.wait.each refl (λ k d i. refl) h.waits;
+      }
+
+  connect-sound : (s : State) (cred : Cred) (serial : ℕ) → IsSound limits s → IsSound limits (connect limits cred serial s).state
+  connect-sound s cred serial h =
+      choice (λ (t : Step). IsSound limits t.state) (has_all_processes limits s) _ _ (λ _. h)
+      (λ room. record {
+        parts = with_process-sound limits s cred room h.parts;
+        waits = all-wait s (with_process s cred) s.wait h.parts.wait.each refl
+            (λ k d i.
+            let pid = (get_or s.wait k d).pid.0 in
+            let below = (rising-found 1 s.processes.entries s.processes.next pid h.parts.processes.numbers (h.waits k d i).process).1 in
+            other-push s.processes.entries s.processes.next pid (record { cred = cred }) (λ same. absurd (omega arith)))
+            h.waits;
+      })
+
+  -- who waits besides a process is another one
+  apart : (pid : ℕ) (ws : List PlainWaiting) → All (λ (w : PlainWaiting). w.pid.0 ≢ pid) (without (record { 0 = pid }) ws)
+  apart pid [] = All-nil _
+  apart pid (w ∷ ws) = by_test (w.pid.0 == pid) refl (apart pid ws)
+    where
+      by_test : (b : Bool) → (w.pid.0 == pid) ≡ b → All (λ (v : PlainWaiting). v.pid.0 ≢ pid) (without (record { 0 = pid }) ws)
+          → All (λ (v : PlainWaiting). v.pid.0 ≢ pid) (cond (not b) (w ∷ without (record { 0 = pid }) ws) (without (record { 0 = pid }) ws))
+      by_test true same rest = rest
+      by_test false other rest = All-cons (λ (v : PlainWaiting). v.pid.0 ≢ pid) w _ (λ same. absurd (grind (arith, nat_tests))) rest
+
+  -- what waits besides a process does so still
+  waits-besides : (s : State) (pid : ℕ) → IsSound limits s → All (HasToWait limits s) (without (record { 0 = pid }) s.wait)
+  waits-besides s pid h = All-filter (λ (w : PlainWaiting). not (is_of (record { 0 = pid }) w)) (HasToWait limits s) s.wait h.waits
+
+  sound-besides : (s : State) (pid : ℕ) → IsSound limits s → All IsSoundWaiting (without (record { 0 = pid }) s.wait)
+  sound-besides s pid h = All-filter (λ (w : PlainWaiting). not (is_of (record { 0 = pid }) w)) IsSoundWaiting s.wait h.parts.wait.each
+
+  pub exit-waits : (s : State) (pid : ℕ) → IsSound limits s → IsSound limits (exit s pid)
+  exit-waits s pid h =
+      let gone = apart pid s.wait in
+      record {
+        parts = exit-sound limits s pid h.parts;
+        waits = all-wait s (exit s pid) (without (record { 0 = pid }) s.wait) (sound-besides s pid h) refl
+            (λ k d i. value_at-without s.processes.entries pid (get_or (without (record { 0 = pid }) s.wait) k d).pid.0 (gone k d i)) (waits-besides s pid h);
+      }
+
+  pub left-waits : (s : State) (pid : ℕ) → IsSound limits s → IsSound limits (without_waiting s pid)
+  left-waits s pid h =
+      record {
+        parts = without_waiting-sound limits s pid h.parts;
+        waits = all-wait s (without_waiting s pid) (without (record { 0 = pid }) s.wait) (sound-besides s pid h) refl (λ k d i. refl) (waits-besides s pid h);
+      }
+
+  -- nothing goes on in a sound state
+  pub sound-settled : (s : State) → IsSound limits s → settle limits s ≡ silent s
+  sound-settled s h = settle-nothing limits s (λ k d i. (h.waits k d i).waits)
+
+  interrupted-sound : (s : State) (pid : ℕ) (r : Option PlainWaiting) → IsSound limits s → IsSound limits (interrupted s pid r).state
+  interrupted-sound s pid None h = h
+  interrupted-sound s pid (Some w) h = left-waits s pid h
+
+  pub interrupt-sound : (s : State) (pid serial : ℕ) → IsSound limits s → IsSound limits (interrupt pid serial s).state
+  interrupt-sound s pid serial h = interrupted-sound s pid (call_of (record { 0 = pid }) s.wait) h
+
+  -- a call that has to wait joins those that do
+  pub joins-sound : (s : State) (pid : ℕ) (request : PlainRequest) (on : Option Awaited) → IsSound limits s → is_process s pid ≡ true
+      → is_waiting s pid ≡ false
+      → HasFrame request → awaited_by request.kind ≡ on → ((call : PlainCall) → request.kind ≡ Calls call
+      → has_to_wait (attempt limits s pid false call) ≡ true)
+      → IsSound limits (joins s pid request on)
+  joins-sound s pid request None h process free frame is waits = h
+  joins-sound s pid request (Some on) h process free frame is waits =
+      let w : PlainWaiting = record { pid = record { 0 = pid }; on = on; deadline = None; call = request } in
+      let sound : IsSoundWaiting w = record { frame = frame; on = is; deadline = refl } in
+      let before = all-wait s (with_waiting s w) s.wait h.parts.wait.each refl (λ k d i. refl) h.waits in
+      record {
+        parts = with_waiting-sound limits s w h.parts sound free (linked s h) process;
+        waits = All-push (HasToWait limits (with_waiting s w)) s.wait w before (record { process = process; waits = by_kind request.kind refl });
+      }
+    where
+      by_kind : (kind : PlainKind) → request.kind ≡ kind
+          → can_go_on limits (with_waiting s (record { pid = record { 0 = pid }; on = on; deadline = None; call = request }))
+          (record { pid = record { 0 = pid }; on = on; deadline = None; call = record { serial = request.serial; kind = kind } }) ≡ false
+      by_kind (Calls call) same =
+          let t = with_waiting s (record { pid = record { 0 = pid }; on = on; deadline = None; call = request }) in
+          ap not (waits-alike limits s t pid false true call on (ap awaited_by (sym same) ∙ is) refl (as-before on s t refl) ∙ waits call same)
+      by_kind (Hello cred) same = absurd (let no = ap awaited_by (sym same) ∙ is in cc)
+      by_kind Interrupts same = absurd (let no = ap awaited_by (sym same) ∙ is in cc)
+
+  -- what a call leaves that came to its end
+  pub ended-waits : (s : State) (touches : Option Awaited) (f : Finish) → IsSound limits s → IsGood limits s touches f
+      → IsSound limits (settle limits f.state).state
+  ended-waits s touches f h good =
+      settled-sound f.state (good.state h.parts)
+      (subst (λ (ws : List PlainWaiting). All (λ (w : PlainWaiting). is_process f.state w.pid.0 ≡ true) ws) (sym good.wait)
+      (λ k d i. ap (λ (ps : Numbered Process). is_some (entry_of ps (get_or s.wait k d).pid.0)) good.kept ∙ (h.waits k d i).process))
+
+  told-sound : (s : State) (pid : ℕ) (request : PlainRequest) (call : PlainCall) (t : Tried) → IsSound limits s → is_process s pid ≡ true
+      → is_waiting s pid ≡ false
+      → HasFrame request → request.kind ≡ Calls call → attempt limits s pid false call ≡ t → IfFinishes (IsGood limits s (touched call)) t
+      → IsSound limits (told limits pid request s t).state
+  told-sound s pid request call (Finishes f) h process free frame is tried good = ended-waits s (touched call) f h good
+  told-sound s pid request call Waits h process free frame is tried good =
+      joins-sound s pid request (awaited_by request.kind) h process free frame refl
+      (λ c same. let one : c ≡ call = (let both = sym same ∙ is in cc) in ap (λ (d : PlainCall). has_to_wait (attempt limits s pid false d)) one
+      ∙ ap has_to_wait tried)
+
+  asked-sound : (s : State) (pid : ℕ) (request : PlainRequest) (kind : PlainKind) → IsSound limits s → is_process s pid ≡ true → HasFrame request
+      → request.kind ≡ kind
+      → IsSound limits (asked limits pid request kind s).state
+  asked-sound s pid request (Hello cred) h process frame is = h
+  asked-sound s pid request Interrupts h process frame is = interrupt-sound s pid request.serial h
+  asked-sound s pid request (Calls call) h process frame is =
+      choice (λ (t : Step). IsSound limits t.state) (is_waiting s pid) _ _ (λ _. h)
+      (λ free. told-sound s pid request call (attempt limits s pid false call) h process free frame is refl (attempt-good limits s pid false call))
+
+  pub step-sound : (s : State) (e : PlainEvent) → IsSound limits s → IsForProcess s e → HasRequest e → IsSound limits (step limits s e).state
+  step-sound s (Connect cred serial moment) h is has = connect-sound (at_moment s moment) cred serial (due-sound s moment h)
+  step-sound s (Call pid request moment) h is has = asked-sound (at_moment s moment) pid request request.kind (due-sound s moment h) is has refl
+  step-sound s (Interrupt pid serial moment) h is has = interrupt-sound (at_moment s moment) pid serial (due-sound s moment h)
+  step-sound s (Tick moment) h is has = due-sound s moment h
+  step-sound s (Exit pid moment) h is has =
+      let left = exit-waits (at_moment s moment) pid (due-sound s moment h) in
+      subst (λ (t : Step). IsSound limits t.state) (sym (sound-settled (exit (at_moment s moment) pid) left)) left
+  step-sound s Restart h is has = record { parts = restart-sound limits s h.parts; waits = All-nil _ }
+
+  -- ---- the bodies of the replies fit
+
+  empty-fits : FitsBody limits Empty
+  empty-fits = omega arith
+
+  one-fits : (o : PlainOutcome) → FitsBody limits o.body → All (λ (p : PlainOutcome). FitsBody limits p.body) (o ∷ [])
+  one-fits o fits = All-cons Fits o [] fits (All-nil Fits)
+
+  interrupted-fits : (s : State) (pid : ℕ) (r : Option PlainWaiting) → All (λ (o : PlainOutcome). FitsBody limits o.body) (interrupted s pid r).outcomes
+  interrupted-fits s pid None = All-nil Fits
+  interrupted-fits s pid (Some w) = one-fits _ empty-fits
+
+  interrupt-fits : (s : State) (pid serial : ℕ) → All (λ (o : PlainOutcome). FitsBody limits o.body) (interrupt pid serial s).outcomes
+  interrupt-fits s pid serial =
+      All-append Fits (interrupted s pid (call_of (record { 0 = pid }) s.wait)).outcomes _ (interrupted-fits s pid (call_of
+      (record { 0 = pid }) s.wait)) (one-fits _ empty-fits)
+
+  told-fits : (s : State) (pid : ℕ) (request : PlainRequest) (call : PlainCall) (t : Tried) → IsSound limits s → IfFinishes (IsGood limits s (touched call)) t
+      → All (λ (o : PlainOutcome). FitsBody limits o.body) (told limits pid request s t).outcomes
+  unfolding settle
+  told-fits s pid request call (Finishes f) h good =
+      All-cons Fits _ _ (good.body h.parts) (settle-has limits (length f.state.wait) f.state (good.state h.parts)).fits
+  told-fits s pid request call Waits h good = All-nil Fits
+
+  asked-fits : (s : State) (pid : ℕ) (request : PlainRequest) (kind : PlainKind) → IsSound limits s
+      → All (λ (o : PlainOutcome). FitsBody limits o.body) (asked limits pid request kind s).outcomes
+  asked-fits s pid request (Hello cred) h = one-fits _ empty-fits
+  asked-fits s pid request Interrupts h = interrupt-fits s pid request.serial
+  asked-fits s pid request (Calls call) h =
+      choice (λ (t : Step). All (λ (o : PlainOutcome). FitsBody limits o.body) t.outcomes) (is_waiting s pid) _ _ (λ _. one-fits _ empty-fits)
+      (λ _. told-fits s pid request call (attempt limits s pid false call) h (attempt-good limits s pid false call))
+
   pub step-fits : (s : State) (e : PlainEvent) → IsSound limits s → All (λ (o : PlainOutcome). FitsBody limits o.body) (step limits s e).outcomes
   step-fits s (Connect cred serial moment) h =
       choice (λ (t : Step). All (λ (o : PlainOutcome). FitsBody limits o.body) t.outcomes) (has_all_processes limits (at_moment s moment)) _ _
-      (λ _. All-cons Fits _ [] (omega arith) (All-nil Fits)) (λ _. All-cons Fits _ [] (omega arith) (All-nil Fits))
-  step-fits s (Call pid request moment) h =
-      All-cons Fits _ [] (asked-sound (at_moment s moment) pid request.kind (begin-sound limits s moment h.parts)).body (All-nil Fits)
-  step-fits s (Interrupt pid serial moment) h = All-cons Fits _ [] (omega arith) (All-nil Fits)
+      (λ _. one-fits _ empty-fits) (λ _. one-fits _ (omega arith))
+  step-fits s (Call pid request moment) h = asked-fits (at_moment s moment) pid request request.kind (due-sound s moment h)
+  step-fits s (Interrupt pid serial moment) h = interrupt-fits (at_moment s moment) pid serial
   step-fits s (Tick moment) h = All-nil Fits
-  step-fits s (Exit pid moment) h = All-nil Fits
+  step-fits s (Exit pid moment) h =
+      subst (λ (t : Step). All (λ (o : PlainOutcome). FitsBody limits o.body) t.outcomes)
+      (sym (sound-settled (exit (at_moment s moment) pid) (exit-waits (at_moment s moment) pid (due-sound s moment h)))) (All-nil Fits)
   step-fits s Restart h = All-nil Fits
-
-  -- the same of what is known to be equal
-  pub after-sound : (now : Limits) (s t : State) (e : PlainEvent) → now ≡ limits → t ≡ (step limits s e).state → IsSound limits s → IsSound now t
-  after-sound now s t e same is h =
-      subst (λ (l : Limits). IsSound l t) (sym same) (subst (λ (u : State). IsSound limits u) (sym is) (step-sound s e h))
-
-  pub after-fits : (now : Limits) (s : State) (os : List PlainOutcome) (e : PlainEvent) → now ≡ limits → os ≡ (step limits s e).outcomes
-      → IsSound limits s → All (λ (o : PlainOutcome). FitsBody now o.body) os
-  after-fits now s os e same is h =
-      subst (λ (l : Limits). All (λ (o : PlainOutcome). FitsBody l o.body) os) (sym same)
-      (subst (λ (us : List PlainOutcome). All Fits us) (sym is) (step-fits s e h))

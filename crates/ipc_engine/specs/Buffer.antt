@@ -1,4 +1,4 @@
--- The buffer in which a call makes the body of its reply: it is spare, or stands in the one reply that there is.
+-- The buffer in which a call makes the body of its reply: it is spare, or stands in a reply.
 use Rattle.std.specs.Prelude.{ℕ, ◌≤◌, max, List, [], ◌∷◌, vec_capacity}
 use Rattle.std.specs.Global.{Vec}
 use Rattle.ipc_base.specs.declared.limits.Limits.{Limits}
@@ -6,11 +6,10 @@ use Rattle.ipc_base.specs.Limits.{longest_body}
 use Rattle.sysv_calls.specs.Spare.{room_of}
 use Rattle.ipc_engine.specs.declared.event.Outcome.{Outcome}
 
--- how much room replies bring
+-- the most room that one of the replies brings
 abbrev pub room_in : List Outcome → ℕ
 room_in [] = 0
-room_in (o ∷ []) = room_of o.body
-room_in (o ∷ p ∷ os) = 0
+room_in (o ∷ os) = max (room_of o.body) (room_in os)
 
 -- the longest body has room in it
 abbrev pub HasBuffer : Limits → Vec ℕ → List Outcome → Type 0

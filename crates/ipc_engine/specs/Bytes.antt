@@ -3,7 +3,8 @@ use Rattle.std.specs.Prelude.{◌≡◌, ◌⊎◌, ℕ, ◌+◌, Bool, true, fa
 use Rattle.ipc_base.specs.declared.limits.Limits.{Limits}
 use Rattle.ipc_base.specs.Limits.{longest_reply}
 use Rattle.ipc_wire.specs.Reply.{reply_bytes}
-use Rattle.ipc_state.specs.State.{State, is_process}
+use Rattle.ipc_state.specs.State.{State, is_process, is_waiting}
+use Rattle.ipc_state.specs.Waiting.{PlainWaiting}
 use Rattle.ipc_engine.specs.Event.{PlainEvent, Connect, Call, Interrupt, Tick, Exit, Restart, PlainOutcome}
 use Rattle.ipc_engine.specs.Step.{Step}
 use Rattle.ipc_engine.specs.View.{reply_of}
@@ -22,9 +23,9 @@ asks s (Tick moment) pid = false
 asks s (Exit gone moment) pid = false
 asks s Restart pid = false
 
--- how many bytes a process is still owed for what it asked by earlier events; none, since no call waits yet
+-- how many bytes a process is still owed for what it asked by earlier events: one reply if a call of it waits
 unfoldable pub owed : Limits → State → ℕ → ℕ
-owed limits s pid = 0
+owed limits s pid = if is_waiting s pid then longest_reply limits else 0
 
 -- no process is owed more
 abbrev pub most_owed : Limits → ℕ
@@ -40,3 +41,10 @@ pub record IsGreeted (s : State) (now : Step) : Type 0 where
   pub reply : PlainOutcome
   pub last : now.outcomes ≡ front ++ reply ∷ []
   pub process : (reply.pid ≡ 0) ⊎ ((reply.pid ≡ s.processes.next) × (is_process now.state reply.pid ≡ true))
+
+-- a call that waited has been answered: its process is sent one reply, to that call
+pub record IsAnswered (w : PlainWaiting) (now : Step) : Type 0 where
+  pub reply : PlainOutcome
+  pub all : now.outcomes ≡ reply ∷ []
+  pub process : reply.pid ≡ w.pid.0
+  pub serial : reply.serial ≡ w.call.serial

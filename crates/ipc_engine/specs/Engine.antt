@@ -1,10 +1,10 @@
 -- What a caller sees of the machine, and what it may ask.
 use Rattle.std.specs.Prelude.{◌≡◌, Bool, true, false, not, List}
 use Rattle.ipc_base.specs.declared.limits.Limits.{Limits}
-use Rattle.ipc_wire.specs.Request.{PlainKind, Hello, Interrupt as Interrupts, Calls}
+use Rattle.ipc_wire.specs.Spelling.{HasFrame}
 use Rattle.ipc_state.specs.State.{State, is_process, has_all_processes}
 use Rattle.ipc_state.specs.Held.{Room}
-use Rattle.sysv_calls.specs.Needs.{Needs, Nothing, needs, is_something, Has}
+use Rattle.sysv_calls.specs.Needs.{takes_memory as kind_takes_memory}
 use Rattle.ipc_engine.specs.Event.{PlainEvent, Connect, Call, Interrupt, Tick, Exit, Restart, PlainOutcome}
 
 -- the limits that it keeps, the state, and the replies of the last event
@@ -22,14 +22,10 @@ IsForProcess s (Tick moment) = Unit {0}
 IsForProcess s (Exit pid moment) = is_process s pid ≡ true
 IsForProcess s Restart = Unit {0}
 
--- what a request of a process may need of memory
-abbrev pub kind_needs : PlainKind → Needs
-kind_needs (Hello cred) = Nothing
-kind_needs Interrupts = Nothing
-kind_needs (Calls call) = needs call
-
-abbrev pub kind_takes_memory : PlainKind → Bool
-kind_takes_memory kind = is_something (kind_needs kind)
+-- the request of a call has a frame, so that it can be kept
+abbrev pub HasRequest : PlainEvent → Type 0
+HasRequest (Call pid request moment) = HasFrame request
+HasRequest e = Unit {0}
 
 -- whether an event may need memory, and so may be refused
 abbrev pub takes_memory : Limits → State → PlainEvent → Bool
@@ -43,7 +39,3 @@ takes_memory limits s Restart = false
 -- what a HELLO needs is there
 abbrev pub IsReadyForHello : Limits → State → Room → Type 0
 IsReadyForHello limits s room = has_all_processes limits s ≡ false → room.process ≡ true
-
--- what a request of a process needs is there
-abbrev pub IsReadyFor : State → Room → PlainKind → Type 0
-IsReadyFor s room kind = Has s room (kind_needs kind)

@@ -5,4 +5,5 @@ pub mod View
 pub mod Engine
 pub mod Buffer
 pub mod Sound
+pub mod Settling
 pub mod Listing

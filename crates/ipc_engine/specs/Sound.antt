@@ -1,8 +1,16 @@
--- What holds of the state after every event: each of its parts is sound by itself. What is to hold between parts, and
--- of calls that wait, has its place here as it comes.
+-- What holds of the state after every event. Each of its parts is sound by itself. A call that waits is one of a
+-- connected process, and has to wait: no event leaves one that could go on.
+use Rattle.std.specs.Prelude.{◌≡◌, true, false, All}
 use Rattle.ipc_base.specs.declared.limits.Limits.{Limits}
 use Rattle.ipc_state.specs.Sound.{HasSoundParts}
-use Rattle.ipc_state.specs.State.{State}
+use Rattle.ipc_state.specs.State.{State, is_process}
+use Rattle.ipc_state.specs.Waiting.{PlainWaiting}
+use Rattle.ipc_engine.specs.Step.{can_go_on}
+
+pub record HasToWait (limits : Limits) (s : State) (w : PlainWaiting) : Type 0 where
+  pub process : is_process s w.pid.0 ≡ true
+  pub waits : can_go_on limits s w ≡ false
 
 pub record IsSound (limits : Limits) (s : State) : Type 0 where
   pub parts : HasSoundParts limits s
+  pub waits : All (HasToWait limits s) s.wait

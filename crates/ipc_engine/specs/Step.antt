@@ -1,13 +1,19 @@
 -- One step of the server on one event: the state after it, and the replies in their order. An event first sets the
--- clock, which is the greatest moment so far; a restart has no moment and leaves the clock.
-use Rattle.std.specs.Prelude.{ℕ, List, [], ◌∷◌, ◌++◌, if◌then◌else◌, Some, None}
-use Rattle.ipc_base.specs.declared.errno.Errno.TheVariants.{ENFILE, EPROTO}
+-- clock, which is the greatest moment so far; a restart has no moment and leaves the clock. Then it does what it says,
+-- and at its end those calls go on that waited for it.
+use Rattle.std.specs.Prelude.{ℕ, zero, suc, ◌+◌, List, [], ◌∷◌, ◌++◌, length, if◌then◌else◌, Bool, true, false, not}
+use Rattle.std.specs.Prelude.{Option, Some, None, find}
+use Rattle.ipc_base.specs.declared.errno.Errno.TheVariants.{EALREADY, EINTR, ENFILE, EPROTO}
 use Rattle.ipc_base.specs.declared.identity.Cred.{Cred}
 use Rattle.ipc_base.specs.declared.limits.Limits.{Limits}
-use Rattle.ipc_wire.specs.Request.{PlainKind, Hello, Interrupt as Interrupts, Calls}
+use Rattle.ipc_wait.specs.Waits.{call_of}
+use Rattle.ipc_wire.specs.Request.{PlainCall, PlainKind, PlainRequest, Hello, Interrupt as Interrupts, Calls}
 use Rattle.ipc_wire.specs.declared.reply.Body.TheVariants.{Empty, Number}
-use Rattle.ipc_state.specs.Finish.{Finish, done, refused}
+use Rattle.ipc_state.specs.declared.parked.Awaited.{Awaited}
+use Rattle.ipc_state.specs.Finish.{Finish, Tried, Finishes, Waits, has_to_wait, done, refused}
 use Rattle.ipc_state.specs.State.{State, at_moment, has_all_processes, with_process, exit, restart}
+use Rattle.ipc_state.specs.State.{is_waiting, with_waiting, without_waiting}
+use Rattle.ipc_state.specs.Waiting.{PlainWaiting, awaited_by}
 use Rattle.sysv_calls.specs.Calls.{attempt}
 use Rattle.ipc_engine.specs.Event.{PlainEvent, Connect, Call, Interrupt, Tick, Exit, Restart, PlainOutcome}
 
@@ -15,22 +21,13 @@ pub record Step : Type 0 where
   pub state : State
   pub outcomes : List PlainOutcome
 
--- HELLO: a new process and its pid, or ENFILE where no process can be added
-abbrev pub connect : Limits → State → Cred → ℕ → Step
-connect limits s cred serial =
-    if has_all_processes limits s
-    then record { state = s; outcomes = record { pid = 0; serial = serial; errno = Some ENFILE; body = Empty } ∷ [] }
-    else record {
-      state = with_process s cred;
-      outcomes =
-          record { pid = s.processes.next; serial = serial; errno = None; body = Number s.processes.next } ∷ [];
-    }
+-- nobody is answered
+abbrev pub silent : State → Step
+silent s = record { state = s; outcomes = [] }
 
--- A request of a process. HELLO has no place there: the process has said it. INTERRUPT is done at once.
-abbrev pub asked : Limits → State → ℕ → PlainKind → Finish
-asked limits s pid (Hello cred) = refused s EPROTO
-asked limits s pid Interrupts = done s Empty
-asked limits s pid (Calls call) = attempt limits s pid call
+-- one step, and what comes after it
+abbrev pub after : Step → (State → Step) → Step
+after now next = record { state = (next now.state).state; outcomes = now.outcomes ++ (next now.state).outcomes }
 
 -- the reply to a call that has ended so
 abbrev pub replied : ℕ → ℕ → Finish → Step
@@ -40,26 +37,108 @@ replied pid serial f =
       outcomes = record { pid = pid; serial = serial; errno = f.errno; body = f.body } ∷ [];
     }
 
--- INTERRUPT: its reply. A call of the process that waits is to end with EINTR before; none waits yet.
-abbrev pub interrupt : State → ℕ → ℕ → Step
-interrupt s pid serial = replied pid serial (done s Empty)
+-- ---- calls that wait
+
+-- what comes of a call that waits, as the state is now; what is no call never waits
+abbrev pub tried_again : Limits → State → ℕ → PlainKind → Tried
+tried_again limits s pid (Calls call) = attempt limits s pid true call
+tried_again limits s pid kind = Finishes (refused s EPROTO)
+
+-- it can go on now: it is done, or refused
+abbrev pub can_go_on : Limits → State → PlainWaiting → Bool
+can_go_on limits s w = not (has_to_wait (tried_again limits s w.pid.0 w.call.kind))
+
+-- a call that goes on is answered
+abbrev pub answered : PlainWaiting → State → Tried → Step
+answered w s (Finishes f) = replied w.pid.0 w.call.serial f
+answered w s Waits = silent s
+
+-- it leaves the list, and is done or refused
+abbrev pub resumed : Limits → State → PlainWaiting → Step
+resumed limits s w =
+    answered w (without_waiting s w.pid.0) (tried_again limits (without_waiting s w.pid.0) w.pid.0 w.call.kind)
+
+-- it does so, and the others after it; nothing, if there is none
+abbrev pub resumed_first : Limits → State → Option PlainWaiting → (State → Step) → Step
+resumed_first limits s None next = silent s
+resumed_first limits s (Some w) next = after (resumed limits s w) next
+
+-- so many times at most: the first that can go on does so, and then all are looked at again
+unfoldable pub settle_within : Limits → ℕ → State → Step
+settle_within limits zero s = silent s
+settle_within limits (suc n) s =
+    resumed_first limits s (find (can_go_on limits s) s.wait) (settle_within limits n)
+
+-- until none can go on
+unfoldable pub settle : Limits → State → Step
+settle limits s = settle_within limits (length s.wait) s
+
+-- the call joins the end of the list, with the object on which it waits; calls on message queues have no deadline
+abbrev pub joins : State → ℕ → PlainRequest → Option Awaited → State
+joins s pid request None = s
+joins s pid request (Some on) =
+    with_waiting s (record { pid = record { 0 = pid }; on = on; deadline = None; call = request })
+
+-- ---- events
+
+-- HELLO: a new process and its pid, or ENFILE where no process can be added
+abbrev pub connect : Limits → Cred → ℕ → State → Step
+connect limits cred serial s =
+    if has_all_processes limits s
+    then record { state = s; outcomes = record { pid = 0; serial = serial; errno = Some ENFILE; body = Empty } ∷ [] }
+    else record {
+      state = with_process s cred;
+      outcomes =
+          record { pid = s.processes.next; serial = serial; errno = None; body = Number s.processes.next } ∷ [];
+    }
+
+-- what a process is told whose call was tried: how it ends, and then others go on; or nothing yet
+abbrev pub told : Limits → ℕ → PlainRequest → State → Tried → Step
+told limits pid request s (Finishes f) = after (replied pid request.serial f) (settle limits)
+told limits pid request s Waits = silent (joins s pid request (awaited_by request.kind))
+
+-- a call of a process, which has one at a time
+abbrev pub called : Limits → ℕ → PlainRequest → PlainCall → State → Step
+called limits pid request call s =
+    if is_waiting s pid
+    then replied pid request.serial (refused s EALREADY)
+    else told limits pid request s (attempt limits s pid false call)
+
+-- the call of a process that waits, if there is one, ends with EINTR
+abbrev pub interrupted : State → ℕ → Option PlainWaiting → Step
+interrupted s pid None = silent s
+interrupted s pid (Some w) = replied pid w.call.serial (refused (without_waiting s pid) EINTR)
+
+-- INTERRUPT: that, and then its own reply
+abbrev pub interrupt : ℕ → ℕ → State → Step
+interrupt pid serial s =
+    after (interrupted s pid (call_of (record { 0 = pid }) s.wait)) (λ t. replied pid serial (done t Empty))
+
+-- A request of a process. HELLO has no place there: the process has said it. INTERRUPT is done at once.
+abbrev pub asked : Limits → ℕ → PlainRequest → PlainKind → State → Step
+asked limits pid request (Hello cred) s = replied pid request.serial (refused s EPROTO)
+asked limits pid request Interrupts s = interrupt pid request.serial s
+asked limits pid request (Calls call) s = called limits pid request call s
+
+-- a moment comes; no call has a deadline yet, so it answers none
+abbrev pub due : ℕ → State → Step
+due moment s = silent (at_moment s moment)
 
 abbrev pub step : Limits → State → PlainEvent → Step
-step limits s (Connect cred serial moment) = connect limits (at_moment s moment) cred serial
-step limits s (Call pid request moment) =
-    replied pid request.serial (asked limits (at_moment s moment) pid request.kind)
-step limits s (Interrupt pid serial moment) = interrupt (at_moment s moment) pid serial
-step limits s (Tick moment) = record { state = at_moment s moment; outcomes = [] }
-step limits s (Exit pid moment) = record { state = exit (at_moment s moment) pid; outcomes = [] }
-step limits s Restart = record { state = restart s; outcomes = [] }
+step limits s (Connect cred serial moment) = after (due moment s) (connect limits cred serial)
+step limits s (Call pid request moment) = after (due moment s) (asked limits pid request request.kind)
+step limits s (Interrupt pid serial moment) = after (due moment s) (interrupt pid serial)
+step limits s (Tick moment) = due moment s
+step limits s (Exit pid moment) = after (due moment s) (λ t. settle limits (exit t pid))
+step limits s Restart = silent (restart s)
 
--- the most replies that one event causes
-abbrev pub most_replies : ℕ
-most_replies = 1
+-- the most replies that one event causes: its own, and one to each process of which a call waited
+abbrev pub most_replies : Limits → ℕ
+most_replies limits = limits.processes + 1
 
 -- a run: the state after a list of events, and all replies in order
 abbrev pub run : Limits → State → List PlainEvent → Step
-run limits s [] = record { state = s; outcomes = [] }
+run limits s [] = silent s
 run limits s (e ∷ es) =
     let now = step limits s e in
     let rest = run limits now.state es in

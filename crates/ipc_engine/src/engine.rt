@@ -2,13 +2,16 @@
 
 ghost use Rattle.std.specs.Prelude.{
   ◌≡◌,
+  ◌+◌,
   ◌≤◌,
   ◌↔◌,
   true,
   false,
   [],
   ◌∷◌,
+  ◌++◌,
   map,
+  length,
   not,
   IsOk,
   IsTrue,
@@ -20,31 +23,33 @@ ghost use Rattle.std.specs.Prelude.{
   max,
 };
 ghost use Rattle.ipc_base.specs.Limits.{ArePassed, longest_body};
-ghost use Rattle.ipc_wire.specs.Request.{plain_kind};
+ghost use Rattle.ipc_wire.specs.Request.{plain_kind, plain_request};
+ghost use Rattle.ipc_wire.specs.Spelling.{HasFrame};
 ghost use Rattle.ipc_state.specs.Finish.{finish_of};
-ghost use Rattle.ipc_state.specs.Sound.{HasSoundParts, FitsBody};
-ghost use Rattle.ipc_state.specs.State.{State as PlainState, has_all_processes, is_process, start};
-ghost use Rattle.sysv_calls.specs.Spare.{IsSpare, IsKept, room_of, room_in as room_in_answer};
-ghost use Rattle.ipc_engine.specs.Buffer.{room_in};
+ghost use Rattle.ipc_state.specs.Sound.{FitsBody, HasSoundParts};
+ghost use Rattle.ipc_state.specs.State.{State as PlainState, has_all_processes, is_process, is_waiting, start};
+ghost use Rattle.sysv_calls.specs.Needs.{IsReserved, takes_memory as kind_takes_memory};
+ghost use Rattle.sysv_calls.specs.Spare.{room_of, room_in as room_in_answer};
+ghost use Rattle.ipc_engine.specs.Buffer.{room_in, HasBuffer};
 ghost use Rattle.ipc_engine.specs.Bytes.{most_owed, owed};
-ghost use Rattle.ipc_engine.specs.Engine.{kind_takes_memory, IsReadyFor, IsReadyForHello};
-ghost use Rattle.ipc_engine.specs.Step.{step as step_on, asked, connect as connect_step, replied, most_replies};
+ghost use Rattle.ipc_engine.specs.Engine.{IsReadyForHello};
+ghost use Rattle.ipc_engine.specs.Step.{step as step_on, connect as connect_step, replied, most_replies};
 ghost use Rattle.ipc_engine.specs.Listing.{rows_of};
 ghost use Rattle.ipc_engine.specs.Sound.{IsSound};
 ghost use Rattle.ipc_engine.specs.View.{plain_event, plain_outcome, step_of};
 
+use crate::asking::{ask, interrupt};
 use crate::event::{Event, Outcome};
 use crate::fault::StateFault;
 use crate::listing::{Row, list_objects};
+use crate::replies::{push, take_back};
+use crate::settling::all_have_to_wait;
 use ipc_base::{Cred, Errno, Limits, Pid};
-use ipc_state::State;
-use ipc_wire::{Body, RequestKind};
+use ipc_state::{Parked, State};
+use ipc_wire::{Body, Request};
 use std::alloc::{AllocError, Global};
 use std::marker::Model;
-use sysv_calls::{Answer, attempt, reserve};
-
-/// The most replies that one event causes.
-const MOST_REPLIES: usize = 1;
+use sysv_calls::reserve;
 
 /// The machine. A contract sees its limits, its state, and the replies of the last event.
 #[derive(Drop)]
@@ -72,12 +77,13 @@ impl Model for Engine {
       outcomes = map plain_outcome e.outcomes.items;
     } };
 
-    ghost invariant = { λ e. (most_replies ≤ vec_capacity e.outcomes) × IsSound e.state.limits e.state.state
+    ghost invariant = { λ e. (most_replies e.state.limits ≤ vec_capacity e.outcomes)
+        × IsSound e.state.limits e.state.state
         × ArePassed e.state.limits × HasBuffer e.state.limits e.spare e.outcomes.items };
 }
 
 impl Engine {
-    ghost use Rattle.ipc_engine.specs.Engine.{IsForProcess, takes_memory};
+    ghost use Rattle.ipc_engine.specs.Engine.{IsForProcess, HasRequest, takes_memory};
 
     /// A machine to which nothing has happened. Refused for want of memory.
     pub fn new(alloc: Global, limits: Limits) -> Result<Engine, AllocError>
@@ -87,7 +93,7 @@ impl Engine {
         ensures limits { IfOk result (λ engine. engine.limits ≡ limits) }
         ensures sound { IfOk result (λ engine. IsSound engine.limits engine.state) }
     {
-        let outcomes = Vec::with_capacity(alloc, MOST_REPLIES)?;
+        let outcomes = Vec::with_capacity(alloc, most_replies(&limits))?;
         let spare = buffer(alloc, &limits)?;
         Ok(Engine {
             state: State::new(alloc, limits),
@@ -105,10 +111,10 @@ impl Engine {
         ensures sound { IfOk result (λ engine. IsSound engine.limits engine.state) }
         ensures unsound { result ≡ Err StateFault.Unsound → ¬ IsSound state.limits state.state }
     {
-        if !state.is_sound() {
+        if !state.is_sound() || !all_have_to_wait(&state) {
             return Err(StateFault::Unsound);
         }
-        let outcomes = Vec::with_capacity(alloc, MOST_REPLIES)?;
+        let outcomes = Vec::with_capacity(alloc, most_replies(state.limits()))?;
         let spare = buffer(alloc, state.limits())?;
         Ok(Engine {
             state,
@@ -150,12 +156,16 @@ impl Engine {
         self.state.has_process(pid)
     }
 
-    /// How many bytes of replies a process is still owed for what it asked before. No call waits yet, so none.
+    /// How many bytes of replies a process is still owed for what it asked before: the longest reply if a call of it
+    /// waits.
     pub fn owed(&self, pid: Pid) -> usize
         ensures { result ≡ owed self.now.limits self.now.state pid.0 }
     {
-        let _pid = pid;
-        0
+        if self.state.is_waiting(pid) {
+            self.most_owed()
+        } else {
+            0
+        }
     }
 
     /// The most that a process is ever owed.
@@ -184,11 +194,12 @@ impl Engine {
     }
 
     /// One step on an event: `outcomes` are its replies. Refused for want of memory, which only a HELLO
-    /// that gets a process, msgget(2) and msgsnd(2) take, nothing has changed, the clock included. The
-    /// state is sound before and after, and no body of a reply is longer than `Limits::longest_reply`
-    /// says.
+    /// that gets a process, msgget(2), msgsnd(2) and msgrcv(2) take, nothing has changed, the clock included. What is
+    /// answered to a call that waited takes none. The state is sound before and after, and no body of a reply is longer
+    /// than `Limits::longest_reply` says. The request of a call has a frame, since it may be kept.
     pub fn step(&mut self, event: Event<'_>) -> Result<(), AllocError>
-        requires { IsForProcess self.old.state (plain_event event) }
+        requires process { IsForProcess self.old.state (plain_event event) }
+        requires request { HasRequest (plain_event event) }
         ensures state { OnOk result (self.new.state
             ≡ (step_on self.old.limits self.old.state (plain_event event.entry)).state) }
         ensures outcomes { OnOk result (self.new.outcomes
@@ -212,18 +223,24 @@ impl Engine {
                 take_back(&mut self.outcomes, &mut self.spare);
                 self.state.begin(moment);
                 let outcome = connect(&mut self.state, cred, serial);
-                answer(&mut self.outcomes, outcome);
+                push(&mut self.outcomes, outcome);
             }
             Event::Call {
                 pid,
                 request,
                 moment,
             } => {
-                reserve_kind(&mut self.state, &request.kind)?;
+                let kept = prepare(&mut self.state, *self.outcomes.allocator(), pid, &request)?;
                 take_back(&mut self.outcomes, &mut self.spare);
                 self.state.begin(moment);
-                let ended = ask(&mut self.state, pid, &request.kind, &mut self.spare);
-                answer(&mut self.outcomes, reply_to(pid, request.serial, ended));
+                ask(
+                    &mut self.state,
+                    &mut self.outcomes,
+                    &mut self.spare,
+                    pid,
+                    &request,
+                    kept,
+                );
             }
             Event::Interrupt {
                 pid,
@@ -232,7 +249,7 @@ impl Engine {
             } => {
                 take_back(&mut self.outcomes, &mut self.spare);
                 self.state.begin(moment);
-                answer(&mut self.outcomes, reply_to(pid, serial, Ok(Body::Empty)));
+                interrupt(&mut self.state, &mut self.outcomes, pid, serial);
             }
             Event::Tick { moment } => {
                 take_back(&mut self.outcomes, &mut self.spare);
@@ -252,6 +269,14 @@ impl Engine {
     }
 }
 
+/// The most replies that one event causes: its own, and one to each process.
+fn most_replies(limits: &Limits) -> usize
+    requires { ArePassed limits.now }
+    ensures { result ≡ most_replies limits.now }
+{
+    limits.processes as usize + 1
+}
+
 /// An empty buffer that has room for any body of a reply.
 fn buffer(alloc: Global, limits: &Limits) -> Result<Vec<u8>, AllocError>
     requires { ArePassed limits.now }
@@ -260,48 +285,25 @@ fn buffer(alloc: Global, limits: &Limits) -> Result<Vec<u8>, AllocError>
     Vec::with_capacity(alloc, limits.longest_reply() as usize)
 }
 
-/// The replies of the last event go, and the buffer that one of them has is spare again.
-fn take_back(outcomes: &mut Vec<Outcome>, spare: &mut Vec<u8>)
-    ensures gone { outcomes.new.items ≡ [] }
-    ensures capacity { vec_capacity outcomes.old ≤ vec_capacity outcomes.new }
-    ensures empty { spare.new.items ≡ [] }
-    ensures room { max (vec_capacity spare.old) (room_in outcomes.old.items) ≤ vec_capacity spare.new }
+/// Takes the memory that a request of a process may need; none while a call of the process waits, since it has one at
+/// a time. Gives what is kept of a request that may wait.
+fn prepare(
+    state: &mut State,
+    alloc: Global,
+    pid: Pid,
+    request: &Request<'_>,
+) -> Result<Option<Parked>, AllocError>
+    requires { HasSoundParts state.old.limits state.old.state }
+    ensures state { state.new.state ≡ state.old.state }
+    ensures limits { state.new.limits ≡ state.old.limits }
+    ensures ok { IfOk result (λ kept. is_waiting state.old.state pid.0 ≡ false
+        → IsReserved state.new.state state.new.room (plain_request request.now) kept) }
+    ensures memory { kind_takes_memory (plain_kind request.now.kind) ≡ false → IsOk result }
 {
-    if let Some(outcome) = outcomes.pop() {
-        give_back(outcome.body, spare);
+    if state.is_waiting(pid) {
+        return Ok(None);
     }
-    outcomes.clear();
-    spare.clear();
-}
-
-/// The buffer that a body has is spare again, if it has more room than the one that is.
-fn give_back(body: Body<Vec<u8>>, spare: &mut Vec<u8>)
-    ensures { max (vec_capacity spare.old) (room_of body) ≤ vec_capacity spare.new }
-{
-    match body {
-        Body::Record(bytes) => keep_larger(spare, bytes),
-        Body::Message { text: _text, .. } => {}
-        Body::Empty | Body::Number(_) => {}
-    }
-}
-
-/// Of two buffers the one with more room.
-fn keep_larger(spare: &mut Vec<u8>, other: Vec<u8>)
-    ensures { max (vec_capacity spare.old) (vec_capacity other) ≤ vec_capacity spare.new }
-{
-    if other.capacity() > spare.capacity() {
-        *spare = other;
-    }
-}
-
-/// The replies are this one alone.
-fn answer(outcomes: &mut Vec<Outcome>, outcome: Outcome)
-    requires { most_replies ≤ vec_capacity outcomes.old }
-    ensures items { outcomes.new.items ≡ outcome ∷ [] }
-    ensures capacity { vec_capacity outcomes.old ≤ vec_capacity outcomes.new }
-{
-    outcomes.clear();
-    outcomes.push(outcome).unwrap();
+    reserve(state, alloc, request)
 }
 
 /// Takes the memory that a HELLO needs: none where no process can be added.
@@ -321,7 +323,7 @@ fn reserve_hello(state: &mut State) -> Result<(), AllocError>
 /// The reply to a HELLO: a new process, or ENFILE where none can be added. It takes no memory.
 fn connect(state: &mut State, cred: Cred, serial: u32) -> Outcome
     requires { IsReadyForHello state.old.limits state.old.state state.old.room }
-    ensures step { step_of state.new.state result ≡ connect_step state.old.limits state.old.state cred serial }
+    ensures step { step_of state.new.state result ≡ connect_step state.old.limits cred serial state.old.state }
     ensures limits { state.new.limits ≡ state.old.limits }
 {
     if state.has_all_processes() {
@@ -338,54 +340,5 @@ fn connect(state: &mut State, cred: Cred, serial: u32) -> Outcome
         serial,
         errno: None,
         body: Body::Number(pid.0),
-    }
-}
-
-/// Takes the memory that a request of a process may need.
-fn reserve_kind(state: &mut State, kind: &RequestKind<'_>) -> Result<(), AllocError>
-    requires { HasSoundParts state.old.limits state.old.state }
-    ensures state { state.new.state ≡ state.old.state }
-    ensures limits { state.new.limits ≡ state.old.limits }
-    ensures ok { OnOk result (IsReadyFor state.new.state state.new.room (plain_kind kind.now)) }
-    ensures memory { kind_takes_memory (plain_kind kind.now) ≡ false → IsOk result }
-{
-    match kind {
-        RequestKind::Hello(_) | RequestKind::Interrupt => Ok(()),
-        RequestKind::Call(call) => reserve(state, call),
-    }
-}
-
-/// How a request of a process ends, whose memory is reserved. It takes none.
-fn ask(state: &mut State, pid: Pid, kind: &RequestKind<'_>, spare: &mut Vec<u8>) -> Answer
-    requires spare { IsSpare state.old.limits spare.old }
-    requires sound { HasSoundParts state.old.limits state.old.state }
-    requires room { IsReadyFor state.old.state state.old.room (plain_kind kind.now) }
-    requires process { is_process state.old.state pid.0 ≡ true }
-    ensures finish { finish_of state.new.state result
-        ≡ asked state.old.limits state.old.state pid.0 (plain_kind kind.now) }
-    ensures limits { state.new.limits ≡ state.old.limits }
-    ensures spare { IsKept state.old.limits spare.new result }
-{
-    match kind {
-        RequestKind::Hello(_) => Err(Errno::EPROTO),
-        RequestKind::Interrupt => Ok(Body::Empty),
-        RequestKind::Call(call) => attempt(state, pid, call, spare),
-    }
-}
-
-/// The reply that tells a process how its request ended.
-fn reply_to(pid: Pid, serial: u32, ended: Answer) -> Outcome
-    ensures reply { (s : PlainState) → step_of s result ≡ replied pid.0 serial (finish_of s ended) }
-    ensures room { room_of result.body ≡ room_in_answer ended }
-{
-    let (errno, body) = match ended {
-        Ok(body) => (None, body),
-        Err(errno) => (Some(errno), Body::Empty),
-    };
-    Outcome {
-        pid,
-        serial,
-        errno,
-        body,
     }
 }

@@ -1,23 +1,53 @@
 //! Laws of the definitions alone. A call of one does nothing; its contract is the law.
 
 ghost use Rattle.std.specs.Prelude.{◌≡◌, ◌≢◌, ◌+◌, ◌<◌, ◌≤◌, ℕ, true, false};
-ghost use Rattle.std.specs.Prelude.{List, [], ◌++◌, length, max};
-ghost use Rattle.std.specs.Prelude.{Option, None, All, IsSome};
+ghost use Rattle.std.specs.Prelude.{List, [], ◌∷◌, ◌++◌, length, max};
+ghost use Rattle.std.specs.Prelude.{Option, None, Some, All};
+ghost use Rattle.ipc_base.specs.declared.errno.Errno.{Errno};
+ghost use Rattle.ipc_base.specs.declared.errno.Errno.TheVariants.{EALREADY};
 ghost use Rattle.ipc_base.specs.declared.limits.Limits.{Limits};
 ghost use Rattle.ipc_base.specs.declared.identity.Cred.{Cred};
-ghost use Rattle.ipc_wire.specs.Request.{PlainRequest, Interrupt as Interrupts};
-ghost use Rattle.ipc_state.specs.State.{State, start, is_process, at_moment, restart};
+ghost use Rattle.ipc_wire.specs.Request.{PlainCall, PlainRequest, Calls, Interrupt as Interrupts};
+ghost use Rattle.ipc_state.specs.declared.parked.Awaited.{Awaited};
+ghost use Rattle.ipc_state.specs.Finish.{Finishes, Waits, refused};
+ghost use Rattle.ipc_state.specs.State.{State, start, is_process, is_waiting, at_moment, restart, with_waiting};
+ghost use Rattle.ipc_state.specs.Waiting.{PlainWaiting, awaited_by};
+ghost use Rattle.sysv_calls.specs.Calls.{attempt};
 ghost use Rattle.ipc_engine.specs.Event.{PlainEvent, Connect, Call, Interrupt, Tick, Exit, Restart, moment_of};
-ghost use Rattle.ipc_engine.specs.Step.{step, run, asked, most_replies};
-ghost use Rattle.ipc_state.specs.Sound.{FitsBody};
-ghost use Rattle.ipc_engine.specs.Bytes.{IsGreeted, allowed, asks, bytes_to, most_owed, owed};
+ghost use Rattle.ipc_engine.specs.Step.{step, run, silent, replied, after, settle, resumed, can_go_on, most_replies};
+ghost use Rattle.ipc_state.specs.Sound.{HasSoundParts, FitsBody};
+ghost use Rattle.ipc_engine.specs.Bytes.{IsAnswered, IsGreeted, allowed, asks, bytes_to, most_owed, owed};
+ghost use Rattle.ipc_engine.specs.Engine.{IsForProcess, HasRequest};
 ghost use Rattle.ipc_engine.specs.Sound.{IsSound};
 
-/// The state is sound before the first event, and after each event if it was before.
+/// The state is sound before the first event, and after each event if it was before. The process that the event names
+/// is connected, and the request of a call has a frame.
 pub fn step_keeps_soundness()
     ensures start { (limits : Limits) → IsSound limits start }
     ensures step { (limits : Limits) (s : State) (e : PlainEvent)
-        → IsSound limits s → IsSound limits (step limits s e).state }
+        → IsSound limits s → IsForProcess s e → HasRequest e → IsSound limits (step limits s e).state }
+{}
+
+/// After an event no call waits that could go on.
+pub fn nobody_waits_who_could_go_on()
+    ensures { (limits : Limits) (s : State) (e : PlainEvent)
+        → IsSound limits s → IsForProcess s e → HasRequest e
+        → All (λ w. can_go_on limits (step limits s e).state w ≡ false) (step limits s e).state.wait }
+{}
+
+/// If none of those before a call in the list can go on, and it can, then it is the first that is answered: it leaves
+/// the list, its process is sent one reply to it, and all are looked at again.
+pub fn the_earliest_goes_on_first()
+    ensures first { (limits : Limits) (s : State) (before later : List PlainWaiting) (w : PlainWaiting)
+        → HasSoundParts limits s → s.wait ≡ before ++ w ∷ later
+        → All (λ v. can_go_on limits s v ≡ false) before → can_go_on limits s w ≡ true
+        → settle limits s ≡ after (resumed limits s w) (settle limits) }
+    ensures answered { (limits : Limits) (s : State) (before later : List PlainWaiting) (w : PlainWaiting)
+        → HasSoundParts limits s → s.wait ≡ before ++ w ∷ later → can_go_on limits s w ≡ true
+        → IsAnswered w (resumed limits s w) }
+    ensures left { (limits : Limits) (s : State) (before later : List PlainWaiting) (w : PlainWaiting)
+        → HasSoundParts limits s → s.wait ≡ before ++ w ∷ later
+        → (resumed limits s w).state.wait ≡ before ++ later }
 {}
 
 /// No body of a reply is longer than the longest one.
@@ -28,7 +58,8 @@ pub fn replies_fit()
 
 /// No event causes more replies than `most_replies`.
 pub fn replies_are_few()
-    ensures { (limits : Limits) (s : State) (e : PlainEvent) → length (step limits s e).outcomes ≤ most_replies }
+    ensures { (limits : Limits) (s : State) (e : PlainEvent) → IsSound limits s
+        → length (step limits s e).outcomes ≤ most_replies limits }
 {}
 
 /// An event sends a process no more bytes of frames than it has asked for: what it is sent and what it is owed then are
@@ -81,11 +112,33 @@ pub fn event_sets_clock()
         → (step limits s e).state.clock ≡ max s.clock (moment_of e) }
 {}
 
-/// A call that is refused changes the clock alone.
+/// A call that is refused changes the clock alone, and so does one of a process of which a call waits: it is refused
+/// with EALREADY.
 pub fn refused_call_changes_nothing()
-    ensures { (limits : Limits) (s : State) (pid moment : ℕ) (request : PlainRequest)
-        → IsSome (asked limits (at_moment s moment) pid request.kind).errno
+    ensures refused { (limits : Limits) (s : State) (pid moment : ℕ) (request : PlainRequest) (call : PlainCall)
+        (e : Errno) → IsSound limits s → request.kind ≡ Calls call
+        → attempt limits (at_moment s moment) pid false call ≡ Finishes (refused (at_moment s moment) e)
         → (step limits s (Call pid request moment)).state ≡ at_moment s moment }
+    ensures waiting { (limits : Limits) (s : State) (pid moment : ℕ) (request : PlainRequest) (call : PlainCall)
+        → request.kind ≡ Calls call → is_waiting s pid ≡ true
+        → step limits s (Call pid request moment)
+        ≡ replied pid request.serial (refused (at_moment s moment) EALREADY) }
+{}
+
+/// A call that cannot go on joins the end of those that wait, and nobody is sent anything.
+pub fn call_that_cannot_go_on_waits()
+    ensures { (limits : Limits) (s : State) (pid moment : ℕ) (request : PlainRequest) (call : PlainCall) (on : Awaited)
+        → request.kind ≡ Calls call → awaited_by request.kind ≡ Some on → is_waiting s pid ≡ false
+        → attempt limits (at_moment s moment) pid false call ≡ Waits
+        → step limits s (Call pid request moment)
+        ≡ silent (with_waiting (at_moment s moment)
+        (record { pid = record { 0 = pid }; on = on; deadline = None; call = request })) }
+{}
+
+/// A restart takes all calls away that wait, and sends nobody anything.
+pub fn restart_leaves_no_call()
+    ensures none { (limits : Limits) (s : State) → (step limits s Restart).state.wait ≡ [] }
+    ensures silent { (limits : Limits) (s : State) → (step limits s Restart).outcomes ≡ [] }
 {}
 
 /// A call whose request is an INTERRUPT is an interrupt.

@@ -17,7 +17,7 @@ use Rattle.ipc_engine.specs.Sound.{IsSound}
 use Rattle.ipc_engine.specs.Step.{Step, step}
 use Rattle.ipc_engine.specs.View.{reply_of}
 use Rattle.ipc_wire.proofs.CallerLemmas.{length-reply_bytes}
-use Rattle.ipc_engine.proofs.CallerLemmas.{step-sound, owed-none, unanswered-owed}
+use Rattle.ipc_engine.proofs.CallerLemmas.{owed-none, unanswered-owed}
 use Rattle.ipc_hub.specs.Clients.{accepted, Client, Clients, client_at, last_reply, welcomed, serve, accept, with_client, with_frame}
 use Rattle.ipc_hub.specs.View.{ConnectionView, HubView, kept}
 use Rattle.ipc_hub.specs.Relations.Delivery.{last_frames, owed_to, pushed, put_all, given, answered, with_answer, IsShort}
@@ -29,7 +29,7 @@ use Rattle.ipc_hub.proofs.Deliveries.{push-matches, matches-later, accept-matche
 use Rattle.ipc_hub.proofs.Keeping.{owing, owing-some, owing-none, kept-owing, kept-pushed, length-pushed, heard, nothing, length-heard, owing-have_room}
 use Rattle.ipc_hub.proofs.Keeping.{quiet-kept, delivery-goes-on, process-with}
 use Rattle.ipc_hub.proofs.Ending.{client-there}
-use Rattle.ipc_hub.proofs.Requests.{Asks, last-fits, last-is, last-sent, asked-owes, connected-above, connected-below, step-short}
+use Rattle.ipc_hub.proofs.Requests.{Asks, last-fits, last-is, last-sent, asked-owes, connected-above, connected-below, next-above, step-short}
 
 -- ---- the connection that asked
 
@@ -95,7 +95,7 @@ module _ (h : HubView) (conn : ℕ) (v : ConnectionView) (e : PlainEvent) (inv :
   here = each-at (IsKeptIn h) h.connections conn v inv.each found
 
   fresh-above : (pid : ℕ) → IsFresh pid → 0 < pid
-  fresh-above pid new = connected-above h.limits now.state pid (step-sound h.limits h.state e sound) new.2
+  fresh-above pid new = omega (arith, next-above h.limits h.state sound, new.1)
 
   fresh-nobodys : (pid : ℕ) → IsFresh pid → is_process h.state pid ≡ true → ⊥
   fresh-nobodys pid new is = omega (arith, connected-below h.limits h.state pid sound is, new.1)

@@ -7,7 +7,8 @@ use Rattle.std.proofs.lemmas.List.Elements.{All-head, All-tail}
 use Rattle.ipc_base.specs.Limits.{ArePassed, longest_reply}
 use Rattle.ipc_base.specs.declared.identity.Cred.{Cred}
 use Rattle.ipc_base.specs.declared.limits.Limits.{Limits}
-use Rattle.ipc_base.proofs.CallerLemmas.{rising-found, longest_reply-bound, same_key, other_key}
+use Rattle.ipc_base.proofs.CallerLemmas.{rising-bounds, rising-found, longest_reply-bound, same_key, other_key}
+use Rattle.ipc_base.specs.Table.{keys_of}
 use Rattle.ipc_wire.specs.Reply.{reply_bytes}
 use Rattle.ipc_wire.specs.Request.{PlainRequest, PlainKind, Hello, Interrupt as Interrupts, Calls}
 use Rattle.ipc_wire.proofs.CallerLemmas.{length-reply_bytes}
@@ -68,6 +69,10 @@ last-sent (p ∷ front) o = omega (arith, last-sent front o)
 pub connected-above : (limits : Limits) (s : State) (pid : ℕ) → IsSound limits s → is_process s pid ≡ true → 0 < pid
 connected-above limits s pid sound is =
     omega (arith, (rising-found 1 s.processes.entries s.processes.next pid sound.parts.processes.numbers is).0)
+
+-- which has one too
+pub next-above : (limits : Limits) (s : State) → IsSound limits s → 0 < s.processes.next
+next-above limits s sound = omega (arith, rising-bounds 1 (keys_of s.processes.entries) s.processes.next sound.parts.processes.numbers)
 
 -- and one below the next
 pub connected-below : (limits : Limits) (s : State) (pid : ℕ) → IsSound limits s → is_process s pid ≡ true → pid < s.processes.next

@@ -114,7 +114,8 @@ break_off limits h conn c serial moment =
 abbrev pub refuse : Clients → ℕ → Client → ℕ → Clients
 refuse h conn c serial = with_client h conn (with_frame c (accepted h) (refusal serial ENOMEM))
 
--- the event that a request of a process, or of none, makes: a HELLO asks for a process, an INTERRUPT and a call need one
+-- the event that a request of a process, or of none, makes: a HELLO asks for a process; an INTERRUPT and a call need
+-- one
 abbrev pub event_of : Option ℕ → PlainRequest → ℕ → Option PlainEvent
 event_of process request moment = by_kind process request.kind
   where

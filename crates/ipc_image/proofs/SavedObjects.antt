@@ -14,7 +14,7 @@ use Rattle.ipc_base.specs.Limits.{ArePassed}
 use Rattle.ipc_base.specs.Objects.{PlainObjects, AreObjects, object_sectors, Fit}
 use Rattle.ipc_base.specs.Table.{keys_of, IsRising}
 use Rattle.ipc_base.proofs.CallerLemmas.{passed-bounds, rising-lower}
-use Rattle.sysv_msg.specs.Queue.{Queue, PlainMessage, Kept, byte_count, stat_of as queue_stat}
+use Rattle.sysv_msg.specs.Queue.{Queue, PlainMessage, byte_count, stat_of as queue_stat}
 use Rattle.sysv_msg.specs.declared.queue.QueueStat.{QueueStat}
 use Rattle.ipc_state.specs.declared.numbered.Item.{Item}
 use Rattle.ipc_state.specs.declared.keyed.Entry.{Entry}
@@ -25,7 +25,7 @@ use Rattle.ipc_state.proofs.CallerLemmas.{All-seen, queue-numbers}
 use Rattle.ipc_engine.specs.Sound.{IsSound}
 use Rattle.ipc_state.specs.State.{State, start}
 use Rattle.ipc_state.specs.Waiting.{PlainWaiting}
-use Rattle.ipc_state.specs.Tables.{item_row, queue_row}
+use Rattle.ipc_state.specs.Tables.{item_row}
 use Rattle.ipc_base.specs.Numbers.{fields_bytes}
 use Rattle.ipc_image.specs.Saved.{counted_bytes, queue_sizes, queue_numbers, set_sizes, set_numbers}
 use Rattle.ipc_image.specs.Saved.{clock_sizes, clock_numbers, count_bytes, process_bytes, processes_bytes, message_bytes}
@@ -145,9 +145,9 @@ module _ (s : State) where
       (All-map P set_object s.sem.entries others)))))
 
 -- the state that tables are, and how many objects it has
-module _ (n : Numbers) (ps : List (Item Process)) (ws : List PlainWaiting) (qs : List (Item (Entry Kept))) (xs : List (Item (Entry Set))) where
+module _ (n : Numbers) (ps : List (Item Process)) (ws : List PlainWaiting) (qs : List (Item (Entry Queue))) (xs : List (Item (Entry Set))) where
   pub seen-is : (s : State) → n.clock.0 ≡ s.clock → n.next_pid ≡ s.processes.next → n.next_queue ≡ s.msg.next → n.next_set ≡ s.sem.next
-      → map item_row ps ≡ s.processes.entries → ws ≡ s.wait → map queue_row qs ≡ s.msg.entries → map item_row xs ≡ s.sem.entries
+      → map item_row ps ≡ s.processes.entries → ws ≡ s.wait → map item_row qs ≡ s.msg.entries → map item_row xs ≡ s.sem.entries
       → seen_state n ps ws qs xs ≡ s
   seen-is s clock pid queue set processes waits queues sets =
       λ i. record {
@@ -159,7 +159,7 @@ module _ (n : Numbers) (ps : List (Item Process)) (ws : List PlainWaiting) (qs :
       }
 
   pub seen_count : length (saved (seen_state n ps ws qs xs)) ≡ 4 + (length qs + length xs)
-  seen_count = omega (arith, saved-count (seen_state n ps ws qs xs), length-map qs queue_row, length-map xs item_row)
+  seen_count = omega (arith, saved-count (seen_state n ps ws qs xs), length-map qs item_row, length-map xs item_row)
 
   -- the bytes of the waiting calls can be counted
   pub waits-counted : AreObjects (saved (seen_state n ps ws qs xs)) → 4 + length (flat_map waiting_bytes (map (λ w. w) ws)) < 2 ^ 64
@@ -196,10 +196,10 @@ kind-sectors first most bytes bytes_of es short few =
 
 module _ (limits : Limits) (s : State) (passed : ArePassed limits) (sound : IsSound limits s) where
   -- each number of a queue that is kept fits in a field of four bytes
-  pub rows-numbers : (rows : List (Item (Entry Kept))) → map queue_row rows ≡ s.msg.entries → All (λ e. HasNumbers e.value.object.queue) rows
+  pub rows-numbers : (rows : List (Item (Entry Queue))) → map item_row rows ≡ s.msg.entries → All (λ e. HasNumbers e.value.object) rows
   rows-numbers rows are =
       let P : ℕ × Entry Queue → Type 0 = λ e. HasNumbers e.1.object in
-      All-seen P queue_row rows (subst (All P) (sym are)
+      All-seen P item_row rows (subst (All P) (sym are)
       (All-weaker (λ (e : ℕ × Entry Queue). IsSoundQueue limits e.1.object) P (λ e good. queue-numbers limits e.1.object passed good)
       s.msg.entries sound.parts.msg.each))
 

@@ -15,8 +15,8 @@ kind_of (Tick moment) = 4
 kind_of (Exit pid moment) = 5
 kind_of Restart = 6
 
--- a HELLO: its serial, uid and gid; a request: the pid, and its frame without the length; an INTERRUPT: the pid, and its
--- serial; an exit: the pid
+-- a HELLO: its serial, uid and gid; a request: the pid, and its frame without the length; an INTERRUPT: the pid, and
+-- its serial; an exit: the pid
 abbrev pub details : PlainEvent → List ℕ
 details (Connect cred serial moment) = to_be_bytes w32 serial ++ to_be_bytes w32 cred.uid ++ to_be_bytes w32 cred.gid
 details (Call pid request moment) = to_be_bytes w32 pid ++ request_bytes request

@@ -11,7 +11,7 @@ use Rattle.ipc_base.specs.Objects.{PlainObjects}
 use Rattle.ipc_wire.specs.Request.{PlainRequest, Interrupt}
 use Rattle.ipc_wire.specs.Stream.{PlainFrame, frame_of}
 use Rattle.ipc_wire.specs.Stream.PlainFrame.{Whole}
-use Rattle.sysv_msg.specs.Queue.{Kept, Queue, PlainMessage}
+use Rattle.sysv_msg.specs.Queue.{Queue, PlainMessage}
 use Rattle.sysv_sem.specs.declared.set.Semaphore.{Semaphore}
 use Rattle.sysv_sem.specs.Set.{Set}
 use Rattle.ipc_perm.specs.declared.perm.Perm.{Perm}
@@ -22,7 +22,7 @@ use Rattle.ipc_state.specs.declared.keyed.Entry.{Entry}
 use Rattle.ipc_state.specs.declared.numbered.Item.{Item}
 use Rattle.ipc_state.specs.declared.state.Numbers.{Numbers}
 use Rattle.ipc_state.specs.State.{State}
-use Rattle.ipc_state.specs.Tables.{item_row, queue_row}
+use Rattle.ipc_state.specs.Tables.{item_row}
 use Rattle.ipc_state.specs.Waiting.{PlainWaiting, awaited_by}
 use Rattle.ipc_image.specs.declared.state_objects.Thing.{Thing}
 use Rattle.ipc_image.specs.declared.state_objects.Thing.TheVariants as thing
@@ -93,17 +93,17 @@ pub record Stands (objects : PlainObjects) (IsMark : ℕ → Mark → Type 0) (a
 
 -- the object of what has one
 abbrev pub object_of : Thing → ℕ × List ℕ
-object_of (thing.Queue q) = queue_object (queue_row q.now)
+object_of (thing.Queue q) = queue_object (item_row q.now)
 object_of (thing.Set e) = set_object (item_row e.now)
 
 -- each of its numbers has its place
 abbrev pub FitsThing : Thing → Type 0
-FitsThing (thing.Queue q) = FitsIn FitsQueue (queue_row q.now)
+FitsThing (thing.Queue q) = FitsIn FitsQueue (item_row q.now)
 FitsThing (thing.Set e) = FitsIn FitsSet (item_row e.now)
 
 -- the mark is of its parts
 abbrev pub IsMarkOfThing : Thing → Mark → Type 0
-IsMarkOfThing (thing.Queue q) m = IsMarkOfQueue (queue_row q.now) m
+IsMarkOfThing (thing.Queue q) m = IsMarkOfQueue (item_row q.now) m
 IsMarkOfThing (thing.Set e) m = IsMarkOfSet (item_row e.now) m
 
 -- this is the i-th object, and of what it is each number has its place
@@ -182,13 +182,13 @@ abbrev pub set_from : List ℕ → List Semaphore → Set
 set_from ns semaphores = record { semaphores = semaphores; otime = slice_index ns 0; ctime = slice_index ns 1 }
 
 -- the state that has these tables
-abbrev pub seen_state : Numbers → List (Item Process) → List PlainWaiting → List (Item (Entry Kept))
+abbrev pub seen_state : Numbers → List (Item Process) → List PlainWaiting → List (Item (Entry Queue))
     → List (Item (Entry Set)) → State
 seen_state n processes waits queues sets =
     record {
       clock = n.clock.0;
       processes = record { next = n.next_pid; entries = map item_row processes };
       wait = waits;
-      msg = record { next = n.next_queue; entries = map queue_row queues };
+      msg = record { next = n.next_queue; entries = map item_row queues };
       sem = record { next = n.next_set; entries = map item_row sets };
     }

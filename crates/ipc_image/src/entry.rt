@@ -6,7 +6,6 @@ ghost use Rattle.std.specs.Int.{w32};
 ghost use Rattle.ipc_base.specs.Numbers.{fields_bytes, FitFields};
 ghost use Rattle.ipc_engine.specs.declared.fault.StateFault.{StateFault};
 ghost use Rattle.ipc_state.specs.declared.keyed.Entry.{Entry as PlainEntry};
-ghost use Rattle.ipc_state.specs.Keyed.{entry_map};
 ghost use Rattle.ipc_image.specs.Saved.{head_sizes, head_numbers, entry_bytes, FitsEntry};
 ghost use Rattle.ipc_image.specs.SavedParts.{perm_from, IsMarkIn};
 ghost use Rattle.ipc_image.specs.Window.{passed};
@@ -22,21 +21,21 @@ use std::alloc::Global;
 
 /// How many bytes its object has.
 pub(crate) fn entry_len<T: Kind>(entry: &Entry<T>) -> u64
-    requires { length (entry_bytes T.sizes T.numbers T.part_bytes T.parts (entry_map T.plain entry.now)) < 2 ^ 64 }
-    ensures { result ≡ length (entry_bytes T.sizes T.numbers T.part_bytes T.parts (entry_map T.plain entry.now)) }
+    requires { length (entry_bytes T.sizes T.numbers T.part_bytes T.parts entry.now) < 2 ^ 64 }
+    ensures { result ≡ length (entry_bytes T.sizes T.numbers T.part_bytes T.parts entry.now) }
 {
     24 + entry.object.len()
 }
 
 /// Its object passes the window. The mark is of its parts.
 pub(crate) fn put_entry<T: Kind>(window: &mut Window, entry: &Entry<T>, mark: &mut Mark)
-    requires fits { FitsEntry T.sizes T.numbers T.FitsPart T.parts (entry_map T.plain entry.now) }
-    requires short { length (entry_bytes T.sizes T.numbers T.part_bytes T.parts (entry_map T.plain entry.now))
+    requires fits { FitsEntry T.sizes T.numbers T.FitsPart T.parts entry.now }
+    requires short { length (entry_bytes T.sizes T.numbers T.part_bytes T.parts entry.now)
         < 2 ^ 64 }
-    requires mark { IsMarkIn T.part_bytes (T.parts (T.plain entry.now.object)) mark.old }
+    requires mark { IsMarkIn T.part_bytes (T.parts entry.now.object) mark.old }
     ensures passed { window.new
-        ≡ passed (entry_bytes T.sizes T.numbers T.part_bytes T.parts (entry_map T.plain entry.now)) window.old }
-    ensures mark { IsMarkIn T.part_bytes (T.parts (T.plain entry.now.object)) mark.new }
+        ≡ passed (entry_bytes T.sizes T.numbers T.part_bytes T.parts entry.now) window.old }
+    ensures mark { IsMarkIn T.part_bytes (T.parts entry.now.object) mark.new }
 {
     put_head(window, entry);
     entry.object.put_numbers(window);
@@ -62,14 +61,14 @@ fn put_head<T>(window: &mut Window, entry: &Entry<T>)
 
 /// Reads all of an object.
 pub(crate) fn read_entry<T: Kind>(alloc: Global, bytes: &[u8]) -> Result<Entry<T>, StateFault>
-    ensures ok { IfOk result (λ e. FitsEntry T.sizes T.numbers T.FitsPart T.parts (entry_map T.plain e)
-        × (bytes.now ≡ entry_bytes T.sizes T.numbers T.part_bytes T.parts (entry_map T.plain e))) }
-    ensures damaged { result ≡ Err StateFault.Unsound → (e : PlainEntry T.Plain)
+    ensures ok { IfOk result (λ e. FitsEntry T.sizes T.numbers T.FitsPart T.parts e
+        × (bytes.now ≡ entry_bytes T.sizes T.numbers T.part_bytes T.parts e)) }
+    ensures damaged { result ≡ Err StateFault.Unsound → (e : PlainEntry T)
         → FitsEntry T.sizes T.numbers T.FitsPart T.parts e
         → bytes.now ≢ entry_bytes T.sizes T.numbers T.part_bytes T.parts e }
 {
     let (head, rest) = take_head(bytes).ok_or(StateFault::Unsound)?;
-    let (mut object, rest) = T::begin(alloc, rest).ok_or(StateFault::Unsound)?;
+    let (mut object, rest) = T::begin(alloc, rest)?;
     object.read_parts(rest)?;
     Ok(Entry {
         key: head.key,

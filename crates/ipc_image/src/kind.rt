@@ -9,7 +9,6 @@ ghost use Rattle.ipc_base.specs.Numbers.{fields_bytes, FitFields};
 ghost use Rattle.ipc_base.specs.Objects.{PlainObjects};
 ghost use Rattle.ipc_engine.specs.declared.fault.StateFault.{StateFault};
 ghost use Rattle.ipc_state.specs.declared.keyed.Entry.{Entry as PlainEntry};
-ghost use Rattle.ipc_state.specs.Keyed.{entry_map};
 ghost use Rattle.ipc_state.specs.State.{State as PlainState};
 ghost use Rattle.ipc_image.specs.Kind.{object_in, FitsIn, IsOther};
 ghost use Rattle.ipc_image.specs.Saved.{counted_bytes, entry_bytes, FitsEntry};
@@ -26,15 +25,10 @@ use std::alloc::{AllocError, Global};
 /// A thing with a key, which has an object of its own: beside the key and who may use it, its own numbers and its
 /// parts.
 pub(crate) trait Kind: Drop {
-    /// What it is for the definitions.
-    ghost Plain: { Type 0 };
-
-    ghost plain: { Self → Plain };
-
     /// Its numbers.
     ghost sizes: { List Size };
 
-    ghost numbers: { Plain → List ℕ };
+    ghost numbers: { Self → List ℕ };
 
     /// Its parts, and the bytes of each.
     ghost Part: { Type 0 };
@@ -43,13 +37,13 @@ pub(crate) trait Kind: Drop {
 
     ghost FitsPart: { Part → Type 0 };
 
-    ghost parts: { Plain → List Part };
+    ghost parts: { Self → List Part };
 
     /// What has these numbers and these parts.
-    ghost from: { List ℕ → List Part → Plain };
+    ghost from: { List ℕ → List Part → Self };
 
     /// What is known of a sound one.
-    ghost IsSmall: { Plain → Type 0 };
+    ghost IsSmall: { Self → Type 0 };
 
     /// The number of an object is this one and the identifier.
     ghost FIRST: { ℕ };
@@ -57,56 +51,56 @@ pub(crate) trait Kind: Drop {
     const FIRST: u64;
 
     /// Those of a state, by identifier.
-    ghost items: { PlainState × Limits → List (ℕ × PlainEntry Plain) };
+    ghost items: { PlainState × Limits → List (ℕ × PlainEntry Self) };
 
-    ghost put: { PlainState × Limits → List (ℕ × PlainEntry Plain) → PlainState × Limits };
+    ghost put: { PlainState × Limits → List (ℕ × PlainEntry Self) → PlainState × Limits };
 
     /// Reads each number of it and of its parts, so that each has its place.
     fn read_numbers(&self)
-        requires { IsSmall (plain self.now) }
-        ensures numbers { FitFields sizes (numbers (plain self.now)) }
-        ensures count { length (parts (plain self.now)) < 2 ^ 32 }
-        ensures parts { All FitsPart (parts (plain self.now)) };
+        requires { IsSmall self.now }
+        ensures numbers { FitFields sizes (numbers self.now) }
+        ensures count { length (parts self.now) < 2 ^ 32 }
+        ensures parts { All FitsPart (parts self.now) };
 
     /// How many bytes its numbers and its parts have.
     fn len(&self) -> u64
-        requires { length (fields_bytes sizes (numbers (plain self.now))
-            ++ counted_bytes part_bytes (parts (plain self.now))) < 2 ^ 64 }
-        ensures { result ≡ length (fields_bytes sizes (numbers (plain self.now))
-            ++ counted_bytes part_bytes (parts (plain self.now))) };
+        requires { length (fields_bytes sizes (numbers self.now)
+            ++ counted_bytes part_bytes (parts self.now)) < 2 ^ 64 }
+        ensures { result ≡ length (fields_bytes sizes (numbers self.now)
+            ++ counted_bytes part_bytes (parts self.now)) };
 
     /// Its numbers pass the window.
     fn put_numbers(&self, window: &mut Window)
-        ensures { window.new ≡ passed (fields_bytes sizes (numbers (plain self.now))) window.old };
+        ensures { window.new ≡ passed (fields_bytes sizes (numbers self.now)) window.old };
 
     /// How many parts there are, and each of them, pass the window. The mark is of them.
     fn put_parts(&self, window: &mut Window, mark: &mut Mark)
-        requires count { length (parts (plain self.now)) < 2 ^ 32 }
-        requires fit { All FitsPart (parts (plain self.now)) }
-        requires short { length (flat_map part_bytes (parts (plain self.now))) < 2 ^ 64 }
-        requires mark { IsMarkIn part_bytes (parts (plain self.now)) mark.old }
-        ensures passed { window.new ≡ passed (counted_bytes part_bytes (parts (plain self.now))) window.old }
-        ensures mark { IsMarkIn part_bytes (parts (plain self.now)) mark.new };
+        requires count { length (parts self.now) < 2 ^ 32 }
+        requires fit { All FitsPart (parts self.now) }
+        requires short { length (flat_map part_bytes (parts self.now)) < 2 ^ 64 }
+        requires mark { IsMarkIn part_bytes (parts self.now) mark.old }
+        ensures passed { window.new ≡ passed (counted_bytes part_bytes (parts self.now)) window.old }
+        ensures mark { IsMarkIn part_bytes (parts self.now) mark.new };
 
     /// Reads its numbers: it has no parts yet, and the bytes after them are left.
-    fn begin(alloc: Global, bytes: &[u8]) -> Option<(Self, &[u8])>
-        ensures some { IfSome result (λ found. (ns : List ℕ) × FitFields sizes ns
-            × (bytes.now ≡ fields_bytes sizes ns ++ found.1.now) × (plain found.0 ≡ from ns [])) }
-        ensures none { IfNone result ((ns rest : List ℕ) → FitFields sizes ns
-            → bytes.now ≢ fields_bytes sizes ns ++ rest) };
+    fn begin(alloc: Global, bytes: &[u8]) -> Result<(Self, &[u8]), StateFault>
+        ensures ok { IfOk result (λ found. (ns : List ℕ) × FitFields sizes ns
+            × (bytes.now ≡ fields_bytes sizes ns ++ found.1.now) × (found.0 ≡ from ns [])) }
+        ensures damaged { result ≡ Err StateFault.Unsound → (ns rest : List ℕ) → FitFields sizes ns
+            → bytes.now ≢ fields_bytes sizes ns ++ rest };
 
     /// Reads how many parts there are, and them, and nothing after them.
     fn read_parts(&mut self, bytes: &[u8]) -> Result<(), StateFault>
         ensures ok { OnOk result ((ps : List Part) × (length ps < 2 ^ 32) × All FitsPart ps
             × (bytes.now ≡ counted_bytes part_bytes ps)
-            × ((ns : List ℕ) → plain self.old ≡ from ns [] → plain self.new ≡ from ns ps)) }
+            × ((ns : List ℕ) → self.old ≡ from ns [] → self.new ≡ from ns ps)) }
         ensures damaged { result ≡ Err StateFault.Unsound → (ps : List Part) → length ps < 2 ^ 32
             → All FitsPart ps → bytes.now ≢ counted_bytes part_bytes ps };
 
     /// Adds what was read to a state, at the end.
     fn add(state: &mut State, id: Id, entry: Entry<Self>) -> Result<(), AllocError>
         ensures { OnOk result ((state.new.state, state.new.limits)
-            ≡ with_more items put (state.old.state, state.old.limits) ((id.0, entry_map plain entry) ∷ [])) };
+            ≡ with_more items put (state.old.state, state.old.limits) ((id.0, entry) ∷ [])) };
 
     /// It has those numbers and those parts.
     ghost known: { (ns : List ℕ) (ps : List Part) → FitFields sizes ns
@@ -124,17 +118,17 @@ pub(crate) fn restore_kind<T: Kind>(
     objects: &ObjectMap,
     from: u32,
 ) -> Result<u32, StateFault>
-    ensures ok { IfOk result (λ next. (xs : List (ℕ × PlainEntry T.Plain))
+    ensures ok { IfOk result (λ next. (xs : List (ℕ × PlainEntry T))
         × All (FitsIn (FitsEntry T.sizes T.numbers T.FitsPart T.parts)) xs
         × (drop from objects.now
         ≡ map (object_in T.FIRST (entry_bytes T.sizes T.numbers T.part_bytes T.parts)) xs ++ drop next objects.now)
         × ((state.new.state, state.new.limits) ≡ with_more T.items T.put (state.old.state, state.old.limits) xs)) }
-    ensures whole { IfOk result (λ next. (xs : List (ℕ × PlainEntry T.Plain)) (rest : PlainObjects)
+    ensures whole { IfOk result (λ next. (xs : List (ℕ × PlainEntry T)) (rest : PlainObjects)
         → IsOther T.FIRST rest
         → drop from objects.now
         ≡ map (object_in T.FIRST (entry_bytes T.sizes T.numbers T.part_bytes T.parts)) xs ++ rest
         → All (FitsIn (FitsEntry T.sizes T.numbers T.FitsPart T.parts)) xs → drop next objects.now ≡ rest) }
-    ensures damaged { result ≡ Err StateFault.Unsound → (xs : List (ℕ × PlainEntry T.Plain)) (rest : PlainObjects)
+    ensures damaged { result ≡ Err StateFault.Unsound → (xs : List (ℕ × PlainEntry T)) (rest : PlainObjects)
         → IsOther T.FIRST rest → All (FitsIn (FitsEntry T.sizes T.numbers T.FitsPart T.parts)) xs
         → drop from objects.now
         ≢ map (object_in T.FIRST (entry_bytes T.sizes T.numbers T.part_bytes T.parts)) xs ++ rest }

@@ -1,6 +1,6 @@
 //! A message queue's object: its numbers, and its messages.
 
-ghost use Rattle.std.specs.Prelude.{◌≡◌, ◌≢◌, ◌++◌, IfSome, IfNone, OnOk, ◌∷◌, ◌<◌, ◌*◌, ◌^◌, [], ℕ, List, All, length};
+ghost use Rattle.std.specs.Prelude.{◌≡◌, ◌≢◌, ◌++◌, Err, IfOk, OnOk, ◌∷◌, ◌<◌, ◌*◌, ◌^◌, [], ℕ, List, All, length};
 ghost use Rattle.std.specs.Int.{w64};
 ghost use Rattle.std.proofs.Common.{ap, sym, refl};
 ghost use Rattle.std.proofs.lemmas.Int.{to_z-of_z};
@@ -8,10 +8,9 @@ ghost use Rattle.ipc_base.proofs.CallerLemmas.{numbers_are};
 ghost use Rattle.ipc_base.specs.declared.limits.Limits.{Limits};
 ghost use Rattle.ipc_base.specs.Numbers.{fields_bytes, FitFields};
 ghost use Rattle.sysv_msg.specs.Queue.{plain, Queue, PlainMessage, empty_queue};
-ghost use Rattle.ipc_state.specs.Keyed.{entry_map};
+ghost use Rattle.ipc_engine.specs.declared.fault.StateFault.{StateFault};
 ghost use Rattle.ipc_state.specs.Sound.{HasNumbers};
 ghost use Rattle.ipc_state.specs.State.{State as PlainState};
-ghost use Rattle.ipc_state.specs.Tables.{queue_in};
 ghost use Rattle.ipc_image.specs.Saved.{message_shape, message_tree, message_bytes, FitsMessage, messages_of};
 ghost use Rattle.ipc_image.specs.Saved.{queue_sizes, queue_numbers};
 ghost use Rattle.ipc_image.specs.SavedParts.{message_of, message_from, with_messages};
@@ -47,7 +46,7 @@ impl Saved for Message {
 
     ghost Seen = { Queue };
 
-    ghost seen = { queue_in };
+    ghost seen = { λ q. q };
 
     ghost items = { messages_of };
 
@@ -77,16 +76,13 @@ impl Saved for Message {
         let (text, rest) = after
             .split_at_checked(numbers[1] as usize)
             .ok_or(StateFault::Unsound)?;
-        into.restore(numbers[0].cast_signed(), text)?;
+        let message = Message::new(into.allocator(), numbers[0].cast_signed(), text)?;
+        into.restore(message)?;
         Ok(rest)
     }
 }
 
 impl Kind for MsgQueue {
-    ghost Plain = { Queue };
-
-    ghost plain = { queue_in };
-
     ghost sizes = { queue_sizes };
 
     ghost numbers = { queue_numbers };
@@ -144,14 +140,17 @@ impl Kind for MsgQueue {
         put_counted(window, self.messages(), mark);
     }
 
-    fn begin(alloc: Global, bytes: &[u8]) -> Option<(MsgQueue, &[u8])>
-        ensures some { IfSome result (λ found. (ns : List ℕ) × FitFields queue_sizes ns
-            × (bytes.now ≡ fields_bytes queue_sizes ns ++ found.1.now) × (found.0.queue ≡ queue_from ns [])) }
-        ensures none { IfNone result ((ns rest : List ℕ) → FitFields queue_sizes ns
-            → bytes.now ≢ fields_bytes queue_sizes ns ++ rest) }
+    fn begin(alloc: Global, bytes: &[u8]) -> Result<(MsgQueue, &[u8]), StateFault>
+        ensures ok { IfOk result (λ found. (ns : List ℕ) × FitFields queue_sizes ns
+            × (bytes.now ≡ fields_bytes queue_sizes ns ++ found.1.now) × (found.0 ≡ queue_from ns [])) }
+        ensures damaged { result ≡ Err StateFault.Unsound → (ns rest : List ℕ) → FitFields queue_sizes ns
+            → bytes.now ≢ fields_bytes queue_sizes ns ++ rest }
     {
-        let (numbers, rest) = take_fields(bytes, &[EIGHT, EIGHT, EIGHT, FOUR, FOUR, FOUR])?;
-        Some((MsgQueue::restored(alloc, own_numbers(&numbers)), rest))
+        let (numbers, rest) = take_fields(bytes, &[EIGHT, EIGHT, EIGHT, FOUR, FOUR, FOUR]).ok_or(
+            StateFault::Unsound,
+        )?;
+        let queue = MsgQueue::restored(alloc, own_numbers(&numbers))?;
+        Ok((queue, rest))
     }
 
     fn read_parts(&mut self, bytes: &[u8]) -> Result<(), StateFault> {
@@ -160,7 +159,7 @@ impl Kind for MsgQueue {
 
     fn add(state: &mut State, id: Id, entry: Entry<MsgQueue>) -> Result<(), AllocError>
         ensures { OnOk result ((state.new.state, state.new.limits) ≡ with_more (λ s. s.0.msg.entries) put_queues
-            (state.old.state, state.old.limits) ((id.0, entry_map queue_in entry) ∷ [])) }
+            (state.old.state, state.old.limits) ((id.0, entry) ∷ [])) }
     {
         state.restore_queue(id, entry)
     }

@@ -1,6 +1,6 @@
 //! A semaphore set's object: its numbers, and its semaphores.
 
-ghost use Rattle.std.specs.Prelude.{◌≡◌, ◌≢◌, ◌++◌, IfSome, IfNone, OnOk, ◌∷◌, ◌<◌};
+ghost use Rattle.std.specs.Prelude.{◌≡◌, ◌≢◌, ◌++◌, Err, IfOk, OnOk, ◌∷◌, ◌<◌};
 ghost use Rattle.std.specs.Prelude.{◌≤◌, ◌*◌, ◌^◌, [], ℕ, List, All, length};
 ghost use Rattle.std.proofs.Common.{sym, refl};
 ghost use Rattle.ipc_base.proofs.CallerLemmas.{numbers_are};
@@ -9,7 +9,7 @@ ghost use Rattle.ipc_base.specs.declared.limits.Limits.{Limits};
 ghost use Rattle.sysv_sem.specs.declared.set.Semaphore.{Semaphore as PlainSemaphore};
 ghost use Rattle.sysv_sem.specs.Operation.{most_value};
 ghost use Rattle.sysv_sem.specs.Set.{Set};
-ghost use Rattle.ipc_state.specs.Keyed.{entry_map};
+ghost use Rattle.ipc_engine.specs.declared.fault.StateFault.{StateFault};
 ghost use Rattle.ipc_state.specs.State.{State as PlainState};
 ghost use Rattle.ipc_image.specs.Saved.{semaphore_shape, semaphore_numbers, semaphore_bytes, FitsSemaphore};
 ghost use Rattle.ipc_image.specs.Saved.{set_sizes, set_numbers, semaphores_of};
@@ -86,10 +86,6 @@ impl Wide for Semaphore {
 }
 
 impl Kind for SemSet {
-    ghost Plain = { Set };
-
-    ghost plain = { λ s. s };
-
     ghost sizes = { set_sizes };
 
     ghost numbers = { set_numbers };
@@ -141,14 +137,14 @@ impl Kind for SemSet {
         put_counted(window, self.semaphores(), mark);
     }
 
-    fn begin(alloc: Global, bytes: &[u8]) -> Option<(SemSet, &[u8])>
-        ensures some { IfSome result (λ found. (ns : List ℕ) × FitFields set_sizes ns
+    fn begin(alloc: Global, bytes: &[u8]) -> Result<(SemSet, &[u8]), StateFault>
+        ensures ok { IfOk result (λ found. (ns : List ℕ) × FitFields set_sizes ns
             × (bytes.now ≡ fields_bytes set_sizes ns ++ found.1.now) × (found.0 ≡ set_from ns [])) }
-        ensures none { IfNone result ((ns rest : List ℕ) → FitFields set_sizes ns
-            → bytes.now ≢ fields_bytes set_sizes ns ++ rest) }
+        ensures damaged { result ≡ Err StateFault.Unsound → (ns rest : List ℕ) → FitFields set_sizes ns
+            → bytes.now ≢ fields_bytes set_sizes ns ++ rest }
     {
-        let (numbers, rest) = take_fields(bytes, &[EIGHT, EIGHT])?;
-        Some((
+        let (numbers, rest) = take_fields(bytes, &[EIGHT, EIGHT]).ok_or(StateFault::Unsound)?;
+        Ok((
             SemSet::restored(alloc, Moment(numbers[0]), Moment(numbers[1])),
             rest,
         ))
@@ -160,7 +156,7 @@ impl Kind for SemSet {
 
     fn add(state: &mut State, id: Id, entry: Entry<SemSet>) -> Result<(), AllocError>
         ensures { OnOk result ((state.new.state, state.new.limits) ≡ with_more (λ s. s.0.sem.entries) put_sets
-            (state.old.state, state.old.limits) ((id.0, entry_map (λ s. s) entry) ∷ [])) }
+            (state.old.state, state.old.limits) ((id.0, entry) ∷ [])) }
     {
         state.restore_set(id, entry)
     }

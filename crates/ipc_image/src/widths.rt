@@ -1,11 +1,11 @@
 //! That each number of a state has its place in a field. The type of a number says how large it is
 //! at most, and says so once the number is read; so each is read here, and nothing else is done.
-//! Messages are not read: a queue says of them what is needed; nor are the requests of calls that wait, which have frames.
+//! Messages are not read: a queue says of them what is needed; nor are the requests of calls that wait, which have
+//! frames.
 
 ghost use Rattle.std.specs.Prelude.{All, ⊤};
 ghost use Rattle.ipc_base.specs.Limits.{ArePassed};
 ghost use Rattle.ipc_base.specs.Numbers.{FitFields};
-ghost use Rattle.ipc_state.specs.Keyed.{entry_map};
 ghost use Rattle.ipc_state.specs.Tables.{item_row};
 ghost use Rattle.ipc_state.specs.Waiting.{IsSoundWaiting};
 ghost use Rattle.ipc_engine.specs.Sound.{IsSound};
@@ -54,10 +54,10 @@ impl Wide for Waiting<Awaited, Parked> {
 }
 
 impl<T: Kind> Wide for Item<Entry<T>> {
-    ghost IsSmall = { λ e. T.IsSmall (T.plain e.value.object) };
+    ghost IsSmall = { λ e. T.IsSmall e.value.object };
 
     ghost IsWide = { λ e.
-        FitsIn (FitsEntry T.sizes T.numbers T.FitsPart T.parts) (e.number, entry_map T.plain e.value) };
+        FitsIn (FitsEntry T.sizes T.numbers T.FitsPart T.parts) (e.number, e.value) };
 
     fn read(&self) {
         let _id = self.number;

@@ -7,7 +7,7 @@ use Rattle.std.specs.List.{insert, prefix_len, AllByRecursion}
 use Rattle.std.proofs.Math.Numerals.{one-add}
 use Rattle.std.proofs.lemmas.Bool.{cases_eq}
 use Rattle.ipc_base.specs.declared.limits.Limits.{Limits}
-use Rattle.ipc_base.specs.Table.{value_at, without, with_entry, keys_of}
+use Rattle.ipc_base.specs.Table.{value_at, without, with_entry, keys_of, IsRising}
 use Rattle.ipc_base.proofs.CallerLemmas.{value_at-without}
 use Rattle.ipc_base.proofs.CallerLemmas.{entry-at, entry-other, rising-entry, rising-gone, rising-without}
 use Rattle.ipc_base.proofs.CallerLemmas.{nobody}
@@ -22,6 +22,7 @@ use Rattle.ipc_base.proofs.CallerLemmas.{test_cases as test, flipped, same_key a
 use Rattle.ipc_script.proofs.RisingNumbers.{gone}
 use Rattle.ipc_script.proofs.HubAndClients.{connected}
 use Rattle.ipc_script.proofs.FedPieces.{open_here}
+use Rattle.ipc_script.proofs.UnchangedHeads.{heads, heads_leave, same_keys, same_untouched}
 
 -- ---- one comes
 
@@ -141,10 +142,6 @@ keys_left (e ∷ es) n =
       | inr f ↦ rw f (ap (λ (ks : List ℕ). e.0 ∷ ks) (keys_left es n))
     ]
 
-left_clients : (limits : Limits) (now : Clients) (p : Option ℕ) (moment : ℕ) → (leave limits now p moment).clients ≡ now.clients
-left_clients limits now None moment = refl
-left_clients limits now (Some pid) moment = refl
-
 -- a connection was closed, and taken out of those that are open
 pub close_in : {D : Type 0} (medium : D → Medium) (limits : Limits) (hub next : StoredHub D) (os items : List Opened) (r : Run) (conn moment : ℕ)
     → RunMatchesBetween limits hub os r
@@ -155,18 +152,20 @@ close_in medium limits hub next os items r conn moment b known takes left =
     let i : RunMatches limits hub os r = b.run in
     let t : List (ℕ × Client) = r.hub.clients in
     let now : Clients = hangup limits r.hub conn moment in
-    let clients : now.clients ≡ without nat_eq t conn =
-    left_clients limits (record (tick limits r.hub moment) { clients = without nat_eq t conn }) (process_at (tick limits r.hub moment) conn) moment in (
+    let rest = without nat_eq t conn in
+    let like : heads now.clients ≡ heads rest =
+    heads_leave limits (record (tick limits r.hub moment) { clients = rest }) (process_at (tick limits r.hub moment) conn) moment in
+    let keys : keys_of now.clients ≡ keys_of rest = same_keys rest now.clients like in (
       open_here limits hub os r conn i known,
       record {
         matches = (takes limits r.hub i.matches).matches;
         kept = sym (back items) ∙ ap (map (λ (e : ℕ × Opened). e.1)) (left ∙ ap (λ (xs : List Opened). without nat_eq (map by_number xs) conn) i.kept
             ∙ left_over r.told conn (keys_of t)) ∙ back _
-            ∙ ap (map (opened_of r.told)) (sym (ap keys_of clients ∙ keys_left t conn));
-        whole = λ n. rw clients (elim (cases_eq n conn) [
-          | inl same ↦ rw same (rw (nobody (value_at nat_eq (without nat_eq t conn) conn) (rising-gone 0 t (2 ^ 32) conn i.rising)) tt)
+            ∙ ap (map (opened_of r.told)) (sym (keys ∙ keys_left t conn));
+        whole = λ n. same_untouched rest now.clients like n (elim (cases_eq n conn) [
+          | inl same ↦ rw same (rw (nobody (value_at nat_eq rest conn) (rising-gone 0 t (2 ^ 32) conn i.rising)) tt)
           | inr apart ↦ rw (value_at-without t conn n apart) (i.whole n)
         ]);
-        rising = rw clients (rising-without 0 t (2 ^ 32) conn i.rising);
+        rising = subst (λ (ks : List ℕ). IsRising 0 ks (2 ^ 32)) (sym keys) (rising-without 0 t (2 ^ 32) conn i.rising);
       },
     )

@@ -14,8 +14,8 @@ use Rattle.ipc_script.specs.Stops.{IsReopened}
 use Rattle.ipc_script.specs.Relations.Lasts.{Lasts, Settled}
 
 -- These lines were run, one after another; what comes next has this number. They have written this text. Each takes
--- events, and if nothing waited before it, nothing waits when it has ended: its events were made last then. If the store
--- was young before all of them, it goes on.
+-- events, and if nothing waited before it, nothing waits when it has ended: its events were made last then. If the
+-- store was young before all of them, it goes on.
 pub data HasRunLines {D : Type 0} (medium : D → Medium) (limits : Limits) (old : StoreView D) (h : Clients)
     : ℕ → List (List ℕ) → StoreView D → Run → List ℕ → Type 0 where
   None : HasRunLines medium limits old h 1 [] old (start_run h) []

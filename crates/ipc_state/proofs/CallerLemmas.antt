@@ -1,43 +1,43 @@
 -- What the crates above cite: each change of the state leads from a sound state to a sound state, and so does a call
 -- whose steps do.
-use Rattle.std.proofs.Common.{◌≡◌, ℕ, ℤ, ◌<◌, Bool, true, false, Option, Some, None, refl, arith, sym, ap, subst, ◌∙◌, List, [], not}
+use Rattle.std.proofs.Common.{◌≡◌, ◌≢◌, ℕ, ℤ, ◌<◌, Bool, true, false, Option, Some, None, refl, arith, sym, ap, subst, ◌∙◌, List, [], ◌∷◌, ◌++◌, not}
 use Rattle.std.proofs.lemmas.Nat.{and_le_r}
-use Rattle.std.specs.Prelude.{Ok, Err, nat_eq, nat_le, nat_lt, option_map, IfSome, ◌||◌, if◌then◌else◌, pos}
-use Rattle.std.specs.Ordering.{int_eq}
-use Rattle.std.proofs.lemmas.List.{length-map}
-use Rattle.std.proofs.lemmas.List.Elements.{All-nil, All-filter}
+use Rattle.std.specs.Prelude.{Ok, Err, option_map, All}
+use Rattle.std.proofs.lemmas.List.Elements.{All-nil, All-filter, All-push}
 use Rattle.std.proofs.lemmas.List.Filters.{length-filter_both}
 use Rattle.std.specs.Borrow.{MutBor}
 use Rattle.std.specs.Option.{option_copied_mut, IsSome}
-use Rattle.ipc_base.specs.Table.{value_at}
 use Rattle.ipc_base.specs.Table.{keys_of}
-use Rattle.ipc_base.proofs.CallerLemmas.{at-map, at-with, own, rising-bounds}
+use Rattle.ipc_base.proofs.CallerLemmas.{nobody, own, rising-bounds}
 use Rattle.ipc_state.specs.Directory.{ArePositive}
 use Rattle.ipc_state.proofs.Directories.{named-positive}
-use Rattle.ipc_state.specs.Held.{HasTextRoom}
 use Rattle.ipc_state.specs.Lends.{HasPutObject}
-use Rattle.ipc_state.specs.Tables.{HeldObjects, queue_in, queue_entry, queues_of, texts_of}
+use Rattle.ipc_state.specs.Tables.{HeldObjects}
 use Rattle.ipc_base.specs.declared.errno.Errno.{Errno}
 use Rattle.ipc_base.specs.declared.identity.Cred.{Cred}
 use Rattle.ipc_base.specs.declared.identity.Pid.{Pid}
 use Rattle.ipc_base.specs.declared.limits.Limits.{Limits}
-use Rattle.ipc_wait.specs.Waits.{is_of, without}
-use Rattle.ipc_wait.proofs.CallerLemmas.{without-distinct}
-use Rattle.sysv_msg.specs.Queue.{Queue, Kept, new_queue}
+use Rattle.ipc_wait.specs.Waits.{is_of, call_of, without}
+use Rattle.ipc_wait.proofs.CallerLemmas.{without-distinct, HaveDistinctPids-enter}
+use Rattle.sysv_msg.specs.Queue.{Queue, new_queue}
 use Rattle.ipc_wire.specs.Reply.{PlainBody}
 use Rattle.ipc_state.specs.declared.keyed.Entry.{Entry}
 use Rattle.ipc_perm.specs.declared.perm.Perm.{Perm}
 use Rattle.ipc_perm.specs.Perm.{perm_of, owned_by}
-use Rattle.ipc_state.specs.Numbered.{Numbered, entry_of, with_entry, without_entry, numbered_map, is_full, last_number, AreNumbered}
+use Rattle.ipc_state.specs.Numbered.{Numbered, entry_of, with_entry, without_entry, is_full, AreNumbered}
 use Rattle.ipc_state.specs.Keyed.{Keyed, holding, permitting, keyed, AreKeyed, AreNamed}
 use Rattle.ipc_state.specs.declared.processes.Process.{Process}
-use Rattle.ipc_state.specs.State.{State, start, at_moment, has_all_processes, with_process, exit, restart, queue_of, with_queue, with_new_queue}
+use Rattle.ipc_state.specs.State.{State, start, at_moment, has_all_processes, is_process, with_process, exit, restart}
+use Rattle.ipc_state.specs.State.{is_waiting, with_waiting, without_waiting, queue_of, with_queue, with_new_queue}
 use Rattle.ipc_state.specs.Sound.{HasSoundParts, IsSoundQueue, IsSoundSet, FitsBody}
 use Rattle.ipc_state.specs.Waiting.{PlainWaiting, AreSoundWaits, IsSoundWaiting}
-use Rattle.ipc_state.specs.Finish.{Finish, Attempt, Done, ended, answer, refuse, ◌orelse◌, ◌>>◌, ◌>>=◌, if_some}
+use Rattle.ipc_state.specs.Finish.{Finish, IfFinishes, Attempt, Halt, Fails, Blocks, Done, ended, done, answer, refuse, stop, ◌orstop◌, ◌>>◌, ◌>>=◌, if_some}
+use Rattle.ipc_state.specs.Touching.{is_there, IsAsBefore}
+use Rattle.ipc_state.specs.declared.parked.Awaited.{Awaited}
+use Rattle.ipc_state.specs.declared.parked.Awaited.TheVariants as awaited
 use Rattle.ipc_state.proofs.Numbering.{none_yet-numbered, with_new-numbered, without_entry-numbered, cleared-numbered}
+use Rattle.ipc_state.proofs.Counting.{few-waiting}
 use Rattle.ipc_state.proofs.Keying as keying
-use Rattle.ipc_state.proofs.Places.{seen-with, seen-without, keys-map}
 use Rattle.ipc_state.proofs.SoundQueues as queues
 pub use Rattle.ipc_state.proofs.Keying.{All-seen}
 pub use Rattle.ipc_state.proofs.Numbering.{neither}
@@ -75,6 +75,21 @@ module _ (limits : Limits) where
         each = All-filter (λ (w : PlainWaiting). not (is_of pid w)) IsSoundWaiting calls h.each;
       }
 
+  pub without_waiting-sound : (s : State) (pid : ℕ) → HasSoundParts limits s → HasSoundParts limits (without_waiting s pid)
+  without_waiting-sound s pid h = set-wait s _ h (without-waits (record { 0 = pid }) s.wait h.wait)
+
+  -- a call more, of a connected process that has none; the processes of the others are connected too
+  pub with_waiting-sound : (s : State) (w : PlainWaiting) → HasSoundParts limits s → IsSoundWaiting w → is_waiting s w.pid.0 ≡ false
+      → All (λ (v : PlainWaiting). is_process s v.pid.0 ≡ true) s.wait → is_process s w.pid.0 ≡ true → HasSoundParts limits (with_waiting s w)
+  with_waiting-sound s w h good free connected process =
+      let distinct = HaveDistinctPids-enter s.wait w h.wait.pids (nobody (call_of w.pid s.wait) free) in
+      let all = All-push (λ (v : PlainWaiting). is_process s v.pid.0 ≡ true) s.wait w connected process in
+      set-wait s _ h (record {
+        pids = distinct;
+        few = omega (arith, few-waiting s.processes.entries (s.wait ++ w ∷ []) distinct all, h.processes.count);
+        each = All-push IsSoundWaiting s.wait w h.wait.each good;
+      })
+
   pub start-sound : HasSoundParts limits start
   start-sound =
       record {
@@ -89,8 +104,8 @@ module _ (limits : Limits) where
 
   pub exit-sound : (s : State) (pid : ℕ) → HasSoundParts limits s → HasSoundParts limits (exit s pid)
   exit-sound s pid h =
-      set-wait (record s { processes = without_entry s.processes pid }) _
-      (set-processes s _ h (without_entry-numbered limits.processes s.processes pid h.processes)) (without-waits (record { 0 = pid }) s.wait h.wait)
+      without_waiting-sound (record s { processes = without_entry s.processes pid }) pid
+      (set-processes s _ h (without_entry-numbered limits.processes s.processes pid h.processes))
 
   pub restart-sound : (s : State) → HasSoundParts limits s → HasSoundParts limits (restart s)
   restart-sound s h =
@@ -126,220 +141,124 @@ module _ (limits : Limits) where
   pub queue-sound : (s : State) (id : ℕ) (e : Entry Queue) → queue_of s id ≡ Some e → HasSoundParts limits s → IsSoundQueue limits e.object
   queue-sound s id e is h = keying.entry-sound limits.msgmni (IsSoundQueue limits) s.msg id e is h.msg
 
--- ---- queues that are held, and those of the definitions
+-- ---- objects that are held, and those of the definitions
 
-module _ (o : HeldObjects Kept) (s : Keyed Queue) (same : queues_of o ≡ s) where
-  pub held-keyed : (key : ℤ) → keyed o.objects key ≡ keyed s key
-  held-keyed key =
-      ap (λ (ks : List (ℤ × ℕ)). if int_eq key (pos 0) then None else value_at int_eq ks key) (sym (keys-map queue_in o.objects))
-      ∙ ap (λ (t : Keyed Queue). keyed t key) same
+module _ {X : Type 0} (o : HeldObjects X) (s : Keyed X) (same : o.objects ≡ s) {most : ℕ} {IsSoundOne : X → Type 0} (sound : AreKeyed most IsSoundOne s) where
+  -- their identifiers are above 0, and their keys name them
+  pub held-named : AreNamed o.objects
+  held-named = subst AreNamed (sym same) (record { numbers = sound.numbered.numbers; keys = sound.keys })
 
-  pub held-full : (most : ℕ) → is_full most o.objects ≡ is_full most s
-  held-full most =
-      ap (λ (n : ℕ). nat_le most n || nat_lt last_number o.objects.next) (sym (length-map o.objects.entries (λ (e : ℕ × Entry Kept). (e.0, queue_entry e.1))))
-      ∙ ap (is_full most) same
-
-  pub held-without : (id : ℕ) (new : HeldObjects Kept) → new.objects ≡ without_entry o.objects id → queues_of new ≡ without_entry s id
-  held-without id new is =
-      ap (numbered_map queue_entry) is
-      ∙ (ap (λ (es : List (ℕ × Entry Queue)). let n : Keyed Queue = record { next = o.objects.next; entries = es } in n) (seen-without queue_entry o.objects.entries id)
-      ∙ ap (λ (t : Keyed Queue). without_entry t id) same)
-
-  module _ (limits : Limits) (sound : AreKeyed limits.msgmni (IsSoundQueue limits) s) where
-    held-sound : AreKeyed limits.msgmni (λ (k : Kept). IsSoundQueue limits k.queue) o.objects
-    held-sound = keying.keyed-unseen queue_in limits.msgmni (IsSoundQueue limits) o.objects (subst (AreKeyed limits.msgmni (IsSoundQueue limits)) (sym same) sound)
-
-    -- their identifiers are above 0, and their keys name them
-    pub held-named : AreNamed o.objects
-    held-named = record { numbers = held-sound.numbered.numbers; keys = held-sound.keys }
-
-    pub held-positive : ArePositive o.objects.entries
-    held-positive = named-positive o.objects held-sound.numbered.numbers
+  pub held-positive : ArePositive o.objects.entries
+  held-positive = named-positive o.objects held-named.numbers
 
 -- the next identifier is above 0
+pub next_of-positive : {X : Type 0} {most : ℕ} {IsSoundOne : X → Type 0} (o : Keyed X) → AreKeyed most IsSoundOne o → 0 < o.next
+next_of-positive o h = omega (arith, rising-bounds 1 (keys_of o.entries) o.next h.numbered.numbers)
+
 pub next-positive : (limits : Limits) (s : State) → HasSoundParts limits s → 0 < s.msg.next
-next-positive limits s h = omega (arith, rising-bounds 1 (keys_of s.msg.entries) s.msg.next h.msg.numbered.numbers)
+next-positive limits s h = next_of-positive s.msg h.msg
 
--- ---- a queue that was lent
+-- ---- an object that was lent
 
--- what is kept where the definitions have an entry
-pub record Lent (o : HeldObjects Kept) (id : ℕ) (e : Entry Queue) : Type 0 where
-  pub entry : Entry Kept
-  pub is : entry_of o.objects id ≡ Some entry
-  pub seen : queue_entry entry ≡ e
+module _ {X : Type 0} (o : HeldObjects X) (s : Keyed X) (id : ℕ) (e : Entry X) (same : o.objects ≡ s) (there : entry_of s id ≡ Some e) where
+  is-held : entry_of o.objects id ≡ Some e
+  is-held = ap (λ (t : Keyed X). entry_of t id) same ∙ there
 
-pub lent : (o : HeldObjects Kept) (s : Keyed Queue) (id : ℕ) (e : Entry Queue) → queues_of o ≡ s → entry_of s id ≡ Some e → Lent o id e
-lent o s id e same has =
-    by_entry (entry_of o.objects id) refl
-    (sym (at-map queue_entry o.objects.entries id) ∙ (ap (λ (t : Keyed Queue). entry_of t id) same ∙ has))
-  where
-    by_entry : (r : Option (Entry Kept)) → entry_of o.objects id ≡ r → option_map queue_entry r ≡ Some e → Lent o id e
-    by_entry None is found = cc
-    by_entry (Some f) is found = record { entry = f; is = is; seen = cc }
+  module _ (r : Option (MutBor X)) (got : option_copied_mut r ≡ option_map (λ (f : Entry X). f.object) (entry_of o.objects id)) where
+    lent-some : option_copied_mut r ≡ Some e.object
+    lent-some = got ∙ ap (option_map (λ (f : Entry X). f.object)) is-held
 
-module _ (o : HeldObjects Kept) (s : Keyed Queue) (id : ℕ) (e : Entry Queue) (same : queues_of o ≡ s) (there : Lent o id e) where
-  module _ (r : Option (MutBor Kept)) (got : option_copied_mut r ≡ option_map (λ (f : Entry Kept). f.object) (entry_of o.objects id)) where
     -- it is lent
-    pub lent-some : option_copied_mut r ≡ Some there.entry.object
-    lent-some = got ∙ ap (option_map (λ (f : Entry Kept). f.object)) there.is
-
     pub is-lent : IsSome r
     is-lent = by_result r lent-some
       where
-        by_result : (r : Option (MutBor Kept)) → option_copied_mut r ≡ Some there.entry.object → IsSome r
+        by_result : (r : Option (MutBor X)) → option_copied_mut r ≡ Some e.object → IsSome r
         by_result None is = cc
         by_result (Some q) is = refl
 
     -- as the definitions have it
-    pub lent-queue : (q : MutBor Kept) → r ≡ Some q → q.now.queue ≡ e.object
-    lent-queue q is =
-        let same : q.now ≡ there.entry.object = cc in
-        ap (λ (k : Kept). k.queue) same ∙ ap (λ (f : Entry Queue). f.object) there.seen
-
-    -- with the room that is reserved in it
-    pub lent-room : (texts : List (ℕ × Option ℕ)) → texts_of o ≡ texts → (q : MutBor Kept) → r ≡ Some q → value_at nat_eq texts id ≡ Some q.now.room
-    lent-room texts rooms q is =
-        let same : q.now ≡ there.entry.object = cc in
-        ap (λ (ts : List (ℕ × Option ℕ)). value_at nat_eq ts id) (sym rooms)
-        ∙ (at-map (λ (f : Entry Kept). f.object.room) o.objects.entries id
-        ∙ (ap (option_map (λ (f : Entry Kept). f.object.room)) there.is ∙ ap (λ (k : Kept). Some k.room) (sym same)))
+    pub lent-object : (q : MutBor X) → r ≡ Some q → q.now ≡ e.object
+    lent-object q is = cc
 
   -- with other permissions
-  pub put-perm : (perm : Perm) (new : HeldObjects Kept)
-      → ((f : Entry Kept) → entry_of o.objects id ≡ Some f → new ≡ record o { objects = with_entry o.objects id (permitting f perm) })
-      → queues_of new ≡ with_entry s id (permitting e perm)
+  pub put-perm : (perm : Perm) (new : HeldObjects X)
+      → ((f : Entry X) → entry_of o.objects id ≡ Some f → new ≡ record o { objects = with_entry o.objects id (permitting f perm) })
+      → new.objects ≡ with_entry s id (permitting e perm)
   put-perm perm new put =
-      ap queues_of (put there.entry there.is)
-      ∙ (ap (λ (es : List (ℕ × Entry Queue)). let n : Keyed Queue = record { next = o.objects.next; entries = es } in n)
-      (seen-with queue_entry o.objects.entries id (permitting there.entry perm))
-      ∙ (ap (λ (f : Entry Queue). with_entry (queues_of o) id (permitting f perm)) there.seen
-      ∙ ap (λ (t : Keyed Queue). with_entry t id (permitting e perm)) same))
+      ap (λ (n : HeldObjects X). n.objects) (put e is-held) ∙ ap (λ (t : Keyed X). with_entry t id (permitting e perm)) same
 
   -- what is left in its place
-  module _ (left : Kept) (new : HeldObjects Kept) (put : HasPutObject o id left new) where
-    pub put-queues : queues_of new ≡ with_entry s id (holding e left.queue)
-    put-queues =
-        ap queues_of (put there.entry there.is)
-        ∙ (ap (λ (es : List (ℕ × Entry Queue)). let n : Keyed Queue = record { next = o.objects.next; entries = es } in n)
-        (seen-with queue_entry o.objects.entries id (holding there.entry left))
-        ∙ (ap (λ (f : Entry Queue). with_entry (queues_of o) id (holding f left.queue)) there.seen
-        ∙ ap (λ (t : Keyed Queue). with_entry t id (holding e left.queue)) same))
+  module _ (left : X) (new : HeldObjects X) (put : HasPutObject o id left new) where
+    pub put-object : new.objects ≡ with_entry s id (holding e left)
+    put-object = ap (λ (n : HeldObjects X). n.objects) (put e is-held) ∙ ap (λ (t : Keyed X). with_entry t id (holding e left)) same
 
-    -- the same queue leaves all as it is
-    pub put-same : left.queue ≡ e.object → entry_of s id ≡ Some e → queues_of new ≡ s
-    put-same is has =
-        put-queues ∙ (ap (λ (q : Queue). with_entry s id (holding e q)) is
-        ∙ ap (λ (es : List (ℕ × Entry Queue)). let n : Keyed Queue = record { next = s.next; entries = es } in n) (own s.entries id e has))
+    -- the same object leaves all as it is
+    pub put-same : left ≡ e.object → new.objects ≡ s
+    put-same is =
+        put-object ∙ (ap (λ (x : X). with_entry s id (holding e x)) is
+        ∙ ap (λ (es : List (ℕ × Entry X)). let n : Keyed X = record { next = s.next; entries = es } in n) (own s.entries id e there))
 
--- ---- an object that was lent, as it is held
-
--- what an identifier has, where this object is lent
-pub record Holds (o : HeldObjects Kept) (id : ℕ) (k : Kept) : Type 0 where
-  pub entry : Entry Kept
-  pub is : entry_of o.objects id ≡ Some entry
-  pub object : entry.object ≡ k
-
-pub holds : (o : HeldObjects Kept) (id : ℕ) (k : Kept) → Some k ≡ option_map (λ (f : Entry Kept). f.object) (entry_of o.objects id) → Holds o id k
-holds o id k found = by_entry (entry_of o.objects id) refl found
-  where
-    by_entry : (r : Option (Entry Kept)) → entry_of o.objects id ≡ r → Some k ≡ option_map (λ (f : Entry Kept). f.object) r → Holds o id k
-    by_entry None is found = cc
-    by_entry (Some f) is found = record { entry = f; is = is; object = cc }
-
-module _ (o : HeldObjects Kept) (id : ℕ) (k : Kept) (h : Holds o id k) where
-  held-room : value_at nat_eq (texts_of o) id ≡ Some k.room
-  held-room =
-      at-map (λ (f : Entry Kept). f.object.room) o.objects.entries id
-      ∙ (ap (option_map (λ (f : Entry Kept). f.object.room)) h.is ∙ ap (λ (q : Kept). Some q.room) h.object)
-
-  -- the room that it had
-  pub had-room : (bytes : ℕ) → HasTextRoom (texts_of o) id bytes → k.room ≡ Some bytes
-  had-room bytes has = subst (λ (r : Option (Option ℕ)). IfSome r (λ n. n ≡ Some bytes)) held-room has
-
-  module _ (left : Kept) (new : HeldObjects Kept) (put : HasPutObject o id left new) where
-    -- the same queue leaves the queues as they are
-    pub left-queues : left.queue ≡ k.queue → queues_of new ≡ queues_of o
-    left-queues same =
-        let there : Lent o id (queue_entry h.entry) = record { entry = h.entry; is = h.is; seen = refl } in
-        put-same o (queues_of o) id (queue_entry h.entry) refl there left new put (same ∙ sym (ap (λ (q : Kept). q.queue) h.object))
-        (at-map queue_entry o.objects.entries id ∙ ap (option_map queue_entry) h.is)
-
-    -- the room that is left is there
-    pub left-room : (bytes : ℕ) → left.room ≡ Some bytes → HasTextRoom (texts_of new) id bytes
-    left-room bytes is =
-        let there : value_at nat_eq (texts_of new) id ≡ Some left.room =
-        ap (λ (n : HeldObjects Kept). value_at nat_eq (texts_of n) id) (put h.entry h.is)
-        ∙ (at-map (λ (f : Entry Kept). f.object.room) (with_entry o.objects id (holding h.entry left)).entries id
-        ∙ ap (option_map (λ (f : Entry Kept). f.object.room)) (at-with o.objects.entries id (holding h.entry left) h.entry h.is)) in
-        subst (λ (r : Option (Option ℕ)). IfSome r (λ n. n ≡ Some bytes)) (sym there) is
-
--- where nothing is held, no room is asked for
-pub no-room : (o : HeldObjects Kept) (id bytes : ℕ) → None ≡ option_map (λ (f : Entry Kept). f.object) (entry_of o.objects id) → HasTextRoom (texts_of o) id bytes
-no-room o id bytes none =
-    let gone : entry_of o.objects id ≡ None = by_entry (entry_of o.objects id) none in
-    subst (λ (r : Option (Option ℕ)). IfSome r (λ n. n ≡ Some bytes))
-    (sym (at-map (λ (f : Entry Kept). f.object.room) o.objects.entries id ∙ ap (option_map (λ (f : Entry Kept). f.object.room)) gone)) tt
-  where
-    by_entry : (r : Option (Entry Kept)) → None ≡ option_map (λ (f : Entry Kept). f.object) r → r ≡ None
-    by_entry None none = refl
-    by_entry (Some f) none = cc
+    -- the directory of the keys stays
+    pub put-keys : new.keys ≡ o.keys
+    put-keys = ap (λ (n : HeldObjects X). n.keys) (put e is-held)
 
 -- ---- calls by their steps
 
--- how a call ends: the state is sound, and the body of the answer fits
-pub record EndsSound (limits : Limits) (f : Finish) : Type 0 where
-  pub state : HasSoundParts limits f.state
-  pub body : FitsBody limits f.body
+as_before : (on : Awaited) (s : State) → IsAsBefore on s s
+as_before (awaited.Queue id) s = refl
 
--- what is to be shown of what a call that began in a state leaves and answers
-pub record IsGood (limits : Limits) (s : State) (d : Done) : Type 0 where
-  pub state : HasSoundParts limits s → HasSoundParts limits d.state
-  pub body : HasSoundParts limits s → FitsBody limits d.body
-  pub kept : d.state.processes ≡ s.processes
-  pub clock : d.state.clock ≡ s.clock
+-- What is to be shown of what a call that began in a state leaves and answers, if it may change this object alone: the
+-- state stays sound, the body of the answer fits, and all else that others wait for is as it was.
+pub record IsGood (limits : Limits) (s : State) (touches : Option Awaited) (f : Finish) : Type 0 where
+  pub state : HasSoundParts limits s → HasSoundParts limits f.state
+  pub body : HasSoundParts limits s → FitsBody limits f.body
+  pub kept : f.state.processes ≡ s.processes
+  pub clock : f.state.clock ≡ s.clock
+  pub wait : f.state.wait ≡ s.wait
+  pub others : (on : Awaited) → touches ≢ Some on → is_there on s ≡ true → IsAsBefore on s f.state
 
-abbrev IfDone : (Done → Type 0) → Attempt Done → Type 0
-IfDone P (Ok d) = P d
-IfDone P (Err e) = Unit {0}
+abbrev IfDone : (Finish → Type 0) → Attempt Done → Type 0
+IfDone P (Ok d) = P (done d.state d.body)
+IfDone P (Err h) = Unit {0}
 
 -- it is shown, if the call is done
-pub record Ends (limits : Limits) (s : State) (call : Attempt Done) : Type 0 where
-  pub good : IfDone (IsGood limits s) call
+pub record Ends (limits : Limits) (s : State) (touches : Option Awaited) (call : Attempt Done) : Type 0 where
+  pub good : IfDone (IsGood limits s touches) call
 
-module _ {limits : Limits} {s : State} where
-  pub after-refuse : (e : Errno) {b : Bool} {rest : Attempt Done} → (b ≡ false → Ends limits s rest) → Ends limits s (refuse e b >> rest)
-  after-refuse e {b = true} h = record { good = tt }
-  after-refuse e {b = false} h = h refl
+module _ {limits : Limits} {s : State} {touches : Option Awaited} where
+  pub after-stop : (h : Halt) {b : Bool} {rest : Attempt Done} → (b ≡ false → Ends limits s touches rest) → Ends limits s touches (stop h b >> rest)
+  after-stop h {b = true} go = record { good = tt }
+  after-stop h {b = false} go = go refl
 
-  pub after-orelse : {X : Type 0} (e : Errno) {o : Option X} {rest : X → Attempt Done} → ((x : X) → o ≡ Some x → Ends limits s (rest x))
-      → Ends limits s (o orelse e >>= rest)
-  after-orelse e {o = None} h = record { good = tt }
-  after-orelse e {o = Some x} h = h x refl
+  pub after-refuse : (e : Errno) {b : Bool} {rest : Attempt Done} → (b ≡ false → Ends limits s touches rest) → Ends limits s touches (refuse e b >> rest)
+  after-refuse e {b = true} go = record { good = tt }
+  after-refuse e {b = false} go = go refl
 
-  pub after-attempt : {X : Type 0} {a : Attempt X} {rest : X → Attempt Done} → ((x : X) → a ≡ Ok x → Ends limits s (rest x)) → Ends limits s (a >>= rest)
-  after-attempt {a = Err e} h = record { good = tt }
-  after-attempt {a = Ok x} h = h x refl
+  pub after-orstop : {X : Type 0} (h : Halt) {o : Option X} {rest : X → Attempt Done} → ((x : X) → o ≡ Some x → Ends limits s touches (rest x))
+      → Ends limits s touches (o orstop h >>= rest)
+  after-orstop h {o = None} go = record { good = tt }
+  after-orstop h {o = Some x} go = go x refl
+
+  pub after-attempt : {X : Type 0} {a : Attempt X} {rest : X → Attempt Done} → ((x : X) → a ≡ Ok x → Ends limits s touches (rest x))
+      → Ends limits s touches (a >>= rest)
+  after-attempt {a = Err h} go = record { good = tt }
+  after-attempt {a = Ok x} go = go x refl
 
   pub by-if_some : {X : Type 0} {o : Option X} {there : X → Attempt Done} {missing : Attempt Done}
-      → ((x : X) → o ≡ Some x → Ends limits s (there x)) → (o ≡ None → Ends limits s missing) → Ends limits s (if_some o there missing)
+      → ((x : X) → o ≡ Some x → Ends limits s touches (there x)) → (o ≡ None → Ends limits s touches missing) → Ends limits s touches (if_some o there missing)
   by-if_some {o = None} h k = k refl
   by-if_some {o = Some x} h k = h x refl
 
-  pub answered : (t : State) (body : PlainBody) → IsGood limits s (record { state = t; body = body }) → Ends limits s (answer t body)
+  pub answered : (t : State) (body : PlainBody) → IsGood limits s touches (done t body) → Ends limits s touches (answer t body)
   answered t body good = record { good = good }
 
-  -- a call that reads the state alone
-  pub read : (body : PlainBody) → (HasSoundParts limits s → FitsBody limits body) → Ends limits s (answer s body)
-  read body fits = record { good = record { state = λ h. h; body = fits; kept = refl; clock = refl } }
+  -- a call that leaves the state as it is
+  pub read : (body : PlainBody) → (HasSoundParts limits s → FitsBody limits body) → Ends limits s touches (answer s body)
+  read body fits = record { good = record { state = λ h. h; body = fits; kept = refl; clock = refl; wait = refl; others = λ on apart there. as_before on s } }
 
-pub ended-sound : (limits : Limits) (s : State) (call : Attempt Done) → Ends limits s call → HasSoundParts limits s → EndsSound limits (ended s call)
-ended-sound limits s (Ok d) ends h = record { state = ends.good.state h; body = ends.good.body h }
-ended-sound limits s (Err e) ends h = record { state = h; body = omega arith }
-
-pub ended-keeps : (limits : Limits) (s : State) (call : Attempt Done) → Ends limits s call → (ended s call).state.processes ≡ s.processes
-ended-keeps limits s (Ok d) ends = ends.good.kept
-ended-keeps limits s (Err e) ends = refl
-
-pub ended-clock : (limits : Limits) (s : State) (call : Attempt Done) → Ends limits s call → (ended s call).state.clock ≡ s.clock
-ended-clock limits s (Ok d) ends = ends.good.clock
-ended-clock limits s (Err e) ends = refl
+pub ended-good : (limits : Limits) (s : State) (touches : Option Awaited) (call : Attempt Done) → Ends limits s touches call
+    → IfFinishes (IsGood limits s touches) (ended s call)
+ended-good limits s touches (Ok d) ends = ends.good
+ended-good limits s touches (Err (Fails e)) ends =
+    record { state = λ h. h; body = λ h. omega arith; kept = refl; clock = refl; wait = refl; others = λ on apart there. as_before on s }
+ended-good limits s touches (Err Blocks) ends = tt

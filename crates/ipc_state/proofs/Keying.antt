@@ -1,5 +1,5 @@
 -- The objects of a kind stay sound as one comes or changes, and how it is told whether they are.
-use Rattle.std.proofs.Common.{◌≡◌, ◌≢◌, ℕ, ℤ, pos, ◌+◌, ◌<◌, Bool, true, false, cond, List, [], ◌∷◌, ◌++◌, length}
+use Rattle.std.proofs.Common.{◌≡◌, ◌≢◌, ℕ, ℤ, pos, ◌+◌, ◌<◌, Bool, true, false, cond, List, [], ◌∷◌, ◌++◌}
 use Rattle.std.proofs.Common.{Option, Some, None, refl, map, ap, ◌∙◌, subst, sym, arith}
 use Rattle.std.specs.Prelude.{nat_eq, nat_lt, if◌then◌else◌, ◌&&◌, All}
 use Rattle.std.specs.Prelude.{⊤}
@@ -10,20 +10,18 @@ use Rattle.std.specs.Ordering.{int_cmp, int_eq}
 use Rattle.std.proofs.lemmas.Cmp.{int_eq_equiv}
 use Rattle.std.proofs.lemmas.Bool.Decides.{nat_tests, Decides-int_eq, Decides-by_and, Decides-and, Decides-eqb, Decides-ltb}
 use Rattle.std.proofs.lemmas.List.Folds.{list_all-map}
-use Rattle.std.proofs.lemmas.List.{map-append, length-map}
+use Rattle.std.proofs.lemmas.List.{map-append}
 use Rattle.std.proofs.lemmas.List.Elements.{All-nil, All-cons, All-head, All-tail, All-push, All-weaker, All-map}
 use Rattle.ipc_base.specs.Table.{value_at, with_value, without, keys_of, IsRising}
 use Rattle.ipc_base.proofs.CallerLemmas.{All-with_value, All-value_at, choice}
-use Rattle.ipc_base.proofs.CallerLemmas.{keys-map as ids-map}
 use Rattle.ipc_state.specs.declared.keyed.Entry.{Entry}
 use Rattle.ipc_state.specs.declared.numbered.Item.{Item}
 use Rattle.ipc_state.specs.Directory.{named_by}
 use Rattle.ipc_state.specs.Tables.{item_row}
-use Rattle.ipc_state.specs.Keyed.{Keyed, key_row, keys_in, keyed, entry_map, AreKeyed}
-use Rattle.ipc_state.specs.Numbered.{none_yet, entry_of, is_full, with_entry, with_new, without_entry, numbered_map, AreNumbered}
+use Rattle.ipc_state.specs.Keyed.{Keyed, key_row, keys_in, keyed, AreKeyed}
+use Rattle.ipc_state.specs.Numbered.{none_yet, entry_of, is_full, with_entry, with_new, without_entry, AreNumbered}
 use Rattle.ipc_state.specs.Tests.{is_named}
 use Rattle.ipc_state.proofs.Numbering.{none_yet-numbered, with_new-numbered, with_entry-numbered, without_entry-numbered}
-use Rattle.ipc_state.proofs.Places.{keys-map}
 
 -- ---- keys
 
@@ -179,47 +177,6 @@ module _ {X : Type 0} where
             (λ e is some. found_without o.entries id e.0 e.1.key is.0 (is.1 some)) left named);
         modes = all_without HasMode o.entries id h.modes;
         each = all_without (λ (e : ℕ × Entry X). IsSoundOne e.1.object) o.entries id h.each;
-      }
-
--- ---- seen in some way
-
-module _ {X Y : Type 0} (see : X → Y) (most : ℕ) (P : Y → Type 0) (o : Keyed X) where
-  abbrev seen : Keyed Y
-  seen = numbered_map (entry_map see) o
-
-  abbrev row : ℕ × Entry X → ℕ × Entry Y
-  row e = (e.0, entry_map see e.1)
-
-  ids : keys_of seen.entries ≡ keys_of o.entries
-  ids = ids-map (entry_map see) o.entries
-
-  count : length seen.entries ≡ length o.entries
-  count = length-map o.entries row
-
-  pub keyed-seen : AreKeyed most (λ (x : X). P (see x)) o → AreKeyed most P seen
-  keyed-seen h =
-      record {
-        numbered = record {
-          numbers = subst (λ (ns : List ℕ). IsRising 1 ns o.next) (sym ids) h.numbered.numbers;
-          next = h.numbered.next;
-          count = omega (arith, count, h.numbered.count);
-        };
-        keys = subst (λ (ks : List (ℤ × ℕ)). All (IsNamed ks) ks) (sym (keys-map see o)) h.keys;
-        modes = All-map HasMode row o.entries h.modes;
-        each = All-map (λ (e : ℕ × Entry Y). P e.1.object) row o.entries h.each;
-      }
-
-  pub keyed-unseen : AreKeyed most P seen → AreKeyed most (λ (x : X). P (see x)) o
-  keyed-unseen h =
-      record {
-        numbered = record {
-          numbers = subst (λ (ns : List ℕ). IsRising 1 ns o.next) ids h.numbered.numbers;
-          next = h.numbered.next;
-          count = omega (arith, count, h.numbered.count);
-        };
-        keys = subst (λ (ks : List (ℤ × ℕ)). All (IsNamed ks) ks) (keys-map see o) h.keys;
-        modes = All-seen HasMode row o.entries h.modes;
-        each = All-seen (λ (e : ℕ × Entry Y). P e.1.object) row o.entries h.each;
       }
 
 -- ---- how it is told

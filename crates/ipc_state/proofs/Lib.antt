@@ -1,5 +1,6 @@
 pub mod CallerLemmas
 pub mod Numbering
+mod Counting
 mod Places
 mod Keying
 mod SoundQueues

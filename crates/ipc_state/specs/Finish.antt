@@ -1,5 +1,6 @@
--- How a call ends. Its definition is a list of steps: each refuses, or goes on with a value.
-use Rattle.std.specs.Prelude.{ℕ, Bool, if◌then◌else◌, Option, Some, None, Result, Ok, Err}
+-- How a call ends. Its definition is a list of steps: each stops the call, or goes on with a value. A call that is
+-- stopped fails, or has to wait.
+use Rattle.std.specs.Prelude.{ℕ, Bool, true, false, if◌then◌else◌, Option, Some, None, Result, Ok, Err}
 use Rattle.ipc_base.specs.declared.errno.Errno.{Errno}
 use Rattle.ipc_wire.specs.declared.reply.Body.{Body}
 use Rattle.ipc_wire.specs.declared.reply.Body.TheVariants.{Empty}
@@ -13,6 +14,20 @@ pub record Finish : Type 0 where
   pub errno : Option Errno
   pub body : PlainBody
 
+-- a call that is tried comes to its end, or has to wait
+pub data Tried : Type 0 where
+  Finishes : Finish → Tried
+  Waits : Tried
+
+abbrev pub has_to_wait : Tried → Bool
+has_to_wait (Finishes f) = false
+has_to_wait Waits = true
+
+-- where it comes to its end, that is so
+abbrev pub IfFinishes : (Finish → Type 0) → Tried → Type 0
+IfFinishes P (Finishes f) = P f
+IfFinishes P Waits = Unit {0}
+
 -- it is done
 abbrev pub done : State → PlainBody → Finish
 done s body = record { state = s; errno = None; body = body }
@@ -21,29 +36,43 @@ done s body = record { state = s; errno = None; body = body }
 abbrev pub refused : State → Errno → Finish
 refused s e = record { state = s; errno = Some e; body = Empty }
 
--- a call on its way: refused, or gone on to a value
+-- why a call does not go on
+pub data Halt : Type 0 where
+  Fails : Errno → Halt
+  Blocks : Halt
+
+-- a call on its way: stopped, or gone on to a value
 abbrev pub Attempt : Type 0 → Type 0
-Attempt X = Result X Errno
+Attempt X = Result X Halt
 
 infixl 10 ◌>>=◌
 abbrev pub ◌>>=◌ : {X Y : Type 0} → Attempt X → (X → Attempt Y) → Attempt Y
-Err e >>= next = Err e
+Err h >>= next = Err h
 Ok x >>= next = next x
 
 infixl 10 ◌>>◌
 abbrev pub ◌>>◌ : {Y : Type 0} → Attempt (Unit {0}) → Attempt Y → Attempt Y
-Err e >> next = Err e
+Err h >> next = Err h
 Ok x >> next = next
+
+-- stopped where the test holds
+abbrev pub stop : Halt → Bool → Attempt (Unit {0})
+stop h b = if b then Err h else Ok tt
 
 -- refused where the test holds
 abbrev pub refuse : Errno → Bool → Attempt (Unit {0})
-refuse e b = if b then Err e else Ok tt
+refuse e b = stop (Fails e) b
+
+-- stopped where there is no value
+infixl 20 ◌orstop◌
+abbrev pub ◌orstop◌ : {X : Type 0} → Option X → Halt → Attempt X
+None orstop h = Err h
+Some x orstop h = Ok x
 
 -- refused where there is no value
 infixl 20 ◌orelse◌
 abbrev pub ◌orelse◌ : {X : Type 0} → Option X → Errno → Attempt X
-None orelse e = Err e
-Some x orelse e = Ok x
+o orelse e = o orstop Fails e
 
 -- one way on where there is a value, another where there is none
 abbrev pub if_some : {X Y : Type 0} → Option X → (X → Attempt Y) → Attempt Y → Attempt Y
@@ -58,10 +87,11 @@ pub record Done : Type 0 where
 abbrev pub answer : State → PlainBody → Attempt Done
 answer s body = Ok (record { state = s; body = body })
 
--- how the call ends that began in a state
-abbrev pub ended : State → Attempt Done → Finish
-ended s (Ok d) = done d.state d.body
-ended s (Err e) = refused s e
+-- what comes of the call that began in a state
+abbrev pub ended : State → Attempt Done → Tried
+ended s (Ok d) = Finishes (done d.state d.body)
+ended s (Err (Fails e)) = Finishes (refused s e)
+ended s (Err Blocks) = Waits
 
 -- the same of the answer of a program's call, which left this state
 abbrev pub finish_of : State → Result (Body (Vec ℕ)) Errno → Finish

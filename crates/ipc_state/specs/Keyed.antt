@@ -29,10 +29,6 @@ holding e x = record { key = e.key; perm = e.perm; object = x }
 abbrev pub permitting : {X : Type 0} → Entry X → Perm → Entry X
 permitting e perm = record { key = e.key; perm = perm; object = e.object }
 
--- each object seen in another way
-abbrev pub entry_map : {X Y : Type 0} → (X → Y) → Entry X → Entry Y
-entry_map see e = holding e (see e.object)
-
 -- numbers rise, and each key but IPC_PRIVATE names the object that has it
 pub record AreNamed {X : Type 0} (o : Keyed X) : Type 0 where
   pub numbers : IsRising 1 (keys_of o.entries) o.next

@@ -11,4 +11,5 @@ pub mod Restored
 pub mod Lends
 pub mod LendsMsg
 pub mod LendsSem
+pub mod Touching
 pub mod Finish

@@ -1,7 +1,7 @@
 -- What has numbers of its own, counted from 1 and never given twice: processes by pid, objects of a kind by identifier.
 use Rattle.std.specs.Prelude.{ℕ, ◌+◌, ◌≤◌, Bool, ◌||◌, List, [], ◌∷◌, ◌++◌, length}
 use Rattle.std.specs.Prelude.{nat_eq, nat_le, nat_lt, Option}
-use Rattle.ipc_base.specs.Table.{value_at, with_value, without, keys_of, seen_as, IsRising}
+use Rattle.ipc_base.specs.Table.{value_at, with_value, without, keys_of, IsRising}
 
 -- pids and identifiers end here
 abbrev pub last_number : ℕ
@@ -40,10 +40,6 @@ with_last o n x = record { next = o.next; entries = o.entries ++ (n, x) ∷ [] }
 -- without the one that has the number
 abbrev pub without_entry : {X : Type 0} → Numbered X → ℕ → Numbered X
 without_entry o n = record { next = o.next; entries = without nat_eq o.entries n }
-
--- each seen in another way
-abbrev pub numbered_map : {X Y : Type 0} → (X → Y) → Numbered X → Numbered Y
-numbered_map see o = record { next = o.next; entries = seen_as see o.entries }
 
 -- What holds of them: numbers rise from 1 to below the next, which is at most one past the last; there are no more than
 -- the limit says.

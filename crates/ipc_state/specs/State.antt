@@ -1,10 +1,10 @@
 -- The state of the server between two events (sysvipc(7)): what it knows of processes and objects. All of it
 -- lasts; nothing in it tells how it is kept.
-use Rattle.std.specs.Prelude.{ℕ, ℤ, Bool, max, List, Option, [], option_map}
+use Rattle.std.specs.Prelude.{ℕ, ℤ, Bool, max, List, Option, [], ◌∷◌, ◌++◌, option_map}
 use Rattle.std.specs.Prelude.{is_some, unwrap_or}
 use Rattle.ipc_base.specs.declared.identity.Cred.{Cred}
 use Rattle.ipc_base.specs.declared.limits.Limits.{Limits}
-use Rattle.ipc_wait.specs.Waits.{without}
+use Rattle.ipc_wait.specs.Waits.{call_of, without}
 use Rattle.sysv_msg.specs.Queue.{Queue, new_queue}
 use Rattle.sysv_sem.specs.Set.{Set}
 use Rattle.ipc_state.specs.declared.keyed.Entry.{Entry}
@@ -34,6 +34,20 @@ start = record { clock = 0; processes = none_yet; wait = []; msg = none_yet; sem
 abbrev pub at_moment : State → ℕ → State
 at_moment s moment = record s { clock = max s.clock moment }
 
+-- ---- calls that wait
+
+-- whether a call of the process waits
+abbrev pub is_waiting : State → ℕ → Bool
+is_waiting s pid = is_some (call_of (record { 0 = pid }) s.wait)
+
+-- with one call more, at the end
+abbrev pub with_waiting : State → PlainWaiting → State
+with_waiting s w = record s { wait = s.wait ++ w ∷ [] }
+
+-- without the call of the process
+abbrev pub without_waiting : State → ℕ → State
+without_waiting s pid = record s { wait = without (record { 0 = pid }) s.wait }
+
 -- ---- processes
 
 -- whether a process has this number
@@ -54,7 +68,7 @@ with_process s cred = record s { processes = with_new s.processes (record { cred
 
 -- the process leaves, and so does the call of it that waits
 abbrev pub exit : State → ℕ → State
-exit s pid = record s { processes = without_entry s.processes pid; wait = without (record { 0 = pid }) s.wait }
+exit s pid = without_waiting (record s { processes = without_entry s.processes pid }) pid
 
 -- The server has stopped and begun anew: no process is left, and no call waits. The clock, the next numbers and all
 -- objects stay.

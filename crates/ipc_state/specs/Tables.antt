@@ -1,15 +1,12 @@
 -- How the state is kept: each part of the tables as a value of the definitions.
-use Rattle.std.specs.Prelude.{◌≡◌, ◌≢◌, ℕ, ℤ, pos, Bool, true, nat_lt, List, map, Option, None, vec_len, vec_capacity}
+use Rattle.std.specs.Prelude.{◌≡◌, ◌≢◌, ℕ, ℤ, pos, Bool, true, nat_lt, map, None, vec_len, vec_capacity}
 use Rattle.std.specs.FinMap.{FinMap}
 use Rattle.std.specs.Ordering.{int_cmp}
-use Rattle.ipc_base.specs.Table.{seen_as}
 use Rattle.ipc_keys.specs.Directory.{is_vacant}
-use Rattle.sysv_msg.specs.Queue.{Queue, Kept}
 use Rattle.ipc_state.specs.declared.numbered.Item.{Item}
 use Rattle.ipc_state.specs.declared.numbered.Numbered.{Numbered as Table}
-use Rattle.ipc_state.specs.declared.keyed.Entry.{Entry}
-use Rattle.ipc_state.specs.Numbered.{Numbered, numbered_map}
-use Rattle.ipc_state.specs.Keyed.{Keyed, keyed, entry_map}
+use Rattle.ipc_state.specs.Numbered.{Numbered}
+use Rattle.ipc_state.specs.Keyed.{Keyed, keyed}
 
 -- one with its number
 abbrev pub item_row : {T : Type 0} → Item T → ℕ × T
@@ -33,26 +30,3 @@ pub record HeldObjects (X : Type 0) : Type 0 where
 pub record HasPlaceFor {X : Type 0} (o : HeldObjects X) (key : ℤ) : Type 0 where
   pub place : o.place ≡ true
   pub vacant : key ≢ pos 0 → keyed o.objects key ≡ None → is_vacant o.keys key ≡ true
-
--- a queue, and the room in it
-abbrev pub queue_in : Kept → Queue
-queue_in k = k.queue
-
-abbrev pub room_in : Kept → Option ℕ
-room_in k = k.room
-
--- the queues
-abbrev pub queues_of : HeldObjects Kept → Keyed Queue
-queues_of o = numbered_map (entry_map queue_in) o.objects
-
--- a queue with its key and who may use it
-abbrev pub queue_entry : Entry Kept → Entry Queue
-queue_entry e = entry_map queue_in e
-
--- and with its identifier
-abbrev pub queue_row : Item (Entry Kept) → ℕ × Entry Queue
-queue_row e = (e.number, queue_entry e.value)
-
--- the room in each queue
-abbrev pub texts_of : HeldObjects Kept → List (ℕ × Option ℕ)
-texts_of o = seen_as (λ e. room_in e.object) o.objects.entries

@@ -23,7 +23,7 @@ awaited_by _ = None
 
 -- the request of a call that is kept
 abbrev pub parked_kind : ParkedCall → PlainKind
-parked_kind (parked.Msgsnd id flags mtype text) = Calls (requests.Msgsnd id.0 flags.0 mtype text.items)
+parked_kind (parked.Msgsnd id flags message) = Calls (requests.Msgsnd id.0 flags.0 message.mtype message.text.items)
 parked_kind (parked.Msgrcv id flags size mtype) = Calls (requests.Msgrcv id.0 flags.0 size mtype)
 
 -- its request has a frame and waits on that object; the calls of message queues have no deadline

@@ -1,4 +1,5 @@
-//! The state between two events: processes, calls that wait, and the objects of each kind with their keys. See sysvipc(7).
+//! The state between two events: processes, calls that wait, and the objects of each kind with their keys. See
+//! sysvipc(7).
 #![tactic(auto)]
 
 mod keyed;

@@ -11,6 +11,7 @@ use ipc_base::{Id, MsgFlags};
 use ipc_wire::{Call, GREATEST_FRAME, Request, RequestKind, request_len};
 use std::alloc::{AllocError, Global};
 use std::marker::Model;
+use sysv_msg::Message;
 
 /// The object on which a call waits.
 #[derive(Clone, Copy, Debug, PartialEq, Eq)]
@@ -22,12 +23,11 @@ pub enum Awaited {
 /// A call that waits, with its fields. See msgop(2).
 #[derive(Drop)]
 pub enum ParkedCall {
-    /// A send to a queue that is full for its text.
+    /// A send to a queue that is full for its text. The message is ready to be sent.
     Msgsnd {
         id: Id,
         flags: MsgFlags,
-        mtype: i64,
-        text: Vec<u8>,
+        message: Message,
     },
     /// A receive that found no message.
     Msgrcv {
@@ -75,8 +75,7 @@ impl Parked {
             ) => ParkedCall::Msgsnd {
                 id,
                 flags,
-                mtype,
-                text: text.to_vec(alloc)?,
+                message: Message::new(alloc, mtype, text)?,
             },
             RequestKind::Call(
                 Call::Msgrcv {
@@ -106,12 +105,10 @@ impl Parked {
         ensures rest { MayHave (parts_of self.now.kind).row.rest (length (parts_of self.now.kind).rest) }
     {
         match &self.call {
-            ParkedCall::Msgsnd {
-                id,
-                flags,
-                mtype,
-                text,
-            } => called(self.serial, send(*id, *flags, *mtype, text)),
+            ParkedCall::Msgsnd { id, flags, message } => called(
+                self.serial,
+                send(*id, *flags, message.mtype, &message.text),
+            ),
             ParkedCall::Msgrcv {
                 id,
                 flags,
@@ -119,6 +116,27 @@ impl Parked {
                 mtype,
             } => called(self.serial, receive(*id, *flags, *size, *mtype)),
         }
+    }
+
+    /// The serial of the request.
+    pub fn serial(&self) -> u32
+        ensures { result ≡ self.now.serial }
+    {
+        self.serial
+    }
+
+    /// The call.
+    pub fn call(&self) -> &ParkedCall
+        ensures { parked_kind result.now ≡ self.now.kind }
+    {
+        &self.call
+    }
+
+    /// The call, with all that is its own.
+    pub fn into_call(self) -> ParkedCall
+        ensures { parked_kind result ≡ self.kind }
+    {
+        self.call
     }
 
     /// The object on which it waits.

@@ -87,6 +87,7 @@ impl State {
     pub fn remove_process(&mut self, pid: Pid)
         ensures state { self.new.state ≡ exit self.old.state pid.0 }
         ensures limits { self.new.limits ≡ self.old.limits }
+        ensures keys { self.new.room.keys ≡ self.old.room.keys }
     {
         self.processes.remove(pid.0);
         let _waiting = self.wait.leave(pid);
@@ -97,6 +98,7 @@ impl State {
     pub fn restart(&mut self)
         ensures state { self.new.state ≡ restart self.old.state }
         ensures limits { self.new.limits ≡ self.old.limits }
+        ensures keys { self.new.room.keys ≡ self.old.room.keys }
     {
         self.processes.clear();
         self.wait.clear();

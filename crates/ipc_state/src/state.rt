@@ -27,15 +27,18 @@ pub struct State {
     pub(crate) processes: Numbered<Process>,
     pub(crate) wait: WaitList<Awaited, Parked>,
     pub(crate) msg: Keyed<MsgQueue>,
+    /// A queue that is ready to be added, so that this takes no memory.
+    pub(crate) fresh: Option<MsgQueue>,
     pub(crate) sem: Keyed<SemSet>,
 }
 
 impl Model for State {
     ghost use Rattle.ipc_base.specs.Limits.{ArePassed};
     ghost use Rattle.std.specs.Coded.{codes};
+    ghost use Rattle.std.specs.Prelude.{length, nat_lt, is_some};
     ghost use Rattle.ipc_keys.specs.contracts.keys.KeyDir as directory;
     ghost use Rattle.ipc_state.specs.Held.{Held};
-    ghost use Rattle.ipc_state.specs.Tables.{numbered_of, queues_of, texts_of, has_place};
+    ghost use Rattle.ipc_state.specs.Tables.{numbered_of, has_place};
 
     ghost Value = { Held };
 
@@ -47,14 +50,15 @@ impl Model for State {
         clock = s.clock.0;
         processes = numbered_of s.processes;
         wait = s.wait.calls;
-        msg = queues_of s.msg;
+        msg = s.msg.objects;
         sem = s.sem.objects;
       };
       room = record {
         process = has_place s.processes;
         queue = s.msg.place;
         keys = s.msg.keys;
-        texts = texts_of s.msg;
+        fresh = is_some s.fresh;
+        wait = nat_lt (length s.wait.calls) s.wait.room;
         set = s.sem.place;
         set_keys = s.sem.keys;
       };
@@ -86,6 +90,7 @@ impl State {
             processes: Numbered::new(alloc),
             wait: WaitList::new(alloc),
             msg: Keyed::new(alloc),
+            fresh: None,
             sem: Keyed::new(alloc),
         }
     }

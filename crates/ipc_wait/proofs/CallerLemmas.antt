@@ -1,5 +1,5 @@
 -- Lemmas for callers.
-use Rattle.std.proofs.Common.{◌≡◌, ◌≢◌, ◌≤◌, arith, Bool, true, false, not, cond, nat_le, ℕ, List, [], ◌∷◌, ◌++◌}
+use Rattle.std.proofs.Common.{◌≡◌, ◌≢◌, ◌+◌, ◌≤◌, length, length-append, arith, Bool, true, false, not, cond, nat_le, ℕ, List, [], ◌∷◌, ◌++◌}
 use Rattle.std.proofs.Common.{filter, Option, Some, None, is_some, append-nil, refl, sym, ap, subst, ◌∙◌}
 use Rattle.std.specs.List.{find}
 use Rattle.std.proofs.lemmas.Bool.Decides.{nat_tests}
@@ -8,8 +8,9 @@ use Rattle.ipc_base.specs.declared.identity.Pid.{Pid}
 use Rattle.ipc_base.specs.declared.identity.Moment.{Moment}
 use Rattle.ipc_wait.specs.declared.list.Waiting.{Waiting}
 use Rattle.ipc_wait.specs.Waits.{call_of, without, HaveDistinctPids, is_of, has_come, is_due, next_deadline}
-use Rattle.ipc_wait.proofs.Lists.{HaveDistinctPids-filter, filter-none, filter-filter, none_later, same_process, same_number, turned}
+use Rattle.ipc_wait.proofs.Lists.{HaveDistinctPids-filter, filter-filter, none_later, same_process, same_number, turned}
 use Rattle.ipc_wait.proofs.Lists.{call_of-past, find-parts, one_due}
+pub use Rattle.ipc_wait.proofs.Lists.{HaveDistinctPids-enter, filter-none}
 
 -- a deadline that has come stays so
 pub has_come-later : (now later : Moment) (deadline : Option Moment) → now.0 ≤ later.0 → has_come now deadline ≡ true → has_come later deadline ≡ true
@@ -114,3 +115,22 @@ module _ {O C : Type 0} where
   -- one is due if and only if the earliest deadline has come
   pub has_come-next_deadline : (now : Moment) (calls : List (Waiting O C)) → has_come now (next_deadline calls) ≡ is_some (find (is_due now) calls)
   has_come-next_deadline now calls = one_due now calls None
+
+  -- a call that is in the list: its process has it, and when it leaves there is one less
+  pub record IsIn (calls : List (Waiting O C)) (w : Waiting O C) : Type 0 where
+    pub here : call_of w.pid calls ≡ Some w
+    pub fewer : length calls ≡ length (without w.pid calls) + 1
+
+  -- what a search finds is in the list
+  pub found-in : (test : Waiting O C → Bool) (calls : List (Waiting O C)) (w : Waiting O C) → HaveDistinctPids calls → find test calls ≡ Some w → IsIn calls w
+  found-in test calls w distinct is =
+      let parts = find-parts test calls w is in
+      let before = parts.0 in
+      let after = parts.1 in
+      let each = subst HaveDistinctPids parts.2 distinct in
+      record {
+        here = ap (call_of w.pid) parts.2 ∙ call_of-here w after before each;
+        fewer =
+            let left : without w.pid calls ≡ before ++ after = ap (without w.pid) parts.2 ∙ without-here w after before each in
+            omega (arith, ap length parts.2, ap length left, length-append before (w ∷ after), length-append before after);
+      }

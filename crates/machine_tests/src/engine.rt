@@ -2,14 +2,15 @@
 //! refused, a step is taken again, so that the tests pass whichever allocation is refused.
 
 ghost use Rattle.ipc_base.specs.Limits.{ArePassed};
-ghost use Rattle.ipc_engine.specs.Engine.{IsForProcess};
+ghost use Rattle.ipc_engine.specs.Engine.{HasRequest, IsForProcess};
 ghost use Rattle.ipc_engine.specs.View.{plain_event};
 
 mod restored;
+mod waiting;
 
 use ipc_base::{Cred, Errno, GetFlags, Id, Limits, Moment, MsgFlags, Pid};
-use ipc_engine::{Engine, Event};
-use ipc_wire::{Body, Call, Request, RequestKind};
+use ipc_engine::{Engine, Event, Outcome};
+use ipc_wire::{Body, Call, Request, RequestKind, read_request, request_len, write_request};
 use std::alloc::{AllocError, Global};
 use std::process::Abort;
 use std::test::Fail;
@@ -28,9 +29,10 @@ fn is_answer(engine: &Engine, pid: Pid, serial: u32, wanted: Answer<'_>) -> bool
     let [outcome] = engine.outcomes() else {
         return false;
     };
-    if outcome.pid != pid || outcome.serial != serial {
-        return false;
-    }
+    outcome.pid == pid && outcome.serial == serial && says(outcome, wanted)
+}
+
+fn says(outcome: &Outcome, wanted: Answer<'_>) -> bool {
     match (wanted, outcome.errno, &outcome.body) {
         (Answer::Done, None, Body::Empty) => true,
         (Answer::Number(wanted), None, Body::Number(number)) => wanted == *number,
@@ -58,7 +60,8 @@ fn small_engine(alloc: Global) -> Result<Engine, AllocError> {
 
 /// A step; after a refusal for memory, which leaves the replies as they were, the same step again.
 fn take(rt: &impl Abort, engine: &mut Engine, event: Event<'_>) -> Result<(), AllocError>
-    requires { IsForProcess engine.old.state (plain_event event) }
+    requires process { IsForProcess engine.old.state (plain_event event) }
+    requires request { HasRequest (plain_event event) }
 {
     let replies = engine.outcomes().len();
     match engine.step(event) {
@@ -87,7 +90,7 @@ fn hello(rt: &impl Abort, engine: &mut Engine, serial: u32) -> Result<(), AllocE
     )
 }
 
-/// A request, as the tables below write it.
+/// A request, as the tables below write it. Sends and receives have IPC_NOWAIT.
 #[derive(Clone, Copy)]
 enum Ask<'a> {
     Hello,
@@ -107,17 +110,45 @@ fn kind_of(ask: Ask<'_>) -> RequestKind<'_> {
         }),
         Ask::Send(id, mtype, text) => RequestKind::Call(Call::Msgsnd {
             id: Id(id),
-            flags: MsgFlags(0),
+            flags: MsgFlags(0x800),
             mtype,
             text,
         }),
         Ask::Receive(id, size, mtype) => RequestKind::Call(Call::Msgrcv {
             id: Id(id),
-            flags: MsgFlags(0),
+            flags: MsgFlags(0x800),
             size,
             mtype,
         }),
     }
+}
+
+/// A request of a process, of at most 96 bytes with its frame, from which it is read.
+fn make_request(
+    rt: &impl Abort,
+    engine: &mut Engine,
+    pid: Pid,
+    request: Request<'_>,
+) -> Result<(), AllocError> {
+    let mut buffer = [0; 96];
+    assert!(rt; write_request(&request, &mut buffer));
+    let Some(text) = buffer.get(4..request_len(&request)) else {
+        panic!(rt; "a long request");
+    };
+    let Some(request) = read_request(text) else {
+        panic!(rt; "no request");
+    };
+    let moment = Moment(8);
+    assert!(rt; engine.connected(pid));
+    take(
+        rt,
+        engine,
+        Event::Call {
+            pid,
+            request,
+            moment,
+        },
+    )
 }
 
 /// A request, and its answer.
@@ -125,22 +156,12 @@ type Line = (Ask<'static>, Answer<'static>);
 
 /// The requests of a process, each with its answer.
 fn talk(rt: &impl Abort, engine: &mut Engine, pid: Pid, lines: &[Line]) -> Result<(), AllocError> {
-    for (line, (ask, wanted)) in lines.iter().enumerate() {
-        assert!(rt; engine.connected(pid));
+    for (line, (asked, wanted)) in lines.iter().enumerate() {
         let request = Request {
             serial: 9,
-            kind: kind_of(*ask),
+            kind: kind_of(*asked),
         };
-        let moment = Moment(8);
-        take(
-            rt,
-            engine,
-            Event::Call {
-                pid,
-                request,
-                moment,
-            },
-        )?;
+        make_request(rt, engine, pid, request)?;
         assert!(rt; is_answer(engine, pid, 9, *wanted), "at line {line}");
     }
     Ok(())

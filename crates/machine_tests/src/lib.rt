@@ -6,6 +6,8 @@ mod base;
 #[cfg(test)]
 mod engine;
 #[cfg(test)]
+mod memory;
+#[cfg(test)]
 mod queue;
 #[cfg(test)]
 mod wire;

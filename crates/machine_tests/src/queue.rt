@@ -7,12 +7,19 @@ use std::process::Abort;
 use std::test::Fail;
 use sysv_msg::{Message, MsgQueue, QueueStat};
 
+/// Sends a message, which the queue has a place for.
+fn send(rt: &impl Abort, queue: &mut MsgQueue, mtype: i64, text: &[u8]) -> Result<(), AllocError> {
+    let message = Message::new(queue.allocator(), mtype, text)?;
+    assert!(rt; queue.len() < 16384);
+    queue.send(message, Pid(1), Moment(10));
+    Ok(())
+}
+
 /// Types 5, 3, 1, 2, 1 with the texts a, b, c, d, e.
-fn five_messages(alloc: Global) -> Result<MsgQueue, AllocError> {
-    let mut queue = MsgQueue::new(alloc, 128, Moment(9));
+fn five_messages(rt: &impl Abort, alloc: Global) -> Result<MsgQueue, AllocError> {
+    let mut queue = MsgQueue::new(alloc, 128, Moment(9))?;
     for (mtype, text) in [(5, b"a"), (3, b"b"), (1, b"c"), (2, b"d"), (1, b"e")] {
-        queue.reserve(1)?;
-        queue.send(mtype, text, Pid(1), Moment(10));
+        send(rt, &mut queue, mtype, text)?;
     }
     Ok(queue)
 }
@@ -39,7 +46,7 @@ const SELECTIONS: [(i64, bool, Option<usize>); 7] = [
 
 #[test]
 fn takes_by_type(rt: HostRuntime) -> Result<(), Fail> {
-    let queue = five_messages(rt.alloc())?;
+    let queue = five_messages(&rt, rt.alloc())?;
     for (line, (mtype, except, at)) in SELECTIONS.iter().enumerate() {
         assert!(rt; selects(&queue, *mtype, *except, *at), "at line {line}");
     }
@@ -76,7 +83,7 @@ const LEFT: QueueStat = QueueStat {
 
 #[test]
 fn takes_what_is_left(rt: HostRuntime) -> Result<(), Fail> {
-    let mut queue = five_messages(rt.alloc())?;
+    let mut queue = five_messages(&rt, rt.alloc())?;
     assert!(rt; takes(&mut queue, 1, 1, b"c"));
     assert!(rt; takes(&mut queue, 0, 5, b"a"));
     assert_eq!(rt; queue.len(), 3);
@@ -86,39 +93,26 @@ fn takes_what_is_left(rt: HostRuntime) -> Result<(), Fail> {
     Ok(())
 }
 
-/// Sends a message of type 1.
-fn send(queue: &mut MsgQueue, text: &[u8]) -> Result<(), AllocError> {
-    queue.reserve(text.len())?;
-    queue.send(1, text, Pid(1), Moment(1));
-    Ok(())
-}
-
 fn fits(queue: &MsgQueue, len: usize) -> bool {
     queue.fits(len)
 }
 
 #[test]
 fn fills_by_bytes_and_by_messages(rt: HostRuntime) -> Result<(), Fail> {
-    let mut queue = MsgQueue::new(rt.alloc(), 128, Moment(0));
+    let mut queue = MsgQueue::new(rt.alloc(), 128, Moment(0))?;
     assert!(rt; queue.is_empty());
     for _ in 0..2 {
         assert!(rt; fits(&queue, 64));
-        send(&mut queue, &[7; 64])?;
+        send(&rt, &mut queue, 1, &[7; 64])?;
     }
     assert!(rt; !fits(&queue, 1));
     assert!(rt; fits(&queue, 0));
 
-    let mut narrow = MsgQueue::new(rt.alloc(), 1, Moment(0));
+    let mut narrow = MsgQueue::new(rt.alloc(), 1, Moment(0))?;
     assert!(rt; fits(&narrow, 0));
-    send(&mut narrow, b"")?;
+    send(&rt, &mut narrow, 1, b"")?;
     assert!(rt; !fits(&narrow, 0));
     Ok(())
-}
-
-/// Sends a byte, after a long text that was refused when its room was reserved.
-fn send_after_a_refusal(queue: &mut MsgQueue) -> Result<(), AllocError> {
-    queue.reserve(8427)?;
-    send(queue, b"a")
 }
 
 /// Takes the first message: how many bytes its text has room for.
@@ -139,9 +133,9 @@ fn room_of_all(queue: &mut MsgQueue) -> Option<usize> {
 
 #[test]
 fn texts_have_room_for_their_bytes_alone(rt: HostRuntime) -> Result<(), Fail> {
-    let mut queue = MsgQueue::new(rt.alloc(), 950, Moment(0));
+    let mut queue = MsgQueue::new(rt.alloc(), 950, Moment(0))?;
     for _ in 0..950 {
-        send_after_a_refusal(&mut queue)?;
+        send(&rt, &mut queue, 1, b"a")?;
     }
     assert_eq!(rt; room_of_all(&mut queue), Some(950));
     Ok(())

@@ -8,6 +8,7 @@ use crate::common::{
 use ipc_base::{Cred, GetFlags, Id, Limits, Moment, MsgFlags, Pid};
 use ipc_disk::{FuseDisk, MemoryDisk, SectorDisk};
 use ipc_engine::{Engine, Event};
+use ipc_image::{read_event, write_event};
 use ipc_store::{CommitError, OpenError, Store, Unopened};
 use ipc_wire::{Call, Request, RequestKind};
 use std::alloc::Global;
@@ -189,6 +190,11 @@ pub(crate) trait Probed {
 
 impl Probed for Engine {
     fn go(&mut self, rt: &impl Abort, event: Event<'_>) -> Result<(), Fail> {
+        let mut bytes = [0; 8465];
+        assert!(rt; write_event(&event, &mut bytes));
+        let Some((_, event)) = read_event(&bytes) else {
+            panic!(rt; "no record");
+        };
         assert!(rt; self.is_for_process(&event));
         self.step(event)?;
         Ok(())

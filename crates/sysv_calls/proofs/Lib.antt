@@ -1,2 +1,3 @@
 pub mod CallerLemmas
-mod Reaching
+pub mod Reaching
+pub mod Trying

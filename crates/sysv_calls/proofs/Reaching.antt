@@ -1,133 +1,140 @@
 -- What an identifier has for a caller, in what is held and in the definitions.
-use Rattle.std.proofs.Common.{◌≡◌, ℕ, Bool, true, false, Option, Some, None, refl, sym, ap, ◌∙◌}
-use Rattle.std.specs.Prelude.{List, not, Result, Ok, Err, option_map, nat_eq}
-use Rattle.std.specs.Borrow.{Bor, MutBor}
-use Rattle.std.specs.Option.{option_copied_mut, IsSome}
-use Rattle.ipc_base.proofs.CallerLemmas.{at-map}
-use Rattle.ipc_base.specs.Table.{value_at}
+use Rattle.std.proofs.Common.{◌≡◌, ℕ, ℤ, pos, ◌<◌, Bool, true, false, List, [], length, Option, Some, None, refl, sym, ap, subst, ◌∙◌}
+use Rattle.std.specs.Prelude.{not, is_some, nat_lt, int_lt, Ok, Err}
+use Rattle.std.proofs.lemmas.List.Quantifiers.{position-Some}
+use Rattle.ipc_base.specs.declared.limits.Limits.{Limits}
 use Rattle.ipc_base.specs.declared.errno.Errno.{Errno}
-use Rattle.ipc_base.specs.declared.errno.Errno.TheVariants.{EINVAL, EPERM}
+use Rattle.ipc_base.specs.declared.errno.Errno.TheVariants.{EACCES, EINVAL, EAGAIN, ENOMSG, E2BIG}
 use Rattle.ipc_base.specs.declared.identity.Cred.{Cred}
 use Rattle.ipc_perm.specs.declared.perm.Perm.{Perm}
-use Rattle.ipc_perm.specs.Perm.{owns}
-use Rattle.sysv_msg.specs.Queue.{Queue, Kept}
 use Rattle.ipc_state.specs.declared.keyed.Entry.{Entry}
+use Rattle.ipc_perm.specs.Perm.{may}
+use Rattle.sysv_msg.specs.Queue.{Queue, PlainMessage, is_allowed, pick, full}
+use Rattle.ipc_state.specs.Numbered.{entry_of, last_number, without_entry}
+use Rattle.ipc_state.specs.Keyed.{Keyed}
 use Rattle.ipc_state.specs.Lends.{HasPutObject}
-use Rattle.ipc_state.specs.Numbered.{entry_of, with_entry, without_entry, numbered_map}
-use Rattle.ipc_state.specs.Keyed.{Keyed, holding}
-use Rattle.ipc_state.specs.Tables.{HeldObjects, queue_entry, queues_of, texts_of}
-use Rattle.ipc_state.specs.Finish.{Attempt, refuse, ◌orelse◌, ◌>>◌, ◌>>=◌}
-use Rattle.ipc_state.proofs.CallerLemmas.{lent, is-lent, lent-queue, lent-room, put-queues, put-same, held-without}
-use Rattle.sysv_calls.specs.Calls.{reached, owned, removed}
-use Rattle.sysv_calls.specs.Seen.{attempt_of, unit_of}
+use Rattle.ipc_state.specs.Tables.{HeldObjects}
+use Rattle.ipc_state.proofs.CallerLemmas.{put-keys}
+use Rattle.ipc_state.specs.State.{State}
+use Rattle.ipc_state.specs.Finish.{Attempt, Halt, Fails, refuse, stop, ◌orelse◌, ◌orstop◌, ◌>>◌, ◌>>=◌}
+use Rattle.sysv_calls.specs.Calls.{read, write, except, has, waits_or, is_too_long, message_at}
+use Rattle.sysv_calls.specs.Calls.{gone, reached, accessible, owned, removed, sendable, receivable}
+use Rattle.sysv_calls.specs.Seen.{seen}
 
--- a value on the way seen in another way
-abbrev seen : {X Y : Type 0} → (X → Y) → Attempt X → Attempt Y
-seen f (Ok x) = Ok (f x)
-seen f (Err e) = Err e
-
-module _ (id : ℕ) (refusal : Errno) (refuses : Perm → Bool) where
+module _ {X : Type 0} where
   -- what is reached is there
-  pub reached-there : (s : Keyed Queue) (e : Entry Queue) → reached s id refusal refuses ≡ Ok e → entry_of s id ≡ Some e
-  reached-there s e is = by_entry (entry_of s id) is
+  pub reached-there : (again : Bool) (id : ℕ) (refusal : Errno) (refuses : Perm → Bool) (s : Keyed X) (e : Entry X)
+      → reached again s id refusal refuses ≡ Ok e → entry_of s id ≡ Some e
+  reached-there again id refusal refuses s e is = by_entry (entry_of s id) is
     where
-      by_test : (b : Bool) (f : Entry Queue) → (refuse refusal b >> Ok f) ≡ Ok e → Some f ≡ Some e
+      by_test : (b : Bool) (f : Entry X) → (refuse refusal b >> Ok f) ≡ Ok e → Some f ≡ Some e
       by_test true f is = cc
       by_test false f is = cc
 
-      by_entry : (r : Option (Entry Queue)) → (r orelse EINVAL >>= (λ f. refuse refusal (refuses f.perm) >> Ok f)) ≡ Ok e → r ≡ Some e
+      by_entry : (r : Option (Entry X)) → (r orelse gone again >>= (λ f. refuse refusal (refuses f.perm) >> Ok f)) ≡ Ok e → r ≡ Some e
       by_entry None is = cc
       by_entry (Some f) is = by_test (refuses f.perm) f is
 
-  reached-seen : (o : HeldObjects Kept) (s : Keyed Queue) → queues_of o ≡ s → reached s id refusal refuses ≡ seen queue_entry (reached o.objects id refusal refuses)
-  reached-seen o s same =
-      ap (λ (t : Keyed Queue). reached t id refusal refuses) (sym same)
-      ∙ (ap (λ (f : Option (Entry Queue)). f orelse EINVAL >>= (λ f. refuse refusal (refuses f.perm) >> Ok f)) (at-map queue_entry o.objects.entries id)
-      ∙ by_entry (entry_of o.objects id))
+  -- what is left is all but that
+  pub removed-is : (s : Keyed X) (cred : Cred) (id : ℕ) (left : Keyed X) → removed s cred id ≡ Ok left → without_entry s id ≡ left
+  removed-is s cred id left is = by_attempt (owned s cred id) is
     where
-      by_test : (b : Bool) (f : Entry Kept) → (refuse refusal b >> Ok (queue_entry f)) ≡ seen queue_entry (refuse refusal b >> Ok f)
-      by_test true f = refl
-      by_test false f = refl
+      by_attempt : (a : Attempt (Entry X)) → (a >>= (λ e. Ok (without_entry s id))) ≡ Ok left → without_entry s id ≡ left
+      by_attempt (Ok e) is = cc
+      by_attempt (Err e) is = cc
 
-      by_entry : (f : Option (Entry Kept))
-          → (option_map queue_entry f orelse EINVAL >>= (λ e. refuse refusal (refuses e.perm) >> Ok e))
-          ≡ seen queue_entry (f orelse EINVAL >>= (λ e. refuse refusal (refuses e.perm) >> Ok e))
-      by_entry None = refl
-      by_entry (Some f) = by_test (refuses f.perm) f
+-- ---- what it says that a call went on
 
-  module _ (o : HeldObjects Kept) (s : Keyed Queue) (same : queues_of o ≡ s) (r : Result (Bor (Entry Kept)) Errno)
-      (got : attempt_of r ≡ reached o.objects id refusal refuses) where
-    -- refused in what is held, it is refused in the definitions
-    pub reached-refused : (e : Errno) → r ≡ Err e → reached s id refusal refuses ≡ Err e
-    reached-refused e is = reached-seen o s same ∙ ap (seen queue_entry) (sym got ∙ ap attempt_of is)
+stop-passed : {X : Type 0} (h : Halt) (b : Bool) (rest : Attempt X) (x : X) → (stop h b >> rest) ≡ Ok x → (b ≡ false) × (rest ≡ Ok x)
+stop-passed h true rest x is = cc
+stop-passed h false rest x is = (refl, is)
 
-    -- reached there, it is reached here
-    pub reached-ok : (e : Bor (Entry Kept)) → r ≡ Ok e → reached s id refusal refuses ≡ Ok (queue_entry e.now)
-    reached-ok e is = reached-seen o s same ∙ ap (seen queue_entry) (sym got ∙ ap attempt_of is)
+orstop-passed : {X : Type 0} (o : Option X) (h : Halt) (x : X) → (o orstop h) ≡ Ok x → o ≡ Some x
+orstop-passed None h x is = cc
+orstop-passed (Some y) h x is = cc
 
--- a queue that is lent to a caller that was let in: the entry that the definitions have, and what is left in its place
-pub record Opened (id : ℕ) (refusal : Errno) (refuses : Perm → Bool) (s : Keyed Queue) (o : HeldObjects Kept) (r : Option (MutBor Kept)) : Type 0 where
-  pub entry : Entry Queue
-  pub is : reached s id refusal refuses ≡ Ok entry
-  pub some : IsSome r
-  pub object : (q : MutBor Kept) → r ≡ Some q → q.now.queue ≡ entry.object
-  pub room : (texts : List (ℕ × Option ℕ)) → texts_of o ≡ texts → (q : MutBor Kept) → r ≡ Some q → value_at nat_eq texts id ≡ Some q.now.room
-  pub left : (k : Kept) (new : HeldObjects Kept) → HasPutObject o id k new → queues_of new ≡ with_entry s id (holding entry k.queue)
-  pub same : (k : Kept) (new : HeldObjects Kept) → HasPutObject o id k new → k.queue ≡ entry.object → queues_of new ≡ s
-  pub keys : (k : Kept) (new : HeldObjects Kept) → HasPutObject o id k new → new.keys ≡ o.keys
+-- past a step that gives a value
+record Passed {X Y : Type 0} (a : Attempt X) (next : X → Attempt Y) (y : Y) : Type 0 where
+  value : X
+  was : a ≡ Ok value
+  rest : next value ≡ Ok y
 
-module _ (id : ℕ) (refusal : Errno) (refuses : Perm → Bool) (s : Keyed Queue) (o : HeldObjects Kept) (same : queues_of o ≡ s)
-    (r : Result (Bor (Entry Kept)) Errno) (got : attempt_of r ≡ reached o.objects id refusal refuses) (e : Bor (Entry Kept)) (is : r ≡ Ok e) where
-  pub let-in : reached s id refusal refuses ≡ Ok (queue_entry e.now)
-  let-in = reached-ok id refusal refuses o s same r got e is
+passed : {X Y : Type 0} (a : Attempt X) (next : X → Attempt Y) (y : Y) → (a >>= next) ≡ Ok y → Passed a next y
+passed (Ok x) next y is = record { value = x; was = refl; rest = is }
+passed (Err h) next y is = cc
 
-  pub let-in-there : entry_of s id ≡ Some (queue_entry e.now)
-  let-in-there = reached-there id refusal refuses s (queue_entry e.now) let-in
+-- what holds of a message that may be sent now, and of the queue
+pub record Sends (limits : Limits) (s : State) (id : ℕ) (mtype : ℤ) (text : List ℕ) (e : Entry Queue) : Type 0 where
+  pub above : not (int_lt (pos 0) mtype) ≡ false
+  pub short : nat_lt limits.msgmax (length text) ≡ false
+  pub there : entry_of s.msg id ≡ Some e
+  pub room : full e.object (length text) ≡ false
 
-  pub opened : (lender : HeldObjects Kept) → queues_of lender ≡ s → (q : Option (MutBor Kept))
-      → option_copied_mut q ≡ option_map (λ (f : Entry Kept). f.object) (entry_of lender.objects id) → Opened id refusal refuses s lender q
-  opened lender also q lends =
-      let there = lent lender s id (queue_entry e.now) also let-in-there in
-      record {
-        entry = queue_entry e.now;
-        is = let-in;
-        some = is-lent lender s id _ also there q lends;
-        object = λ k found. lent-queue lender s id _ also there q lends k found;
-        room = λ texts rooms k found. lent-room lender s id _ also there q lends texts rooms k found;
-        left = λ k new put. put-queues lender s id _ also there k new put;
-        same = λ k new put is. put-same lender s id _ also there k new put is let-in-there;
-        keys = λ k new put. ap (λ (n : HeldObjects Kept). n.keys) (put there.entry there.is);
-      }
+pub sends : (limits : Limits) (s : State) (cred : Cred) (again : Bool) (id flags : ℕ) (mtype : ℤ) (text : List ℕ) (e : Entry Queue)
+    → sendable limits s cred again id flags mtype text ≡ Ok e → Sends limits s id mtype text e
+sends limits s cred again id flags mtype text e is =
+    let a = stop-passed (Fails EINVAL) (not (int_lt (pos 0) mtype)) _ e is in
+    let b = stop-passed (Fails EINVAL) (nat_lt limits.msgmax (length text)) _ e a.1 in
+    let c = passed (accessible again s.msg cred id write) _ e b.1 in
+    let d = stop-passed (waits_or flags EAGAIN) (full c.value.object (length text)) _ e c.rest in
+    let last : Ok c.value ≡ Ok e = d.1 in
+    let same : c.value ≡ e = cc in
+    record {
+      above = a.0;
+      short = b.0;
+      there = reached-there again id EACCES (λ perm. not (may cred perm write)) s.msg c.value c.was ∙ ap (λ (f : Entry Queue). Some f) same;
+      room = subst (λ (f : Entry Queue). full f.object (length text) ≡ false) same d.0;
+    }
 
--- ---- without what an identifier has
+-- what holds of a queue from which a message may be received now, and of its place
+pub record Receives (s : State) (id : ℕ) (found : Entry Queue × ℕ) : Type 0 where
+  pub there : entry_of s.msg id ≡ Some found.0
+  pub inside : found.1 < length found.0.object.messages
 
-removed-seen : (o : HeldObjects Kept) (s : Keyed Queue) (same : queues_of o ≡ s) (cred : Cred) (id : ℕ)
-    → removed s cred id ≡ seen (numbered_map queue_entry) (removed o.objects cred id)
-removed-seen o s same cred id =
-    ap (λ (a : Attempt (Entry Queue)). a >>= (λ e. Ok (without_entry s id)))
-    (reached-seen id EPERM (λ perm. not (owns cred perm)) o s same)
-    ∙ by_attempt (owned o.objects cred id)
+pub receives : (s : State) (cred : Cred) (again : Bool) (id flags size : ℕ) (mtype : ℤ) (found : Entry Queue × ℕ)
+    → receivable s cred again id flags size mtype ≡ Ok found → Receives s id found
+receives s cred again id flags size mtype found is =
+    let a = stop-passed (Fails EINVAL) (nat_lt last_number size) _ found is in
+    let b = passed (accessible again s.msg cred id read) _ found a.1 in
+    let c = passed (pick b.value.object.messages mtype (has flags except) orstop waits_or flags ENOMSG) _ found b.rest in
+    let d = stop-passed (Fails E2BIG) (is_too_long flags size (length (message_at b.value.object c.value).text)) _ found c.rest in
+    let there = reached-there again id EACCES (λ perm. not (may cred perm read)) s.msg b.value b.was in
+    let picked = orstop-passed (pick b.value.object.messages mtype (has flags except)) (waits_or flags ENOMSG) c.value c.was in
+    let none : PlainMessage = record { mtype = pos 0; text = [] } in
+    let ms = b.value.object.messages in
+    let inside = (position-Some (is_allowed ms mtype (has flags except)) ms c.value none picked).0 in
+    let last : Ok (b.value, c.value) ≡ Ok found = d.1 in
+    let same : (b.value, c.value) ≡ found = cc in
+    subst (Receives s id) same (record { there = there; inside = inside })
+
+-- what is seen of an attempt tells of it
+pub record Shows {X Y : Type 0} (f : X → Y) (a : Attempt X) (y : Y) : Type 0 where
+  pub value : X
+  pub was : a ≡ Ok value
+  pub is : f value ≡ y
+
+pub shows : {X Y : Type 0} (f : X → Y) (a : Attempt X) (y : Y) → seen f a ≡ Ok y → Shows f a y
+shows f (Ok x) y is = record { value = x; was = refl; is = cc }
+shows f (Err h) y is = cc
+
+pub stays-stopped : {X Y Z : Type 0} (f : X → Y) (next : X → Attempt Z) (a : Attempt X) (h : Halt) → seen f a ≡ Err h → (a >>= next) ≡ Err h
+stays-stopped f next (Ok x) h is = cc
+stays-stopped f next (Err k) h is = cc
+
+-- what was told of the objects that are held, the definitions say of theirs
+pub told : {X Y : Type 0} (f : Keyed X → Attempt Y) (o s : Keyed X) → o ≡ s → (a : Attempt Y) → a ≡ f o → f s ≡ a
+told f o s same a got = sym (got ∙ ap f same)
+
+-- the directory of the keys stays, if another object is put in the place of one that is there
+pub keys-kept : {X : Type 0} (o : HeldObjects X) (s : Keyed X) (id : ℕ) → o.objects ≡ s → is_some (entry_of s id) ≡ true → (left : X) (new : HeldObjects X)
+    → HasPutObject o id left new → new.keys ≡ o.keys
+keys-kept {X} o s id same is left new put = by_entry (entry_of s id) refl is
   where
-    by_attempt : (a : Attempt (Entry Kept)) → (seen queue_entry a >>= (λ e. Ok (without_entry s id)))
-        ≡ seen (numbered_map queue_entry) (a >>= (λ e. Ok (without_entry o.objects id)))
-    by_attempt (Ok e) = ap (λ (t : Keyed Queue). Ok t) (sym (held-without o s same id (record o { objects = without_entry o.objects id }) refl))
-    by_attempt (Err e) = refl
+    by_entry : (r : Option (Entry X)) → entry_of s id ≡ r → is_some r ≡ true → new.keys ≡ o.keys
+    by_entry None there is = cc
+    by_entry (Some e) there is = put-keys o s id e same there left new put
 
--- what is left is all but that
-pub removed-is : (s : Keyed Queue) (cred : Cred) (id : ℕ) (left : Keyed Queue) → removed s cred id ≡ Ok left → without_entry s id ≡ left
-removed-is s cred id left is = by_attempt (owned s cred id) is
-  where
-    by_attempt : (a : Attempt (Entry Queue)) → (a >>= (λ e. Ok (without_entry s id))) ≡ Ok left → without_entry s id ≡ left
-    by_attempt (Ok e) is = cc
-    by_attempt (Err e) is = cc
-
--- taken out in what is held, it is taken out in the definitions
-module _ (o new : HeldObjects Kept) (s : Keyed Queue) (same : queues_of o ≡ s) (cred : Cred) (id : ℕ) {Y : Type 0} (r : Result Y Errno)
-    (got : unit_of new.objects r ≡ removed o.objects cred id) where
-  pub removed-ok : (y : Y) → r ≡ Ok y → removed s cred id ≡ Ok (queues_of new)
-  removed-ok y is =
-      removed-seen o s same cred id ∙ ap (seen (numbered_map queue_entry)) (sym got ∙ ap (unit_of new.objects) is)
-
-  pub removed-refused : (e : Errno) → r ≡ Err e → removed s cred id ≡ Err e
-  removed-refused e is =
-      removed-seen o s same cred id ∙ ap (seen (numbered_map queue_entry)) (sym got ∙ ap (unit_of new.objects) is)
+-- why an attempt stopped does not tell what is looked at
+pub other-seen : {X Y Z : Type 0} (f : X → Y) (g : X → Z) (a : Attempt X) (h : Halt) → Err h ≡ seen f a → Err h ≡ seen g a
+other-seen f g (Ok x) h is = cc
+other-seen f g (Err k) h is = cc

@@ -1,12 +1,12 @@
 -- What each call answers and leaves: msgget(2), msgop(2) and msgctl(2), in this server's profile. Refusals stand in the
--- order in which they are tested. A call that would have to wait is refused, with or without IPC_NOWAIT.
-use Rattle.std.specs.Prelude.{ℕ, ℤ, pos, Bool, not, ◌&&◌, ◌||◌, List, [], ◌∷◌, ◌++◌, length, take, nat_lt, ◌==◌, int_lt}
-use Rattle.std.specs.Prelude.{slice_get, unwrap_or, if◌then◌else◌, Ok}
+-- order in which they are tested. A call that cannot go on waits, and is tried again by all rules of a new one.
+use Rattle.std.specs.Prelude.{ℕ, ℤ, pos, Bool, not, ◌&&◌, ◌||◌, List, [], ◌++◌, length, take, nat_lt, ◌==◌, int_lt}
+use Rattle.std.specs.Prelude.{slice_get, unwrap_or, if◌then◌else◌, Ok, false, Option, Some, None}
 use Rattle.std.specs.Ordering.{int_eq}
 use Rattle.std.specs.Int.RustNames.{bit_and}
 use Rattle.ipc_base.specs.declared.errno.Errno.{Errno}
 use Rattle.ipc_base.specs.declared.errno.Errno.TheVariants.{EPERM, ENOENT, E2BIG, EAGAIN, EACCES, EEXIST, EINVAL}
-use Rattle.ipc_base.specs.declared.errno.Errno.TheVariants.{ENOSPC, ENOMSG}
+use Rattle.ipc_base.specs.declared.errno.Errno.TheVariants.{ENOSPC, ENOMSG, EIDRM}
 use Rattle.ipc_base.specs.declared.identity.Cred.{Cred}
 use Rattle.ipc_base.specs.declared.limits.Limits.{Limits}
 use Rattle.ipc_base.specs.Numbers.{record_bytes}
@@ -17,11 +17,13 @@ use Rattle.ipc_wire.specs.Request as requests
 use Rattle.ipc_wire.specs.declared.reply.Body.TheVariants.{Empty, Number, Message, Record}
 use Rattle.sysv_msg.specs.Queue.{Queue, PlainMessage, pick, full, sent, taken, changed}
 use Rattle.ipc_state.specs.declared.keyed.Entry.{Entry}
+use Rattle.ipc_state.specs.declared.parked.Awaited.{Awaited}
+use Rattle.ipc_state.specs.declared.parked.Awaited.TheVariants as awaited
 use Rattle.ipc_state.specs.Numbered.{entry_of, is_full, last_number, without_entry}
 use Rattle.ipc_state.specs.Keyed.{Keyed, holding, permitting, keyed}
 use Rattle.ipc_state.specs.State.{State, cred_of, with_queue, with_new_queue}
-use Rattle.ipc_state.specs.Finish.{Finish, Attempt, Done, ended, answer, refuse, if_some, ◌orelse◌, ◌>>◌}
-use Rattle.ipc_state.specs.Finish.{◌>>=◌}
+use Rattle.ipc_state.specs.Finish.{Tried, Halt, Fails, Blocks, Attempt, Done, ended, answer, refuse, stop, if_some}
+use Rattle.ipc_state.specs.Finish.{◌orelse◌, ◌orstop◌, ◌>>◌, ◌>>=◌}
 use Rattle.sysv_calls.specs.Records.{perm_fields, queue_fields}
 
 -- ---- flags
@@ -36,6 +38,14 @@ creat = 512
 
 abbrev pub excl : ℕ
 excl = 1024
+
+-- IPC_NOWAIT
+abbrev pub nowait : ℕ
+nowait = 2048
+
+-- what becomes of a call that cannot go on: it waits, or fails if its flags have IPC_NOWAIT
+abbrev pub waits_or : ℕ → Errno → Halt
+waits_or flags e = if has flags nowait then Fails e else Blocks
 
 -- MSG_NOERROR and MSG_EXCEPT
 abbrev pub noerror : ℕ
@@ -61,20 +71,24 @@ is_exclusive flags = has flags creat && has flags excl
 abbrev pub may_make : ℤ → ℕ → Bool
 may_make key flags = int_eq key (pos 0) || has flags creat
 
+-- an identifier that nothing has is not valid; to a call that waited its object was removed
+abbrev pub gone : Bool → Errno
+gone again = if again then EIDRM else EINVAL
+
 -- what an identifier has, unless its permissions refuse the caller
-abbrev pub reached : {X : Type 0} → Keyed X → ℕ → Errno → (Perm → Bool) → Attempt (Entry X)
-reached o id refusal refuses = do
-  e ← entry_of o id orelse EINVAL
+abbrev pub reached : {X : Type 0} → Bool → Keyed X → ℕ → Errno → (Perm → Bool) → Attempt (Entry X)
+reached again o id refusal refuses = do
+  e ← entry_of o id orelse gone again
   refuse refusal (refuses e.perm)
   Ok e
 
 -- for a caller that may use it so
-abbrev pub accessible : {X : Type 0} → Keyed X → Cred → ℕ → ℕ → Attempt (Entry X)
-accessible o cred id access = reached o id EACCES (λ perm. not (may cred perm access))
+abbrev pub accessible : {X : Type 0} → Bool → Keyed X → Cred → ℕ → ℕ → Attempt (Entry X)
+accessible again o cred id access = reached again o id EACCES (λ perm. not (may cred perm access))
 
 -- for a caller that may change it by IPC_SET and remove it
 abbrev pub owned : {X : Type 0} → Keyed X → Cred → ℕ → Attempt (Entry X)
-owned o cred id = reached o id EPERM (λ perm. not (owns cred perm))
+owned o cred id = reached false o id EPERM (λ perm. not (owns cred perm))
 
 -- IPC_RMID of msgctl(2) and semctl(2)
 abbrev pub removed : {X : Type 0} → Keyed X → Cred → ℕ → Attempt (Keyed X)
@@ -90,20 +104,26 @@ msgget limits s cred key flags =
     if_some (keyed s.msg key)
     (λ id. do
       refuse EEXIST (is_exclusive flags)
-      e ← accessible s.msg cred id (asked_by flags)
+      e ← accessible false s.msg cred id (asked_by flags)
       answer s (Number id))
     (do
       refuse ENOENT (not (may_make key flags))
       refuse ENOSPC (is_full limits.msgmni s.msg)
       answer (with_new_queue limits s key (perm_of cred flags)) (Number s.msg.next))
 
--- msgsnd of msgop(2)
-abbrev pub msgsnd : Limits → State → Cred → ℕ → ℕ → ℤ → List ℕ → Attempt Done
-msgsnd limits s cred pid id mtype text = do
+-- the queue to which a message may be sent now
+abbrev pub sendable : Limits → State → Cred → Bool → ℕ → ℕ → ℤ → List ℕ → Attempt (Entry Queue)
+sendable limits s cred again id flags mtype text = do
   refuse EINVAL (not (int_lt (pos 0) mtype))
   refuse EINVAL (nat_lt limits.msgmax (length text))
-  e ← accessible s.msg cred id write
-  refuse EAGAIN (full e.object (length text))
+  e ← accessible again s.msg cred id write
+  stop (waits_or flags EAGAIN) (full e.object (length text))
+  Ok e
+
+-- msgsnd of msgop(2)
+abbrev pub msgsnd : Limits → State → Cred → ℕ → Bool → ℕ → ℕ → ℤ → List ℕ → Attempt Done
+msgsnd limits s cred pid again id flags mtype text = do
+  e ← sendable limits s cred again id flags mtype text
   answer (with_queue s id (holding e (sent e.object (record { mtype = mtype; text = text }) pid s.clock))) Empty
 
 -- the message at a place that a queue has
@@ -114,20 +134,26 @@ message_at q at = unwrap_or (slice_get q.messages at) (record { mtype = pos 0; t
 abbrev pub is_too_long : ℕ → ℕ → ℕ → Bool
 is_too_long flags size bytes = nat_lt size bytes && not (has flags noerror)
 
--- msgrcv of msgop(2); with MSG_NOERROR a text that is longer than asked for is cut, and the rest is lost
-abbrev pub msgrcv : State → Cred → ℕ → ℕ → ℕ → ℕ → ℤ → Attempt Done
-msgrcv s cred pid id flags size mtype = do
+-- the queue from which a message may be received now, and the place of that message
+abbrev pub receivable : State → Cred → Bool → ℕ → ℕ → ℕ → ℤ → Attempt (Entry Queue × ℕ)
+receivable s cred again id flags size mtype = do
   refuse EINVAL (nat_lt last_number size)
-  e ← accessible s.msg cred id read
-  at ← pick e.object.messages mtype (has flags except) orelse ENOMSG
+  e ← accessible again s.msg cred id read
+  at ← pick e.object.messages mtype (has flags except) orstop waits_or flags ENOMSG
   refuse E2BIG (is_too_long flags size (length (message_at e.object at).text))
-  answer (with_queue s id (holding e (taken e.object at pid s.clock)))
-      (Message (message_at e.object at).mtype (take size (message_at e.object at).text))
+  Ok (e, at)
+
+-- msgrcv of msgop(2); with MSG_NOERROR a text that is longer than asked for is cut, and the rest is lost
+abbrev pub msgrcv : State → Cred → ℕ → Bool → ℕ → ℕ → ℕ → ℤ → Attempt Done
+msgrcv s cred pid again id flags size mtype = do
+  found ← receivable s cred again id flags size mtype
+  answer (with_queue s id (holding found.0 (taken found.0.object found.1 pid s.clock)))
+      (Message (message_at found.0.object found.1).mtype (take size (message_at found.0.object found.1).text))
 
 -- IPC_STAT of msgctl(2)
 abbrev pub msgctl_stat : State → Cred → ℕ → Attempt Done
 msgctl_stat s cred id = do
-  e ← accessible s.msg cred id read
+  e ← accessible false s.msg cred id read
   answer s (Record (record_bytes (perm_fields e ++ queue_fields e.object)))
 
 -- IPC_SET of msgctl(2): nobody may raise how much a queue may hold above msgmnb
@@ -146,16 +172,27 @@ msgctl_rmid s cred id = do
 
 -- ---- every call
 
--- each call by a process
-abbrev pub call_of : Limits → State → ℕ → PlainCall → Attempt Done
-call_of limits s pid (requests.Msgget key flags) = msgget limits s (cred_of s pid) key flags
-call_of limits s pid (requests.Msgsnd id flags mtype text) = msgsnd limits s (cred_of s pid) pid id mtype text
-call_of limits s pid (requests.Msgrcv id flags size mtype) = msgrcv s (cred_of s pid) pid id flags size mtype
-call_of limits s pid (requests.MsgctlStat id) = msgctl_stat s (cred_of s pid) id
-call_of limits s pid (requests.MsgctlSet id uid gid mode qbytes) =
+-- each call by a process; again where it is one that waited
+abbrev pub call_of : Limits → State → ℕ → Bool → PlainCall → Attempt Done
+call_of limits s pid again (requests.Msgget key flags) = msgget limits s (cred_of s pid) key flags
+call_of limits s pid again (requests.Msgsnd id flags mtype text) =
+    msgsnd limits s (cred_of s pid) pid again id flags mtype text
+call_of limits s pid again (requests.Msgrcv id flags size mtype) =
+    msgrcv s (cred_of s pid) pid again id flags size mtype
+call_of limits s pid again (requests.MsgctlStat id) = msgctl_stat s (cred_of s pid) id
+call_of limits s pid again (requests.MsgctlSet id uid gid mode qbytes) =
     msgctl_set limits s (cred_of s pid) id uid gid mode qbytes
-call_of limits s pid (requests.MsgctlRmid id) = msgctl_rmid s (cred_of s pid) id
+call_of limits s pid again (requests.MsgctlRmid id) = msgctl_rmid s (cred_of s pid) id
 
--- its attempt
-abbrev pub attempt : Limits → State → ℕ → PlainCall → Finish
-attempt limits s pid call = ended s (call_of limits s pid call)
+-- the object that a call may change, so that those that wait on it may go on
+abbrev pub touched : PlainCall → Option Awaited
+touched (requests.Msgget key flags) = None
+touched (requests.Msgsnd id flags mtype text) = Some (awaited.Queue (record { 0 = id }))
+touched (requests.Msgrcv id flags size mtype) = Some (awaited.Queue (record { 0 = id }))
+touched (requests.MsgctlStat id) = None
+touched (requests.MsgctlSet id uid gid mode qbytes) = Some (awaited.Queue (record { 0 = id }))
+touched (requests.MsgctlRmid id) = Some (awaited.Queue (record { 0 = id }))
+
+-- what comes of it
+abbrev pub attempt : Limits → State → ℕ → Bool → PlainCall → Tried
+attempt limits s pid again call = ended s (call_of limits s pid again call)

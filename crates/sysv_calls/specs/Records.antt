@@ -1,5 +1,5 @@
 -- The numbers that IPC_STAT answers, in their order: what is alike for the objects of every kind, and what a queue has.
-use Rattle.std.specs.Prelude.{ℕ, List, [], ◌∷◌, length}
+use Rattle.std.specs.Prelude.{List, [], ◌∷◌, length}
 use Rattle.ipc_base.specs.declared.field.Field.{Field}
 use Rattle.ipc_base.specs.declared.field.Field.TheVariants.{I32, U32, U64}
 use Rattle.sysv_msg.specs.Queue.{Queue, byte_count}

@@ -1,15 +1,60 @@
 -- What the program's functions answer, as values of the definitions.
-use Rattle.std.specs.Prelude.{Result, Ok, Err}
+use Rattle.std.specs.Prelude.{◌≡◌, ℕ, Bool, Result, Ok, Err}
 use Rattle.std.specs.Borrow.{Bor}
 use Rattle.ipc_base.specs.declared.errno.Errno.{Errno}
-use Rattle.ipc_state.specs.Finish.{Attempt}
+use Rattle.ipc_base.specs.declared.identity.Cred.{Cred}
+use Rattle.ipc_base.specs.declared.limits.Limits.{Limits}
+use Rattle.ipc_wire.specs.Request.{PlainCall, PlainRequest}
+use Rattle.ipc_wire.specs.Request as requests
+use Rattle.ipc_state.specs.Finish.{Attempt, Halt, Fails, Blocks, Tried, Finishes, Waits, finish_of}
+use Rattle.ipc_state.specs.Held.{Held}
+use Rattle.ipc_state.specs.State.{State}
+use Rattle.sysv_calls.specs.Calls.{sendable, receivable}
+use Rattle.sysv_calls.specs.declared.msg.Halt.{Halt as Stops}
+use Rattle.sysv_calls.specs.declared.msg.Halt.TheVariants as stops
+use Rattle.sysv_calls.specs.declared.waiting.Tried.{Tried as Comes}
+use Rattle.sysv_calls.specs.declared.waiting.Tried.TheVariants as comes
 
 -- what a reference shows
 abbrev pub attempt_of : {X : Type 0} → Result (Bor X) Errno → Attempt X
 attempt_of (Ok x) = Ok x.now
-attempt_of (Err e) = Err e
+attempt_of (Err e) = Err (Fails e)
 
 -- what is left, where it is done
 abbrev pub unit_of : {X Y : Type 0} → X → Result Y Errno → Attempt X
 unit_of left (Ok done) = Ok left
-unit_of left (Err e) = Err e
+unit_of left (Err e) = Err (Fails e)
+
+-- why a call does not go on
+abbrev pub plain_halt : Stops → Halt
+plain_halt (stops.Fails e) = Fails e
+plain_halt stops.Blocks = Blocks
+
+-- a value, or why there is none
+abbrev pub attempted : {X : Type 0} → Result X Stops → Attempt X
+attempted (Ok x) = Ok x
+attempted (Err h) = Err (plain_halt h)
+
+-- a part of what a call has on its way
+abbrev pub seen : {X Y : Type 0} → (X → Y) → Attempt X → Attempt Y
+seen f (Ok x) = Ok (f x)
+seen f (Err h) = Err h
+
+-- the tests of a call that may wait: if it may go on now, the place of the message that a receive takes, and 0 for a
+-- send
+abbrev pub place_in : Limits → State → Cred → Bool → PlainCall → Attempt ℕ
+place_in limits s cred again (requests.Msgsnd id flags mtype text) =
+    seen (λ e. 0) (sendable limits s cred again id flags mtype text)
+place_in limits s cred again (requests.Msgrcv id flags size mtype) =
+    seen (λ found. found.1) (receivable s cred again id flags size mtype)
+place_in limits s cred again call = Ok 0
+
+-- what came of a call that may wait and left this state
+abbrev pub tried_of : State → Comes → Tried
+tried_of s (comes.Finishes answer) = Finishes (finish_of s answer)
+tried_of s (comes.Waits call) = Waits
+
+-- if it waits, it is the same call as before, and the state is as it was
+abbrev pub IsKeptIn : Held → PlainRequest → Held → Comes → Type 0
+IsKeptIn before request after (comes.Finishes answer) = Unit {0}
+IsKeptIn before request after (comes.Waits call) = (call ≡ request) × (after ≡ before)

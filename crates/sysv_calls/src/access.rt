@@ -11,22 +11,30 @@ use ipc_base::{Cred, Errno, GetFlags, Id};
 use ipc_perm::{Access, may, owns};
 use ipc_state::{Entry, IPC_PRIVATE, Keyed};
 
-/// What an identifier has, for a caller that may use it so.
+/// What an identifier has, for a caller that may use it so; `again` for a call that waited.
 pub(crate) fn accessible<T>(
     objects: &Keyed<T>,
     cred: Cred,
+    again: bool,
     id: Id,
     access: Access,
 ) -> Result<&Entry<T>, Errno>
-    ensures { attempt_of result ≡ defined.accessible objects.now.objects cred id.0 access.0 }
+    ensures { attempt_of result ≡ defined.accessible again objects.now.objects cred id.0 access.0 }
 {
     let Some(entry) = objects.get(id) else {
-        return Err(Errno::EINVAL);
+        return Err(gone(again));
     };
     if !may(&cred, &entry.perm, access) {
         return Err(Errno::EACCES);
     }
     Ok(entry)
+}
+
+/// Why an identifier has nothing: it is not valid, or its object was removed while the call waited.
+fn gone(again: bool) -> Errno
+    ensures { result ≡ defined.gone again }
+{
+    if again { Errno::EIDRM } else { Errno::EINVAL }
 }
 
 /// What an identifier has, for a caller that may change it by IPC_SET and remove it.

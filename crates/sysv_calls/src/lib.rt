@@ -1,9 +1,12 @@
-//! The attempts of the System V calls: each changes the state and answers, or refuses and changes nothing.
+//! The attempts of the System V calls: each changes the state and answers, or refuses and changes nothing, or has to
+//! wait.
 #![tactic(auto)]
 
 mod access;
 mod calls;
 mod memory;
 mod msg;
+mod waiting;
 
 pub use calls::{Answer, attempt, reserve};
+pub use waiting::{Tried, has_to_wait, touched, try_parked};

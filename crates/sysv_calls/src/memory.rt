@@ -1,32 +1,28 @@
-//! What a call may need of memory, taken before its attempt.
+//! What a request may need of memory, taken before its call is tried.
 
 ghost use Rattle.std.specs.Prelude.{◌≡◌};
-ghost use Rattle.ipc_wire.specs.Request.{plain_call};
+ghost use Rattle.ipc_wire.specs.Request.{plain_kind};
 ghost use Rattle.sysv_calls.specs.Needs.{needs as needs_of, plain_needs};
 
-use ipc_base::Id;
-use ipc_wire::Call;
+use ipc_wire::{Call, RequestKind};
 
-/// What a call may need.
+/// What a request may need.
 #[derive(Clone, Copy)]
 pub(crate) enum Needs {
     Nothing,
     /// Room for one queue more and its key.
     Place { key: i32 },
-    /// Room for a message of `len` bytes in a queue.
-    Text { id: Id, len: usize },
+    /// Room to wait.
+    Wait,
 }
 
-/// The table of needs, by call.
-pub(crate) fn needed_by(call: &Call<'_>) -> Needs
-    ensures { plain_needs result ≡ needs_of (plain_call call.now) }
+/// The table of needs, by request.
+pub(crate) fn needed_by(kind: &RequestKind<'_>) -> Needs
+    ensures { plain_needs result ≡ needs_of (plain_kind kind.now) }
 {
-    match call {
-        Call::Msgget { key, .. } => Needs::Place { key: *key },
-        Call::Msgsnd { id, text, .. } => Needs::Text {
-            id: *id,
-            len: text.len(),
-        },
+    match kind {
+        RequestKind::Call(Call::Msgget { key, .. }) => Needs::Place { key: *key },
+        RequestKind::Call(Call::Msgsnd { .. } | Call::Msgrcv { .. }) => Needs::Wait,
         _ => Needs::Nothing,
     }
 }

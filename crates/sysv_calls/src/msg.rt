@@ -1,16 +1,25 @@
 //! The calls on message queues: msgget(2), msgop(2), msgctl(2). None takes memory in its attempt.
 
-ghost use Rattle.std.specs.Prelude.{◌≡◌, ◌≢◌, ℤ, ◌+◌, ◌≤◌, ◌++◌, true, length, vec_len, vec_capacity};
+ghost use Rattle.std.specs.Prelude.{◌≡◌, ◌≢◌, ℤ, ◌+◌, ◌<◌, ◌≤◌, ◌++◌, Some};
+ghost use Rattle.std.specs.Prelude.{true, is_some, length, take, vec_len, vec_capacity, OnOk};
+ghost use Rattle.ipc_base.specs.Limits.{ArePassed};
 ghost use Rattle.ipc_base.specs.Numbers.{record_bytes};
 ghost use Rattle.ipc_keys.specs.Directory.{is_vacant};
 ghost use Rattle.ipc_state.specs.Directory.{HasNoSpareKey};
-ghost use Rattle.ipc_state.specs.Finish.{finish_of, ended};
-ghost use Rattle.ipc_state.specs.Held.{HasTextRoom};
+ghost use Rattle.ipc_state.specs.Finish.{Finishes, ended, finish_of};
+ghost use Rattle.ipc_state.specs.Held.{HasQueuePlace};
+ghost use Rattle.ipc_state.specs.Keyed.{holding};
 ghost use Rattle.ipc_state.specs.Sound.{HasSoundParts, HasNumbers};
+ghost use Rattle.ipc_state.specs.State.{queue_of, with_queue};
+ghost use Rattle.ipc_state.specs.declared.keyed.Entry.{Entry};
+ghost use Rattle.ipc_wire.specs.Reply.{body_of};
+ghost use Rattle.ipc_wire.specs.declared.reply.Body.TheVariants as body;
 ghost use Rattle.sysv_calls.specs.Calls as defined;
-ghost use Rattle.sysv_calls.specs.Needs.{HasPlace, HasSpareKeyOf, Place};
+ghost use Rattle.sysv_calls.specs.Needs.{HasSpareKeyOf, Place};
 ghost use Rattle.sysv_calls.specs.Records.{perm_fields, queue_fields};
+ghost use Rattle.sysv_calls.specs.Seen.{attempted, plain_halt, seen};
 ghost use Rattle.sysv_calls.specs.Spare.{IsSpare, IsKept};
+ghost use Rattle.sysv_msg.specs.Queue.{Queue, most_messages, plain, sent, taken};
 
 use crate::access::{accessible, is_exclusive, may_make, owned, remove};
 use crate::calls::Answer;
@@ -20,13 +29,21 @@ use ipc_perm::{Access, Perm};
 use ipc_state::{Entry, LAST_NUMBER, State};
 use ipc_wire::{Body, push_fields};
 use std::mem;
-use sysv_msg::MsgQueue;
+use sysv_msg::{Message, MsgQueue};
+
+/// Why a call does not go on.
+#[derive(Clone, Copy)]
+pub(crate) enum Halt {
+    Fails(Errno),
+    /// It has to wait.
+    Blocks,
+}
 
 /// msgget(2). What room of the key is not used is given back.
 pub(crate) fn msgget(state: &mut State, cred: Cred, key: i32, flags: GetFlags) -> Answer
     requires sound { HasSoundParts state.old.limits state.old.state }
-    requires room { HasPlace state.old.state state.old.room key }
-    ensures finish { finish_of state.new.state result ≡ ended state.old.state
+    requires room { HasQueuePlace state.old.state state.old.room key }
+    ensures finish { Finishes (finish_of state.new.state result) ≡ ended state.old.state
         (defined.msgget state.old.limits state.old.state cred key flags.0) }
     ensures limits { state.new.limits ≡ state.old.limits }
     ensures no_key { HasSpareKeyOf state.old.room.keys (Place key) → HasNoSpareKey state.new.room.keys }
@@ -39,8 +56,8 @@ pub(crate) fn msgget(state: &mut State, cred: Cred, key: i32, flags: GetFlags) -
 /// The queue that a key names, or a new one.
 fn get_queue(state: &mut State, cred: Cred, key: i32, flags: GetFlags) -> Answer
     requires sound { HasSoundParts state.old.limits state.old.state }
-    requires room { HasPlace state.old.state state.old.room key }
-    ensures finish { finish_of state.new.state result ≡ ended state.old.state
+    requires room { HasQueuePlace state.old.state state.old.room key }
+    ensures finish { Finishes (finish_of state.new.state result) ≡ ended state.old.state
         (defined.msgget state.old.limits state.old.state cred key flags.0) }
     ensures limits { state.new.limits ≡ state.old.limits }
     ensures others { (other : ℤ) → other ≢ key
@@ -50,7 +67,7 @@ fn get_queue(state: &mut State, cred: Cred, key: i32, flags: GetFlags) -> Answer
         if is_exclusive(flags) {
             return Err(Errno::EEXIST);
         }
-        accessible(state.msg(), cred, id, Access::asked_by(flags.0))?;
+        accessible(state.msg(), cred, false, id, Access::asked_by(flags.0))?;
         return Ok(Body::Number(id.0));
     }
     if !may_make(key, flags) {
@@ -62,68 +79,104 @@ fn get_queue(state: &mut State, cred: Cred, key: i32, flags: GetFlags) -> Answer
     Ok(Body::Number(state.add_queue(key, Perm::new(cred, flags.0)).0))
 }
 
-/// msgsnd of msgop(2).
-pub(crate) fn msgsnd(
-    state: &mut State,
+/// What becomes of a call that cannot go on: it fails, if its flags have IPC_NOWAIT.
+fn waits_or(flags: MsgFlags, e: Errno) -> Halt
+    ensures { plain_halt result ≡ defined.waits_or flags.0 e }
+{
+    if flags.contains(MsgFlags::IPC_NOWAIT) {
+        Halt::Fails(e)
+    } else {
+        Halt::Blocks
+    }
+}
+
+/// Whether a message may be sent now: the tests of msgsnd, as msgop(2) has it.
+pub(crate) fn ready_to_send(
+    state: &State,
     cred: Cred,
-    pid: Pid,
+    again: bool,
     id: Id,
-    mtype: i64,
-    text: &[u8],
-) -> Answer
-    requires { HasTextRoom state.old.room.texts id.0 (length text.now) }
-    ensures finish { finish_of state.new.state result
-        ≡ ended state.old.state (defined.msgsnd state.old.limits state.old.state cred pid.0 id.0 mtype text.now) }
+    flags: MsgFlags,
+    message: &Message,
+) -> Result<(), Halt>
+    ensures tests { attempted result ≡ seen (λ e. tt) (defined.sendable state.now.limits state.now.state cred again id.0
+        flags.0 message.now.mtype message.now.text.items) }
+    ensures passed { OnOk result (ArePassed state.now.limits) }
+{
+    if message.mtype <= 0 || message.text.len() > state.limits().msgmax as usize {
+        return Err(Halt::Fails(Errno::EINVAL));
+    }
+    let entry = accessible(state.msg(), cred, again, id, Access::WRITE).map_err(Halt::Fails)?;
+    if !entry.object.fits(message.text.len()) {
+        return Err(waits_or(flags, Errno::EAGAIN));
+    }
+    Ok(())
+}
+
+/// Sends a message to a queue that is there.
+pub(crate) fn send(state: &mut State, pid: Pid, id: Id, message: Message)
+    requires there { is_some (queue_of state.old.state id.0) ≡ true }
+    requires room { (e : Entry Queue) → queue_of state.old.state id.0 ≡ Some e
+        → length e.object.messages < most_messages }
+    ensures state { (e : Entry Queue) → queue_of state.old.state id.0 ≡ Some e → state.new.state
+        ≡ with_queue state.old.state id.0 (holding e (sent e.object (plain message) pid.0 state.old.state.clock)) }
     ensures limits { state.new.limits ≡ state.old.limits }
     ensures keys { state.new.room.keys ≡ state.old.room.keys }
 {
-    if mtype <= 0 || text.len() > state.limits().msgmax as usize {
-        return Err(Errno::EINVAL);
-    }
     let now = state.clock();
-    accessible(state.msg(), cred, id, Access::WRITE)?;
-    let queue = state.msg_mut().get_mut(id).unwrap();
-    if !queue.fits(text.len()) {
-        return Err(Errno::EAGAIN);
-    }
-    queue.send(mtype, text, pid, now);
-    Ok(Body::Empty)
+    state.msg_mut().get_mut(id).unwrap().send(message, pid, now);
 }
 
-/// msgrcv of msgop(2).
-pub(crate) fn msgrcv(
-    state: &mut State,
+/// The place of the message that may be received now: the tests of msgrcv, as msgop(2) has it.
+pub(crate) fn ready_to_receive(
+    state: &State,
     cred: Cred,
-    pid: Pid,
+    again: bool,
     id: Id,
     flags: MsgFlags,
     size: u32,
     mtype: i64,
-) -> Answer
-    ensures finish { finish_of state.new.state result
-        ≡ ended state.old.state (defined.msgrcv state.old.state cred pid.0 id.0 flags.0 size mtype) }
+) -> Result<usize, Halt>
+    ensures tests { attempted result ≡ seen (λ found. found.1)
+        (defined.receivable state.now.state cred again id.0 flags.0 size mtype) }
+    ensures passed { OnOk result (ArePassed state.now.limits) }
+{
+    if size > LAST_NUMBER {
+        return Err(Halt::Fails(Errno::EINVAL));
+    }
+    let entry = accessible(state.msg(), cred, again, id, Access::READ).map_err(Halt::Fails)?;
+    let Some(at) = entry
+        .object
+        .select(mtype, flags.contains(MsgFlags::MSG_EXCEPT))
+    else {
+        return Err(waits_or(flags, Errno::ENOMSG));
+    };
+    if is_too_long(flags, size, entry.object.message(at).text.len()) {
+        return Err(Halt::Fails(Errno::E2BIG));
+    }
+    Ok(at)
+}
+
+/// Receives the message at a place of a queue that is there. Its text is cut to `size`.
+pub(crate) fn receive(state: &mut State, pid: Pid, id: Id, at: usize, size: u32) -> Body<Vec<u8>>
+    requires there { is_some (queue_of state.old.state id.0) ≡ true }
+    requires inside { (e : Entry Queue) → queue_of state.old.state id.0 ≡ Some e
+        → at < length e.object.messages }
+    ensures state { (e : Entry Queue) → queue_of state.old.state id.0 ≡ Some e → state.new.state
+        ≡ with_queue state.old.state id.0 (holding e (taken e.object at pid.0 state.old.state.clock)) }
+    ensures body { (e : Entry Queue) → queue_of state.old.state id.0 ≡ Some e → body_of (λ text. text.items) result
+        ≡ body.Message (defined.message_at e.object at).mtype (take size (defined.message_at e.object at).text) }
     ensures limits { state.new.limits ≡ state.old.limits }
     ensures keys { state.new.room.keys ≡ state.old.room.keys }
 {
-    if size > LAST_NUMBER {
-        return Err(Errno::EINVAL);
-    }
     let now = state.clock();
-    accessible(state.msg(), cred, id, Access::READ)?;
-    let queue = state.msg_mut().get_mut(id).unwrap();
-    let Some(at) = queue.select(mtype, flags.contains(MsgFlags::MSG_EXCEPT)) else {
-        return Err(Errno::ENOMSG);
-    };
-    if is_too_long(flags, size, queue.message(at).text.len()) {
-        return Err(Errno::E2BIG);
-    }
-    let message = queue.take(at, pid, now);
+    let message = state.msg_mut().get_mut(id).unwrap().take(at, pid, now);
     let mut text = message.text;
     text.truncate(size as usize);
-    Ok(Body::Message {
+    Body::Message {
         mtype: message.mtype,
         text,
-    })
+    }
 }
 
 /// Whether a text of so many bytes is longer than a receive asked for, and may not be cut.
@@ -137,11 +190,11 @@ fn is_too_long(flags: MsgFlags, size: u32, bytes: usize) -> bool
 pub(crate) fn msgctl_stat(state: &State, cred: Cred, id: Id, spare: &mut Vec<u8>) -> Answer
     requires sound { HasSoundParts state.now.limits state.now.state }
     requires spare { IsSpare state.now.limits spare.old }
-    ensures finish { finish_of state.now.state result
+    ensures finish { Finishes (finish_of state.now.state result)
         ≡ ended state.now.state (defined.msgctl_stat state.now.state cred id.0) }
     ensures spare { IsKept state.now.limits spare.new result }
 {
-    let entry = accessible(state.msg(), cred, id, Access::READ)?;
+    let entry = accessible(state.msg(), cred, false, id, Access::READ)?;
     let alloc = *spare.allocator();
     let mut body = mem::replace(spare, Vec::new(alloc));
     push_perm(&mut body, entry);
@@ -159,7 +212,7 @@ pub(crate) fn msgctl_set(
     mode: u32,
     qbytes: u32,
 ) -> Answer
-    ensures finish { finish_of state.new.state result ≡ ended state.old.state
+    ensures finish { Finishes (finish_of state.new.state result) ≡ ended state.old.state
         (defined.msgctl_set state.old.limits state.old.state cred id.0 uid gid mode qbytes) }
     ensures limits { state.new.limits ≡ state.old.limits }
     ensures keys { state.new.room.keys ≡ state.old.room.keys }
@@ -178,7 +231,7 @@ pub(crate) fn msgctl_set(
 /// IPC_RMID of msgctl(2).
 pub(crate) fn msgctl_rmid(state: &mut State, cred: Cred, id: Id) -> Answer
     requires { HasSoundParts state.old.limits state.old.state }
-    ensures finish { finish_of state.new.state result
+    ensures finish { Finishes (finish_of state.new.state result)
         ≡ ended state.old.state (defined.msgctl_rmid state.old.state cred id.0) }
     ensures limits { state.new.limits ≡ state.old.limits }
     ensures keys { HasNoSpareKey state.old.room.keys → HasNoSpareKey state.new.room.keys }
@@ -210,8 +263,8 @@ fn push_perm<T>(body: &mut Vec<u8>, entry: &Entry<T>)
 /// Adds the numbers of a queue to a body that has room for them.
 fn push_queue(body: &mut Vec<u8>, queue: &MsgQueue)
     requires room { vec_len body.old + 44 ≤ vec_capacity body.old }
-    requires numbers { HasNumbers queue.now.queue }
-    ensures bytes { body.new.items ≡ body.old.items ++ record_bytes (queue_fields queue.now.queue) }
+    requires numbers { HasNumbers queue.now }
+    ensures bytes { body.new.items ≡ body.old.items ++ record_bytes (queue_fields queue.now) }
     ensures room { vec_capacity body.old ≤ vec_capacity body.new }
 {
     let stat = queue.stat();

@@ -1,7 +1,7 @@
 -- Message queues, after msgop(2). A queue is a list of messages, the oldest first. A send appends, a
 -- receive removes the message that its type picks; a queue is full for a text with which it would hold
 -- more bytes, or more messages, than its qbytes.
-use Rattle.std.specs.Prelude.{◌≡◌, ℕ, suc, ◌+◌, nat_lt, ℤ, pos, negsuc, zero, int_le, Option, Some}
+use Rattle.std.specs.Prelude.{ℕ, suc, ◌+◌, nat_lt, ℤ, pos, negsuc, zero, int_le, Option}
 use Rattle.std.specs.Prelude.{Bool, true, not, ◌&&◌, ◌||◌, if◌then◌else◌}
 use Rattle.std.specs.Prelude.{List, [], ◌∷◌, ◌++◌, length, remove, position, sum_by}
 use Rattle.std.specs.List.{list_all}
@@ -55,6 +55,10 @@ byte_count messages = sum_by (λ m. length m.text) messages
 abbrev pub full : Queue → ℕ → Bool
 full q bytes = nat_lt q.qbytes (byte_count q.messages + bytes) || nat_lt q.qbytes (length q.messages + 1)
 
+-- a queue never holds more messages than this; the memory of their places is taken when the queue is made
+abbrev pub most_messages : ℕ
+most_messages = 16384
+
 abbrev pub new_queue : ℕ → ℕ → Queue
 new_queue qbytes ctime =
     record { messages = []; qbytes = qbytes; stime = 0; rtime = 0; ctime = ctime; lspid = 0; lrpid = 0 }
@@ -101,13 +105,3 @@ stat_of q =
       lspid = record { 0 = q.lspid };
       lrpid = record { 0 = q.lrpid };
     }
-
--- A queue, and the room reserved in it: with Some n a further message of n bytes takes no memory. There
--- is memory for these bytes and no more.
-pub record Kept : Type 0 where
-  pub queue : Queue
-  pub room : Option ℕ
-
--- a text of so many bytes has its room
-abbrev pub HasRoom : Kept → ℕ → Type 0
-HasRoom k bytes = k.room ≡ Some bytes

@@ -1,13 +1,16 @@
 //! States rebuilt from what was read: sound ones go on, and of each part there is one with which none is sound.
 
 use super::{Answer, Ask, Line, small, talk};
-use ipc_base::{Cred, Id, Moment, Pid};
+use ipc_base::{Cred, Errno, Id, Moment, MsgFlags, Pid};
 use ipc_engine::{Engine, Row, StateFault};
 use ipc_perm::Perm;
-use ipc_state::{Entry, Numbers, Process, State};
+use ipc_state::{Awaited, Entry, Numbers, Parked, Process, State};
+use ipc_wait::Waiting;
+use ipc_wire::{Call, Request, RequestKind};
 use std::alloc::{AllocError, Global};
+use std::process::Abort;
 use std::test::Fail;
-use sysv_msg::{MsgQueue, QueueNumbers, QueueStat};
+use sysv_msg::{Message, MsgQueue, QueueNumbers, QueueStat};
 use sysv_sem::{MOST_VALUE, SemSet, SemStat, Semaphore};
 
 const CRED: Cred = Cred {
@@ -49,9 +52,10 @@ enum Part {
 }
 
 fn queue_with(alloc: Global, numbers: QueueNumbers, sent: &[Sent]) -> Result<MsgQueue, AllocError> {
-    let mut queue = MsgQueue::restored(alloc, numbers);
+    let mut queue = MsgQueue::restored(alloc, numbers)?;
     for (mtype, text) in sent {
-        queue.restore(*mtype, text)?;
+        let message = Message::new(alloc, *mtype, text)?;
+        queue.restore(message)?;
     }
     Ok(queue)
 }
@@ -349,6 +353,109 @@ fn takes_states_at_the_edge(rt: HostRuntime) {
     for (line, parts) in AT_THE_EDGE.iter().enumerate() {
         assert!(rt; engine_of(rt.alloc(), parts).is_ok(), "at line {line}");
     }
+}
+
+/// A receive that waits: of which process, under which serial, on which queue, and its fields.
+#[derive(Clone, Copy)]
+struct Wait {
+    pid: u32,
+    serial: u32,
+    on: u32,
+    id: u32,
+    flags: u32,
+    mtype: i64,
+}
+
+fn receive(wait: Wait) -> Request<'static> {
+    Request {
+        serial: wait.serial,
+        kind: RequestKind::Call(Call::Msgrcv {
+            id: Id(wait.id),
+            flags: MsgFlags(wait.flags),
+            size: 64,
+            mtype: wait.mtype,
+        }),
+    }
+}
+
+/// The small state, in which a receive waits.
+fn waiting_state(rt: &impl Abort, alloc: Global, wait: Wait) -> Result<State, AllocError> {
+    let mut state = state_of(alloc, &SMALL)?;
+    let call = Parked::new(alloc, &receive(wait))?.expect(rt, "a receive may wait");
+    state.reserve_wait()?;
+    assert!(rt; !state.is_waiting(Pid(wait.pid)));
+    state.enter_wait(Waiting {
+        pid: Pid(wait.pid),
+        on: Awaited::Queue(Id(wait.on)),
+        deadline: None,
+        call,
+    });
+    Ok(state)
+}
+
+fn begin_waiting(rt: &impl Abort, alloc: Global, wait: Wait) -> Result<Engine, StateFault> {
+    let state = waiting_state(rt, alloc, wait)?;
+    Engine::from_state(alloc, state)
+}
+
+/// The machine with the small state, in which a receive waits. What was refused for memory is tried once more.
+fn engine_waiting(rt: &impl Abort, alloc: Global, wait: Wait) -> Result<Engine, StateFault> {
+    match begin_waiting(rt, alloc, wait) {
+        Err(StateFault::NoMemory) => begin_waiting(rt, alloc, wait),
+        made => made,
+    }
+}
+
+/// The queue has a message of type 5 and none of type 4.
+const HAS_TO_WAIT: Wait = Wait {
+    pid: 3,
+    serial: 7,
+    on: 1,
+    id: 1,
+    flags: 0,
+    mtype: 4,
+};
+
+/// It could go on, is not of a connected process, has no frame, or waits on another object.
+const NEED_NOT_WAIT: [Wait; 6] = [
+    Wait {
+        mtype: 5,
+        ..HAS_TO_WAIT
+    },
+    Wait {
+        flags: 0x800,
+        ..HAS_TO_WAIT
+    },
+    Wait {
+        on: 2,
+        id: 2,
+        ..HAS_TO_WAIT
+    },
+    Wait {
+        pid: 2,
+        ..HAS_TO_WAIT
+    },
+    Wait {
+        serial: 0,
+        ..HAS_TO_WAIT
+    },
+    Wait {
+        on: 2,
+        ..HAS_TO_WAIT
+    },
+];
+
+#[test]
+fn a_call_that_waits_has_to(rt: HostRuntime) -> Result<(), Fail> {
+    for (line, wait) in NEED_NOT_WAIT.iter().enumerate() {
+        let made = engine_waiting(&rt, rt.alloc(), *wait);
+        assert!(rt; matches!(made, Err(StateFault::Unsound)), "at line {line}");
+    }
+    let made = engine_waiting(&rt, rt.alloc(), HAS_TO_WAIT);
+    let mut engine = made.ok().ok_or("no engine")?;
+    let lines: [Line; 1] = [(Ask::Receive(1, 8, 4), Answer::Refused(Errno::EALREADY))];
+    talk(&rt, &mut engine, Pid(3), &lines)?;
+    Ok(())
 }
 
 fn list(engine: &Engine, alloc: Global) -> Result<Vec<Row>, AllocError> {

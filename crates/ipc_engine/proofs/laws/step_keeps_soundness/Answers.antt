@@ -6,4 +6,4 @@ pub returns-clause-start : goal.returns-clause-start
 returns-clause-start c limits = start-sound limits
 
 pub returns-clause-step : goal.returns-clause-step
-returns-clause-step c limits s e h = step-sound limits s e h
+returns-clause-step c limits s e h is has = step-sound limits s e h is has

@@ -9,14 +9,14 @@ use Rattle.ipc_image.proofs.entry.put_entry.Goals as goal
 pub put_parts-requires-clause-short : goal.put_parts-requires-clause-short
 put_parts-requires-clause-short g c =
     let t = g.T.Kind in
-    let x = t.plain c.args.entry.now.object in
+    let x = c.args.entry.now.object in
     omega (arith, length-append (fields_bytes t.sizes (t.numbers x)) (counted_bytes t.part_bytes (t.parts x)), c.requires.short)
 
 pub returns-clause-passed : goal.returns-clause-passed
 returns-clause-passed g c =
     let t = g.T.Kind in
     let e = c.args.entry.now in
-    let x = t.plain e.object in
+    let x = e.object in
     c.put_parts.ensures.passed ∙ ap (passed (counted_bytes t.part_bytes (t.parts x))) (c.put_numbers.ensures
     ∙ ap (passed (fields_bytes t.sizes (t.numbers x))) c.put_head.ensures)
     ∙ passed-three c.args.window.now (fields_bytes head_sizes (head_numbers e.key e.perm)) (fields_bytes t.sizes (t.numbers x))

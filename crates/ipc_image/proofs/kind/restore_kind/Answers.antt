@@ -4,7 +4,6 @@ use Rattle.std.proofs.lemmas.List.{drop_all}
 use Rattle.std.proofs.lemmas.List.Elements.{All-nil, All-push}
 use Rattle.ipc_base.specs.Objects.{PlainObjects}
 use Rattle.ipc_state.specs.declared.keyed.Entry.{Entry}
-use Rattle.ipc_state.specs.Keyed.{entry_map}
 use Rattle.ipc_image.specs.Kind.{object_in, FitsIn}
 use Rattle.ipc_image.specs.Saved.{entry_bytes, FitsEntry}
 use Rattle.ipc_image.specs.SavedParts.{with_more}
@@ -13,10 +12,10 @@ use Rattle.ipc_image.proofs.ReadKinds.{both_parts, object_at, other-at, one-more
 use Rattle.ipc_image.proofs.kind.restore_kind.Given as given
 use Rattle.ipc_image.proofs.kind.restore_kind.Goals as goal
 
-abbrev bytes_of : (g : given.Over) → Entry g.T.Kind.Plain → List ℕ
+abbrev bytes_of : (g : given.Over) → Entry g.row.T.Denot → List ℕ
 bytes_of g = let t = g.T.Kind in entry_bytes t.sizes t.numbers t.part_bytes t.parts
 
-abbrev Fits : (g : given.Over) → Entry g.T.Kind.Plain → Type 0
+abbrev Fits : (g : given.Over) → Entry g.row.T.Denot → Type 0
 Fits g = let t = g.T.Kind in FitsEntry t.sizes t.numbers t.FitsPart t.parts
 
 pub returns-in_default-clause-whole : goal.returns-in_default-clause-whole
@@ -58,7 +57,7 @@ loop-i-preserved g c =
     let so_far = c.loop-i.invariant in
     let here = object_at objects c.loop-i.i (c.number.result, c.object.result.now)
     (both_parts (slice_get objects c.loop-i.i) c.number.result c.object.result.now c.number.ensures c.object.ensures) in
-    let x : ℕ × Entry t.Plain = (c.in-Some.id.0, entry_map t.plain c.in_ok-entry.entry) in
+    let x : ℕ × Entry g.row.T.Denot = (c.in-Some.id.0, c.in_ok-entry.entry) in
     let read = c.in_ok-entry.ensures.ok in
     let added = c.in_ok-add.ensures in
     record {

@@ -9,7 +9,7 @@ use Rattle.ipc_image.proofs.kind.restore_kind.Given as goal
 -- what the objects before this one are was added
 abbrev pub invariant-loop-i : goal.invariant-loop-i
 invariant-loop-i g l = let t = g.T.Kind in record {
-  items : List (ℕ × Entry t.Plain);
+  items : List (ℕ × Entry g.row.T.Denot);
   fit : All (FitsIn (FitsEntry t.sizes t.numbers t.FitsPart t.parts)) items;
   read : drop l.from l.objects ≡ map (object_in t.FIRST (entry_bytes t.sizes t.numbers t.part_bytes t.parts)) items ++ drop l.i l.objects;
   added : (l.state.state, l.state.limits) ≡ with_more t.items t.put (l.initial.state.state, l.initial.state.limits) items;

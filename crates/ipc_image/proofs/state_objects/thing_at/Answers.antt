@@ -2,7 +2,7 @@ use Rattle.std.proofs.Common.{◌-◌, ℕ, map, ap, subst, arith, length, get_o
 use Rattle.std.proofs.lemmas.List.{length-map}
 use Rattle.ipc_base.specs.declared.objects.Mark.{Mark}
 use Rattle.ipc_state.specs.State.{State}
-use Rattle.ipc_state.specs.Tables.{item_row, queue_row}
+use Rattle.ipc_state.specs.Tables.{item_row}
 use Rattle.ipc_image.specs.Kind.{FitsIn}
 use Rattle.ipc_image.specs.Saved.{queue_object, set_object, saved, FitsQueue, FitsSet}
 use Rattle.ipc_image.specs.SavedParts.{IsMarkOfQueue, IsMarkOfSet, MarkAt, IsFound, seen_state}
@@ -20,10 +20,10 @@ returns-then-at-objects c =
     let s : State = seen_state o.numbers o.processes.now o.waits.now o.queues.now o.sets.now in
     let at : ℕ = c.args.i - 4 in
     let q = get_or o.queues.now at c.index-objects-at.result in
-    let is = table-at queue_row o.queues.now at c.index-objects-at.result c.if-at-objects.true in
-    subst (λ (t : State). IsFound t c.args.i (queue_object (queue_row q)) (IsMarkOfQueue (queue_row q)) (FitsIn FitsQueue (queue_row q)))
-    c.objects.view_is (found-thing s c.objects.invariant.1 c.args.i c.requires.thing _ _ _ (each-at (FitsIn FitsQueue) s.msg.entries at (queue_row q) c.objects.invariant.0.queues is)
-    (here queue_object IsMarkOfQueue (MarkAt IsMarkOfSet last s.sem.entries) s.msg.entries (map set_object s.sem.entries) at (queue_row q) is))
+    let is = table-at item_row o.queues.now at c.index-objects-at.result c.if-at-objects.true in
+    subst (λ (t : State). IsFound t c.args.i (queue_object (item_row q)) (IsMarkOfQueue (item_row q)) (FitsIn FitsQueue (item_row q)))
+    c.objects.view_is (found-thing s c.objects.invariant.1 c.args.i c.requires.thing _ _ _ (each-at (FitsIn FitsQueue) s.msg.entries at (item_row q) c.objects.invariant.0.queues is)
+    (here queue_object IsMarkOfQueue (MarkAt IsMarkOfSet last s.sem.entries) s.msg.entries (map set_object s.sem.entries) at (item_row q) is))
 
 pub bounds-objects-inside-at-2 : goal.bounds-objects-inside-at-2
 bounds-objects-inside-at-2 c =
@@ -43,7 +43,7 @@ returns c =
     let s : State = seen_state o.numbers o.processes.now o.waits.now o.queues.now o.sets.now in
     let at : ℕ = c.args.i - 4 - length o.queues.now in
     let e = get_or o.sets.now at c.index-objects-at-2.result in
-    let long = length-map o.queues.now queue_row in
+    let long = length-map o.queues.now item_row in
     let is = table-at item_row o.sets.now at c.index-objects-at-2.result (omega (
       arith,
       ap (λ (t : State). length (saved t)) c.objects.view_is,

@@ -2,7 +2,7 @@ use Rattle.std.proofs.Common.{sym, subst, arith}
 use Rattle.std.specs.Prelude.{All}
 use Rattle.std.proofs.lemmas.List.Elements.{All-map}
 use Rattle.ipc_base.proofs.CallerLemmas.{passed-bounds}
-use Rattle.ipc_state.specs.Tables.{item_row, queue_row}
+use Rattle.ipc_state.specs.Tables.{item_row}
 use Rattle.ipc_state.specs.Waiting.{IsSoundWaiting}
 use Rattle.ipc_image.specs.Kind.{FitsIn}
 use Rattle.ipc_image.specs.Saved.{FitsProcess, FitsWaiting, FitsQueue, FitsSet}
@@ -30,6 +30,6 @@ returns c =
       wait_count = omega (arith, b.processes.1, c.requires.sound.parts.wait.few);
       waits = subst (All FitsWaiting) c.waits.ensures c.read_each-2.ensures;
       pids = c.requires.sound.parts.wait.pids;
-      queues = subst (All (FitsIn FitsQueue)) c.queues.ensures (All-map (FitsIn FitsQueue) queue_row c.queues.result.now c.read_each-3.ensures);
+      queues = subst (All (FitsIn FitsQueue)) c.queues.ensures (All-map (FitsIn FitsQueue) item_row c.queues.result.now c.read_each-3.ensures);
       sets = subst (All (FitsIn FitsSet)) c.sets.ensures (All-map (FitsIn FitsSet) item_row c.sets.result.now c.read_each-4.ensures);
     }

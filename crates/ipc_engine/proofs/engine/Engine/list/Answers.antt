@@ -1,7 +1,7 @@
 use Rattle.std.proofs.Common.{◌≡◌, List, map, ◌++◌, sym, subst, ap, ◌∙◌}
 use Rattle.std.specs.Prelude.{IfOk}
 use Rattle.std.proofs.lemmas.Simd.{map-map}
-use Rattle.ipc_state.specs.Tables.{item_row, queue_row}
+use Rattle.ipc_state.specs.Tables.{item_row}
 use Rattle.ipc_engine.specs.declared.listing.Row.{Row}
 use Rattle.ipc_engine.specs.Engine.{Machine}
 use Rattle.ipc_engine.specs.Listing.{msg_row, sem_row, rows_of}
@@ -9,7 +9,7 @@ use Rattle.ipc_engine.proofs.engine.Engine.list.Goals as goal
 
 pub returns : goal.returns
 returns c =
-    let queues = sym (map-map msg_row queue_row c.queues.result.now) ∙ ap (map msg_row) c.queues.ensures in
+    let queues = sym (map-map msg_row item_row c.queues.result.now) ∙ ap (map msg_row) c.queues.ensures in
     let sets = sym (map-map sem_row item_row c.sets.result.now) ∙ ap (map sem_row) c.sets.ensures in
     let same = (λ i. queues i ++ sets i) ∙ ap (λ (m : Machine). rows_of m.state) c.self.view_is in
     subst (λ (rows : List Row). IfOk c.list_objects.result (λ v. v.items ≡ rows)) same c.list_objects.ensures

@@ -6,5 +6,5 @@ use Rattle.ipc_state.proofs.queues.MsgQueueSoundAlone.is_sound.Goals as goal
 
 pub returns : goal.returns
 returns c =
-    subst (λ b. Decides b (IsSoundQueue c.args.limits.now c.args.self.now.queue)) (sym c.is_sound_queue.ensures)
-    (queue-decides c.args.limits.now c.args.self.now.queue)
+    subst (λ b. Decides b (IsSoundQueue c.args.limits.now c.args.self.now)) (sym c.is_sound_queue.ensures)
+    (queue-decides c.args.limits.now c.args.self.now)

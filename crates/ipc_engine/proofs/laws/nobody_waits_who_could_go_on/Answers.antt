@@ -1,0 +1,5 @@
+use Rattle.ipc_engine.proofs.Soundness.{step-sound}
+use Rattle.ipc_engine.proofs.laws.nobody_waits_who_could_go_on.Goals as goal
+
+pub returns : goal.returns
+returns c limits s e h is has = λ k d i. ((step-sound limits s e h is has).waits k d i).waits

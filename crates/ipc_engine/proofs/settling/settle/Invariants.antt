@@ -1,0 +1,24 @@
+use Rattle.std.proofs.Common.{◌≡◌, ◌+◌, ◌-◌, ◌≤◌, ◌++◌, Some, length, map, vec_capacity}
+use Rattle.ipc_state.specs.Sound.{HasSoundParts}
+use Rattle.ipc_engine.specs.Buffer.{room_in}
+use Rattle.ipc_engine.specs.Settling.{AreLinked, OthersWait}
+use Rattle.ipc_engine.specs.Step.{settle as settled, settle_within}
+use Rattle.ipc_engine.specs.View.{plain_outcome}
+use Rattle.ipc_engine.proofs.settling.settle.Given as goal
+
+-- what is left to be done comes to what was asked for
+abbrev pub invariant-loop-gone : goal.invariant-loop-gone
+invariant-loop-gone l =
+    let left = length l.fn.state.state.wait - l.gone in
+    record {
+      parts : HasSoundParts l.state.limits l.state.state;
+      linked : AreLinked l.state.state;
+      others : OthersWait l.state.limits l.state.state (Some l.on);
+      room : length l.outcomes.items + length l.state.state.wait ≤ vec_capacity l.outcomes;
+      limits : l.state.limits ≡ l.fn.state.limits;
+      capacity : vec_capacity l.fn.outcomes ≤ vec_capacity l.outcomes;
+      buffer : room_in l.fn.outcomes.items ≤ room_in l.outcomes.items;
+      state : (settle_within l.state.limits left l.state.state).state ≡ (settled l.fn.state.limits l.fn.state.state).state;
+      outcomes : map plain_outcome l.outcomes.items ++ (settle_within l.state.limits left l.state.state).outcomes
+          ≡ map plain_outcome l.fn.outcomes.items ++ (settled l.fn.state.limits l.fn.state.state).outcomes;
+    }

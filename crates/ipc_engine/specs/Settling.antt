@@ -1,0 +1,21 @@
+-- What is known when calls that waited go on: only those can that wait on the object which has changed.
+use Rattle.std.specs.Prelude.{◌≡◌, ◌≢◌, Bool, true, false, All, List, Option, Some, None, find}
+use Rattle.ipc_base.specs.declared.identity.Pid.{Pid}
+use Rattle.ipc_base.specs.declared.limits.Limits.{Limits}
+use Rattle.ipc_state.specs.declared.parked.Awaited.{Awaited}
+use Rattle.ipc_state.specs.State.{State, is_process}
+use Rattle.ipc_state.specs.Waiting.{PlainWaiting}
+use Rattle.ipc_engine.specs.Step.{can_go_on}
+
+-- each call that waits is one of a connected process
+abbrev pub AreLinked : State → Type 0
+AreLinked s = All (λ (w : PlainWaiting). is_process s w.pid.0 ≡ true) s.wait
+
+-- those that wait on another object than this have to
+abbrev pub OthersWait : Limits → State → Option Awaited → Type 0
+OthersWait limits s touched = All (λ (w : PlainWaiting). touched ≢ Some w.on → can_go_on limits s w ≡ false) s.wait
+
+-- the process of the first that passes, or none
+abbrev pub IsFirst : (PlainWaiting → Bool) → List PlainWaiting → Option Pid → Type 0
+IsFirst test calls None = find test calls ≡ None
+IsFirst test calls (Some pid) = (w : PlainWaiting) × (find test calls ≡ Some w) × (w.pid ≡ pid)

@@ -1,0 +1,238 @@
+//! What a process asks: its calls, one at a time, and INTERRUPT.
+
+ghost use Rattle.std.specs.Prelude.{◌≡◌, ◌≢◌, ◌+◌, ◌<◌, ◌≤◌, ◌++◌, [], true, false, length, map, max, vec_capacity};
+ghost use Rattle.ipc_base.specs.Limits.{longest_body};
+ghost use Rattle.ipc_wait.specs.Waits.{call_of};
+ghost use Rattle.ipc_wire.specs.Request.{Calls, PlainRequest, plain_call, plain_request};
+ghost use Rattle.ipc_state.proofs.CallerLemmas.{IsGood};
+ghost use Rattle.ipc_state.specs.Finish.{finish_of, refused};
+ghost use Rattle.ipc_state.specs.State.{State as PlainState, is_process, is_waiting};
+ghost use Rattle.ipc_state.specs.Waiting.{awaited_by};
+ghost use Rattle.sysv_calls.specs.Calls.{attempt as attempt_of};
+ghost use Rattle.sysv_calls.specs.Needs.{HasRoomFor, IsReserved, Wait, needs};
+ghost use Rattle.sysv_calls.specs.Spare.{IsSpare, room_in as room_in_answer};
+ghost use Rattle.ipc_engine.specs.Buffer.{HasBuffer, room_in};
+ghost use Rattle.ipc_engine.specs.Sound.{IsSound};
+ghost use Rattle.ipc_engine.specs.Step.{after, asked, called, interrupt as interrupt_step, interrupted, joins};
+ghost use Rattle.ipc_engine.specs.Step.{most_replies, replied, settle as settled, told};
+ghost use Rattle.ipc_engine.specs.View.{plain_outcome};
+
+use crate::event::Outcome;
+use crate::replies::{push, reply_to};
+use crate::settling::settle;
+use ipc_base::{Errno, Pid};
+use ipc_state::{Awaited, Parked, State};
+use ipc_wait::Waiting;
+use ipc_wire::{Body, Call, Request, RequestKind};
+use sysv_calls::{Answer, Tried, attempt, touched, try_parked};
+
+/// What a process is told at a request whose memory is reserved. It takes none.
+pub(crate) fn ask(
+    state: &mut State,
+    outcomes: &mut Vec<Outcome>,
+    spare: &mut Vec<u8>,
+    pid: Pid,
+    request: &Request<'_>,
+    kept: Option<Parked>,
+)
+    requires sound { IsSound state.old.limits state.old.state }
+    requires process { is_process state.old.state pid.0 ≡ true }
+    requires room { is_waiting state.old.state pid.0 ≡ false
+        → IsReserved state.old.state state.old.room (plain_request request.now) kept }
+    requires none { outcomes.old.items ≡ [] }
+    requires places { most_replies state.old.limits ≤ vec_capacity outcomes.old }
+    requires spare { IsSpare state.old.limits spare.old }
+    ensures state { state.new.state ≡ (asked state.old.limits pid.0 (plain_request request.now)
+        (plain_request request.now).kind state.old.state).state }
+    ensures outcomes { map plain_outcome outcomes.new.items ≡ (asked state.old.limits pid.0
+        (plain_request request.now) (plain_request request.now).kind state.old.state).outcomes }
+    ensures limits { state.new.limits ≡ state.old.limits }
+    ensures capacity { vec_capacity outcomes.old ≤ vec_capacity outcomes.new }
+    ensures buffer { HasBuffer state.old.limits spare.new outcomes.new.items }
+{
+    match &request.kind {
+        RequestKind::Hello(_) => refuse(outcomes, pid, request.serial, Errno::EPROTO),
+        RequestKind::Interrupt => interrupt(state, outcomes, pid, request.serial),
+        RequestKind::Call(call) => make(state, outcomes, spare, pid, request, call, kept),
+    }
+}
+
+/// A call of a process, which has one at a time.
+fn make(
+    state: &mut State,
+    outcomes: &mut Vec<Outcome>,
+    spare: &mut Vec<u8>,
+    pid: Pid,
+    request: &Request<'_>,
+    call: &Call<'_>,
+    kept: Option<Parked>,
+)
+    requires sound { IsSound state.old.limits state.old.state }
+    requires process { is_process state.old.state pid.0 ≡ true }
+    requires call { (plain_request request.now).kind ≡ Calls (plain_call call.now) }
+    requires room { is_waiting state.old.state pid.0 ≡ false
+        → IsReserved state.old.state state.old.room (plain_request request.now) kept }
+    requires none { outcomes.old.items ≡ [] }
+    requires places { most_replies state.old.limits ≤ vec_capacity outcomes.old }
+    requires spare { IsSpare state.old.limits spare.old }
+    ensures state { state.new.state
+        ≡ (called state.old.limits pid.0 (plain_request request.now) (plain_call call.now) state.old.state).state }
+    ensures outcomes { map plain_outcome outcomes.new.items
+        ≡ (called state.old.limits pid.0 (plain_request request.now) (plain_call call.now) state.old.state).outcomes }
+    ensures limits { state.new.limits ≡ state.old.limits }
+    ensures capacity { vec_capacity outcomes.old ≤ vec_capacity outcomes.new }
+    ensures buffer { HasBuffer state.old.limits spare.new outcomes.new.items }
+{
+    if state.is_waiting(pid) {
+        return refuse(outcomes, pid, request.serial, Errno::EALREADY);
+    }
+    match kept {
+        Some(parked) => try_once(state, outcomes, pid, call, parked),
+        None => at_once(state, outcomes, spare, pid, request.serial, call),
+    }
+}
+
+/// A call that never waits.
+fn at_once(
+    state: &mut State,
+    outcomes: &mut Vec<Outcome>,
+    spare: &mut Vec<u8>,
+    pid: Pid,
+    serial: u32,
+    call: &Call<'_>,
+)
+    requires sound { IsSound state.old.limits state.old.state }
+    requires process { is_process state.old.state pid.0 ≡ true }
+    requires never { needs (Calls (plain_call call.now)) ≢ Wait }
+    requires room { HasRoomFor state.old.state state.old.room (plain_call call.now) }
+    requires none { outcomes.old.items ≡ [] }
+    requires places { most_replies state.old.limits ≤ vec_capacity outcomes.old }
+    requires spare { IsSpare state.old.limits spare.old }
+    ensures state { (request : PlainRequest) → request.serial ≡ serial
+        → state.new.state ≡ (told state.old.limits pid.0 request state.old.state
+        (attempt_of state.old.limits state.old.state pid.0 false (plain_call call.now))).state }
+    ensures outcomes { (request : PlainRequest) → request.serial ≡ serial
+        → map plain_outcome outcomes.new.items ≡ (told state.old.limits pid.0 request state.old.state
+        (attempt_of state.old.limits state.old.state pid.0 false (plain_call call.now))).outcomes }
+    ensures limits { state.new.limits ≡ state.old.limits }
+    ensures capacity { vec_capacity outcomes.old ≤ vec_capacity outcomes.new }
+    ensures buffer { HasBuffer state.old.limits spare.new outcomes.new.items }
+{
+    let answer = attempt(state, pid, call, spare);
+    finish(state, outcomes, pid, serial, answer, touched(call));
+}
+
+/// A call that may wait is tried: it ends, and others go on, or it joins those that wait.
+fn try_once(
+    state: &mut State,
+    outcomes: &mut Vec<Outcome>,
+    pid: Pid,
+    call: &Call<'_>,
+    parked: Parked,
+)
+    requires sound { IsSound state.old.limits state.old.state }
+    requires process { is_process state.old.state pid.0 ≡ true }
+    requires free { is_waiting state.old.state pid.0 ≡ false }
+    requires call { parked.kind ≡ Calls (plain_call call.now) }
+    requires room { state.old.room.wait ≡ true }
+    requires none { outcomes.old.items ≡ [] }
+    requires places { most_replies state.old.limits ≤ vec_capacity outcomes.old }
+    ensures state { state.new.state ≡ (told state.old.limits pid.0 parked state.old.state
+        (attempt_of state.old.limits state.old.state pid.0 false (plain_call call.now))).state }
+    ensures outcomes { map plain_outcome outcomes.new.items ≡ (told state.old.limits pid.0 parked state.old.state
+        (attempt_of state.old.limits state.old.state pid.0 false (plain_call call.now))).outcomes }
+    ensures limits { state.new.limits ≡ state.old.limits }
+    ensures capacity { vec_capacity outcomes.old ≤ vec_capacity outcomes.new }
+{
+    let serial = parked.serial();
+    match try_parked(state, pid, false, parked) {
+        Tried::Finishes(answer) => finish(state, outcomes, pid, serial, answer, touched(call)),
+        Tried::Waits(parked) => join(state, pid, parked),
+    }
+}
+
+/// A call joins the end of those that wait; it has no deadline.
+fn join(state: &mut State, pid: Pid, parked: Parked)
+    requires room { state.old.room.wait ≡ true }
+    requires free { is_waiting state.old.state pid.0 ≡ false }
+    ensures state { state.new.state ≡ joins state.old.state pid.0 parked (awaited_by parked.kind) }
+    ensures limits { state.new.limits ≡ state.old.limits }
+{
+    state.enter_wait(Waiting {
+        pid,
+        on: parked.awaited(),
+        deadline: None,
+        call: parked,
+    });
+}
+
+/// A call has ended so, and may have changed this object: it is answered, and then those go on that wait on the object
+/// and can.
+fn finish(
+    state: &mut State,
+    outcomes: &mut Vec<Outcome>,
+    pid: Pid,
+    serial: u32,
+    answer: Answer,
+    touched: Option<Awaited>,
+)
+    requires good { (s : PlainState) × IsSound state.old.limits s
+        × IsGood state.old.limits s touched (finish_of state.old.state answer) }
+    requires none { outcomes.old.items ≡ [] }
+    requires places { most_replies state.old.limits ≤ vec_capacity outcomes.old }
+    ensures state { state.new.state
+        ≡ (after (replied pid.0 serial (finish_of state.old.state answer)) (settled state.old.limits)).state }
+    ensures outcomes { map plain_outcome outcomes.new.items
+        ≡ (after (replied pid.0 serial (finish_of state.old.state answer)) (settled state.old.limits)).outcomes }
+    ensures limits { state.new.limits ≡ state.old.limits }
+    ensures capacity { vec_capacity outcomes.old ≤ vec_capacity outcomes.new }
+    ensures room { room_in_answer answer ≤ room_in outcomes.new.items }
+{
+    push(outcomes, reply_to(pid, serial, answer));
+    settle(state, outcomes, touched);
+}
+
+/// A request is refused.
+fn refuse(outcomes: &mut Vec<Outcome>, pid: Pid, serial: u32, errno: Errno)
+    requires none { outcomes.old.items ≡ [] }
+    requires place { 0 < vec_capacity outcomes.old }
+    ensures outcomes { (s : PlainState)
+        → map plain_outcome outcomes.new.items ≡ (replied pid.0 serial (refused s errno)).outcomes }
+    ensures capacity { vec_capacity outcomes.old ≤ vec_capacity outcomes.new }
+{
+    push(outcomes, reply_to(pid, serial, Err(errno)));
+}
+
+/// INTERRUPT: the call of the process that waits, if there is one, ends with EINTR; then its own reply. It takes no
+/// memory.
+pub(crate) fn interrupt(state: &mut State, outcomes: &mut Vec<Outcome>, pid: Pid, serial: u32)
+    requires sound { IsSound state.old.limits state.old.state }
+    requires none { outcomes.old.items ≡ [] }
+    requires places { most_replies state.old.limits ≤ vec_capacity outcomes.old }
+    ensures state { state.new.state ≡ (interrupt_step pid.0 serial state.old.state).state }
+    ensures outcomes { map plain_outcome outcomes.new.items ≡ (interrupt_step pid.0 serial state.old.state).outcomes }
+    ensures limits { state.new.limits ≡ state.old.limits }
+    ensures capacity { vec_capacity outcomes.old ≤ vec_capacity outcomes.new }
+{
+    end_waiting(state, outcomes, pid);
+    push(outcomes, reply_to(pid, serial, Ok(Body::Empty)));
+}
+
+/// The call of a process that waits, if there is one, ends with EINTR.
+fn end_waiting(state: &mut State, outcomes: &mut Vec<Outcome>, pid: Pid)
+    requires { length outcomes.old.items < vec_capacity outcomes.old }
+    ensures state { state.new.state ≡ (interrupted state.old.state pid.0 (call_of pid state.old.state.wait)).state }
+    ensures outcomes { map plain_outcome outcomes.new.items ≡ map plain_outcome outcomes.old.items
+        ++ (interrupted state.old.state pid.0 (call_of pid state.old.state.wait)).outcomes }
+    ensures limits { state.new.limits ≡ state.old.limits }
+    ensures capacity { vec_capacity outcomes.old ≤ vec_capacity outcomes.new }
+    ensures few { length outcomes.new.items ≤ length outcomes.old.items + length state.old.state.wait }
+{
+    let Some(waiting) = state.leave_wait(pid) else {
+        return;
+    };
+    push(
+        outcomes,
+        reply_to(pid, waiting.call.serial(), Err(Errno::EINTR)),
+    );
+}

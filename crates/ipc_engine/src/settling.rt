@@ -1,0 +1,144 @@
+//! Calls that waited go on when what they wait for has changed.
+
+ghost use Rattle.std.specs.Prelude.{◌≡◌, ◌≢◌, ◌+◌, ◌≤◌, ◌<◌, ◌↔◌, ◌++◌, ◌∷◌, [], true, false, Some, All, IsTrue};
+ghost use Rattle.std.specs.Prelude.{find, length, map, vec_capacity};
+ghost use Rattle.ipc_state.specs.Sound.{HasSoundParts};
+ghost use Rattle.ipc_state.specs.State.{is_process};
+ghost use Rattle.ipc_state.specs.Waiting.{IsSoundWaiting, PlainWaiting};
+ghost use Rattle.ipc_engine.specs.Buffer.{room_in};
+ghost use Rattle.ipc_engine.specs.Settling.{AreLinked, IsFirst, OthersWait};
+ghost use Rattle.ipc_engine.specs.Sound.{HasToWait};
+ghost use Rattle.ipc_engine.specs.Step.{can_go_on, resumed, settle as settled};
+ghost use Rattle.ipc_engine.specs.View.{plain_outcome};
+
+use crate::event::Outcome;
+use crate::replies::{push, reply_to};
+use ipc_base::Pid;
+use ipc_state::{Awaited, Parked, State};
+use ipc_wait::Waiting;
+use sysv_calls::{Tried, has_to_wait, try_parked};
+
+/// Calls that wait on the object that has changed go on: the first that can, and after it all are looked at again. If
+/// nothing has changed, none can. It takes no memory.
+pub(crate) fn settle(state: &mut State, outcomes: &mut Vec<Outcome>, touched: Option<Awaited>)
+    requires parts { HasSoundParts state.old.limits state.old.state }
+    requires linked { AreLinked state.old.state }
+    requires others { OthersWait state.old.limits state.old.state touched }
+    requires room { length outcomes.old.items + length state.old.state.wait ≤ vec_capacity outcomes.old }
+    ensures state { state.new.state ≡ (settled state.old.limits state.old.state).state }
+    ensures outcomes { map plain_outcome outcomes.new.items
+        ≡ map plain_outcome outcomes.old.items ++ (settled state.old.limits state.old.state).outcomes }
+    ensures limits { state.new.limits ≡ state.old.limits }
+    ensures capacity { vec_capacity outcomes.old ≤ vec_capacity outcomes.new }
+    ensures buffer { room_in outcomes.old.items ≤ room_in outcomes.new.items }
+{
+    let Some(on) = touched else {
+        return;
+    };
+    for gone in 0..state.waits().len() {
+        let Some(pid) = first_to_go(state, on) else {
+            return;
+        };
+        resume(state, outcomes, pid);
+    }
+}
+
+/// The process of the first call that can go on, which waits on this object.
+fn first_to_go(state: &State, on: Awaited) -> Option<Pid>
+    requires parts { HasSoundParts state.now.limits state.now.state }
+    requires linked { AreLinked state.now.state }
+    requires others { OthersWait state.now.limits state.now.state (Some on) }
+    ensures { IsFirst (can_go_on state.now.limits state.now.state) state.now.state.wait result }
+{
+    first_among(state, on, state.waits())
+}
+
+/// The same of these calls.
+fn first_among(state: &State, on: Awaited, calls: &[Waiting<Awaited, Parked>]) -> Option<Pid>
+    requires sound { All IsSoundWaiting calls.now }
+    requires linked { All (λ w. is_process state.now.state w.pid.0 ≡ true) calls.now }
+    requires others { All (λ w. Some on ≢ Some w.on
+        → can_go_on state.now.limits state.now.state w ≡ false) calls.now }
+    ensures { IsFirst (can_go_on state.now.limits state.now.state) calls.now result }
+{
+    for waiting in calls {
+        if can_go(state, on, waiting) {
+            return Some(waiting.pid);
+        }
+    }
+    None
+}
+
+/// Whether a call can go on, which has to wait if it waits on another object than this.
+fn can_go(state: &State, on: Awaited, waiting: &Waiting<Awaited, Parked>) -> bool
+    requires sound { IsSoundWaiting waiting.now }
+    requires process { is_process state.now.state waiting.now.pid.0 ≡ true }
+    requires other { Some on ≢ Some waiting.now.on
+        → can_go_on state.now.limits state.now.state waiting.now ≡ false }
+    ensures { result ≡ can_go_on state.now.limits state.now.state waiting.now }
+{
+    waits_on(waiting, on) && !has_to_wait(state, waiting.pid, &waiting.call)
+}
+
+/// Whether a call waits on this object.
+fn waits_on(waiting: &Waiting<Awaited, Parked>, on: Awaited) -> bool
+    ensures { IsTrue result ↔ (waiting.now.on ≡ on) }
+{
+    waiting.on == on
+}
+
+/// The call of a process, which is the first that can go on, leaves the list and is answered.
+fn resume(state: &mut State, outcomes: &mut Vec<Outcome>, pid: Pid)
+    requires parts { HasSoundParts state.old.limits state.old.state }
+    requires linked { AreLinked state.old.state }
+    requires first { IsFirst (can_go_on state.old.limits state.old.state) state.old.state.wait (Some pid) }
+    requires room { length outcomes.old.items < vec_capacity outcomes.old }
+    ensures state { (w : PlainWaiting)
+        → find (can_go_on state.old.limits state.old.state) state.old.state.wait ≡ Some w
+        → state.new.state ≡ (resumed state.old.limits state.old.state w).state }
+    ensures outcomes { (w : PlainWaiting)
+        → find (can_go_on state.old.limits state.old.state) state.old.state.wait ≡ Some w
+        → map plain_outcome outcomes.new.items
+        ≡ map plain_outcome outcomes.old.items ++ (resumed state.old.limits state.old.state w).outcomes }
+    ensures limits { state.new.limits ≡ state.old.limits }
+    ensures capacity { vec_capacity outcomes.old ≤ vec_capacity outcomes.new }
+    ensures buffer { room_in outcomes.old.items ≤ room_in outcomes.new.items }
+{
+    let Some(waiting) = state.leave_wait(pid) else {
+        return;
+    };
+    let serial = waiting.call.serial();
+    match try_parked(state, pid, true, waiting.call) {
+        Tried::Finishes(answer) => push(outcomes, reply_to(pid, serial, answer)),
+        Tried::Waits(_call) => {}
+    }
+}
+
+/// Whether each call that waits is one of a connected process, and has to.
+pub(crate) fn all_have_to_wait(state: &State) -> bool
+    requires { HasSoundParts state.now.limits state.now.state }
+    ensures { IsTrue result ↔ All (HasToWait state.now.limits state.now.state) state.now.state.wait }
+{
+    all_have_place(state, state.waits())
+}
+
+/// The same of these calls.
+fn all_have_place(state: &State, calls: &[Waiting<Awaited, Parked>]) -> bool
+    requires { All IsSoundWaiting calls.now }
+    ensures { IsTrue result ↔ All (HasToWait state.now.limits state.now.state) calls.now }
+{
+    for waiting in calls {
+        if !has_place(state, waiting) {
+            return false;
+        }
+    }
+    true
+}
+
+/// Whether a call is one of a connected process, and has to wait.
+fn has_place(state: &State, waiting: &Waiting<Awaited, Parked>) -> bool
+    requires { IsSoundWaiting waiting.now }
+    ensures { IsTrue result ↔ HasToWait state.now.limits state.now.state waiting.now }
+{
+    state.has_process(waiting.pid) && has_to_wait(state, waiting.pid, &waiting.call)
+}

@@ -1,0 +1,130 @@
+-- What comes of a call that may wait, by what its tests answered.
+use Rattle.std.proofs.Common.{◌≡◌, ℕ, ℤ, ◌<◌, ◌≤◌, Bool, true, false, List, length, Some, sym, ap, subst, ◌∙◌, arith}
+use Rattle.std.specs.Prelude.{nat_lt, is_some, take, ◌||◌, ◌+◌, Result, Ok, Err}
+use Rattle.std.proofs.lemmas.Bool.{ltb-false}
+use Rattle.ipc_base.specs.declared.identity.Cred.{Cred}
+use Rattle.ipc_base.specs.declared.limits.Limits.{Limits}
+use Rattle.ipc_base.specs.Limits.{ArePassed}
+use Rattle.ipc_base.proofs.CallerLemmas.{passed-bounds}
+use Rattle.ipc_wire.specs.Request.{PlainCall, PlainKind, Calls}
+use Rattle.ipc_wire.specs.Request as requests
+use Rattle.ipc_wire.specs.Reply.{PlainBody}
+use Rattle.ipc_wire.specs.declared.reply.Body.TheVariants.{Empty, Message}
+use Rattle.sysv_msg.specs.Queue.{Queue, byte_count, full, most_messages, sent, taken}
+use Rattle.ipc_state.specs.declared.keyed.Entry.{Entry}
+use Rattle.ipc_state.specs.declared.parked.ParkedCall.{ParkedCall}
+use Rattle.ipc_state.specs.Keyed.{holding}
+use Rattle.ipc_state.specs.Finish.{Attempt, Done, Halt, Finishes, answer, done, ended, has_to_wait, ◌>>=◌}
+use Rattle.ipc_state.specs.Sound.{HasSoundParts}
+use Rattle.ipc_state.specs.State.{State, cred_of, queue_of, with_queue}
+use Rattle.ipc_state.specs.Waiting.{parked_kind}
+use Rattle.ipc_state.proofs.CallerLemmas.{queue-sound}
+use Rattle.sysv_calls.specs.Calls.{attempt, call_of, message_at, receivable, sendable}
+use Rattle.sysv_calls.specs.Seen.{attempted, place_in, plain_halt}
+use Rattle.sysv_calls.specs.declared.msg.Halt.{Halt as Stops}
+use Rattle.sysv_calls.proofs.CallerLemmas.{is_blocked, waits-as-tested}
+use Rattle.sysv_calls.proofs.Reaching.{Shows, Sends, Receives, shows, sends, receives, stays-stopped}
+
+-- a queue that is not full has places
+has_places : (q : Queue) (n most : ℕ) → q.qbytes ≤ most → most ≤ most_messages → full q n ≡ false → length q.messages < most_messages
+has_places q n most few places is =
+    let bytes : Bool = nat_lt q.qbytes (byte_count q.messages + n) in
+    let count : Bool = nat_lt q.qbytes (length q.messages + 1) in
+    let last : count ≡ false = second bytes count is in
+    omega (arith, ltb-false q.qbytes (length q.messages + 1) last)
+  where
+    second : (a b : Bool) → a || b ≡ false → b ≡ false
+    second true b is = cc
+    second false b is = is
+
+-- stopped by its tests, a call ends so
+stopped : (limits : Limits) (s : State) (pid : ℕ) (again : Bool) (call : PlainCall) (h : Halt) → place_in limits s (cred_of s pid) again call ≡ Err h
+    → call_of limits s pid again call ≡ Err h
+stopped limits s pid again (requests.Msgsnd id flags mtype text) h is =
+    stays-stopped (λ (e : Entry Queue). 0) _ (sendable limits s (cred_of s pid) again id flags mtype text) h is
+stopped limits s pid again (requests.Msgrcv id flags size mtype) h is =
+    stays-stopped (λ (found : Entry Queue × ℕ). found.1) _ (receivable s (cred_of s pid) again id flags size mtype) h is
+stopped limits s pid again (requests.Msgget key flags) h is = cc
+stopped limits s pid again (requests.MsgctlStat id) h is = cc
+stopped limits s pid again (requests.MsgctlSet id uid gid mode qbytes) h is = cc
+stopped limits s pid again (requests.MsgctlRmid id) h is = cc
+
+-- the tests of a call of this kind answered so
+pub record Tested (limits : Limits) (s : State) (pid : ℕ) (again : Bool) (kind : PlainKind) (r : Result ℕ Stops) : Type 0 where
+  pub place : (wanted : PlainCall) → kind ≡ Calls wanted → place_in limits s (cred_of s pid) again wanted ≡ attempted r
+
+pub tested : (limits : Limits) (s : State) (pid : ℕ) (again : Bool) (cred : Cred) → cred ≡ cred_of s pid → (kind : PlainKind) (call : ParkedCall)
+    → parked_kind call ≡ kind → (r : Result ℕ Stops)
+    → ((wanted : PlainCall) → parked_kind call ≡ Calls wanted → attempted r ≡ place_in limits s cred again wanted) → Tested limits s pid again kind r
+tested limits s pid again cred same kind call shown r answers =
+    record { place = λ wanted is. sym (answers wanted (shown ∙ is) ∙ ap (λ (c : Cred). place_in limits s c again wanted) same) }
+
+module _ {limits : Limits} {s : State} {pid : ℕ} {again : Bool} {kind : PlainKind} {r : Result ℕ Stops} (tests : Tested limits s pid again kind r) where
+  pub waits-on : (wanted : PlainCall) → kind ≡ Calls wanted → is_blocked (attempted r) ≡ has_to_wait (attempt limits s pid again wanted)
+  waits-on wanted is = sym (waits-as-tested limits s pid again wanted ∙ ap is_blocked (tests.place wanted is))
+
+  pub ends-stopped : (h : Stops) → r ≡ Err h → (wanted : PlainCall) → kind ≡ Calls wanted → ended s (Err (plain_halt h)) ≡ attempt limits s pid again wanted
+  ends-stopped h was wanted is = sym (ap (ended s) (stopped limits s pid again wanted (plain_halt h) (tests.place wanted is ∙ ap attempted was)))
+
+  -- a send that may go on
+  module _ {at : ℕ} (was : r ≡ Ok at) {id flags : ℕ} {mtype : ℤ} {text : List ℕ} (is : Calls (requests.Msgsnd id flags mtype text) ≡ kind) where
+    shown-send : Shows (λ (e : Entry Queue). 0) (sendable limits s (cred_of s pid) again id flags mtype text) at
+    shown-send = shows (λ (e : Entry Queue). 0) _ at (tests.place (requests.Msgsnd id flags mtype text) (sym is) ∙ ap attempted was)
+
+    may_send : Sends limits s id mtype text shown-send.value
+    may_send = sends limits s (cred_of s pid) again id flags mtype text shown-send.value shown-send.was
+
+    pub sends-there : is_some (queue_of s id) ≡ true
+    sends-there = ap is_some may_send.there
+
+    pub sends-room : HasSoundParts limits s → ArePassed limits → (e : Entry Queue) → queue_of s id ≡ Some e → length e.object.messages < most_messages
+    sends-room sound passed e there =
+        let one : shown-send.value ≡ e = cc (may_send.there) in
+        let room = subst (λ (f : Entry Queue). full f.object (length text) ≡ false) one may_send.room in
+        let most = (passed-bounds limits passed).msgmnb in
+        has_places e.object (length text) limits.msgmnb (queue-sound limits s id e there sound).qbytes (omega (arith, most)) room
+
+    pub sends-finish : (t : State)
+        → ((e : Entry Queue) → queue_of s id ≡ Some e → t ≡ with_queue s id (holding e (sent e.object (record { mtype = mtype; text = text }) pid s.clock)))
+        → (wanted : PlainCall) → kind ≡ Calls wanted → Finishes (done t Empty) ≡ attempt limits s pid again wanted
+    sends-finish t left wanted wants =
+        let one : requests.Msgsnd id flags mtype text ≡ wanted = cc in
+        let next : Entry Queue → Attempt Done =
+        λ (e : Entry Queue). answer (with_queue s id (holding e (sent e.object (record { mtype = mtype; text = text }) pid s.clock))) Empty in
+        let ends : ended s (next shown-send.value) ≡ attempt limits s pid again (requests.Msgsnd id flags mtype text) =
+        sym (ap (λ (a : Attempt (Entry Queue)). ended s (a >>= next)) shown-send.was) in
+        subst (λ (w : PlainCall). Finishes (done t Empty) ≡ attempt limits s pid again w) one
+        (ap (λ (u : State). Finishes (done u Empty)) (left shown-send.value may_send.there) ∙ ends)
+
+  -- a receive that may go on
+  module _ {at : ℕ} (was : r ≡ Ok at) {id flags size : ℕ} {mtype : ℤ} (is : Calls (requests.Msgrcv id flags size mtype) ≡ kind) where
+    shown-receive : Shows (λ (found : Entry Queue × ℕ). found.1) (receivable s (cred_of s pid) again id flags size mtype) at
+    shown-receive = shows (λ (found : Entry Queue × ℕ). found.1) _ at (tests.place (requests.Msgrcv id flags size mtype) (sym is) ∙ ap attempted was)
+
+    may_receive : Receives s id shown-receive.value
+    may_receive = receives s (cred_of s pid) again id flags size mtype shown-receive.value shown-receive.was
+
+    pub receives-there : is_some (queue_of s id) ≡ true
+    receives-there = ap is_some may_receive.there
+
+    pub receives-inside : (e : Entry Queue) → queue_of s id ≡ Some e → at < length e.object.messages
+    receives-inside e there =
+        let one : shown-receive.value.0 ≡ e = cc (may_receive.there) in
+        let inside = subst (λ (f : Entry Queue). shown-receive.value.1 < length f.object.messages) one may_receive.inside in
+        subst (λ (n : ℕ). n < length e.object.messages) shown-receive.is inside
+
+    pub receives-finish : (t : State) (body : PlainBody)
+        → ((e : Entry Queue) → queue_of s id ≡ Some e → t ≡ with_queue s id (holding e (taken e.object at pid s.clock)))
+        → ((e : Entry Queue) → queue_of s id ≡ Some e → body ≡ Message (message_at e.object at).mtype (take size (message_at e.object at).text))
+        → (wanted : PlainCall) → kind ≡ Calls wanted → Finishes (done t body) ≡ attempt limits s pid again wanted
+    receives-finish t body left says wanted wants =
+        let one : requests.Msgrcv id flags size mtype ≡ wanted = cc in
+        let e : Entry Queue = shown-receive.value.0 in
+        let next : Entry Queue × ℕ → Attempt Done =
+        λ (found : Entry Queue × ℕ). answer (with_queue s id (holding found.0 (taken found.0.object found.1 pid s.clock)))
+        (Message (message_at found.0.object found.1).mtype (take size (message_at found.0.object found.1).text)) in
+        let ends : ended s (next shown-receive.value) ≡ attempt limits s pid again (requests.Msgrcv id flags size mtype) =
+        sym (ap (λ (a : Attempt (Entry Queue × ℕ)). ended s (a >>= next)) shown-receive.was) in
+        subst (λ (w : PlainCall). Finishes (done t body) ≡ attempt limits s pid again w) one
+        ((λ i. Finishes (done (left e may_receive.there i) (says e may_receive.there i)))
+        ∙ (ap (λ (n : ℕ). ended s (next (e, n))) (sym shown-receive.is) ∙ ends))

@@ -1,0 +1,99 @@
+//! Calls that may wait: each is tried when it comes, and again when what it waits for has changed.
+
+ghost use Rattle.std.specs.Prelude.{◌≡◌, true, OnOk};
+ghost use Rattle.ipc_base.specs.Limits.{ArePassed};
+ghost use Rattle.ipc_wire.specs.Request.{Calls, PlainCall, plain_call};
+ghost use Rattle.ipc_state.specs.Finish as finish;
+ghost use Rattle.ipc_state.specs.Sound.{HasSoundParts};
+ghost use Rattle.ipc_state.specs.State.{is_process};
+ghost use Rattle.ipc_state.specs.Waiting.{parked_kind};
+ghost use Rattle.sysv_calls.specs.Calls as defined;
+ghost use Rattle.sysv_calls.specs.Seen.{IsKeptIn, attempted, place_in, tried_of};
+
+use crate::calls::Answer;
+use crate::msg::{Halt, ready_to_receive, ready_to_send, receive, send};
+use ipc_base::{Cred, Pid};
+use ipc_state::{Awaited, Parked, ParkedCall, State};
+use ipc_wire::{Body, Call};
+
+/// What comes of a call that may wait.
+#[derive(Drop)]
+pub enum Tried {
+    /// It ends so.
+    Finishes(Answer),
+    /// It has to wait, and is given back.
+    Waits(Parked),
+}
+
+/// Tries a call by a process; `again`, if it has waited. It takes no memory.
+pub fn try_parked(state: &mut State, pid: Pid, again: bool, call: Parked) -> Tried
+    requires sound { HasSoundParts state.old.limits state.old.state }
+    requires process { is_process state.old.state pid.0 ≡ true }
+    ensures finish { (wanted : PlainCall) → call.kind ≡ Calls wanted
+        → tried_of state.new.state result ≡ defined.attempt state.old.limits state.old.state pid.0 again wanted }
+    ensures kept { IsKeptIn state.old call state.new result }
+    ensures limits { state.new.limits ≡ state.old.limits }
+    ensures keys { state.new.room.keys ≡ state.old.room.keys }
+{
+    let cred = state.cred(pid);
+    let at = match ready(state, cred, again, call.call()) {
+        Ok(at) => at,
+        Err(Halt::Fails(e)) => return Tried::Finishes(Err(e)),
+        Err(Halt::Blocks) => return Tried::Waits(call),
+    };
+    match call.into_call() {
+        ParkedCall::Msgsnd { id, message, .. } => {
+            send(state, pid, id, message);
+            Tried::Finishes(Ok(Body::Empty))
+        }
+        ParkedCall::Msgrcv { id, size, .. } => Tried::Finishes(Ok(receive(
+            state, pid, id, at, size,
+        ))),
+    }
+}
+
+/// Whether a call of a process that has waited has to wait on.
+pub fn has_to_wait(state: &State, pid: Pid, call: &Parked) -> bool
+    requires process { is_process state.now.state pid.0 ≡ true }
+    ensures { (wanted : PlainCall) → call.now.kind ≡ Calls wanted
+        → result ≡ finish.has_to_wait (defined.attempt state.now.limits state.now.state pid.0 true wanted) }
+{
+    match ready(state, state.cred(pid), true, call.call()) {
+        Ok(_) => false,
+        Err(Halt::Fails(_)) => false,
+        Err(Halt::Blocks) => true,
+    }
+}
+
+/// Whether a call may go on now, and then the place of the message that a receive takes; for a send that is 0.
+fn ready(state: &State, cred: Cred, again: bool, call: &ParkedCall) -> Result<usize, Halt>
+    ensures tests { (wanted : PlainCall) → parked_kind call.now ≡ Calls wanted
+        → attempted result ≡ place_in state.now.limits state.now.state cred again wanted }
+    ensures passed { OnOk result (ArePassed state.now.limits) }
+{
+    match call {
+        ParkedCall::Msgsnd { id, flags, message } => {
+            ready_to_send(state, cred, again, *id, *flags, message)?;
+            Ok(0)
+        }
+        ParkedCall::Msgrcv {
+            id,
+            flags,
+            size,
+            mtype,
+        } => ready_to_receive(state, cred, again, *id, *flags, *size, *mtype),
+    }
+}
+
+/// The object that a call may change, so that those that wait on it may go on.
+pub fn touched(call: &Call<'_>) -> Option<Awaited>
+    ensures { result ≡ defined.touched (plain_call call.now) }
+{
+    match call {
+        Call::Msgsnd { id, .. }
+        | Call::Msgrcv { id, .. }
+        | Call::MsgctlSet { id, .. }
+        | Call::MsgctlRmid { id } => Some(Awaited::Queue(*id)),
+        Call::Msgget { .. } | Call::MsgctlStat { .. } => None,
+    }
+}
