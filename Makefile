@@ -22,8 +22,8 @@ help:
 	@echo "            puts where, and the manual page"
 	@echo "make serves the program as a server: clients by the dozen, crashes under load, what ends a connection, and what"
 	@echo "            docs/OPERATIONS.md says; the first sessions; examples/serve.sh, in which a message outlives a"
-	@echo "            crash; examples/users.sh, two users of a queue; and its calls of the system, watched, and each refused in"
-	@echo "            turn. A minute, once built"
+	@echo "            crash; examples/users.sh, two users of a queue; examples/worker.sh, two who wait for jobs; clients that"
+	@echo "            wait by the dozen; and its calls of the system, watched, and each refused in turn. Two minutes, once built"
 	@echo "make memory the engine's tests and the program, with each allocation refused in turn"
 	@echo "make bench  processor time of runs, lines and ticks on both devices, peak memory, what a commit writes, and"
 	@echo "            commits a second on a file beside the same writes and syncs done bare"
@@ -51,7 +51,8 @@ install:
 
 # The engine's tests take a step again that was refused for memory, and look for the replies that it would have had.
 MACHINE_TESTS = crates/machine_tests/out/machine_tests_tests
-REFUSE_EACH = sh tests/refuse_each.sh $(MACHINE_TESTS) engine crates/ipcd/out/ipcd examples/first_queue.script
+REFUSE_EACH = sh tests/refuse_each.sh $(MACHINE_TESTS) engine crates/ipcd/out/ipcd \
+	examples/first_queue.script examples/waiting.script
 
 memory: program $(MACHINE_TESTS)
 	@$(REFUSE_EACH)
@@ -74,7 +75,8 @@ runs: program
 
 SERVES = python3 tests/serve.py crates/ipcd/out/ipcd && python3 tests/operations.py crates/ipcd/out/ipcd && \
 	python3 tests/session.py crates/ipcd/out/ipcd && sh examples/serve.sh crates/ipcd/out/ipcd && \
-	sh examples/users.sh crates/ipcd/out/ipcd && \
+	sh examples/users.sh crates/ipcd/out/ipcd && sh examples/worker.sh crates/ipcd/out/ipcd && \
+	python3 tests/waiting.py crates/ipcd/out/ipcd && python3 tests/waiting_load.py crates/ipcd/out/ipcd && \
 	python3 tests/calls.py crates/ipcd/out/ipcd && python3 tests/costs.py crates/ipcd/out/ipcd
 
 serves: program
@@ -93,8 +95,8 @@ edits:
 
 # Twenty groups of runs of each script, and turns of commits on a file. It needs awk, and for the turns a C compiler.
 bench: program
-	@sh bench/replay.sh crates/ipcd/out/ipcd
 	@sh bench/commits.sh crates/ipcd/out/ipcd
+	@sh bench/replay.sh crates/ipcd/out/ipcd
 
 # Nine turns of eight loads on a server. It needs Python and a C compiler.
 bench-serve: program

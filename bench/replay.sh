@@ -1,10 +1,12 @@
 #!/bin/sh
-# What `replay` costs: a run without lines, a line and a request on the standard device and on the small one, and a tick
-# with many connections, in processor time; the peak memory; and what a commit writes.
+# What `replay` costs: a run without lines, a line and a request on the standard device and on the small one, beside other
+# queues and beside processes that wait, and a tick with many connections, in processor time; the peak memory; and what
+# a commit writes. The status is 1 if those that wait add more than they may.
 #
 #     sh bench/replay.sh PROGRAM [GROUPS]
 #
-# A script is short, and is run many times, so that no save of the state falls among its commits.
+# A script is short, and is run many times, so that no save of the state falls among its commits; but not those of
+# processes that wait, in which ten do.
 # Runs of a script and of its first lines alone take turns, in so many groups, and a row tells the difference. On the
 # standard device a run's lines take a hundredth to a tenth of what it takes without them, so those rows are rough.
 # Every run is compared with the output that the protocol asks for: bench/scripts.awk writes both.
@@ -89,26 +91,34 @@ process() {
 	taken=$(spent "$folder/before" "$folder/after")
 }
 
-# Adds a time in microseconds, shared among so many in each of the runs.
+# Adds a time in microseconds, shared among so many in each of the runs, to those of this name.
 share() {
-	awk -v taken="$1" -v shares="$2" -v many="$many" 'BEGIN { print taken / shares / many }' >> "$folder/each"
+	awk -v taken="$1" -v shares="$2" -v many="$many" 'BEGIN { print taken / shares / many }' >> "$folder/${3:-each}"
 }
 
-# Prints a row: what, and of the numbers of all groups the middle half, its mean and its range; then one more column, if
-# there is one.
-print_row() {
-	sort -n "$folder/each" | awk -v what="$1" -v more="${2:+ $2 |}" '
-		function short(number) {
-			return sprintf(number < 10 ? "%.2f" : "%.0f", number)
-		}
+# Of the numbers of all groups the middle half: its mean, its least and its greatest.
+middle() {
+	sort -n "$folder/$1" | awk '
 		{ each[NR] = $1 }
 		END {
 			first = int(NR / 4) + 1
 			last = NR + 1 - first
 			for (k = first; k <= last; k++)
 				sum += each[k]
-			print "| " what " | " short(sum / (last - first + 1)) " | " short(each[first]) " to " short(each[last]) " |" more
+			print sum / (last - first + 1), each[first], each[last]
 		}'
+}
+
+# Prints a row: what, and of the numbers of all groups the middle half, its mean and its range; then one more column, if
+# there is one. Sets `mean`.
+print_row() {
+	set -- "$1" "${2:+ $2 |}" $(middle "${3:-each}")
+	mean=$3
+	awk -v what="$1" -v more="$2" -v mean="$3" -v least="$4" -v greatest="$5" '
+		function short(number) {
+			return sprintf(number < 10 ? "%.2f" : "%.0f", number)
+		}
+		BEGIN { print "| " what " | " short(mean) " | " short(least) " to " short(greatest) " |" more }'
 }
 
 # Prints the row of what the script `whole` has more than `first`, shared among so many.
@@ -170,6 +180,38 @@ beside() {
 	difference "$3 | $2" 120
 }
 
+# Lines of 16 requests on the standard device beside 31 other queues: with nobody who waits, with 63 processes that wait on
+# these, and with 63 that wait on the queue for other types. They take turns. Sets `ratio` to what the second is of the
+# first.
+waits() {
+	device standard
+	many=4
+	lines=1200
+	ways="none others same"
+	for way in $ways; do
+		set -- kind=calls size=0 together=16 others=31 waiting=63 same=0
+		[ "$way" != none ] || set -- "$@" waiting=0
+		[ "$way" != same ] || set -- "$@" same=1
+		generate "first_$way" count=0 "$@"
+		generate "whole_$way" count=$((16 * lines)) "$@"
+	done
+	group=0
+	while [ "$group" -lt "$groups" ]; do
+		group=$((group + 1))
+		for way in $ways; do
+			process "first_$way"
+			less=$taken
+			process "whole_$way"
+			share $((taken - less)) "$lines" "each_$way"
+		done
+	done
+	print_row "none" "" each_none
+	none=$mean
+	print_row "63, on other queues" "" each_others
+	ratio=$(awk -v others="$mean" -v none="$none" 'BEGIN { printf "%.2f", others / none }')
+	print_row "63, on the queue, for other types" "" each_same
+}
+
 # Ticks on the small device with so many connections open, and so many runs in a group.
 ticks() {
 	device small
@@ -224,6 +266,10 @@ beside gets 0 "gets by a key"
 beside gets 31 "gets by a key"
 beside gets 31 "gets by a key, of queues whose keys were chosen alike" 1
 echo
+echo "| a line of 16 requests on the standard device, no byte, processes that wait | microseconds | range |"
+echo "|---|---|---|"
+waits
+echo
 echo "| a tick on the small device, open connections | microseconds | range |"
 echo "|---|---|---|"
 ticks 1 "$many_small"
@@ -240,3 +286,6 @@ commit "a line of a receive" 0 1 0
 commit "a line of 16 requests, no byte" 8 8 0
 commit "a line of 100 requests, no byte" 50 50 0
 commit "a line of a send, 8192 bytes" 1 0 8192
+echo
+echo "63 processes that wait on other queues: a line takes $ratio of the time, and at most 1.2 is wanted."
+awk -v ratio="$ratio" 'BEGIN { exit ratio > 1.2 }'

@@ -3,7 +3,8 @@
 #     awk -v kind=KIND -v count=N .. -v script=FILE -v wanted=FILE -f bench/scripts.awk
 #
 # calls   COUNT requests by one connection, which has made a queue after OTHERS of other keys: sends and receives in turn,
-#         of texts of SIZE bytes, TOGETHER of them in a line
+#         of texts of SIZE bytes, TOGETHER of them in a line. If WAITING is given, so many other processes wait meanwhile,
+#         which is saved before: to receive from the OTHERS in turn, or with SAME not 0 from the queue, for other types
 # gets    COUNT gets of the queue by its key, TOGETHER of them in a line; with ALIKE not 0 the other keys were chosen so
 #         that they stand where this one does in the table of keys
 # ticks   COUNT ticks while OPENED connections are open; then the last of these says HELLO
@@ -82,6 +83,17 @@ function get(    number, piece, held) {
 	}
 }
 
+# The other processes come and wait.
+function let_wait(    number) {
+	for (number = 1; number <= waiting; number++) {
+		open(1 + number)
+		data(1 + number, request(1, "HELLO", "1000 100") \
+			request(2, "msgrcv", same ? queue " 0 64 " (7 + number) : 1 + number % others " 0 64 0"))
+		reply(1 + number, 1, "HELLO", 1 + number)
+	}
+	print "save" > script
+}
+
 # A text of so many bytes that begins with the number, where it has four.
 function text_of(bytes, number) {
 	while (length(filler) < 2 * bytes)
@@ -127,6 +139,8 @@ BEGIN {
 
 	if (kind == "calls") {
 		enter(1)
+		if (waiting != "")
+			let_wait()
 		alternate()
 	} else if (kind == "gets") {
 		enter(1)

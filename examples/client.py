@@ -19,13 +19,27 @@ file, is
     $ kill $!; wait $!; rm device socket
 
 A refused call raises OSError with the error number of the manual page: BlockingIOError for EAGAIN,
-FileNotFoundError for ENOENT, PermissionError for EACCES and EPERM, and so on. If the connection ends it is a ConnectionError.
+FileNotFoundError for ENOENT, PermissionError for EACCES and EPERM, and so on. If the connection ends
+it is a ConnectionError.
+
+Without IPC_NOWAIT msgsnd waits until the queue has room, and msgrcv until there is a message for it.
+If the queue is removed meanwhile that is an OSError with EIDRM. After `timeout` seconds, if they are
+given, the client interrupts its call, which raises InterruptedError then (EINTR).
+
+    try:
+        mtype, mtext = connection.msgrcv(queue, 64, timeout=2.5)
+    except InterruptedError:
+        print("no message yet")
+
+A signal handler or another thread may interrupt the call that waits, by `interrupt`. After an
+exception that broke a wait off, as KeyboardInterrupt does, the call still waits: `interrupt` ends it,
+and `receive` gives its reply, which may be a message that came first.
 
 A client that need not wait for each reply sends some requests ahead, and then receives the replies,
-which come in the same order.
+which come in the same order if no call waits.
 
     for text in texts:
-        connection.send(msgsnd_request(queue, 5, text))
+        connection.send(msgsnd_request(queue, 5, text, IPC_NOWAIT))
     for text in texts:
         serial, errno, body = connection.receive()
 
@@ -41,6 +55,7 @@ import os
 import select
 import socket
 import struct
+import time
 from typing import NamedTuple
 
 IPC_PRIVATE = 0
@@ -109,7 +124,8 @@ class Connection:
     """A connection to a server. It is a process once it has said hello, until it is closed."""
 
     def __init__(self, path: str, timeout: float | None = None) -> None:
-        """Connects to a socket. A wait of over `timeout` seconds raises TimeoutError."""
+        """Connects to a socket. A call without a reply for `timeout` seconds is interrupted, and a
+        server that does not answer for as long raises TimeoutError."""
         self._socket = socket.socket(socket.AF_UNIX, socket.SOCK_STREAM)
         try:
             self._socket.connect(path)
@@ -117,10 +133,10 @@ class Connection:
             self._socket.close()
             raise
         self._socket.setblocking(False)
-        self._timeout = None if timeout is None else 1000 * timeout
-        self._ready = select.poll()
+        self._timeout = timeout
         self._read = bytearray()
         self._serial = 0
+        self._interrupts: set[int] = set()
 
     def __enter__(self) -> Connection:
         return self
@@ -137,20 +153,25 @@ class Connection:
         return _number(self.call(hello_request(uid, gid)))
 
     def interrupt(self) -> None:
-        """Ends the call that waits; none waits yet, so this only waits for the reply."""
-        self.call(interrupt_request())
+        """Ends the call that waits, if one does: its reply is EINTR then. Nobody has to receive the
+        reply to this itself."""
+        self._interrupts.add(self.send(interrupt_request()))
 
     def msgget(self, key: int, msgflg: int) -> int:
         """The identifier of the queue with this key, see msgget(2)."""
         return _number(self.call(msgget_request(key, msgflg)))
 
-    def msgsnd(self, msqid: int, mtype: int, mtext: bytes, msgflg: int = 0) -> None:
+    def msgsnd(
+        self, msqid: int, mtype: int, mtext: bytes, msgflg: int = 0, timeout: float | None = None
+    ) -> None:
         """Appends a message to the queue, see msgop(2)."""
-        self.call(msgsnd_request(msqid, mtype, mtext, msgflg))
+        self.call(msgsnd_request(msqid, mtype, mtext, msgflg), timeout)
 
-    def msgrcv(self, msqid: int, msgsz: int, msgtyp: int = 0, msgflg: int = 0) -> tuple[int, bytes]:
+    def msgrcv(
+        self, msqid: int, msgsz: int, msgtyp: int = 0, msgflg: int = 0, timeout: float | None = None
+    ) -> tuple[int, bytes]:
         """Takes a message off the queue: its type and its text, see msgop(2)."""
-        body = self.call(msgrcv_request(msqid, msgsz, msgtyp, msgflg))
+        body = self.call(msgrcv_request(msqid, msgsz, msgtyp, msgflg), timeout)
         return struct.unpack(">q", body[:8])[0], body[8:]
 
     def msgctl_stat(self, msqid: int) -> QueueStat:
@@ -166,10 +187,15 @@ class Connection:
         """Removes a queue with its messages, IPC_RMID of msgctl(2)."""
         self.call(msgctl_rmid_request(msqid))
 
-    def call(self, request: bytes) -> bytes:
-        """Sends a request, and answers the body of its reply. All earlier replies were received."""
+    def call(self, request: bytes, timeout: float | None = None) -> bytes:
+        """Sends a request, and answers the body of its reply. All earlier replies were received. After
+        `timeout` seconds it is interrupted: the reply is EINTR then, or one that came first."""
         serial = self.send(request)
-        answered, error, body = self.receive()
+        try:
+            answered, error, body = self.receive(timeout)
+        except TimeoutError:
+            self.interrupt()
+            answered, error, body = self.receive()
         if answered not in (serial, 0):
             raise RuntimeError("a call, while an earlier reply is still to be received")
         if error:
@@ -178,15 +204,24 @@ class Connection:
 
     def send(self, request: bytes) -> int:
         """Sends a request, and answers its serial. Its reply is one of the next to be received."""
-        self._serial = self._serial % 0xFFFFFFFF + 1
-        self._write(struct.pack(">II", 4 + len(request), self._serial) + request)
-        return self._serial
+        serial = self._serial = self._serial % 0xFFFFFFFF + 1
+        self._write(struct.pack(">II", 4 + len(request), serial) + request)
+        return serial
 
-    def receive(self) -> tuple[int, int, bytes]:
-        """The next reply: its serial, its error number, which is 0 for success, and its body."""
-        (length,) = struct.unpack(">I", self._take(4))
-        serial, error = struct.unpack(">IH", self._take(6))
-        return serial, error, self._take(length - 6)
+    def receive(self, timeout: float | None = None) -> tuple[int, int, bytes]:
+        """The next reply: its serial, its error number, which is 0 for success, and its body. Without
+        one for `timeout` seconds it raises TimeoutError; it may still come."""
+        end = self._end(timeout)
+        while True:
+            self._fill(4, end)
+            size = 4 + int.from_bytes(self._read[:4], "big")
+            self._fill(size, end)
+            serial, error = struct.unpack(">IH", self._read[4:10])
+            body = bytes(self._read[10:size])
+            del self._read[:size]
+            if error or serial not in self._interrupts:
+                return serial, error, body
+            self._interrupts.remove(serial)
 
     def _write(self, data: bytes) -> None:
         """Writes all of this, and reads while the socket takes no more."""
@@ -195,29 +230,32 @@ class Connection:
             try:
                 rest = rest[self._socket.send(rest) :]
             except BlockingIOError:
-                if self._wait(select.POLLIN | select.POLLOUT) & select.POLLIN:
-                    self._fill()
+                if self._wait(select.POLLIN | select.POLLOUT, self._end()) & select.POLLIN:
+                    self._read_more()
 
-    def _take(self, size: int) -> bytes:
-        """The next so many bytes that the server has sent."""
+    def _fill(self, size: int, end: float | None) -> None:
+        """Reads until so many bytes are there."""
         while len(self._read) < size:
-            self._wait(select.POLLIN)
-            self._fill()
-        data = bytes(self._read[:size])
-        del self._read[:size]
-        return data
+            self._wait(select.POLLIN, end)
+            self._read_more()
 
-    def _fill(self) -> None:
+    def _read_more(self) -> None:
         """Reads what has come."""
         data = self._socket.recv(65536)
         if not data:
             raise ConnectionResetError(errno.ECONNRESET, "the server has ended the connection")
         self._read += data
 
-    def _wait(self, events: int) -> int:
+    def _end(self, timeout: float | None = None) -> float | None:
+        """When a wait that begins now is over: after these seconds, or else those of the connection."""
+        seconds = self._timeout if timeout is None else timeout
+        return None if seconds is None else time.monotonic() + seconds
+
+    def _wait(self, events: int, end: float | None) -> int:
         """Waits for one of these events of the socket, and answers those that have come."""
-        self._ready.register(self._socket, events)
-        for _, came in self._ready.poll(self._timeout):
+        ready = select.poll()
+        ready.register(self._socket, events)
+        for _, came in ready.poll(None if end is None else 1000 * max(0, end - time.monotonic())):
             return came
         raise TimeoutError("the server does not answer")
 

@@ -53,18 +53,13 @@ from server import (  # noqa: E402
     run_tests,
     serving,
     until,
+    until_it_waits,
 )
-from client import IPC_CREAT, hello_request, msgrcv_request, msgsnd_request  # noqa: E402
-from watch import OPEN, TURN, Call, build, calls, follows, order, watched  # noqa: E402
+from client import IPC_CREAT, IPC_NOWAIT, hello_request, msgrcv_request, msgsnd_request  # noqa: E402
+from watch import OPEN, TURN, Call, build, calls, follows, order, turns_of, watched  # noqa: E402
 
 LONGEST = 100  # milliseconds
 PIECE = 64  # sectors
-
-
-def turns_of(them: list[Call]) -> list[list[Call]]:
-    """The calls of each turn that has ended, from its wait on."""
-    starts = [at for at, call in enumerate(them) if call.name == "epoll_wait"]
-    return [them[here:there] for here, there in zip(starts, starts[1:])]
 
 
 # ---- turns
@@ -72,7 +67,8 @@ def turns_of(them: list[Call]) -> list[list[Call]]:
 
 def turns_that_are_idle() -> None:
     """Each waits for 100 ms, and makes two writes and two syncs: ten turns and twenty syncs a second. So do those
-    of a server whose clients are silent, be they processes or not, also in the midst of a request."""
+    of a server whose clients are silent, be they processes or not, also in the midst of a request, and while a call
+    of them waits."""
     printed("format", "device", "--small")
     with watched():
         Server("--turns", "5", limits="small").ends(0)
@@ -85,7 +81,8 @@ def turns_that_are_idle() -> None:
         clients[2].send_bytes(frame(9, hello_request(1, 1))[:-1])
         clients[3].send_bytes(b"\0")
         # The server takes what came before a reply, or in the next turn.
-        clients[1].msgget(1, IPC_CREAT | 0o600)
+        queue = clients[1].msgget(1, IPC_CREAT | 0o600)
+        until_it_waits(clients[1], msgrcv_request(queue, 64))
         seen = len(turns_of(calls()))
         until(lambda: len(turns_of(calls())) >= seen + 12, "the server makes no turns")
         idle = turns_of(calls())[seen + 4 :]
@@ -124,7 +121,7 @@ def waits() -> None:
     printed("format", "device")
     with watched(most=0), serving() as server, process() as client:
         queue = client.msgget(1, IPC_CREAT | 0o600)
-        send = frame(7, msgsnd_request(queue, 1, b"x" * 8192))
+        send = frame(7, msgsnd_request(queue, 1, b"x" * 8192, IPC_NOWAIT))
         server.process.send_signal(signal.SIGSTOP)
         os.waitid(os.P_PID, server.process.pid, os.WSTOPPED)
         client.send_bytes(10 * send)
@@ -257,7 +254,7 @@ def queues_at_their_bounds() -> None:
     Path("device").write_bytes(image)
     with watched(most=0), serving(), process() as client:
         for number, messages in BOUNDS.items():
-            client.send(msgsnd_request(number, 1, b"x"))
+            client.send(msgsnd_request(number, 1, b"x", IPC_NOWAIT))
             check(client.receive()[1] == errno.EAGAIN, f"queue {number} is not full")
             check(client.msgrcv(number, 8192) == messages[0], f"queue {number} has another first message")
             client.msgsnd(number, *messages[0])

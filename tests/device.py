@@ -23,15 +23,20 @@ from typing import Generator, Iterator
 
 sys.dont_write_bytecode = True
 
-from device_damage import (  # noqa: E402
+from device_calls import (  # noqa: E402
+    FULL,
     SENDING,
     TAKING,
+    as_many_calls_as_may_be,
     calls,
+    holding,
+    with_calls,
+)
+from device_damage import (  # noqa: E402
     connections,
     damages,
     each_byte,
     free_bytes,
-    holding,
     long_objects,
     longest,
     no_states,
@@ -57,6 +62,7 @@ from device_layout import (  # noqa: E402
     Device,
     Limits,
     Queue,
+    Waiting,
     area,
     area_of,
     batch,
@@ -427,12 +433,61 @@ def open_that_saves() -> None:
 
 def open_with_calls() -> None:
     """No call waits after an open, and the queue is as it was."""
-    queues = {1: GOOD_QUEUE}
-    them = processes((1, 1000, 100), (2, 1000, 100))
-    device = holding(state(clock(9, 3, 2), them, queues, {}, waits(SENDING, TAKING)))
+    device = holding(with_calls(waits(SENDING, TAKING)))
     wanted = device.copy().journal(1, batch(RESTART))
-    wanted.save(2, 1, state(clock(9, 3, 2), processes(), queues))
+    wanted.save(2, 1, state(clock(9, 5, 2), processes(), {1: FULL}))
     runs(device, ["save"], [], wanted, "an open with calls that wait")
+
+
+def journal_with_calls() -> None:
+    """The events of the journal lead on from calls that wait. Process 5 takes a message, so the send goes on that waits
+    first, and then a receive. Process 3 is interrupted, waits again, and leaves."""
+    them = (SENDING, Waiting(3, msgrcv(5, 1, 64, 6, 0)), TAKING)
+    device = holding(with_calls(waits(*them), FULL, (1, 2, 3)))
+    first = batch(tick(20), connect(20, 1, 1000, 100), request(20, 5, msgrcv(2, 1, 64, 5)))
+    second = batch(interrupted(30, 3, 6), request(31, 3, msgrcv(7, 1, 64, 8, 0)), leave(32, 3))
+    sent = [request(33, 5, msgsnd(3, 1, 8, b"a")), request(40, 1, msgsnd(9, 1, 6, b"b"))]
+    third = batch(*sent, request(41, 2, msgsnd(9, 1, 6, b"too many")))
+    device.journal(1, first, second, third)
+    queue = Queue(1234, ((8, b"a"), (6, b"b")), times=(40, 20, 0), pids=(1, 1), qbytes=2)
+    opens(device.image, row(1, queue), "a journal with calls that wait")
+    wanted = device.copy().journal(1, first, second, third, batch(RESTART))
+    wanted.save(2, 1, state(clock(41, 6, 2), processes(), {1: queue}))
+    runs(device, ["save"], [], wanted, "a journal with calls that wait, and a save")
+
+
+def save_with_calls() -> None:
+    """Calls are saved in the order in which they came, and their requests are in the journal like all others: those
+    refused meanwhile, an INTERRUPT, and that a client has gone."""
+    waiting = [Waiting(3, msgrcv(5, 1, 64, 7, 0)), Waiting(1, msgsnd(6, 1, 9, b"six", 0))]
+    waiting.append(Waiting(2, msgrcv(7, 1, 64, 8, 0)))
+    script = ["0 open 1", "0 open 2", "0 open 3", "0 open 4"]
+    script += [sends(0, number, hello(number)) for number in (1, 2, 3, 4)]
+    script += [sends(1, 1, msgget(2, 1234)), sends(2, 1, msgsnd(3, 1, 5, 64 * b"x"), msgsnd(4, 1, 5, 64 * b"y"))]
+    script += [sends(3, one.pid, one.frame) for one in waiting]
+    script += [sends(4, 4, msgrcv(8, 1, 64, 7, 0)), sends(4, 3, msgget(9, 5)), sends(5, 2, interrupt(10))]
+    script += ["6 end 4", "save", sends(7, 2, msgrcv(11, 1, 64, 9, 0)), "save"]
+    printed = [numbered(number, number, number) for number in (1, 2, 3, 4)]
+    printed += [numbered(1, 2, 1), errored(1, 3, 0), errored(1, 4, 0)]
+    printed += [errored(3, 9, 114), errored(2, 7, 4), errored(2, 10, 0)]
+
+    asked = (request(2, 1, msgsnd(3, 1, 5, 64 * b"x")), request(2, 1, msgsnd(4, 1, 5, 64 * b"y")))
+    batches = [batch(RESTART)]
+    batches += [batch(tick(0), connect(0, number, 1000, 100)) for number in (1, 2, 3, 4)]
+    batches += [batch(tick(1), request(1, 1, msgget(2, 1234))), batch(tick(2), *asked)]
+    batches += [batch(tick(3), request(3, one.pid, one.frame)) for one in waiting]
+    batches += [batch(tick(4), request(4, 4, msgrcv(8, 1, 64, 7, 0))), batch(tick(4), request(4, 3, msgget(9, 5)))]
+    batches += [batch(tick(5), interrupted(5, 2, 10)), batch(tick(6), leave(6, 4))]
+    queue = Queue(1234, ((5, 64 * b"x"), (5, 64 * b"y")), times=(2, 0, 1), pids=(1, 0))
+    three = processes(*((pid, 1000, 100) for pid in (1, 2, 3)))
+    wanted = Device().journal(1, *batches)
+    wanted.save(2, 1, state(clock(6, 5, 2), three, {1: queue}, {}, waits(*waiting[:2])))
+    last = Waiting(2, msgrcv(11, 1, 64, 9, 0))
+    wanted.put(BODY, 0, batch(tick(7), request(7, 2, last.frame)).ljust(SECTOR, b"\0"))
+    wanted.put(JOURNAL, 0, header(2, 1))
+    wanted.save(3, 0, state(clock(7, 5, 2), three, {1: queue}, {}, waits(*waiting[:2], last)))
+    runs(Device(), script, printed, wanted, "saves while calls wait")
+    opens(wanted.image, row(1, queue), "calls that were saved")
 
 
 def journal_of_all() -> None:
@@ -491,13 +546,15 @@ def checks() -> Generator[Check, None, None]:
     # The longest first.
     yield save_of_much
     yield largest
+    yield as_many_calls_as_may_be
     yield from formats()
     yield from (shows, keeps_owners, no_more_pids, events, long_text, save, save_of_nothing)
     yield partial(last_commit, 512, True)
     yield partial(last_commit, 513, False)
     yield many_ticks
     yield from (partial(many_opens, opens_made) for opens_made in (1, 256, 257, 300))
-    yield from (open_that_saves, open_with_calls, journal_of_all, last_save, last_sector, last_turn)
+    yield from (open_that_saves, open_with_calls, journal_with_calls, save_with_calls, journal_of_all)
+    yield from (last_save, last_sector, last_turn)
     yield from superblocks()
     yield from sizes()
     yield from damages()

@@ -9,6 +9,7 @@ import itertools
 from functools import partial
 from typing import Iterator
 
+from device_calls import Objects, holding
 from device_layout import (
     JOURNAL,
     LAST_NUMBER,
@@ -23,7 +24,6 @@ from device_layout import (
     Limits,
     Queue,
     Set,
-    Waiting,
     batch,
     clock,
     connect,
@@ -43,7 +43,6 @@ from device_layout import (
     state,
     superblock,
     tick,
-    waits,
 )
 from device_runs import (
     EXIT_RECORD,
@@ -395,13 +394,6 @@ def turned() -> Iterator[Check]:
 
 # ---- objects that stand for no state
 
-Objects = list[tuple[int, bytes]]
-
-
-def holding(objects: Objects) -> Device:
-    return Device().save(1, 0, objects)
-
-
 def objects_with(
     number: int = 9,
     at: int = 0,
@@ -446,58 +438,6 @@ NO_STATE: tuple[tuple[int, int, int], ...] = (
     (5, 43, 0),  # no semaphore
     (5, 44, 0x80),  # a value of 32770
 )
-
-
-# A send and a receive that wait, in the order in which they came.
-SENDING = Waiting(2, msgsnd(7, 1, 5, b"hi", 0))
-TAKING = Waiting(1, msgrcv(8, 1, 64, 0, 0))
-
-
-def with_calls(calls: bytes) -> Objects:
-    """Four processes, a queue, and these calls that wait."""
-    them = processes(*((pid, 0, 0) for pid in (1, 2, 3, 4)))
-    return state(clock(9, 5, 2), them, {1: Queue(1234)}, {}, calls)
-
-
-def unsound_calls() -> Iterator[tuple[str, Objects]]:
-    """Calls that may not wait, each after one that may."""
-    for name, one in {
-        "two calls of one process": Waiting(2, TAKING.frame),
-        "a call with a deadline": Waiting(1, TAKING.frame, 9),
-        "a call with the last deadline": Waiting(1, TAKING.frame, 2**64 - 2),
-        "a msgget that waits": Waiting(1, msgget(8, 1000)),
-        "a HELLO that waits": Waiting(1, hello(8)),
-        "an INTERRUPT that waits": Waiting(1, interrupt(8)),
-        "a call with serial 0": Waiting(1, msgrcv(0, 1)),
-        "a call without a frame": Waiting(1, b""),
-        "a frame a byte too short": Waiting(1, TAKING.frame[:-1]),
-        "a frame a byte too long": Waiting(1, TAKING.frame + b"\0"),
-        "a frame of 8449 bytes": Waiting(1, msgsnd(8, 1, 1, 8428 * b"\7", 0)),
-    }.items():
-        yield name, with_calls(waits(SENDING, one))
-    more = [Waiting(pid, TAKING.frame) for pid in (1, 2, 3, 4, 5)]
-    yield "five calls", with_calls(waits(*more))
-    data = waits(SENDING, TAKING)
-    yield "a byte less than two calls", with_calls(data[:-1])
-    yield "a byte more than two calls", with_calls(data + b"\0")
-    for at, byte in ((3, 1), (3, 3), (19, 22), (19, 24), (58, 26)):
-        yield f"byte {at} of two calls is {byte}", with_calls(
-            data[:at] + bytes([byte]) + data[at + 1 :]
-        )
-
-
-def calls() -> Iterator[Check]:
-    """Calls that wait, up to one of each process; no open goes on with one."""
-    long = Waiting(3, msgsnd(9, 1, 1, 8427 * b"\7", 0))
-    for name, them in {
-        "a send": (SENDING,),
-        "a receive": (TAKING,),
-        "both": (SENDING, TAKING),
-        "four calls": (SENDING, TAKING, long, Waiting(4, TAKING.frame)),
-    }.items():
-        yield partial(opens, holding(with_calls(waits(*them))).image, GOOD_LISTED, f"{name} waits")
-    for name, objects in unsound_calls():
-        yield partial(refuses, holding(objects).image, "damaged sector 1", name)
 
 
 def unsound() -> Iterator[tuple[str, Objects]]:

@@ -19,6 +19,9 @@ QUEUE_KIND = 4294967296
 SET_KIND = 2 * QUEUE_KIND
 NONE = bytes(4)
 NO_DEADLINE = 2**64 - 1
+IPC_NOWAIT, MSG_NOERROR, MSG_EXCEPT = 0x800, 0x1000, 0x2000
+# A user and a group.
+Cred = tuple[int, int]
 
 # ---- limits and sizes
 
@@ -143,12 +146,14 @@ def msgget(serial: int, key: int, flags: int = 0x380) -> bytes:
     return struct.pack(">IBiI", serial, 0x0A, key, flags)
 
 
-def msgsnd(serial: int, queue: int, mtype: int, text: bytes, flags: int = 0x800) -> bytes:
+def msgsnd(
+    serial: int, queue: int, mtype: int, text: bytes, flags: int = IPC_NOWAIT
+) -> bytes:
     return struct.pack(">IBIIq", serial, 0x0B, queue, flags, mtype) + text
 
 
 def msgrcv(
-    serial: int, queue: int, size: int = 64, mtype: int = 0, flags: int = 0x800
+    serial: int, queue: int, size: int = 64, mtype: int = 0, flags: int = IPC_NOWAIT
 ) -> bytes:
     return struct.pack(">IBIIIq", serial, 0x0C, queue, flags, size, mtype)
 
@@ -181,12 +186,37 @@ def waits(*calls: Waiting) -> bytes:
 class Queue(NamedTuple):
     key: int
     messages: tuple[tuple[int, bytes], ...] = ()
-    owner: tuple[int, int] = (1000, 100)
-    creator: tuple[int, int] = (1000, 100)
+    owner: Cred = (1000, 100)
+    creator: Cred = (1000, 100)
     mode: int = 0o600
     times: tuple[int, int, int] = (0, 0, 0)
     pids: tuple[int, int] = (0, 0)
     qbytes: int = 128
+
+    def held(self) -> int:
+        """How many bytes of text."""
+        return sum(len(text) for _, text in self.messages)
+
+    def gives(self, cred: Cred, bits: int) -> bool:
+        """Whether it gives this permission: 4 to read, 2 to write."""
+        uid, gid = cred
+        if uid in (self.owner[0], self.creator[0]):
+            shift = 6
+        else:
+            shift = 3 if gid in (self.owner[1], self.creator[1]) else 0
+        return uid == 0 or self.mode >> shift & bits == bits
+
+    def is_full_for(self, text: bytes) -> bool:
+        return max(self.held() + len(text), len(self.messages) + 1) > self.qbytes
+
+    def has_one_for(self, wanted: int, flags: int) -> bool:
+        """Whether it has a message that a receive of this type may take."""
+        types = [mtype for mtype, _ in self.messages]
+        if wanted < 0:
+            return any(mtype <= -wanted for mtype in types)
+        if wanted > 0 and flags & MSG_EXCEPT:
+            return any(mtype != wanted for mtype in types)
+        return wanted in types or (wanted == 0 and types != [])
 
     def data(self) -> bytes:
         parts = [struct.pack(">qI", mtype, len(text)) + text for mtype, text in self.messages]
@@ -203,8 +233,8 @@ class Set(NamedTuple):
 
     key: int
     semaphores: tuple[tuple[int, int], ...] = ((0, 0),)
-    owner: tuple[int, int] = (1000, 100)
-    creator: tuple[int, int] = (1000, 100)
+    owner: Cred = (1000, 100)
+    creator: Cred = (1000, 100)
     mode: int = 0o600
     times: tuple[int, int] = (0, 0)
 
@@ -331,49 +361,69 @@ def read_clock(data: bytes) -> tuple[int, int, int]:
     return pid, queue, one_set
 
 
-def read_processes(data: bytes, limits: Limits, next_pid: int) -> set[int]:
+def read_processes(data: bytes, limits: Limits, next_pid: int) -> dict[int, Cred]:
+    """The processes by pid."""
     (count,) = struct.unpack(">I", data[:4].ljust(4, b"\0"))
     demand(len(data) == 4 + 16 * count and count <= limits.processes, ROOT)
     before = 0
-    pids = set()
+    them = {}
     for at in range(4, len(data), 16):
-        pid, _, _, descriptors = struct.unpack(">IIII", data[at : at + 16])
+        pid, uid, gid, descriptors = struct.unpack(">IIII", data[at : at + 16])
         demand(before < pid < next_pid and descriptors == 0, ROOT)
-        pids.add(pid)
+        them[pid] = (uid, gid)
         before = pid
-    return pids
+    return them
 
 
-def read_waits(data: bytes, limits: Limits) -> None:
+def read_waits(data: bytes, limits: Limits) -> dict[int, bytes]:
+    """The frames of the calls that wait, by pid."""
     demand(len(data) >= 4, ROOT)
     (count,) = struct.unpack(">I", data[:4])
     demand(count <= limits.processes, ROOT)
     at = 4
-    pids: set[int] = set()
+    them: dict[int, bytes] = {}
     for _ in range(count):
         demand(at + 16 <= len(data), ROOT)
         pid, deadline, length = struct.unpack(">IQI", data[at : at + 16])
         frame = data[at + 16 : at + 16 + length]
         demand(len(frame) == length and is_request(frame) and frame[4] in (0x0B, 0x0C), ROOT)
-        demand(pid not in pids and deadline == NO_DEADLINE, ROOT)
-        pids.add(pid)
+        demand(pid not in them and deadline == NO_DEADLINE, ROOT)
+        them[pid] = frame
         at += 16 + length
     demand(at == len(data), ROOT)
+    return them
 
 
-def read_queue(data: bytes, limits: Limits) -> int:
-    """Its key."""
+def read_queue(data: bytes, limits: Limits) -> Queue:
     demand(len(data) >= 64, ROOT)
-    key, mode, qbytes, count = struct.unpack(">i16xI32xII", data[:64])
+    key, uid, gid, cuid, cgid, mode, *times = struct.unpack(">iIIIIIQQQ", data[:48])
+    *pids, qbytes, count = struct.unpack(">IIII", data[48:64])
     demand(mode < 0o1000 and max(qbytes, count) <= limits.msgmnb, ROOT)
-    at, total = 64, 0
+    at, messages = 64, []
     for _ in range(count):
         demand(at + 12 <= len(data), ROOT)
         mtype, length = struct.unpack(">qI", data[at : at + 12])
-        at, total = at + 12 + length, total + length
-        demand(mtype > 0 and length <= limits.msgmax and at <= len(data), ROOT)
-    demand(at == len(data) and total <= limits.msgmnb, ROOT)
-    return key
+        text = data[at + 12 : at + 12 + length]
+        demand(mtype > 0 and len(text) == length <= limits.msgmax, ROOT)
+        messages.append((mtype, text))
+        at += 12 + length
+    queue = Queue(key, tuple(messages), (uid, gid), (cuid, cgid), mode, tuple(times), tuple(pids), qbytes)
+    demand(at == len(data) and queue.held() <= limits.msgmnb, ROOT)
+    return queue
+
+
+def has_to_wait(frame: bytes, cred: Cred, queues: dict[int, Queue], limits: Limits) -> bool:
+    """Whether a call of this user and group, tried now, would neither be done nor refused."""
+    opcode, number, flags = struct.unpack(">BII", frame[4:13])
+    queue = queues.get(number)
+    if queue is None or flags & IPC_NOWAIT:
+        return False
+    if opcode == 0x0B:
+        (mtype,), text = struct.unpack(">q", frame[13:21]), frame[21:]
+        is_right = mtype > 0 and len(text) <= limits.msgmax
+        return is_right and queue.gives(cred, 2) and queue.is_full_for(text)
+    size, mtype = struct.unpack(">Iq", frame[13:25])
+    return size <= 2147483647 and queue.gives(cred, 4) and not queue.has_one_for(mtype, flags)
 
 
 def read_set(data: bytes, limits: Limits) -> tuple[int, int]:
@@ -386,25 +436,36 @@ def read_set(data: bytes, limits: Limits) -> tuple[int, int]:
     return key, count
 
 
+def are_sound(
+    calls: dict[int, bytes], creds: dict[int, Cred], queues: dict[int, Queue], limits: Limits
+) -> bool:
+    """Each call that waits is of a process, and has to."""
+    return all(
+        pid in creds and has_to_wait(frame, creds[pid], queues, limits) for pid, frame in calls.items()
+    )
+
+
 def read_state(objects: list[tuple[int, bytes]], limits: Limits) -> tuple[int, set[int]]:
     """The next pid, and the processes that are connected."""
     demand([number for number, _ in objects[:4]] == [0, 1, 2, 3], ROOT)
     next_pid, next_queue, next_set = read_clock(objects[0][1])
-    pids = read_processes(objects[1][1], limits, next_pid)
-    read_waits(objects[2][1], limits)
+    creds = read_processes(objects[1][1], limits, next_pid)
+    calls = read_waits(objects[2][1], limits)
     demand(objects[3][1] == NONE, ROOT)
     queues = [one for one in objects[4:] if one[0] < SET_KIND]
     sets = objects[4 + len(queues) :]
     demand(len(queues) <= limits.msgmni and len(sets) <= limits.semmni, ROOT)
     demand(all(0 < number - QUEUE_KIND < next_queue for number, _ in queues), ROOT)
-    keys = [key for _, data in queues if (key := read_queue(data, limits))]
+    by_number = {number - QUEUE_KIND: read_queue(data, limits) for number, data in queues}
+    keys = [queue.key for queue in by_number.values() if queue.key]
     demand(len(keys) == len(set(keys)), ROOT)
+    demand(are_sound(calls, creds, by_number, limits), ROOT)
     demand(all(0 < number - SET_KIND < next_set for number, _ in sets), ROOT)
     found = [read_set(data, limits) for _, data in sets]
     demand(sum(count for _, count in found) <= limits.semmns, ROOT)
     keys = [key for key, _ in found if key]
     demand(len(keys) == len(set(keys)), ROOT)
-    return next_pid, pids
+    return next_pid, set(creds)
 
 
 def is_request(frame: bytes) -> bool:

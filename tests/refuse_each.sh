@@ -1,22 +1,23 @@
 #!/bin/sh
 # Programs with their first allocation refused, then with their second, and so on, until a run has no more of them.
 #
-#     sh tests/refuse_each.sh TEST_PROGRAM MODULE IPCD SCRIPT
+#     sh tests/refuse_each.sh TEST_PROGRAM MODULE IPCD SCRIPT..
 #
-# Each test of MODULE in TEST_PROGRAM passes whichever allocation is refused. `IPCD replay --small` on SCRIPT, a line of which
-# holds one request at most, either says that there is no memory, with status 1, or writes all that it writes with ample
-# memory, or refuses one request: then it writes that request's ENOMEM frame, and all else as on the script without it.
+# Each test of MODULE in TEST_PROGRAM passes whichever allocation is refused. `IPCD replay --small` on each SCRIPT, a line
+# of which holds one request at most, either says that there is no memory, with status 1, or writes all that it writes with
+# ample memory, or refuses one request: then it writes that request's ENOMEM frame, and all else as on the script without it.
 #
 # It needs a C compiler; without one it says so and ends well. The programs are built once, and a run takes
 # milliseconds. More than 20 seconds are a hang.
 
 set -eu
 
-usage="usage: sh tests/refuse_each.sh TEST_PROGRAM MODULE IPCD SCRIPT"
+usage="usage: sh tests/refuse_each.sh TEST_PROGRAM MODULE IPCD SCRIPT.."
 tests=${1:?$usage}
 module=${2:?$usage}
 ipcd=${3:?$usage}
-script=${4:?$usage}
+: "${4:?$usage}"
+shift 3
 folder=${TMPDIR:-/tmp}/ipcd-refuse.$$
 runs=0
 
@@ -47,27 +48,19 @@ refuse() {
 	fi
 }
 
-# The number of the first line in which two files differ.
-first_difference() {
-	awk -v other="$2" '
-		{ more = getline line < other }
-		more <= 0 || line != $0 { print NR; differs = 1; exit }
-		END { if (!differs) print NR + 1 }' "$1"
-}
-
 # Checks the output of a replay that was refused memory and went on. It is the ample one, if the program found another
-# way. Else its first line that differs from that is the ENOMEM frame (errno 12) of the same request, and the others are
-# those of the script without that request.
+# way. Else one line is an ENOMEM frame (errno 12), and the others are those of the script without that request.
 check_replay() {
 	if cmp -s "$folder/out" "$folder/ample"; then
 		return
 	fi
-	at=$(first_difference "$folder/ample" "$folder/out")
-	frame=$(sed -n "${at}p" "$folder/ample")
+	at=$(awk '$2 ~ /^00000006........000c$/ { print NR }' "$folder/out")
+	[ "$(echo "$at" | wc -w)" -eq 1 ] || fail "it has not one ENOMEM frame, but lines $at"
+	frame=$(sed -n "${at}p" "$folder/out")
 	conn=${frame%% *}
 	serial=$(printf '%s\n' "${frame#* }" | cut -c 9-16)
-	[ "$(sed -n "${at}p" "$folder/out")" = "$conn 00000006${serial}000c" ] || fail "line $at is no ENOMEM frame"
-	grep -v "^[0-9]* data $conn ........$serial" "$script" > "$folder/less" || true
+	grep -v "^[0-9]* data $conn ........$serial" "$folder/in" > "$folder/less" || true
+	cmp -s "$folder/less" "$folder/in" && fail "line $at answers no request"
 	"$ipcd" replay --small < "$folder/less" > "$folder/wanted" || fail "the script without line $at's request fails"
 	sed "${at}d" "$folder/out" | cmp -s - "$folder/wanted" || fail "more than one request is answered otherwise"
 }
@@ -91,20 +84,22 @@ for name in $("$tests" --list | sed -n "s/^\\($module::.*\\): test\$/\\1/p"); do
 done
 of_tests=$runs
 
-"$ipcd" replay --small < "$script" > "$folder/ample" || exit 1
-cp "$script" "$folder/in"
-call=1
-refuse "$ipcd" replay --small
-while [ "$met" = yes ]; do
-	case $status in
-	0) check_replay ;;
-	1) [ "$(cat "$folder/err")" = "ipcd: no memory" ] || fail "status 1 without its message" ;;
-	*) fail "status $status" ;;
-	esac
-	call=$((call + 1))
+for script in "$@"; do
+	cp "$script" "$folder/in"
+	"$ipcd" replay --small < "$folder/in" > "$folder/ample" || exit 1
+	call=1
 	refuse "$ipcd" replay --small
+	while [ "$met" = yes ]; do
+		case $status in
+		0) check_replay ;;
+		1) [ "$(cat "$folder/err")" = "ipcd: no memory" ] || fail "status 1 without its message" ;;
+		*) fail "status $status" ;;
+		esac
+		call=$((call + 1))
+		refuse "$ipcd" replay --small
+	done
+	cmp -s "$folder/out" "$folder/ample" || fail "the output differs though nothing was refused"
 done
-cmp -s "$folder/out" "$folder/ample" || fail "the output differs though nothing was refused"
 
 if [ "$of_tests" -eq 0 ] || [ "$runs" -eq "$of_tests" ]; then
 	echo "refuse_each: a program took no memory that could be refused: is it linked dynamically?" >&2

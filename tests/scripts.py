@@ -120,6 +120,12 @@ RECEIVE = Call(
 RECEIVE_AGAIN = Call(
     "00000019000000050c0000000100000800000000400000000000000000", "1 0000000600000005002a\n"
 )
+# The same, which waits while the queue is empty; an INTERRUPT, which answers it EINTR, 4, and then itself; what a
+# request is answered meanwhile, EALREADY, 114; and an INTERRUPT that finds no call.
+WAITING = Call("00000019000000060c0000000100000000000000400000000000000000", "")
+INTERRUPT = Call("000000050000000702", "1 00000006000000060004\n1 00000006000000070000\n")
+ALREADY = Call("00000009000000080d00000001", "1 00000006000000080072\n")
+QUIET = Call("000000050000000902", "1 00000006000000090000\n")
 # A length of 0, one of 8449, which is one above the greatest, and an unknown opcode under serial 9.
 SHORT = Call("00000000", EPROTO)
 LONG = Call("00002101", EPROTO)
@@ -128,6 +134,8 @@ UNKNOWN = Call("0000000500000009ff", "1 00000006000000090047\n1 end\n")
 STREAMS = {
     "HELLO": [HELLO],
     "a first queue": [HELLO, GET, SEND, RECEIVE, RECEIVE_AGAIN],
+    "a call that waits": [HELLO, GET, WAITING, ALREADY, INTERRUPT, QUIET],
+    "a fault while a call waits": [HELLO, GET, WAITING, SHORT],
     "a length of 0 before HELLO": [SHORT],
     "a length of 0": [HELLO, SHORT],
     "a length above the greatest before HELLO": [LONG],
@@ -253,12 +261,17 @@ def msgrcv(serial: int, size: int) -> str:
     return frame(struct.pack(">IBIIIq", serial, 0x0C, 1, 0, size, 0))
 
 
-def replied(serial: int, error: int, body: bytes = b"") -> str:
-    return f"1 {frame(struct.pack('>IH', serial, error) + body)}\n"
+def msgctl_set(serial: int, qbytes: int) -> str:
+    """Queue 1 may hold so many bytes; all else of it stays."""
+    return frame(struct.pack(">IBIIIII", serial, 0x0E, 1, 1000, 100, 0o600, qbytes))
 
 
-def received(serial: int, text: bytes) -> str:
-    return replied(serial, 0, struct.pack(">q", 5) + text)
+def replied(serial: int, error: int, body: bytes = b"", conn: int = 1) -> str:
+    return f"{conn} {frame(struct.pack('>IH', serial, error) + body)}\n"
+
+
+def received(serial: int, text: bytes, conn: int = 1) -> str:
+    return replied(serial, 0, struct.pack(">q", 5) + text, conn)
 
 
 def long_messages() -> Iterator[Run]:
@@ -282,6 +295,37 @@ def more_connections_than_processes() -> Run:
     script += "0 end 9\n0 data 65 0000000d0000000201000003e800000064\n"
     output += "65 0000000a00000002000000000041\n"
     return Run("more connections than processes", script, output, ("replay",))
+
+
+# 63 that wait, and connection 64, which has made the queue; and in which order their calls come.
+COME = "".join(f"0 open {conn}\n0 data {conn} {HELLO.sent}\n" for conn in range(1, 65))
+COME += f"0 data 64 {GET.sent}\n"
+WELCOMED = "".join(welcome(conn, conn) for conn in range(1, 65)) + GET.answer.replace("1 ", "64 ", 1)
+ORDER = [conn * 5 % 64 for conn in range(1, 64)]
+
+
+def as_many_receives_as_may_wait() -> Run:
+    """The queue is removed, and each is EIDRM, 43, under its serial."""
+    script = COME + "".join(f"0 data {conn} {msgrcv(100 + conn, 8192)}\n" for conn in ORDER)
+    script += "0 tick\nsave\n0 data 64 00000009000000030f00000001\n"
+    output = WELCOMED + "".join(replied(100 + conn, 43, conn=conn) for conn in range(1, 64))
+    return Run("63 receives wait", script, output + replied(3, 0, conn=64), ("replay",))
+
+
+def as_many_sends_as_may_wait() -> Run:
+    """Each of the longest text. The queue may hold none of them, and then two: each receive lets the next one go on,
+    in the order in which they came."""
+    texts = {conn: bytes([conn]) * 8192 for conn in ORDER}
+    script = f"{COME}0 data 64 {msgctl_set(3, 0)}\n"
+    script += "".join(f"0 data {conn} {msgsnd(4, texts[conn])}\n" for conn in ORDER)
+    script += f"save\n0 data 64 {msgctl_set(5, 16384)}\n"
+    output = WELCOMED + replied(3, 0, conn=64)
+    output += "".join(replied(4, 0, conn=conn) for conn in sorted(ORDER[:2])) + replied(5, 0, conn=64)
+    for conn, then in zip(ORDER, [*ORDER[2:], 0, 0]):
+        script += f"0 data 64 {msgrcv(6, 8192)}\n"
+        output += replied(4, 0, conn=then) if then else ""
+        output += received(6, texts[conn], 64)
+    return Run("63 sends wait", script, output, ("replay",))
 
 
 def a_long_script() -> Run:
@@ -350,6 +394,29 @@ def a_full_journal() -> None:
     next_process("journal", 101)
 
 
+ONE_MESSAGE, _ = LISTING.splitlines(keepends=True)
+NO_MESSAGE = "msg          1        1234 0600       1000        100          0          0\n"
+
+
+def a_full_journal_while_a_call_waits() -> None:
+    """The lines fill the journal more than twice, so the call is saved. Then it is answered; or the run is over, and
+    after a restart nothing waits."""
+    come = sends(HELLO.sent, GET.sent, WAITING.sent) + f"0 open 2\n0 data 2 {HELLO.sent}\n"
+    come += 600 * "0 tick\n"
+    welcomed = HELLO.answer + GET.answer + welcome(2, 2)
+    new_device("waiting")
+    script = come + f"0 data 2 {SEND.sent}\n"
+    output = welcomed + received(6, b"hi") + replied(3, 0, conn=2)
+    Run("a call that was saved", script, output, ("run", "waiting")).passes()
+    Run("what it has taken", "", NO_MESSAGE, ("dump", "waiting")).passes()
+    new_device("waiting")
+    Run("a call at the end of a run", come, welcomed, ("run", "waiting")).passes()
+    script = sends(HELLO.sent, GET.sent, SEND.sent)
+    output = welcome(3) + GET.answer + SEND.answer
+    Run("a message in the next run", script, output, ("run", "waiting")).passes()
+    Run("it stays", "", ONE_MESSAGE, ("dump", "waiting")).passes()
+
+
 # How a script goes on after a message was sent, and what is said.
 ENDINGS = [
     ("", ""),
@@ -396,9 +463,11 @@ def main() -> None:
     all_cuts = [run for stream in STREAMS.items() for run in cuts(*stream)]
     all_cuts += beginnings("a first queue", STREAMS["a first queue"])
     # The longest come first.
-    others = [a_long_script(), more_connections_than_processes(), *long_messages(), *faults()]
+    others = [as_many_sends_as_may_wait(), as_many_receives_as_may_wait(), a_long_script()]
+    others += [more_connections_than_processes(), *long_messages(), *faults()]
     others += [marked(*stream) for stream in STREAMS.items()] + [a_number_used_again()]
     devices: list[Callable[[], None]] = [streams_that_fail, a_full_journal]
+    devices.append(a_full_journal_while_a_call_waits)
     devices += [partial(a_message_lasts, *ending) for ending in ENDINGS]
     jobs = [run.passes for run in others] + devices
     jobs += [partial(passes_slowly, row) for row in all_rows]

@@ -27,12 +27,15 @@ sys.dont_write_bytecode = True
 
 from server import (  # noqa: E402
     PROGRAM,
+    SEED,
     TIMEOUT,
     Client,
     Server,
+    Worker,
     check,
     drain,
     frame,
+    full_disk,
     in_a_folder,
     listing,
     printed,
@@ -45,6 +48,7 @@ from server import (  # noqa: E402
 )
 from client import (  # noqa: E402
     IPC_CREAT,
+    IPC_NOWAIT,
     Connection,
     hello_request,
     msgget_request,
@@ -52,7 +56,6 @@ from client import (  # noqa: E402
     msgsnd_request,
 )
 
-SEED = int(sys.argv[2]) if len(sys.argv) > 2 else random.randrange(2**32)
 HELLO = hello_request(1000, 100)
 
 # ---- command lines
@@ -293,7 +296,7 @@ def requests_ahead() -> None:
             client._socket.setsockopt(socket.SOL_SOCKET, socket.SO_SNDBUF, 1)
             queue = client.msgget(1234, IPC_CREAT | 0o600)
             # A full queue's EAGAIN has as many bytes as a success.
-            sends = [(msgsnd_request(queue, 1, LONG), 10)] * 2000
+            sends = [(msgsnd_request(queue, 1, LONG, IPC_NOWAIT), 10)] * 2000
             most = counts_bytes(client, sends)
             check(most == 410, f"{most} replies of 10 bytes were unread, and not 410")
             drain(client, queue)
@@ -371,35 +374,6 @@ def many_connections() -> None:
 # ---- messages under load
 
 
-class Worker(threading.Thread):
-    """A client in a thread of its own. If it fails, so does the test."""
-
-    def __init__(self, number: int, queue: int) -> None:
-        super().__init__(daemon=True)
-        self.number = number
-        self.queue = queue
-        self.rng = random.Random(f"{SEED} {number}")
-        self.failure: Exception | None = None
-
-    def run(self) -> None:
-        try:
-            self.work()
-        except Exception as failure:
-            self.failure = failure
-
-    def work(self) -> None:
-        raise NotImplementedError
-
-    def look(self) -> None:
-        if self.failure:
-            raise self.failure
-
-    def finish(self) -> None:
-        self.join(2 * TIMEOUT)
-        self.look()
-        check(not self.is_alive(), f"client {self.number} hangs")
-
-
 class Sender(Worker):
     """Sends 200 messages, and after each takes one of some type, if there is one. Client 0 closes
     its socket in the midst of a request."""
@@ -419,8 +393,8 @@ class Sender(Worker):
                 client.msgsnd(self.queue, self.rng.randint(1, 3), text)
                 self.sent.append(text)
                 try:
-                    message = client.msgrcv(self.queue, 64, self.rng.choice([0, 1, 2, 3, -2]))
-                    self.received.append(message)
+                    mtype = self.rng.choice([0, 1, 2, 3, -2])
+                    self.received.append(client.msgrcv(self.queue, 64, mtype, IPC_NOWAIT))
                 except OSError as refusal:
                     check(refusal.errno == errno.ENOMSG, f"msgrcv is refused: {refusal}")
 
@@ -552,8 +526,8 @@ class Survivor(Worker):
 
     def spelled(self, request: bytes | None) -> bytes:
         if request is None:
-            return msgrcv_request(self.queue, 64, self.mtype)
-        return msgsnd_request(self.queue, self.mtype, request)
+            return msgrcv_request(self.queue, 64, self.mtype, IPC_NOWAIT)
+        return msgsnd_request(self.queue, self.mtype, request, IPC_NOWAIT)
 
     def done(self, held: tuple[bytes, ...], request: bytes | None) -> tuple:
         """What the queue holds after a request, and its error number and body."""
@@ -622,12 +596,6 @@ def crashes() -> None:
 # ---- a disk that fails
 
 
-def full_disk() -> None:
-    """There is no room after the journal, so the first save fails."""
-    signal.signal(signal.SIGXFSZ, signal.SIG_IGN)
-    resource.setrlimit(resource.RLIMIT_FSIZE, (260 * 512, 260 * 512))
-
-
 def failing_device() -> None:
     """Each connection has an EIO frame as its last, and what was answered before is kept."""
     failure = (0, errno.EIO, b"")
@@ -639,7 +607,7 @@ def failing_device() -> None:
         queue = client.msgget(1, IPC_CREAT | 0o600)
         sent = 0
         while True:
-            serial = client.send(msgsnd_request(queue, 1, b"x"))
+            serial = client.send(msgsnd_request(queue, 1, b"x", IPC_NOWAIT))
             answer = client.receive()
             if answer == failure:
                 break

@@ -4,6 +4,8 @@ from __future__ import annotations
 
 import errno
 import os
+import random
+import resource
 import signal
 import socket
 import stat
@@ -11,6 +13,7 @@ import struct
 import subprocess
 import sys
 import tempfile
+import threading
 import time
 from collections.abc import Callable, Iterator
 from contextlib import contextmanager
@@ -18,9 +21,10 @@ from pathlib import Path
 
 sys.path.insert(0, str(Path(__file__).resolve().parent.parent / "examples"))
 
-from client import Connection, msgrcv_request  # noqa: E402
+from client import IPC_NOWAIT, Connection, msgctl_stat_request, msgrcv_request  # noqa: E402
 
 PROGRAM = os.path.realpath(sys.argv[1])
+SEED = int(sys.argv[2]) if len(sys.argv) > 2 else random.randrange(2**32)
 SECTORS = {"standard": 45830, "small": 448}
 TIMEOUT = 20
 
@@ -128,6 +132,12 @@ class Server:
         return int(status.partition("VmRSS:")[2].split()[0])
 
 
+def full_disk() -> None:
+    """There is no room after the journal, so the first save fails."""
+    signal.signal(signal.SIGXFSZ, signal.SIG_IGN)
+    resource.setrlimit(resource.RLIMIT_FSIZE, (260 * 512, 260 * 512))
+
+
 @contextmanager
 def serving(*words: str, **named: object) -> Iterator[Server]:
     """A server that is stopped at the end, and killed if something fails."""
@@ -154,15 +164,22 @@ class Client(Connection):
     def send_no_more(self) -> None:
         self._socket.shutdown(socket.SHUT_WR)
 
+    def take(self, size: int) -> bytes:
+        """The next so many bytes that come."""
+        self._fill(size, self._end())
+        data = bytes(self._read[:size])
+        del self._read[:size]
+        return data
+
     def is_answered(self, frames: bytes) -> None:
         """The next bytes that come are these frames."""
-        read = self._take(len(frames))
+        read = self.take(len(frames))
         check(read == frames, f"{read.hex()} comes, and not {frames.hex()}")
 
     def is_ended(self) -> None:
         """The server has ended the connection, and sends no more."""
         try:
-            self._take(1)
+            self.take(1)
         except ConnectionResetError:
             return
         check(False, "more comes after the last frame")
@@ -173,6 +190,44 @@ def process() -> Client:
     client = Client()
     client.hello(1000, 100)
     return client
+
+
+def until_it_waits(client: Client, request: bytes) -> int:
+    """A client sends a call, which waits then: the next request is EALREADY. The serial of the call."""
+    serial = client.send(request)
+    after = client.send(msgctl_stat_request(0))
+    answer = client.receive()
+    check(answer == (after, errno.EALREADY, b""), f"{answer} is answered while a call waits")
+    return serial
+
+
+class Worker(threading.Thread):
+    """A client in a thread of its own. If it fails, so does the test."""
+
+    def __init__(self, number: int, queue: int) -> None:
+        super().__init__(daemon=True)
+        self.number = number
+        self.queue = queue
+        self.rng = random.Random(f"{SEED} {number}")
+        self.failure: Exception | None = None
+
+    def run(self) -> None:
+        try:
+            self.work()
+        except Exception as failure:
+            self.failure = failure
+
+    def work(self) -> None:
+        raise NotImplementedError
+
+    def look(self) -> None:
+        if self.failure:
+            raise self.failure
+
+    def finish(self) -> None:
+        self.join(2 * TIMEOUT)
+        self.look()
+        check(not self.is_alive(), f"client {self.number} hangs")
 
 
 def frame(serial: int, request: bytes) -> bytes:
@@ -188,7 +243,7 @@ def drain(client: Client, queue: int, mtype: int = 0) -> list[bytes]:
     texts: list[bytes] = []
     while True:
         for _ in range(100):
-            client.send(msgrcv_request(queue, 8192, mtype))
+            client.send(msgrcv_request(queue, 8192, mtype, IPC_NOWAIT))
         replies = [client.receive() for _ in range(100)]
         texts += [body[8:] for _, error, body in replies if error == 0]
         refusals = {error for _, error, _ in replies if error}

@@ -71,6 +71,12 @@ def calls() -> list[Call]:
     return found
 
 
+def turns_of(them: list[Call]) -> list[list[Call]]:
+    """The calls of each turn that has ended, from its wait on."""
+    starts = [at for at, call in enumerate(them) if call.name == "epoll_wait"]
+    return [them[here:there] for here, there in zip(starts, starts[1:])]
+
+
 LETTERS = {"fdatasync": "S", "fsync": "F", "ftruncate": "T", "epoll_wait": "E", "recv": "<"}
 LETTERS |= {"send": ">", "accept4": "a", "close": "c", "write": "P", "pread": "r"}
 
