@@ -26,7 +26,8 @@ help:
 	@echo "            wait by the dozen; and its calls of the system, watched, and each refused in turn. Two minutes, once built"
 	@echo "make memory the engine's tests and the program, with each allocation refused in turn"
 	@echo "make bench  processor time of runs, lines and ticks on both devices, peak memory, what a commit writes, and"
-	@echo "            commits a second on a file beside the same writes and syncs done bare"
+	@echo "            commits a second on a file beside the same writes and syncs done bare; it ends with an error while"
+	@echo "            calls that wait on other queues add more to a request than they may"
 	@echo "make bench-serve  sends and receives a second over the socket, beside the same, and their processor time"
 
 run: program
