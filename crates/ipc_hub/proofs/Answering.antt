@@ -23,7 +23,7 @@ use Rattle.ipc_hub.specs.View.{ConnectionView, HubView, kept}
 use Rattle.ipc_hub.specs.Relations.Delivery.{last_frames, owed_to, pushed, put_all, given, answered, with_answer, IsShort}
 use Rattle.ipc_hub.specs.Relations.Rows.{Table, process_in}
 use Rattle.ipc_hub.specs.Relations.Delivery.{HaveRoom, HasRoomToGreet, HasRoomToAnswer}
-use Rattle.ipc_hub.specs.Relations.Invariant.{AreOwn, IsKept, IsKeptIn, HubInvariant, GoesOn}
+use Rattle.ipc_hub.specs.Relations.Invariant.{AreApart, AreOwn, IsKept, IsKeptIn, HubInvariant, GoesOn}
 use Rattle.ipc_hub.specs.Relations.Matches.{ClientMatches, HubMatches, IsAhead}
 use Rattle.ipc_hub.proofs.Deliveries.{push-matches, matches-later, accept-matches}
 use Rattle.ipc_hub.proofs.Keeping.{owing, owing-some, owing-none, kept-owing, kept-pushed, length-pushed, heard, nothing, length-heard, owing-have_room}
@@ -210,6 +210,10 @@ module _ (h : HubView) (conn : ℕ) (v : ConnectionView) (e : PlainEvent) (inv :
             | inl before ↦ apart (inv.own.one j conn pid is (mine ∙ before))
             | inr new ↦ fresh-nobodys pid new (inv.own.connected j pid is)
           ]
+
+  -- when it has been told, no two connections have one process
+  pub answer-apart : AreApart (with_answer now.outcomes conn h.connections)
+  answer-apart = rw found own.one
 
   pub answer-goes-on : (new : HubView) → new.limits ≡ h.limits → new.state ≡ now.state
       → new.connections ≡ put_all now.outcomes (with_answer now.outcomes conn h.connections) → GoesOn h new

@@ -23,12 +23,12 @@ use Rattle.ipc_hub.specs.View.{ConnectionView, HubView, HasNoFrame, kept}
 use Rattle.ipc_hub.specs.Relations.Matches.{HubMatches}
 use Rattle.ipc_hub.proofs.Deliveries.{accept-matches}
 use Rattle.ipc_hub.proofs.Requests.{quiet-owes, step-short}
-use Rattle.ipc_hub.proofs.Rows.{process_of, same-changed}
+use Rattle.ipc_hub.proofs.Rows.{process_of, for-one, same-changed}
 use Rattle.ipc_base.specs.Limits.{ArePassed, longest_reply}
 use Rattle.ipc_hub.specs.Relations.Delivery.{last_frame, last_frames, owed_to, pushed, put_for, put_all}
 use Rattle.ipc_hub.specs.Relations.Delivery.{AllShort, HasRoomIn, HasRoomFor, HasRoomForAll, HaveRoom}
 use Rattle.ipc_hub.specs.Relations.Rows.{Table, hub_view, changed, process_in, goes_on_in}
-use Rattle.ipc_hub.specs.Relations.Invariant.{AreOwn, IsKept, IsKeptIn, HubInvariant, GoesOn, HasPassed, LeavesOthers, IsNobodys, IsConnected}
+use Rattle.ipc_hub.specs.Relations.Invariant.{AreApart, AreOwn, IsKept, IsKeptIn, HubInvariant, GoesOn, HasPassed, LeavesOthers, IsNobodys, IsConnected}
 
 -- ---- one connection
 
@@ -109,18 +109,13 @@ live-for limits f v pid k some = by_end v.ended refl
     by_end true ended = let never : None ≡ Some pid = sym (k.over ended) ∙ some in cc
     by_end false live = live
 
-for-some : (o : PlainOutcome) (p : Option ℕ) → is_for o.pid p ≡ true → (pid : ℕ) × (p ≡ Some pid)
-for-some o None is = cc
-for-some o (Some pid) is = (pid, refl)
-
 -- a reply that was on its way has come
 put-kept : (limits : Limits) (f : Option ℕ → ℕ) (o : PlainOutcome) (os : List PlainOutcome) (v : ConnectionView)
     → IsKept limits (owing (o ∷ os) f) v → IsKept limits (owing os f) (put_for o v)
 put-kept limits f o os v k =
     choice (IsKept limits (owing os f)) (is_for o.pid v.process) (pushed (reply_of o) v) v
     (λ is.
-    let some = for-some o v.process is in
-    let room = rw is at (k.last (live-for limits (owing (o ∷ os) f) v some.0 k some.1)) in
+    let room = rw is at (k.last (live-for limits (owing (o ∷ os) f) v o.pid k (for-one o v.process is))) in
     kept-pushed limits (owing (o ∷ os) f) (owing os f) o v k (omega (arith, room)) (λ _. omega (arith, room)))
     (λ is. kept-less limits (owing (o ∷ os) f) (owing os f) v k (omega arith))
 
@@ -141,9 +136,9 @@ owing-room limits f os v k pid some =
 -- the first of some replies has room if all have
 room-first : (o : PlainOutcome) (os : List PlainOutcome) (v : ConnectionView) → HasRoomForAll (o ∷ os) v → HasRoomIn o v
 room-first o os v room is =
-    let some = for-some o v.process is in
-    let mine = rw some.1 at is in
-    let all = rw mine at (room some.0 some.1) in omega (arith, all)
+    let same = for-one o v.process is in
+    let mine = rw same at is in
+    let all = rw mine at (room o.pid same) in omega (arith, all)
 
 -- and then the others have
 room-rest : (o : PlainOutcome) (os : List PlainOutcome) (v : ConnectionView) → HasRoomForAll (o ∷ os) v → HasRoomForAll os (put_for o v)
@@ -232,6 +227,10 @@ put-processes [] table conn = refl
 put-processes (o ∷ os) table conn =
     put-processes os (seen_as (put_for o) table) conn
     ∙ ap process_of (at-map (put_for o) table conn) ∙ put-process o (value_at nat_eq table conn)
+
+pub put-apart : (o : PlainOutcome) (table : Table) → AreApart table → AreApart (seen_as (put_for o) table)
+put-apart o table apart conn other pid is too =
+    apart conn other pid (sym (put-processes (o ∷ []) table conn) ∙ is) (sym (put-processes (o ∷ []) table other) ∙ too)
 
 pub put-others : (os : List PlainOutcome) (table : Table) → LeavesOthers table (put_all os table)
 put-others [] table conn v is none = is

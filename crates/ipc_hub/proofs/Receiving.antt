@@ -20,14 +20,14 @@ use Rattle.ipc_hub.specs.Clients.{Client, Clients, last_reply, refusal, break_of
 use Rattle.ipc_hub.specs.View.{ConnectionView, HubView, HasNoFrame, kept as outbox_kept}
 use Rattle.ipc_hub.specs.Relations.Rows.{Table, hub_view, changed, process_in, goes_on_in}
 use Rattle.ipc_hub.specs.Relations.Delivery.{last_frame, owed_to, pushed, put_all, answered as answered-by, with_answer, HasRoomToAnswer}
-use Rattle.ipc_hub.specs.Relations.Invariant.{IsKept, GoesOn}
+use Rattle.ipc_hub.specs.Relations.Invariant.{AreApart, IsKept, GoesOn}
 use Rattle.ipc_hub.specs.Relations.Matches.{IsAhead, SimulatesAt, Pends, Accepts}
 use Rattle.ipc_hub.specs.Relations.Requests.{Steps, ComesTo, exit_of, taken_off, Received, Took, Waits}
 use Rattle.ipc_hub.proofs.Rows.{same_value, process_of}
 use Rattle.ipc_hub.proofs.Keeping.{at-changed, changed-invariant, changed-keys, heard, heard-same, pushed-frame, kept-pushed, put-at}
 use Rattle.ipc_hub.proofs.Ending.{leave-adds}
 use Rattle.ipc_hub.proofs.Requests.{Asks, request-asks}
-use Rattle.ipc_hub.proofs.Answering.{answer-room, answer-goes-on, told-none, serve-matches}
+use Rattle.ipc_hub.proofs.Answering.{answer-room, answer-apart, answer-goes-on, told-none, serve-matches}
 use Rattle.ipc_hub.proofs.Taking.{Open, bare, mine, emptied_hub, bare-here, emptied-matches, refused-matches}
 use Rattle.ipc_hub.proofs.Taking.{more-taken, fault-taken, served-taken, broken-taken, refused-taken, same-accepts}
 
@@ -119,6 +119,11 @@ module _ {D : Type 0} {medium : D → Medium} {old new : StoreView D} {before af
   served-room =
       subst (λ (os : List PlainOutcome). HasRoomToAnswer os conn after) (sym steps.outcomes)
       (answer-room mid conn bare-now e r.still (found' r) r.live r.room r.passed steps.sound made)
+
+  pub served-apart : AreApart (with_answer new.machine.outcomes conn after)
+  served-apart =
+      subst (λ (os : List PlainOutcome). AreApart (with_answer os conn after)) (sym steps.outcomes)
+      (answer-apart mid conn bare-now e r.still (found' r) r.live r.room r.passed steps.sound made)
 
   module _ (last : Table) (answered : last ≡ put_all new.machine.outcomes (with_answer new.machine.outcomes conn after)) where
     told : last ≡ put_all now.outcomes (with_answer now.outcomes conn after)

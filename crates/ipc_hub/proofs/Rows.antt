@@ -1,19 +1,25 @@
 -- The connections of the code as a table: each seen in another way, and one of a number that is found, lent, put in or taken out.
 use Rattle.std.proofs.Common.{◌≡◌, ◌≢◌, ℕ, zero, suc, ◌+◌, ◌<◌, ◌≤◌, ◌^◌, List, [], ◌∷◌, length, get_or, refl, sym, ap, ◌∙◌, subst, inl, inr, arith}
-use Rattle.std.proofs.lemmas.Bool.{eqb-true}
+use Rattle.std.proofs.lemmas.Bool.{cases_eq, eqb-true}
+use Rattle.std.proofs.lemmas.List.{length-set, get_or_default, get_or-set_same, get_or-set_other}
 use Rattle.std.proofs.lemmas.List.Quantifiers.{position-Some}
 use Rattle.std.proofs.lemmas.List.Sums.{position_or_len_is}
 use Rattle.std.proofs.lemmas.Option.{slice_get-get_or, slice_get-map}
 use Rattle.std.specs.Prelude.{nat_eq, nat_lt, Option, option_and_then, option_map, slice_get, if◌then◌else◌, Bool, true, false, Some, None, position}
-use Rattle.std.specs.Prelude.{insert}
+use Rattle.std.specs.Prelude.{insert, set}
 use Rattle.std.specs.List.{position_or_len}
 use Rattle.std.specs.List.Sorted.{IsNonDecreasingBy}
 use Rattle.std.proofs.lemmas.Bool.Decides.{nat_tests}
 use Rattle.ipc_base.specs.Table.{seen_as, EachValue, IsRising, keys_of, value_at, with_value, with_entry}
 use Rattle.ipc_base.proofs.CallerLemmas.{value_at_place, value_nowhere, same_key, other_key, test_cases}
+use Rattle.ipc_engine.specs.Event.{PlainOutcome}
+use Rattle.ipc_engine.specs.View.{reply_of}
 use Rattle.ipc_hub.specs.declared.connection.Connection.{Connection}
+use Rattle.ipc_hub.specs.Clients.{is_for}
 use Rattle.ipc_hub.specs.View.{ConnectionView}
-use Rattle.ipc_hub.specs.Relations.Rows.{Table, view_of, row, rows, changed}
+use Rattle.ipc_hub.specs.Relations.Delivery.{pushed, put_for}
+use Rattle.ipc_hub.specs.Relations.Invariant.{AreApart}
+use Rattle.ipc_hub.specs.Relations.Rows.{Table, view_of, row, rows, changed, process_in}
 
 -- there is one value
 pub same_value : {A : Type 0} (x y : A) → Some x ≡ Some y → x ≡ y
@@ -190,3 +196,42 @@ place-at items cs place c same rising within is =
           (slice_get-get_or items place c long ∙ ap (λ (d : Connection). Some d) (sym one)),
       value_at_place row nat_eq c.number items place c (first-at items place (2 ^ 32) c rising long one) one,
     )
+
+-- ---- the connection that has a process
+
+pub for-one : (o : PlainOutcome) (p : Option ℕ) → is_for o.pid p ≡ true → p ≡ Some o.pid
+for-one o None is = cc
+for-one o (Some pid) is = ap Some (eqb-true pid o.pid is)
+
+-- a reply that is for no connection
+pub put-nowhere : (o : PlainOutcome) (cs : List Connection)
+    → ((k : ℕ) (d : Connection) → k < length cs → is_for o.pid (view_of (get_or cs k d)).process ≡ false) → rows cs ≡ seen_as (put_for o) (rows cs)
+put-nowhere o cs none = rows-seen (put_for o) cs cs refl (λ k d within. rw (none k d within) refl)
+
+-- a reply that is for the connection at a place, and so for no other
+module _ (o : PlainOutcome) (cs : List Connection) (rising : IsRising 0 (keys_of (rows cs)) (2 ^ 32)) (apart : AreApart (rows cs)) where
+  has-it : (k : ℕ) (d : Connection) → k < length cs → is_for o.pid (view_of (get_or cs k d)).process ≡ true
+      → process_in (rows cs) (get_or cs k d).number ≡ Some o.pid
+  has-it k d within mine =
+      let c : Connection = get_or cs k d in
+      ap process_of (place-at cs cs k c refl rising within (get_or_default cs k d c within)).1 ∙ for-one o (view_of c).process mine
+
+  pub put-there : (place : ℕ) (was now : Connection) → place < length cs → is_for o.pid (view_of (get_or cs place was)).process ≡ true
+      → now.number ≡ (get_or cs place was).number → view_of now ≡ pushed (reply_of o) (view_of (get_or cs place was))
+      → rows (set cs place now) ≡ seen_as (put_for o) (rows cs)
+  put-there place was now within mine number view =
+      rows-seen (put_for o) cs (set cs place now) (length-set cs place now) (λ k d inside.
+      elim (cases_eq k place) [
+        | inl same ↦ rw (same, get_or-set_same cs place now d within, get_or_default cs place d was within, mine, number, view) refl
+        | inr other ↦ rw (get_or-set_other cs place k now d other, not-for k d inside other) refl
+      ])
+    where
+      not-for : (k : ℕ) (d : Connection) → k < length cs → k ≢ place → is_for o.pid (view_of (get_or cs k d)).process ≡ false
+      not-for k d inside other =
+          elim (test_cases (is_for o.pid (view_of (get_or cs k d)).process)) [
+            | inl t ↦
+                let same = apart (get_or cs place was).number (get_or cs k d).number o.pid (has-it place was within mine) (has-it k d inside t) in
+                let at = λ (j : ℕ) (e : Connection). first-place 0 cs (2 ^ 32) j (get_or cs place was).number e rising in
+                absurd (other (sym (at k d inside same) ∙ at place was within refl))
+            | inr f ↦ f
+          ]

@@ -7,7 +7,7 @@ ghost use Rattle.ipc_wire.specs.Reply.{plain_reply, reply_bytes, body_bytes};
 ghost use Rattle.ipc_wire.specs.Stream.{first, missing};
 ghost use Rattle.ipc_wire.specs.Stream.PlainFrame.{More};
 ghost use Rattle.ipc_engine.specs.View.{reply_of};
-ghost use Rattle.ipc_hub.specs.Clients.{refusal as refusal_of};
+ghost use Rattle.ipc_hub.specs.Clients.{is_for, refusal as refusal_of};
 
 use crate::outbox::Outbox;
 use ipc_base::{Errno, Pid};
@@ -46,13 +46,10 @@ impl Connection {
       last_frames,
       owed_to,
       closed,
-      IsShort,
-      HasRoomIn,
       HasRoomToGreet,
       released,
       consumed,
       pushed,
-      put_for,
       answered,
       failed,
     };
@@ -120,6 +117,13 @@ impl Connection {
         }
     }
 
+    /// Whether this is its process.
+    pub(crate) fn has(&self, pid: Pid) -> bool
+        ensures { result ≡ is_for pid.0 (pid_of self.now.process) }
+    {
+        self.process == Some(pid)
+    }
+
     /// Takes bytes of a piece, up to the end of a frame at most. Answers how many.
     pub(crate) fn fill(&mut self, piece: &[u8]) -> usize
         requires { first self.old.input.items ≡ More }
@@ -143,18 +147,6 @@ impl Connection {
         ensures view { view_of self.new ≡ pushed (plain_reply reply.now) (view_of self.old) }
     {
         self.outbox.push(reply);
-    }
-
-    /// Takes a reply, if it is for its process.
-    pub(crate) fn hear(&mut self, outcome: &Outcome)
-        requires short { IsShort (plain_outcome outcome.now) }
-        requires room { HasRoomIn (plain_outcome outcome.now) (view_of self.old) }
-        ensures number { self.new.number ≡ self.old.number }
-        ensures view { view_of self.new ≡ put_for (plain_outcome outcome.now) (view_of self.old) }
-    {
-        if self.process == Some(outcome.pid) {
-            self.push(&outcome.reply());
-        }
     }
 
     /// Is told the reply to its request. If it had no process, the request was a HELLO: it has the process that the

@@ -1,6 +1,6 @@
 //! The connections of a hub, by number: found, put in and taken out, and what is done to each.
 
-ghost use Rattle.std.specs.Prelude.{◌≡◌, ◌==◌, ◌<◌, ◌≤◌, ◌^◌, ◌↔◌, ℕ, Some, None, false, []};
+ghost use Rattle.std.specs.Prelude.{◌≡◌, ◌==◌, ◌<◌, ◌≤◌, ◌^◌, ◌↔◌, ℕ, Some, None, true, false, []};
 ghost use Rattle.std.specs.Prelude.{length, map, get_or, slice_get, position, is_some, option_map, nat_eq};
 ghost use Rattle.std.specs.Prelude.{IfSome, IsTrue, OnOk, OnErr};
 ghost use Rattle.std.specs.Option.{option_copied, option_copied_mut};
@@ -8,8 +8,10 @@ ghost use Rattle.std.specs.Borrow.{sem};
 ghost use Rattle.ipc_base.specs.Table.{keys_of, value_at, with_entry, without, seen_as, EachValue, IsRising};
 ghost use Rattle.ipc_engine.specs.View.{plain_outcome};
 ghost use Rattle.ipc_hub.specs.declared.connection.Connection.{Connection};
+ghost use Rattle.ipc_hub.specs.Clients.{is_for};
 ghost use Rattle.ipc_hub.specs.Relations.Delivery.{released, failed, consumed, put_for, put_all};
 ghost use Rattle.ipc_hub.specs.Relations.Delivery.{HasSpare, IsShort, HasRoomIn, HaveRoom, HasRoomFor};
+ghost use Rattle.ipc_hub.specs.Relations.Invariant.{AreApart};
 ghost use Rattle.ipc_hub.specs.Relations.Rows.{pid_of, view_of, rows, table_of, hub_view, changed};
 ghost use Rattle.ipc_hub.specs.Relations.Rows.{process_in, goes_on_in, ended_in, output_in};
 ghost use Rattle.ipc_hub.specs.Relations.Lends.{lends_connection};
@@ -179,13 +181,20 @@ impl Connections {
         }
     }
 
-    /// Puts each reply into the outbox of its process. Where no connection has the process, the reply is dropped.
-    pub(crate) fn deliver(&mut self, outcomes: &[Outcome])
+    /// Puts each reply into the outbox of its process. If no connection has the process, the reply is dropped. The
+    /// connection that asked, if one did, is looked at before all others, since most replies are for its process.
+    pub(crate) fn deliver(&mut self, asked: Option<u32>, outcomes: &[Outcome])
+        requires rising { IsRising 0 (keys_of (table_of self.old)) (2 ^ 32) }
+        requires apart { AreApart (table_of self.old) }
         requires room { HaveRoom (map plain_outcome outcomes.now) (table_of self.old) }
         ensures { table_of self.new ≡ put_all (map plain_outcome outcomes.now) (table_of self.old) }
     {
+        let first = match asked {
+            Some(conn) => place_for(&self.items, conn),
+            None => self.items.len(),
+        };
         for outcome in outcomes {
-            put(&mut self.items, outcome);
+            put(&mut self.items, first, outcome);
         }
     }
 }
@@ -236,13 +245,35 @@ fn fail_all(connections: &mut [Connection])
     }
 }
 
-/// Puts a reply into the outbox of its process.
-fn put(connections: &mut [Connection], outcome: &Outcome)
+/// The place of a connection that has the process. The one at the place `first`, if there is one, is looked at before
+/// all others.
+fn place_of_process(connections: &[Connection], first: usize, pid: Pid) -> Option<usize>
+    ensures within { IfSome result (λ place. place < length connections.now) }
+    ensures found { (d : Connection) → IfSome result (λ place.
+        is_for pid.0 (pid_of (get_or connections.now place d).process) ≡ true) }
+    ensures none { result ≡ None → (k : ℕ) (d : Connection) → k < length connections.now
+        → is_for pid.0 (pid_of (get_or connections.now k d).process) ≡ false }
+{
+    if let Some(connection) = connections.get(first) {
+        if connection.has(pid) {
+            return Some(first);
+        }
+    }
+    connections
+        .iter()
+        .position(|connection| connection.has(pid))
+}
+
+/// Puts a reply into the outbox of its process, which no two connections have. The connection at the place `first` is
+/// looked at before all others.
+fn put(connections: &mut [Connection], first: usize, outcome: &Outcome)
+    requires rising { IsRising 0 (keys_of (rows connections.old)) (2 ^ 32) }
+    requires apart { AreApart (rows connections.old) }
     requires short { IsShort (plain_outcome outcome.now) }
     requires room { EachValue (HasRoomIn (plain_outcome outcome.now)) (rows connections.old) }
     ensures { rows connections.new ≡ seen_as (put_for (plain_outcome outcome.now)) (rows connections.old) }
 {
-    for connection in connections.iter_mut() {
-        connection.hear(outcome);
+    if let Some(place) = place_of_process(connections, first, outcome.pid) {
+        connections[place].push(&outcome.reply());
     }
 }

@@ -17,7 +17,7 @@ ghost use Rattle.ipc_hub.specs.Relations.Rows.{changed, process_in, goes_on_in};
 ghost use Rattle.ipc_hub.specs.Relations.Delivery.{last_frame, closed, pushed, put_all, with_answer};
 ghost use Rattle.ipc_hub.specs.Relations.Delivery.{HasRoomToAnswer, HasRoomFor};
 ghost use Rattle.ipc_hub.specs.Relations.Invariant.{HubInvariant, GoesOn, HasPassed, IsConnected, IsNobodys};
-ghost use Rattle.ipc_hub.specs.Relations.Invariant.{LeavesOthers};
+ghost use Rattle.ipc_hub.specs.Relations.Invariant.{AreApart, LeavesOthers};
 ghost use Rattle.ipc_hub.specs.Relations.Matches.{Adds, Simulates, SimulatesAt, TakesIn, Pends};
 ghost use Rattle.ipc_hub.specs.Relations.Requests.{ComesTo, exit_of, taken_off, Received, Took};
 ghost use Rattle.ipc_image.specs.Records.{HasRecord};
@@ -91,7 +91,7 @@ pub(crate) fn tick<D: SectorDisk>(
     ensures adds { Adds 1 store.old store.new }
 {
     store.step(Event::Tick { moment }).unwrap();
-    connections.deliver(store.engine().outcomes());
+    connections.deliver(None, store.engine().outcomes());
 }
 
 /// The process of a connection that is over leaves, if it had one.
@@ -116,7 +116,7 @@ pub(crate) fn leave<D: SectorDisk>(
 {
     if let Some(pid) = process {
         store.step(Event::Exit { pid, moment }).unwrap();
-        connections.deliver(store.engine().outcomes());
+        connections.deliver(None, store.engine().outcomes());
     }
 }
 
@@ -165,6 +165,7 @@ fn come_to<D: SectorDisk>(store: &mut Store<D>, connection: &Connection, moment:
 /// Puts the replies to the request of a connection, and the others of its event, where they go.
 fn answer(connections: &mut Connections, conn: u32, outcomes: &[Outcome])
     requires rising { IsRising 0 (keys_of (table_of connections.old)) (2 ^ 32) }
+    requires apart { AreApart (with_answer (map plain_outcome outcomes.now) conn (table_of connections.old)) }
     requires room { HasRoomToAnswer (map plain_outcome outcomes.now) conn (table_of connections.old) }
     ensures { table_of connections.new ≡ put_all (map plain_outcome outcomes.now)
         (with_answer (map plain_outcome outcomes.now) conn (table_of connections.old)) }
@@ -172,7 +173,7 @@ fn answer(connections: &mut Connections, conn: u32, outcomes: &[Outcome])
     if let Some(connection) = connections.get_mut(conn) {
         connection.hear_own(outcomes.last());
     }
-    connections.deliver(outcomes);
+    connections.deliver(Some(conn), outcomes);
 }
 
 /// Puts a reply without a body into a connection: memory was refused to its request, or the server ends it.

@@ -12,11 +12,15 @@ use Rattle.ipc_hub.specs.View.{ConnectionView, HubView, StoredHub, HasNoFrame, k
 use Rattle.ipc_hub.specs.Relations.Delivery.{last_frames, owed_to, released, HasRoomFor, HasSpare}
 use Rattle.ipc_hub.specs.Relations.Rows.{Table, goes_on_in, process_in}
 
+-- no two connections have one process
+abbrev pub AreApart : Table → Type 0
+AreApart table =
+    (conn other pid : ℕ) → process_in table conn ≡ Some pid → process_in table other ≡ Some pid → conn ≡ other
+
 -- each process of a connection is connected, and no other connection has it
 pub record AreOwn (s : State) (table : Table) : Type 0 where
   pub connected : (conn pid : ℕ) → process_in table conn ≡ Some pid → is_process s pid ≡ true
-  pub one : (conn other pid : ℕ) → process_in table conn ≡ Some pid → process_in table other ≡ Some pid
-      → conn ≡ other
+  pub one : AreApart table
 
 -- The bytes kept of a request are no whole frame. There is room for what the process is owed, and behind it for the
 -- frames that may still be the last: both, or one where the server has ended the connection, which has no process then.

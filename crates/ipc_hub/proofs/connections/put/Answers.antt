@@ -1,20 +1,24 @@
-use Rattle.std.proofs.Common.{sym, subst, arith}
-use Rattle.ipc_engine.specs.View.{plain_outcome}
-use Rattle.ipc_hub.specs.declared.connection.Connection.{Connection}
-use Rattle.ipc_hub.specs.Relations.Rows.{view_of}
-use Rattle.ipc_hub.specs.Relations.Delivery.{HasRoomIn, put_for}
-use Rattle.ipc_hub.proofs.Rows.{each-get, seen-all}
+use Rattle.std.proofs.Common.{◌+◌, ◌≤◌, length, get_or, sym, arith}
+use Rattle.ipc_wire.specs.Reply.{reply_bytes}
+use Rattle.ipc_engine.specs.View.{plain_outcome, reply_of}
+use Rattle.ipc_hub.specs.Relations.Delivery.{last_frames, HasRoomIn}
+use Rattle.ipc_hub.proofs.Rows.{each-get, put-nowhere, put-there}
 use Rattle.ipc_hub.proofs.connections.put.Goals as goal
 
-pub hear-requires-clause-room : goal.hear-requires-clause-room
-hear-requires-clause-room c =
+pub push-requires-clause-room : goal.push-requires-clause-room
+push-requires-clause-room c =
     let o = plain_outcome c.args.outcome.now in
-    let i = c.loop-connection.connection-index in
-    let was = c.connection-item.result in
-    subst (λ (d : Connection). HasRoomIn o (view_of d)) (sym (c.loop-connection.invariant.rest i was (omega arith)))
-    (each-get (HasRoomIn o) c.args.connections.now i was c.requires.room c.loop-connection-test.true)
+    let was = c.index-connections-place.result in
+    let room : length (reply_bytes (reply_of o)) + last_frames ≤ (get_or c.args.connections.now c.in-Some.place was).outbox.free =
+    each-get (HasRoomIn o) c.args.connections.now c.in-Some.place was c.requires.room c.in-Some.ensures.within (c.in-Some.ensures.found was) in
+    rw c.reply.ensures (omega (arith, room))
 
-pub returns : goal.returns
-returns c =
-    seen-all (put_for (plain_outcome c.args.outcome.now)) c.loop-connection.connection-index c.args.connections.now c.loop-connection.connections
-    c.loop-connection.invariant c.loop-connection-test.false
+pub returns-in-Some : goal.returns-in-Some
+returns-in-Some c =
+    let was = c.index-connections-place.result in
+    put-there (plain_outcome c.args.outcome.now) c.args.connections.now c.requires.rising c.requires.apart c.in-Some.place was c.push.new.self
+    c.in-Some.ensures.within (c.in-Some.ensures.found was) c.push.ensures.number (rw (sym c.reply.ensures) c.push.ensures.view)
+
+pub returns-in_default : goal.returns-in_default
+returns-in_default c =
+    put-nowhere (plain_outcome c.args.outcome.now) c.args.connections.now (c.place_of_process.ensures.none c.in_default.is)

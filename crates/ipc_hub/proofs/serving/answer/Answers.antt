@@ -7,6 +7,8 @@ use Rattle.ipc_engine.specs.View.{plain_outcome}
 use Rattle.ipc_hub.specs.Clients.{last_reply}
 use Rattle.ipc_hub.specs.Relations.Delivery.{answered, with_answer, put_all, HasRoomToGreet}
 use Rattle.ipc_hub.specs.Relations.Rows.{pid_of, view_of, table_of}
+use Rattle.ipc_base.specs.Table.{keys_of}
+use Rattle.ipc_hub.proofs.Keeping.{changed-keys}
 use Rattle.ipc_hub.proofs.Rows.{put-changed, same-changed}
 use Rattle.ipc_hub.proofs.serving.answer.Goals.{Joined-get_mut, in-Some, in_default}
 use Rattle.ipc_hub.proofs.serving.answer.Goals as goal
@@ -46,9 +48,16 @@ hear_own-requires c = record {
       ((rw (sym c.in-Some.ensures.found) at c.requires.room.own) (ap pid_of none));
 }
 
-pub deliver-requires : goal.deliver-requires
-deliver-requires c =
-    record { room = rw (told (goal.at.deliver-requires c).Joined-get_mut) c.requires.room.all }
+pub deliver-requires-clause-rising : goal.deliver-requires-clause-rising
+deliver-requires-clause-rising c =
+    let now = told (goal.at.deliver-requires-clause-rising c).Joined-get_mut in
+    rw (ap keys_of now ∙ changed-keys _ c.args.conn (table_of c.args.connections.now)) c.requires.rising
+
+pub deliver-requires-clause-apart : goal.deliver-requires-clause-apart
+deliver-requires-clause-apart c = rw (told (goal.at.deliver-requires-clause-apart c).Joined-get_mut) c.requires.apart
+
+pub deliver-requires-clause-room : goal.deliver-requires-clause-room
+deliver-requires-clause-room c = rw (told (goal.at.deliver-requires-clause-room c).Joined-get_mut) c.requires.room.all
 
 pub returns : goal.returns
 returns c = c.deliver.ensures ∙ ap (put_all (map plain_outcome c.args.outcomes.now)) (told (goal.at.returns c).Joined-get_mut)

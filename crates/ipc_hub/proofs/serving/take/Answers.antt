@@ -1,10 +1,11 @@
 use Rattle.std.proofs.Common.{◌≡◌, List, inl, refl, sym, ap, ◌∙◌, subst}
 use Rattle.ipc_engine.specs.Engine.{Machine}
 use Rattle.ipc_engine.specs.Event.{PlainOutcome}
-use Rattle.ipc_hub.specs.Relations.Delivery.{HasRoomToAnswer}
+use Rattle.ipc_hub.specs.Relations.Delivery.{with_answer, HasRoomToAnswer}
+use Rattle.ipc_hub.specs.Relations.Invariant.{AreApart}
 use Rattle.ipc_hub.specs.Relations.Rows.{table_of, stored_view}
 use Rattle.ipc_hub.proofs.Taking.{over-takes}
-use Rattle.ipc_hub.proofs.Receiving.{more-took, served-room, served-took, refused-room, refused-took, broken-live, broken-took}
+use Rattle.ipc_hub.proofs.Receiving.{more-took, served-room, served-apart, served-took, refused-room, refused-took, broken-live, broken-took}
 use Rattle.ipc_hub.proofs.serving.take.Goals as goal
 
 -- the outcomes that a store lends
@@ -23,6 +24,11 @@ pub answer-requires-clause-room : goal.answer-requires-clause-room
 answer-requires-clause-room g c =
     subst (λ (os : List PlainOutcome). HasRoomToAnswer os c.args.conn (table_of c.receive-count.new.connections))
     (outcomes-are c.engine.ensures c.outcomes.ensures) (served-room (rw c.in-Served.is at c.receive-count.ensures.received))
+
+pub answer-requires-clause-apart : goal.answer-requires-clause-apart
+answer-requires-clause-apart g c =
+    subst (λ (os : List PlainOutcome). AreApart (with_answer os c.args.conn (table_of c.receive-count.new.connections)))
+    (outcomes-are c.engine.ensures c.outcomes.ensures) (served-apart (rw c.in-Served.is at c.receive-count.ensures.received))
 
 pub refuse-requires-clause-room : goal.refuse-requires-clause-room
 refuse-requires-clause-room g c = refused-room g.met.D.SectorDisk.only_now (rw c.in-NoMemory.is at c.receive-count.ensures.received)

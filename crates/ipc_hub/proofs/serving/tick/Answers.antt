@@ -17,14 +17,11 @@ are : (g : Over) (c : After-outcomes g)
     → map plain_outcome c.outcomes.result.now ≡ (step c.args.store.now.machine.limits c.args.store.now.machine.state (Tick c.args.moment.0)).outcomes
 are g c = c.outcomes.ensures ∙ ap (λ (m : Machine). m.outcomes) c.engine.ensures ∙ rw c.unwrap.ensures at c.step.ensures.outcomes
 
-pub deliver-requires : goal.deliver-requires
-deliver-requires g c =
-    let old = hub_view c.args.store.now.machine (table_of c.args.connections.now) in
-    record {
-      room = rw (are g (goal.at.deliver-requires g c).After-outcomes)
-          (quiet-room old (Tick c.args.moment.0) (rw c.unwrap.ensures at c.step.ensures.was_sound) c.requires.hub (λ pid. refl)
-          (rw c.unwrap.ensures at c.step.ensures.passed));
-    }
+pub deliver-requires-clause-room : goal.deliver-requires-clause-room
+deliver-requires-clause-room g c =
+    rw (are g (goal.at.deliver-requires-clause-room g c).After-outcomes)
+    (quiet-room (hub_view c.args.store.now.machine (table_of c.args.connections.now)) (Tick c.args.moment.0)
+    (rw c.unwrap.ensures at c.step.ensures.was_sound) c.requires.hub (λ pid. refl) (rw c.unwrap.ensures at c.step.ensures.passed))
 
 happened : (g : Over) (c : After-deliver g) → Happened (hub_view c.args.store.now.machine (table_of c.args.connections.now))
     (hub_view c.step.new.self.machine (table_of c.deliver.new.self)) (Tick c.args.moment.0)

@@ -1,6 +1,7 @@
 use Rattle.std.proofs.Common.{◌≡◌, ℕ, ◌+◌, ◌<◌, List, ◌∷◌, map, drop, length, get_or, sym, ap, subst, ◌∙◌, arith, rules}
 use Rattle.std.specs.Vec.{with_items}
-use Rattle.ipc_base.specs.Table.{seen_as, EachValue}
+use Rattle.ipc_base.specs.Table.{keys_of, seen_as, EachValue}
+use Rattle.ipc_base.proofs.CallerLemmas.{keys-map}
 use Rattle.std.proofs.lemmas.List.{drop_more, with_items_is}
 use Rattle.ipc_engine.specs.declared.event.Outcome.{Outcome}
 use Rattle.ipc_engine.specs.Event.{PlainOutcome}
@@ -8,7 +9,8 @@ use Rattle.ipc_engine.specs.View.{plain_outcome}
 use Rattle.ipc_hub.specs.declared.connection.Connection.{Connection}
 use Rattle.ipc_hub.specs.Relations.Rows.{Table, rows, table_of}
 use Rattle.ipc_hub.specs.Relations.Delivery.{HasRoomIn, HaveRoom, put_all, put_for}
-use Rattle.ipc_hub.proofs.Keeping.{first-each, rest-room}
+use Rattle.ipc_hub.specs.Relations.Invariant.{AreApart}
+use Rattle.ipc_hub.proofs.Keeping.{first-each, put-apart, rest-room}
 use Rattle.ipc_hub.proofs.connections.Connections.deliver.Goals as goal
 
 -- the replies that are left begin with this one
@@ -47,6 +49,8 @@ loop-outcome-preserved c =
     ap rows (with_items_is c.loop-outcome.self.items c.put.new.connections (omega arith)) ∙ c.put.ensures
     ∙ ap (λ (cs : List Connection). seen_as (put_for (plain_outcome o)) (rows cs)) here in
     record {
+      rising = rw (ap keys_of put ∙ keys-map (put_for (plain_outcome o)) table) c.loop-outcome.invariant.rising;
+      apart = subst AreApart (sym put) (put-apart (plain_outcome o) table c.loop-outcome.invariant.apart);
       room = subst (HaveRoom rest) (sym put)
           (rest-room (plain_outcome o) rest table (has os i o table c.loop-outcome-test.true c.outcome-item.is c.loop-outcome.invariant.room));
       all = ap (put_all rest) put
