@@ -1,5 +1,6 @@
 -- Numbers side by side in fields, as frames and saved objects have them: the most significant byte first, signed ones
--- in two's complement. A list of kinds, or of sizes, says what stands there; reading, spelling and length follow from it.
+-- in two's complement. A list of kinds, or of sizes, says what stands there; reading, spelling and length follow from
+-- it.
 use Rattle.std.specs.Prelude.{◌<◌, ◌+◌, ◌^◌, ℕ, ℤ, List, [], ◌∷◌, ◌++◌, take, drop, FitsSigned}
 use Rattle.std.specs.List.{flat_map}
 use Rattle.std.specs.Int.{Width, w8, w16, w32, w64, from_be_bytes, to_be_bytes}

@@ -1,57 +1,56 @@
--- An event sends a process no more bytes than it has asked for.
+-- An event sends a process no more than it has asked for: of replies, and of bytes.
 use Rattle.std.proofs.Common.{◌≡◌, ◌≢◌, ℕ, ◌+◌, ◌<◌, ◌≤◌, Bool, true, false, not, List, [], ◌∷◌, ◌++◌, Option, Some}
-use Rattle.std.proofs.Common.{None, is_some, arith, refl, sym, ap, ◌∙◌, subst, inl, inr, length, length-append}
-use Rattle.std.specs.Prelude.{◌==◌, if◌then◌else◌, nat_eq, All, find}
+use Rattle.std.proofs.Common.{None, is_some, arith, refl, sym, ap, ◌∙◌, subst, inl, inr, length, map}
+use Rattle.std.specs.Prelude.{◌==◌, if◌then◌else◌, nat_eq}
 use Rattle.std.specs.Cmp.{nat_eq_equiv}
 use Rattle.std.proofs.lemmas.Bool.Decides.{nat_tests}
-use Rattle.std.proofs.lemmas.List.Elements.{All-head}
 use Rattle.ipc_base.specs.Limits.{longest_reply}
 use Rattle.ipc_base.specs.declared.errno.Errno.TheVariants.{EALREADY, EINTR, ENFILE, EPROTO}
 use Rattle.ipc_base.specs.declared.identity.Cred.{Cred}
 use Rattle.ipc_base.specs.declared.identity.Pid.{Pid}
 use Rattle.ipc_base.specs.declared.limits.Limits.{Limits}
 use Rattle.ipc_base.proofs.CallerLemmas.{choice, is_some-push, rising-found}
-use Rattle.ipc_wait.specs.Waits.{call_of, without, is_of}
+use Rattle.ipc_base.specs.declared.identity.Moment.{Moment}
+use Rattle.ipc_wait.specs.Waits.{call_of, calls_due, calls_left, without, is_due, is_of}
 use Rattle.ipc_wait.proofs.CallerLemmas.{call_of-without_same, call_of-without_other}
 use Rattle.ipc_wire.specs.Request.{PlainCall, PlainKind, PlainRequest, Hello, Interrupt as Interrupts, Calls}
 use Rattle.ipc_wire.specs.declared.reply.Body.TheVariants.{Empty, Number}
 use Rattle.ipc_wire.specs.Reply.{reply_bytes}
 use Rattle.ipc_wire.proofs.CallerLemmas.{length-reply_bytes}
 use Rattle.ipc_state.specs.declared.parked.Awaited.{Awaited}
-use Rattle.ipc_state.specs.Finish.{Finish, Tried, Finishes, Waits, IfFinishes, has_to_wait, done, refused}
+use Rattle.ipc_state.specs.Finish.{Finish, Tried, Finishes, Waits, IfFinishes, has_to_wait, refused}
 use Rattle.ipc_state.specs.Sound.{FitsBody}
-use Rattle.ipc_state.specs.State.{State, at_moment, has_all_processes, is_process, is_waiting, exit, restart, with_waiting, without_waiting}
-use Rattle.ipc_state.specs.Waiting.{PlainWaiting, awaited_by}
+use Rattle.ipc_state.specs.State.{State, has_all_processes, is_process, is_waiting, exit, with_waiting, without_waiting}
+use Rattle.ipc_state.specs.Waiting.{PlainWaiting, awaited_by, expiry}
 use Rattle.ipc_state.proofs.CallerLemmas.{IsGood}
 use Rattle.sysv_calls.specs.Calls.{attempt, touched}
 use Rattle.sysv_calls.proofs.CallerLemmas.{attempt-good, never-waits}
-use Rattle.ipc_engine.specs.Bytes.{IsGreeted, allowed, asks, bytes_to, most_owed, owed}
+use Rattle.ipc_engine.specs.Bytes.{IsGreeted, allowed, asked_by, asks, bytes_to, most_owed, owed, replies_to, unanswered}
 use Rattle.ipc_engine.specs.Event.{PlainEvent, Connect, Call, Interrupt, Tick, Exit, Restart, PlainOutcome}
 use Rattle.ipc_engine.specs.Sound.{IsSound, HasToWait}
-use Rattle.ipc_engine.specs.Step.{Step, silent, step, asked, connect, told, joins, interrupt, interrupted, replied, settle}
+use Rattle.ipc_engine.specs.Step.{Step, after, step, due, expired, waiting_on, asked, connect, told, joins, interrupt, interrupted, replied, settle}
 use Rattle.ipc_engine.specs.View.{reply_of}
 use Rattle.ipc_engine.proofs.Lists.{found-all, found-passes}
-use Rattle.ipc_engine.proofs.Settled.{one-allowed, settle-has, bytes_to-append}
+use Rattle.ipc_engine.proofs.Settled.{settle-has}
 use Rattle.ipc_engine.proofs.Soundness.{due-sound, exit-waits, sound-settled}
+use Rattle.ipc_engine.proofs.Weights.{weight_to, weight_to-append, one-weighs, due-owes, held, IsLight}
+use Rattle.ipc_engine.proofs.Weights.{one_each, size_of, one-light, size-light, replies-weigh, bytes-weigh}
 
 -- ---- what is owed
 
 -- of two states in which the same calls wait
-same-waits : (limits : Limits) (s t : State) (pid : ℕ) → t.wait ≡ s.wait → owed limits t pid ≡ owed limits s pid
-unfolding owed
-same-waits limits s t pid same = ap (λ (ws : List PlainWaiting). if is_some (call_of (record { 0 = pid }) ws) then longest_reply limits else 0) same
+same-waits : (most : ℕ) (s t : State) (pid : ℕ) → t.wait ≡ s.wait → held most t pid ≡ held most s pid
+same-waits most s t pid same = ap (λ (ws : List PlainWaiting). if is_some (call_of (record { 0 = pid }) ws) then most else 0) same
 
 other_pid : (p r : Pid) → (r.0 == p.0) ≡ false → r ≢ p
 other_pid p r other same = absurd (let is : r.0 ≡ p.0 = ap (λ (p : Pid). p.0) same in grind (arith, nat_tests))
 
 -- a process whose call has left is owed nothing, each other one what it was
-left-owes : (limits : Limits) (s t : State) (pid q : ℕ) → t.wait ≡ without (record { 0 = pid }) s.wait
-    → owed limits t q ≡ (if q == pid then 0 else owed limits s q)
-unfolding owed
-left-owes limits s t pid q is = by_test (q == pid) refl
+left-owes : (most : ℕ) (s t : State) (pid q : ℕ) → t.wait ≡ without (record { 0 = pid }) s.wait
+    → held most t q ≡ (if q == pid then 0 else held most s q)
+left-owes most s t pid q is = by_test (q == pid) refl
   where
-    by_test : (b : Bool) → (q == pid) ≡ b
-        → (if is_waiting t q then longest_reply limits else 0) ≡ (if b then 0 else (if is_waiting s q then longest_reply limits else 0))
+    by_test : (b : Bool) → (q == pid) ≡ b → (if is_waiting t q then most else 0) ≡ (if b then 0 else (if is_waiting s q then most else 0))
     by_test true same =
         let one : q ≡ pid = grind (arith, nat_tests) in
         let none : is_waiting t q ≡ false =
@@ -59,7 +58,7 @@ left-owes limits s t pid q is = by_test (q == pid) refl
         ∙ ap is_some (call_of-without_same (record { 0 = pid }) s.wait)) in
         rw none refl
     by_test false other =
-        ap (λ (b : Bool). if b then longest_reply limits else 0)
+        ap (λ (b : Bool). if b then most else 0)
         (ap (λ (ws : List PlainWaiting). is_some (call_of (record { 0 = q }) ws)) is
         ∙ ap is_some (call_of-without_other (record { 0 = pid }) (record { 0 = q }) s.wait (other_pid (record { 0 = pid }) (record { 0 = q }) other)))
 
@@ -79,67 +78,63 @@ is_waiting-push (v ∷ ws) w q = by_test (v.pid.0 == q) (is_waiting-push ws w q)
     by_test true rest = refl
     by_test false rest = rest
 
-joined-owes : (limits : Limits) (s : State) (w : PlainWaiting) (q : ℕ)
-    → owed limits (with_waiting s w) q ≤ owed limits s q + (if q == w.pid.0 then longest_reply limits else 0)
-unfolding owed
-joined-owes limits s w q = by_tests (is_waiting s q) (w.pid.0 == q) (is_waiting-push s.wait w q) refl
+joined-owes : (most : ℕ) (s : State) (w : PlainWaiting) (q : ℕ) → held most (with_waiting s w) q ≤ held most s q + (if q == w.pid.0 then most else 0)
+joined-owes most s w q = by_tests (is_waiting s q) (w.pid.0 == q) (is_waiting-push s.wait w q) refl
   where
     by_tests : (before is : Bool) → is_waiting (with_waiting s w) q ≡ (if before then true else is) → (w.pid.0 == q) ≡ is
-        → (if is_waiting (with_waiting s w) q then longest_reply limits else 0) ≤ (if before then longest_reply limits else 0) +
-        (if q == w.pid.0 then longest_reply limits else 0)
+        → (if is_waiting (with_waiting s w) q then most else 0) ≤ (if before then most else 0) + (if q == w.pid.0 then most else 0)
     by_tests true is now same = rw now (omega arith)
     by_tests false true now same = let turned : (q == w.pid.0) ≡ true = grind (arith, nat_tests) in rw now (rw turned (omega arith))
     by_tests false false now same = rw now (omega arith)
 
 -- ---- what an event sends
 
-module _ (limits : Limits) where
+module _ (limits : Limits) (weigh : PlainOutcome → ℕ) (most : ℕ) (light : IsLight limits weigh most) where
   empty-fits : FitsBody limits Empty
   empty-fits = omega arith
 
   -- one reply that fits, to who asks
-  one-owes : (s t : State) (pid asker serial : ℕ) (f : Finish) → FitsBody limits f.body → f.state.wait ≡ s.wait
-      → bytes_to pid (replied asker serial f).outcomes + owed limits f.state pid ≤ owed limits s pid + (if pid == asker then longest_reply limits else 0)
-  one-owes s t pid asker serial f fits same =
+  one-owes : (s : State) (pid asker serial : ℕ) (f : Finish) → FitsBody limits f.body → f.state.wait ≡ s.wait
+      → weight_to weigh pid (replied asker serial f).outcomes + held most f.state pid ≤ held most s pid + (if pid == asker then most else 0)
+  one-owes s pid asker serial f fits same =
       omega (
         arith,
-        one-allowed limits (record { pid = asker; serial = serial; errno = f.errno; body = f.body }) pid
-            (pid == asker) fits refl,
-        same-waits limits s f.state pid same,
+        one-weighs weigh limits most light (record { pid = asker; serial = serial; errno = f.errno; body = f.body }) pid (pid == asker) fits refl,
+        same-waits most s f.state pid same,
       )
 
-  interrupt-owes : (s : State) (pid asker serial : ℕ) → bytes_to pid (interrupt asker serial s).outcomes + owed limits (interrupt asker serial s).state pid
-      ≤ owed limits s pid + (if pid == asker then longest_reply limits else 0)
-  unfolding owed
+  interrupt-owes : (s : State) (pid asker serial : ℕ)
+      → weight_to weigh pid (interrupt asker serial s).outcomes + held most (interrupt asker serial s).state pid
+      ≤ held most s pid + (if pid == asker then most else 0)
   interrupt-owes s pid asker serial = by_call (call_of (record { 0 = asker }) s.wait) refl
     where
-      own : bytes_to pid (record { pid = asker; serial = serial; errno = None; body = Empty } ∷ []) ≤ (if pid == asker then longest_reply limits else 0)
-      own = one-allowed limits (record { pid = asker; serial = serial; errno = None; body = Empty }) pid (pid == asker) empty-fits refl
+      last : PlainOutcome
+      last = record { pid = asker; serial = serial; errno = None; body = Empty }
+
+      own : weight_to weigh pid (last ∷ []) ≤ (if pid == asker then most else 0)
+      own = one-weighs weigh limits most light last pid (pid == asker) empty-fits refl
 
       by_call : (r : Option PlainWaiting) → call_of (record { 0 = asker }) s.wait ≡ r
-          → bytes_to pid ((interrupted s asker r).outcomes ++ record { pid = asker; serial = serial; errno = None; body = Empty } ∷ []) + owed limits
-          (interrupted s asker r).state pid
-          ≤ owed limits s pid + (if pid == asker then longest_reply limits else 0)
+          → weight_to weigh pid ((interrupted s asker r).outcomes ++ last ∷ []) + held most (interrupted s asker r).state pid
+          ≤ held most s pid + (if pid == asker then most else 0)
       by_call None is = omega (arith, own)
       by_call (Some w) is =
           let o : PlainOutcome = record { pid = asker; serial = w.call.serial; errno = Some EINTR; body = Empty } in
-          let first = one-allowed limits o pid (pid == asker) empty-fits refl in
-          let both = bytes_to-append pid (o ∷ []) (record { pid = asker; serial = serial; errno = None; body = Empty } ∷ []) in
-          let left = left-owes limits s (without_waiting s asker) asker pid refl in
-          let before : (pid == asker) ≡ true → owed limits s pid ≡ longest_reply limits =
+          let first = one-weighs weigh limits most light o pid (pid == asker) empty-fits refl in
+          let both = weight_to-append weigh pid (o ∷ []) (last ∷ []) in
+          let left = left-owes most s (without_waiting s asker) asker pid refl in
+          let before : (pid == asker) ≡ true → held most s pid ≡ most =
           (λ same. let one : pid ≡ asker = grind (arith, nat_tests) in
           let waits : is_waiting s pid ≡ true = ap (λ (q : ℕ). is_waiting s q) one ∙ ap is_some is in
           rw waits refl) in
           by_test (pid == asker) refl o first both left before
         where
-          by_test : (b : Bool) → (pid == asker) ≡ b → (o : PlainOutcome) → bytes_to pid (o ∷ []) ≤ (if pid == asker then longest_reply limits else 0)
-              → bytes_to pid ((o ∷ []) ++ record { pid = asker; serial = serial; errno = None; body = Empty } ∷ [])
-              ≡ bytes_to pid (o ∷ []) + bytes_to pid (record { pid = asker; serial = serial; errno = None; body = Empty } ∷ [])
-              → owed limits (without_waiting s asker) pid ≡ (if pid == asker then 0 else owed limits s pid)
-              → ((pid == asker) ≡ true → owed limits s pid ≡ longest_reply limits)
-              → bytes_to pid ((o ∷ []) ++ record { pid = asker; serial = serial; errno = None; body = Empty } ∷ []) + owed limits
-              (without_waiting s asker) pid
-              ≤ owed limits s pid + (if pid == asker then longest_reply limits else 0)
+          by_test : (b : Bool) → (pid == asker) ≡ b → (o : PlainOutcome) → weight_to weigh pid (o ∷ []) ≤ (if pid == asker then most else 0)
+              → weight_to weigh pid ((o ∷ []) ++ last ∷ []) ≡ weight_to weigh pid (o ∷ []) + weight_to weigh pid (last ∷ [])
+              → held most (without_waiting s asker) pid ≡ (if pid == asker then 0 else held most s pid)
+              → ((pid == asker) ≡ true → held most s pid ≡ most)
+              → weight_to weigh pid ((o ∷ []) ++ last ∷ []) + held most (without_waiting s asker) pid
+              ≤ held most s pid + (if pid == asker then most else 0)
           by_test true same o first both left before =
               let mine = rw same at own in
               let one = rw same at first in
@@ -152,72 +147,103 @@ module _ (limits : Limits) where
               rw other (omega (arith, mine, one, both, stays))
 
   joins-owes : (s : State) (pid asker : ℕ) (request : PlainRequest) (on : Option Awaited)
-      → owed limits (joins s asker request on) pid ≤ owed limits s pid + (if pid == asker then longest_reply limits else 0)
+      → weight_to weigh pid (joins s asker request on).outcomes + held most (joins s asker request on).state pid
+      ≤ held most s pid + (if pid == asker then most else 0)
   joins-owes s pid asker request None = omega arith
-  joins-owes s pid asker request (Some on) = joined-owes limits s (record { pid = record { 0 = asker }; on = on; deadline = None; call = request }) pid
+  joins-owes s pid asker request (Some on) =
+      choice (λ (t : Step). weight_to weigh pid t.outcomes + held most t.state pid ≤ held most s pid + (if pid == asker then most else 0))
+      (is_due (record { 0 = s.clock }) (waiting_on s asker request on)) _ _
+      (λ _. one-owes s pid asker request.serial (refused s (expiry request.kind)) empty-fits refl)
+      (λ _. omega (arith, joined-owes most s (waiting_on s asker request on) pid))
 
   told-owes : (s : State) (pid asker : ℕ) (request : PlainRequest) (call : PlainCall) (t : Tried) → IsSound limits s
       → IfFinishes (IsGood limits s (touched call)) t
-      → bytes_to pid (told limits asker request s t).outcomes + owed limits (told limits asker request s t).state pid
-      ≤ owed limits s pid + (if pid == asker then longest_reply limits else 0)
+      → weight_to weigh pid (told limits asker request s t).outcomes + held most (told limits asker request s t).state pid
+      ≤ held most s pid + (if pid == asker then most else 0)
   unfolding settle
   told-owes s pid asker request call (Finishes f) h good =
-      let own = one-owes s s pid asker request.serial f (good.body h.parts) good.wait in
-      let later = (settle-has limits (length f.state.wait) f.state (good.state h.parts)).owes pid in
-      let both = bytes_to-append pid (replied asker request.serial f).outcomes (settle limits f.state).outcomes in
+      let own = one-owes s pid asker request.serial f (good.body h.parts) good.wait in
+      let later = (settle-has limits (length f.state.wait) f.state (good.state h.parts)).owes weigh most light pid in
+      let both = weight_to-append weigh pid (replied asker request.serial f).outcomes (settle limits f.state).outcomes in
       omega (arith, own, later, both)
-  told-owes s pid asker request call Waits h good = omega (arith, joins-owes s pid asker request (awaited_by request.kind))
+  told-owes s pid asker request call Waits h good = joins-owes s pid asker request (awaited_by request.kind)
 
   asked-owes : (s : State) (pid asker : ℕ) (request : PlainRequest) (kind : PlainKind) → IsSound limits s
-      → bytes_to pid (asked limits asker request kind s).outcomes + owed limits (asked limits asker request kind s).state pid
-      ≤ owed limits s pid + (if pid == asker then longest_reply limits else 0)
-  asked-owes s pid asker request (Hello cred) h = one-owes s s pid asker request.serial (refused s EPROTO) empty-fits refl
+      → weight_to weigh pid (asked limits asker request kind s).outcomes + held most (asked limits asker request kind s).state pid
+      ≤ held most s pid + (if pid == asker then most else 0)
+  asked-owes s pid asker request (Hello cred) h = one-owes s pid asker request.serial (refused s EPROTO) empty-fits refl
   asked-owes s pid asker request Interrupts h = interrupt-owes s pid asker request.serial
   asked-owes s pid asker request (Calls call) h =
-      choice (λ (t : Step). bytes_to pid t.outcomes + owed limits t.state pid ≤ owed limits s pid +
-      (if pid == asker then longest_reply limits else 0)) (is_waiting s asker) _ _
-      (λ _. one-owes s s pid asker request.serial (refused s EALREADY) empty-fits refl)
+      choice (λ (t : Step). weight_to weigh pid t.outcomes + held most t.state pid ≤ held most s pid + (if pid == asker then most else 0))
+      (is_waiting s asker) _ _
+      (λ _. one-owes s pid asker request.serial (refused s EALREADY) empty-fits refl)
       (λ _. told-owes s pid asker request call (attempt limits s asker false call) h (attempt-good limits s asker false call))
 
   connect-owes : (s : State) (cred : Cred) (serial pid : ℕ) → 0 < pid
-      → bytes_to pid (connect limits cred serial s).outcomes + owed limits (connect limits cred serial s).state pid
-      ≤ owed limits s pid + (if pid == s.processes.next then longest_reply limits else 0)
-  unfolding owed
+      → weight_to weigh pid (connect limits cred serial s).outcomes + held most (connect limits cred serial s).state pid
+      ≤ held most s pid + (if pid == s.processes.next then most else 0)
   connect-owes s cred serial pid some =
-      choice (λ (t : Step). bytes_to pid t.outcomes + owed limits t.state pid ≤ owed limits s pid +
-      (if pid == s.processes.next then longest_reply limits else 0))
+      choice (λ (t : Step). weight_to weigh pid t.outcomes + held most t.state pid ≤ held most s pid + (if pid == s.processes.next then most else 0))
       (has_all_processes limits s) _ _
       (λ _. let none : (pid == 0) ≡ false = grind (arith, nat_tests) in rw none (omega arith))
       (λ _. omega (
         arith,
-        one-allowed limits (record { pid = s.processes.next; serial = serial; errno = None; body = Number s.processes.next }) pid
+        one-weighs weigh limits most light (record { pid = s.processes.next; serial = serial; errno = None; body = Number s.processes.next }) pid
             (pid == s.processes.next) (omega arith) refl,
       ))
 
-  restarted-owes : (s : State) (pid : ℕ) → owed limits (restart s) pid ≡ 0
-  unfolding owed
-  restarted-owes s pid = refl
+  -- first those are answered whose deadline has come
+  then-owes : (s : State) (moment pid n : ℕ) (next : State → Step) → IsSound limits s
+      → weight_to weigh pid (next (due moment s).state).outcomes + held most (next (due moment s).state).state pid ≤ held most (due moment s).state pid + n
+      → weight_to weigh pid (after (due moment s) next).outcomes + held most (after (due moment s) next).state pid ≤ held most s pid + n
+  then-owes s moment pid n next h later =
+      omega (
+        arith,
+        later,
+        due-owes weigh limits most light (record { 0 = (due moment s).state.clock }) pid s.wait h.parts.wait.pids,
+        weight_to-append weigh pid (due moment s).outcomes (next (due moment s).state).outcomes,
+      )
 
-  -- it is owed no more then, by so many bytes
+  -- it is owed no more then, by so much
+  pub step-weighs : (s : State) (e : PlainEvent) (pid : ℕ) → IsSound limits s → 0 < pid
+      → weight_to weigh pid (step limits s e).outcomes + held most (step limits s e).state pid ≤ held most s pid + (if asks s e pid then most else 0)
+  step-weighs s (Connect cred serial moment) pid h some =
+      then-owes s moment pid _ (connect limits cred serial) h (connect-owes (due moment s).state cred serial pid some)
+  step-weighs s (Call asker request moment) pid h some =
+      then-owes s moment pid _ (asked limits asker request request.kind) h
+      (asked-owes (due moment s).state pid asker request request.kind (due-sound limits s moment h))
+  step-weighs s (Interrupt asker serial moment) pid h some =
+      then-owes s moment pid _ (interrupt asker serial) h (interrupt-owes (due moment s).state pid asker serial)
+  step-weighs s (Tick moment) pid h some =
+      omega (arith, due-owes weigh limits most light (record { 0 = (due moment s).state.clock }) pid s.wait h.parts.wait.pids)
+  step-weighs s (Exit gone moment) pid h some =
+      let d = (due moment s).state in
+      let t = exit d gone in
+      then-owes s moment pid 0 (λ u. settle limits (exit u gone)) h
+      (subst (λ (u : Step). weight_to weigh pid u.outcomes + held most u.state pid ≤ held most d pid + 0)
+      (sym (sound-settled limits t (exit-waits limits d gone (due-sound limits s moment h))))
+      (choice (λ (n : ℕ). n ≡ held most t pid → 0 + held most t pid ≤ held most d pid + 0) (pid == gone) 0 (held most d pid)
+      (λ _ is. omega arith) (λ _ is. omega arith) (sym (left-owes most d t gone pid refl))))
+  step-weighs s Restart pid h some = omega arith
+
+module _ (limits : Limits) where
+  -- each request is answered once at most
+  pub step-once : (s : State) (e : PlainEvent) (pid : ℕ) → IsSound limits s → 0 < pid
+      → replies_to pid (step limits s e).outcomes + unanswered (step limits s e).state pid ≤ unanswered s pid + asked_by s e pid
+  step-once s e pid h some =
+      omega (arith, step-weighs limits one_each 1 (one-light limits) s e pid h some, replies-weigh pid (step limits s e).outcomes)
+
+  -- and its bytes are no more than a reply may have
   pub step-owes : (s : State) (e : PlainEvent) (pid : ℕ) → IsSound limits s → 0 < pid
       → bytes_to pid (step limits s e).outcomes + owed limits (step limits s e).state pid ≤ owed limits s pid + allowed limits s e pid
-  step-owes s (Connect cred serial moment) pid h some =
-      let here = connect-owes (at_moment s moment) cred serial pid some in
-      omega (arith, here, same-waits limits s (at_moment s moment) pid refl)
-  step-owes s (Call asker request moment) pid h some =
-      let here = asked-owes (at_moment s moment) pid asker request request.kind (due-sound limits s moment h) in
-      omega (arith, here, same-waits limits s (at_moment s moment) pid refl)
-  step-owes s (Interrupt asker serial moment) pid h some =
-      let here = interrupt-owes (at_moment s moment) pid asker serial in
-      omega (arith, here, same-waits limits s (at_moment s moment) pid refl)
-  step-owes s (Tick moment) pid h some = omega (arith, same-waits limits s (at_moment s moment) pid refl)
-  step-owes s (Exit gone moment) pid h some =
-      let t = exit (at_moment s moment) gone in
-      subst (λ (u : Step). bytes_to pid u.outcomes + owed limits u.state pid ≤ owed limits s pid + 0)
-      (sym (sound-settled limits t (exit-waits limits (at_moment s moment) gone (due-sound limits s moment h))))
-      (choice (λ (n : ℕ). n ≡ owed limits t pid → 0 + owed limits t pid ≤ owed limits s pid + 0) (pid == gone) 0 (owed limits s pid)
-      (λ _ is. omega arith) (λ _ is. omega arith) (sym (left-owes limits s t gone pid refl)))
-  step-owes s Restart pid h some = omega (arith, restarted-owes s pid)
+  unfolding owed
+  step-owes s e pid h some =
+      omega (arith, step-weighs limits size_of (longest_reply limits) (size-light limits) s e pid h some, bytes-weigh pid (step limits s e).outcomes)
+
+  -- what is owed is a reply while a call waits
+  owed-held : (s : State) (pid : ℕ) → owed limits s pid ≡ held (longest_reply limits) s pid
+  unfolding owed
+  owed-held s pid = refl
 
   pub owed-most : (s : State) (pid : ℕ) → owed limits s pid ≤ most_owed limits
   unfolding owed
@@ -247,11 +273,18 @@ module _ (limits : Limits) where
       let sent : length (reply_bytes (reply_of o)) + bytes_to pid os ≡ 0 = rw same at none in
       omega (arith, sent, length-reply_bytes (reply_of o))
 
+  bytes-parts : (xs ys : List PlainOutcome) (pid : ℕ) → bytes_to pid (xs ++ ys) ≡ 0 → (bytes_to pid xs ≡ 0) × (bytes_to pid ys ≡ 0)
+  bytes-parts xs ys pid none =
+      let all = weight_to-append size_of pid xs ys in
+      let both = bytes-weigh pid (xs ++ ys) in
+      let first = bytes-weigh pid xs in
+      let second = bytes-weigh pid ys in
+      (omega (arith, none, all, both, first, second), omega (arith, none, all, both, first, second))
+
   interrupt-sent : (s : State) (pid asker serial : ℕ) → (pid == asker) ≡ true → bytes_to pid (interrupt asker serial s).outcomes ≡ 0 → ⊥
   interrupt-sent s pid asker serial same none =
       let o : PlainOutcome = record { pid = asker; serial = serial; errno = None; body = Empty } in
-      let all = bytes_to-append pid (interrupted s asker (call_of (record { 0 = asker }) s.wait)).outcomes (o ∷ []) in
-      one-sent o [] pid same (omega (arith, none, all))
+      one-sent o [] pid same (bytes-parts (interrupted s asker (call_of (record { 0 = asker }) s.wait)).outcomes (o ∷ []) pid none).1
 
   told-unanswered : (s : State) (asker : ℕ) (request : PlainRequest) (call : PlainCall) (t : Tried) → request.kind ≡ Calls call
       → attempt limits s asker false call ≡ t
@@ -260,19 +293,24 @@ module _ (limits : Limits) where
   unfolding owed
   told-unanswered s asker request call (Finishes f) is tried free none =
       absurd (one-sent (record { pid = asker; serial = request.serial; errno = f.errno; body = f.body }) _ asker (grind (arith, nat_tests)) none)
-  told-unanswered s asker request call Waits is tried free none = (rw free refl, by_awaited (awaited_by request.kind) refl)
+  told-unanswered s asker request call Waits is tried free none = (rw free refl, by_awaited (awaited_by request.kind) refl none)
     where
-      by_awaited : (on : Option Awaited) → awaited_by request.kind ≡ on
-          → 0 < (if is_waiting (joins s asker request on) asker then longest_reply limits else 0)
-      by_awaited None nothing = absurd (
+      by_awaited : (on : Option Awaited) → awaited_by request.kind ≡ on → bytes_to asker (joins s asker request on).outcomes ≡ 0
+          → 0 < (if is_waiting (joins s asker request on).state asker then longest_reply limits else 0)
+      by_awaited None nothing quiet = absurd (
           let never = never-waits limits s asker false call (ap awaited_by (sym is) ∙ nothing) in
           let waits : has_to_wait (attempt limits s asker false call) ≡ true = ap has_to_wait tried in cc)
-      by_awaited (Some on) there =
-          let w : PlainWaiting = record { pid = record { 0 = asker }; on = on; deadline = None; call = request } in
+      by_awaited (Some on) there quiet =
+          let w : PlainWaiting = waiting_on s asker request on in
           let same : (asker == asker) ≡ true = grind (arith, nat_tests) in
+          choice (λ (t : Step). bytes_to asker t.outcomes ≡ 0 → 0 < (if is_waiting t.state asker then longest_reply limits else 0))
+          (is_due (record { 0 = s.clock }) w) _ _
+          (λ _ quiet. absurd (one-sent (record { pid = asker; serial = request.serial; errno = Some (expiry request.kind); body = Empty }) [] asker same quiet))
+          (λ _ quiet.
           let now : is_waiting (with_waiting s w) asker ≡ true = is_waiting-push s.wait w asker
           ∙ (ap (λ (b : Bool). if b then true else asker == asker) free ∙ same) in
-          rw now (omega arith)
+          rw now (omega arith))
+          quiet
 
   asked-unanswered : (s : State) (asker : ℕ) (request : PlainRequest) (kind : PlainKind) → request.kind ≡ kind
       → bytes_to asker (asked limits asker request kind s).outcomes ≡ 0
@@ -286,20 +324,54 @@ module _ (limits : Limits) where
       (arith, nat_tests)) no))
       (λ free no. told-unanswered s asker request call (attempt limits s asker false call) is refl free no) none
 
+  -- who is sent nothing at a moment waits on, if it waited
+  due-left : (now : Moment) (ws : List PlainWaiting) (pid : ℕ) → is_some (call_of (record { 0 = pid }) ws) ≡ true
+      → bytes_to pid (map expired (calls_due now ws)) ≡ 0 → is_some (call_of (record { 0 = pid }) (calls_left now ws)) ≡ true
+  due-left now [] pid is quiet = cc
+  due-left now (w ∷ ws) pid is quiet = by_test (w.pid.0 == pid) (is_due now w) refl is quiet (due-left now ws pid)
+    where
+      by_test : (b due : Bool) → (w.pid.0 == pid) ≡ b → is_some (if b then Some w else call_of (record { 0 = pid }) ws) ≡ true
+          → bytes_to pid (map expired (if due then w ∷ calls_due now ws else calls_due now ws)) ≡ 0
+          → (is_some (call_of (record { 0 = pid }) ws) ≡ true → bytes_to pid (map expired (calls_due now ws)) ≡ 0
+          → is_some (call_of (record { 0 = pid }) (calls_left now ws)) ≡ true)
+          → is_some (call_of (record { 0 = pid }) (if not due then w ∷ calls_left now ws else calls_left now ws)) ≡ true
+      by_test true true same is quiet rest = absurd (one-sent (expired w) (map expired (calls_due now ws)) pid (grind (arith, nat_tests)) quiet)
+      by_test true false same is quiet rest = rw same refl
+      by_test false true other is quiet rest =
+          let mine : (pid == w.pid.0) ≡ false = grind (arith, nat_tests) in
+          let no : 0 + bytes_to pid (map expired (calls_due now ws)) ≡ 0 = rw mine at quiet in
+          rest is (omega (arith, no))
+      by_test false false other is quiet rest = rw other (rest is quiet)
+
+  -- who is sent nothing at a moment, and owed nothing then, was owed nothing
+  due-unowed : (s : State) (moment pid : ℕ) → IsSound limits s → bytes_to pid (due moment s).outcomes ≡ 0 → owed limits (due moment s).state pid ≡ 0
+      → owed limits s pid ≡ 0
+  unfolding owed
+  due-unowed s moment pid h quiet none = by_test (is_waiting s pid) refl
+    where
+      by_test : (b : Bool) → is_waiting s pid ≡ b → (if b then longest_reply limits else 0) ≡ 0
+      by_test true waits =
+          let left = due-left (record { 0 = (due moment s).state.clock }) s.wait pid waits quiet in
+          absurd (let no : longest_reply limits ≡ 0 = rw left at none in omega (arith, no))
+      by_test false free = refl
+
   pub unanswered-owed : (s : State) (e : PlainEvent) (pid : ℕ) → IsSound limits s → is_process s pid ≡ true → asks s e pid ≡ true
       → bytes_to pid (step limits s e).outcomes ≡ 0 → (owed limits s pid ≡ 0) × (0 < owed limits (step limits s e).state pid)
   unanswered-owed s (Connect cred serial moment) pid sound is asking none =
       let below = (rising-found 1 s.processes.entries s.processes.next pid sound.parts.processes.numbers is).1 in
       absurd (grind (arith, nat_tests, below, asking))
   unanswered-owed s (Call asker request moment) pid sound is asking none =
-      let t = at_moment s moment in
+      let t = (due moment s).state in
       let one : pid ≡ asker = grind (arith, nat_tests, asking) in
+      let parts = bytes-parts (due moment s).outcomes (asked limits asker request request.kind t).outcomes pid none in
       let mine : bytes_to asker (asked limits asker request request.kind t).outcomes ≡ 0 =
-      ap (λ (q : ℕ). bytes_to q (asked limits asker request request.kind t).outcomes) (sym one) ∙ none in
+      ap (λ (q : ℕ). bytes_to q (asked limits asker request request.kind t).outcomes) (sym one) ∙ parts.1 in
       let has = asked-unanswered t asker request request.kind refl mine in
-      let before = same-waits limits s t asker refl in
-      subst (λ (q : ℕ). (owed limits s q ≡ 0) × (0 < owed limits (asked limits asker request request.kind t).state q)) (sym one) (sym before ∙ has.0, has.1)
-  unanswered-owed s (Interrupt asker serial moment) pid sound is asking none = absurd (interrupt-sent (at_moment s moment) pid asker serial asking none)
+      let has_here = subst (λ (q : ℕ). (owed limits t q ≡ 0) × (0 < owed limits (asked limits asker request request.kind t).state q)) (sym one) has in
+      (due-unowed s moment pid sound parts.0 has_here.0, has_here.1)
+  unanswered-owed s (Interrupt asker serial moment) pid sound is asking none =
+      absurd (interrupt-sent (due moment s).state pid asker serial asking
+      (bytes-parts (due moment s).outcomes (interrupt asker serial (due moment s).state).outcomes pid none).1)
   unanswered-owed s (Tick moment) pid sound is asking none = cc
   unanswered-owed s (Exit gone moment) pid sound is asking none = cc
   unanswered-owed s Restart pid sound is asking none = cc
@@ -307,10 +379,16 @@ module _ (limits : Limits) where
 -- the last reply of a HELLO is its own
 pub hello-greets : (limits : Limits) (s : State) (cred : Cred) (serial moment : ℕ) → IsGreeted s (step limits s (Connect cred serial moment))
 hello-greets limits s cred serial moment =
-    choice (IsGreeted s) (has_all_processes limits (at_moment s moment)) _ _
-    (λ _. record { front = []; reply = record { pid = 0; serial = serial; errno = Some ENFILE; body = Empty }; last = refl; process = inl refl })
+    let d = due moment s in
+    choice (λ (t : Step). IsGreeted s (record { state = t.state; outcomes = d.outcomes ++ t.outcomes })) (has_all_processes limits d.state) _ _
     (λ _. record {
-      front = [];
+      front = d.outcomes;
+      reply = record { pid = 0; serial = serial; errno = Some ENFILE; body = Empty };
+      last = refl;
+      process = inl refl;
+    })
+    (λ _. record {
+      front = d.outcomes;
       reply = record { pid = s.processes.next; serial = serial; errno = None; body = Number s.processes.next };
       last = refl;
       process = inr (refl, is_some-push nat_eq nat_eq_equiv s.processes.entries s.processes.next (record { cred = cred }));

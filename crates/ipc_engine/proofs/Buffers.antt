@@ -6,14 +6,13 @@ use Rattle.std.specs.Global.{Vec}
 use Rattle.ipc_base.specs.declared.errno.Errno.{Errno}
 use Rattle.ipc_wire.specs.declared.reply.Body.{Body}
 use Rattle.ipc_state.specs.Finish.{finish_of}
-use Rattle.ipc_state.specs.State.{State, at_moment}
-use Rattle.sysv_calls.specs.Spare.{room_of}
+use Rattle.ipc_state.specs.State.{State}
 use Rattle.ipc_engine.specs.declared.event.Outcome.{Outcome}
 use Rattle.ipc_engine.specs.Buffer.{room_in, HasBuffer}
 use Rattle.ipc_engine.specs.Engine.{IsForProcess, HasRequest}
 use Rattle.ipc_engine.specs.Sound.{IsSound}
 use Rattle.ipc_engine.specs.Step.{step}
-use Rattle.ipc_engine.proofs.Soundness.{due-sound, step-sound, step-fits}
+use Rattle.ipc_engine.proofs.Soundness.{step-sound, step-fits}
 use Rattle.ipc_base.specs.declared.limits.Limits.{Limits}
 use Rattle.ipc_state.specs.Sound.{FitsBody}
 use Rattle.ipc_engine.specs.Event.{PlainEvent, PlainOutcome}
@@ -33,6 +32,10 @@ pushed old new o xs is as_said =
 pub finish-state : (s : State) (r : Result (Body (Vec ℕ)) Errno) → (finish_of s r).state ≡ s
 finish-state s (Ok body) = refl
 finish-state s (Err e) = refl
+
+-- an answer leaves those that wait as they were, if what it is made of does
+pub waits-kept : (t s : State) (r : Result (Body (Vec ℕ)) Errno) → (finish_of t r).state.wait ≡ s.wait → t.wait ≡ s.wait
+waits-kept t s r same = ap (λ (u : State). u.wait) (sym (finish-state t r)) ∙ same
 
 -- the buffer that was taken back is there whatever stands in the replies
 pub buffer-spare : (limits now : Limits) (old new : Vec ℕ) (os us : List Outcome) → now ≡ limits → HasBuffer limits old os
@@ -54,7 +57,3 @@ pub after-fits : (limits now : Limits) (s : State) (os : List PlainOutcome) (e :
 after-fits limits now s os e same is h =
     subst (λ (l : Limits). All (λ (o : PlainOutcome). FitsBody l o.body) os) (sym same)
     (subst (λ (us : List PlainOutcome). All (λ (o : PlainOutcome). FitsBody limits o.body) us) (sym is) (step-fits limits s e h))
-
-pub begun-sound : (limits now : Limits) (s t : State) (moment : ℕ) → now ≡ limits → t ≡ at_moment s moment → IsSound limits s → IsSound now t
-begun-sound limits now s t moment same is h =
-    subst (λ (l : Limits). IsSound l t) (sym same) (subst (λ (u : State). IsSound limits u) (sym is) (due-sound limits s moment h))

@@ -11,11 +11,11 @@ use Rattle.ipc_state.specs.Sound.{FitsBody}
 use Rattle.ipc_engine.specs.Engine.{IsForProcess, HasRequest}
 use Rattle.ipc_engine.specs.Sound.{IsSound, HasToWait}
 use Rattle.ipc_state.specs.Numbered.{Numbered, entry_of}
-use Rattle.ipc_state.specs.State.{State, start, at_moment, has_all_processes, is_process, exit, restart}
+use Rattle.ipc_state.specs.State.{State, start, has_all_processes, is_process, exit, restart}
 use Rattle.ipc_state.specs.declared.processes.Process.{Process}
-use Rattle.ipc_engine.specs.Step.{Step, step, run}
+use Rattle.ipc_engine.specs.Step.{Step, step, due, run}
 use Rattle.ipc_state.proofs.CallerLemmas.{start-sound as start-parts}
-use Rattle.ipc_engine.specs.Bytes.{IsGreeted, allowed, asks, bytes_to, most_owed, owed}
+use Rattle.ipc_engine.specs.Bytes.{IsGreeted, allowed, asked_by, asks, bytes_to, most_owed, owed, replies_to, unanswered}
 use Rattle.ipc_engine.proofs.Settled.{settle-kept}
 use Rattle.ipc_engine.proofs.Soundness as soundness
 use Rattle.ipc_engine.proofs.Answered as answered
@@ -45,6 +45,11 @@ pub step-owes : (limits : Limits) (s : State) (e : PlainEvent) (pid : ℕ) → I
     → bytes_to pid (step limits s e).outcomes + owed limits (step limits s e).state pid ≤ owed limits s pid + allowed limits s e pid
 step-owes = answered.step-owes
 
+-- each request is answered once at most
+pub step-once : (limits : Limits) (s : State) (e : PlainEvent) (pid : ℕ) → IsSound limits s → 0 < pid
+    → replies_to pid (step limits s e).outcomes + unanswered (step limits s e).state pid ≤ unanswered s pid + asked_by s e pid
+step-once = answered.step-once
+
 -- no process is owed more than that, and what is no process is owed nothing
 pub owed-most : (limits : Limits) (s : State) (pid : ℕ) → IsSound limits s → owed limits s pid ≤ most_owed limits
 owed-most limits s pid sound = answered.owed-most limits s pid
@@ -71,19 +76,19 @@ restart-is limits s = refl
 pub connect-stays : (limits : Limits) (s : State) (cred : Cred) (serial moment pid : ℕ) → is_process s pid ≡ true
     → is_process (step limits s (Connect cred serial moment)).state pid ≡ true
 connect-stays limits s cred serial moment pid is =
-    choice (λ (t : Step). is_process t.state pid ≡ true) (has_all_processes limits (at_moment s moment)) _ _
+    choice (λ (t : Step). is_process t.state pid ≡ true) (has_all_processes limits (due moment s).state) _ _
     (λ _. is)
     (λ _. is_some-append nat_eq s.processes.entries ((s.processes.next, record { cred = cred }) ∷ []) pid is)
 
 pub call-stays : (limits : Limits) (s : State) (asker : ℕ) (request : PlainRequest) (moment pid : ℕ) → is_process s pid ≡ true
     → is_process (step limits s (Call asker request moment)).state pid ≡ true
 call-stays limits s asker request moment pid is =
-    ap (λ (ps : Numbered Process). is_some (entry_of ps pid)) (asked-keeps limits (at_moment s moment) asker request request.kind).0 ∙ is
+    ap (λ (ps : Numbered Process). is_some (entry_of ps pid)) (asked-keeps limits (due moment s).state asker request request.kind).0 ∙ is
 
 pub interrupt-stays : (limits : Limits) (s : State) (asker serial moment pid : ℕ) → is_process s pid ≡ true
     → is_process (step limits s (Interrupt asker serial moment)).state pid ≡ true
 interrupt-stays limits s asker serial moment pid is =
-    ap (λ (ps : Numbered Process). is_some (entry_of ps pid)) (interrupt-keeps limits (at_moment s moment) asker serial).0 ∙ is
+    ap (λ (ps : Numbered Process). is_some (entry_of ps pid)) (interrupt-keeps limits (due moment s).state asker serial).0 ∙ is
 
 pub tick-stays : (limits : Limits) (s : State) (moment pid : ℕ) → is_process s pid ≡ true
     → is_process (step limits s (Tick moment)).state pid ≡ true
@@ -92,5 +97,5 @@ tick-stays limits s moment pid is = is
 pub exit-stays : (limits : Limits) (s : State) (gone moment pid : ℕ) → pid ≢ gone → is_process s pid ≡ true
     → is_process (step limits s (Exit gone moment)).state pid ≡ true
 exit-stays limits s gone moment pid apart is =
-    ap (λ (ps : Numbered Process). is_some (entry_of ps pid)) (settle-kept limits (exit (at_moment s moment) gone)).0
+    ap (λ (ps : Numbered Process). is_some (entry_of ps pid)) (settle-kept limits (exit (due moment s).state gone)).0
     ∙ (ap is_some (value_at-without s.processes.entries gone pid apart) ∙ is)

@@ -1,5 +1,5 @@
 -- Which calls can go on when one object has changed: those that wait on it, and no other.
-use Rattle.std.proofs.Common.{◌≡◌, ◌≢◌, ℕ, zero, suc, ◌⊎◌, inl, inr, Bool, true, false, not, List, [], ◌∷◌, ◌++◌}
+use Rattle.std.proofs.Common.{◌≡◌, ◌≢◌, ℕ, zero, suc, ◌⊎◌, inl, inr, Bool, true, false, not, List, ◌++◌}
 use Rattle.std.proofs.Common.{Option, Some, None, is_some, get_or, length, length-append, append_assoc, ◌+◌, ◌≤◌}
 use Rattle.std.proofs.Common.{refl, sym, ap, subst, ◌∙◌, arith}
 use Rattle.std.specs.Prelude.{All, find, nat_eq}
@@ -8,7 +8,7 @@ use Rattle.std.proofs.lemmas.List.Elements.{All-filter}
 use Rattle.ipc_base.specs.declared.limits.Limits.{Limits}
 use Rattle.ipc_base.specs.declared.identity.Id.{Id}
 use Rattle.ipc_base.proofs.CallerLemmas.{test_cases}
-use Rattle.ipc_wait.specs.Waits.{is_of, without}
+use Rattle.ipc_wait.specs.Waits.{is_of}
 use Rattle.ipc_wait.proofs.CallerLemmas.{found-in}
 use Rattle.ipc_wire.specs.Request.{PlainKind, Hello, Interrupt as Interrupts, Calls}
 use Rattle.ipc_state.specs.declared.parked.Awaited.{Awaited}
@@ -17,8 +17,8 @@ use Rattle.ipc_state.specs.declared.processes.Process.{Process}
 use Rattle.ipc_state.specs.Finish.{Finish, has_to_wait}
 use Rattle.ipc_state.specs.Numbered.{Numbered, entry_of}
 use Rattle.ipc_state.specs.Sound.{HasSoundParts}
-use Rattle.ipc_state.specs.State.{State, cred_of, is_process}
-use Rattle.ipc_state.specs.Touching.{is_there, IsAsBefore}
+use Rattle.ipc_state.specs.State.{State, is_process}
+use Rattle.ipc_state.specs.Touching.{is_there}
 use Rattle.ipc_state.specs.Waiting.{PlainWaiting, IsSoundWaiting, awaited_by}
 use Rattle.ipc_state.proofs.CallerLemmas.{IsGood}
 use Rattle.sysv_calls.proofs.CallerLemmas.{waits-there}
@@ -27,7 +27,7 @@ use Rattle.ipc_engine.specs.Settling.{AreLinked, OthersWait}
 use Rattle.ipc_engine.specs.Sound.{IsSound}
 use Rattle.ipc_engine.specs.Step.{Step, silent, after, resumed, resumed_first, settle_within, settle, can_go_on, tried_again}
 use Rattle.ipc_engine.proofs.Lists.{found-all, found-passes}
-use Rattle.ipc_engine.proofs.Settled.{HasResumed, resumed-has, settle-nothing}
+use Rattle.ipc_engine.proofs.Settled.{resumed-has, settle-nothing}
 use Rattle.ipc_engine.proofs.Soundness.{still-waits, credited}
 
 same_object : (a b : Awaited) → (a ≡ b) ⊎ (Some a ≢ Some b)

@@ -1,4 +1,6 @@
 mod Lists
+mod Weights
+mod Expiring
 pub mod Settled
 pub mod Soundness
 pub mod Answered

@@ -1,6 +1,6 @@
 -- What a search in a list finds.
-use Rattle.std.proofs.Common.{◌≡◌, ℕ, suc, ◌+◌, ◌<◌, get_or, take, drop, sym, Bool, true, false, cond, List, [], ◌∷◌}
-use Rattle.std.proofs.Common.{◌++◌, length, Option, Some, None, refl, subst, ap, ◌∙◌, arith}
+use Rattle.std.proofs.Common.{◌≡◌, ℕ, suc, ◌<◌, get_or, take, drop, sym, Bool, true, false, not, cond, filter, List, [], ◌∷◌}
+use Rattle.std.proofs.Common.{◌++◌, length, Some, None, refl, subst, ap, ◌∙◌}
 use Rattle.std.specs.Prelude.{All, find}
 use Rattle.std.proofs.lemmas.List.{take-append-drop}
 use Rattle.std.proofs.Math.Seq.{drop-cons}
@@ -39,6 +39,26 @@ module _ {X : Type 0} (test : X → Bool) where
   nothing-found [] all = refl
   nothing-found (y ∷ ys) all =
       rw (All-head (λ x. test x ≡ false) y ys all) (nothing-found ys (All-tail (λ x. test x ≡ false) y ys all))
+
+-- each of those that pass does
+pub all-pass : {X : Type 0} (test : X → Bool) (xs : List X) → All (λ x. test x ≡ true) (filter test xs)
+all-pass test [] = All-nil _
+all-pass {X = X} test (x ∷ xs) = by_test (test x) refl (all-pass test xs)
+  where
+    by_test : (b : Bool) → test x ≡ b → All (λ (y : X). test y ≡ true) (filter test xs)
+        → All (λ (y : X). test y ≡ true) (cond b (x ∷ filter test xs) (filter test xs))
+    by_test true is rest = All-cons (λ (y : X). test y ≡ true) x _ is rest
+    by_test false is rest = rest
+
+-- of what is left without those that pass, none passes
+pub none-left : {X : Type 0} (test : X → Bool) (xs : List X) → All (λ x. test x ≡ false) (filter (λ x. not (test x)) xs)
+none-left test [] = All-nil _
+none-left {X = X} test (x ∷ xs) = by_test (test x) refl (none-left test xs)
+  where
+    by_test : (b : Bool) → test x ≡ b → All (λ (y : X). test y ≡ false) (filter (λ y. not (test y)) xs)
+        → All (λ (y : X). test y ≡ false) (cond (not b) (x ∷ filter (λ y. not (test y)) xs) (filter (λ y. not (test y)) xs))
+    by_test true is rest = rest
+    by_test false is rest = All-cons (λ (y : X). test y ≡ false) x _ is rest
 
 -- the first that passes is found
 pub found-here : {X : Type 0} (test : X → Bool) (before later : List X) (x : X) → All (λ y. test y ≡ false) before → test x ≡ true

@@ -1,18 +1,16 @@
 -- Calls that waited go on: what each of them leaves, and what is left when none can go on any more.
-use Rattle.std.proofs.Common.{◌≡◌, ◌≢◌, ℕ, zero, suc, ◌+◌, ◌<◌, ◌≤◌, Bool, true, false, not, cond, List, [], ◌∷◌, ◌++◌, length, Option, Some, None, is_some}
+use Rattle.std.proofs.Common.{◌≡◌, ◌≢◌, ℕ, zero, suc, ◌+◌, ◌≤◌, Bool, true, false, not, List, [], ◌∷◌, length, Option, Some, None, is_some}
 use Rattle.std.proofs.Common.{refl, sym, ap, subst, ◌∙◌, arith, length-append}
-use Rattle.std.specs.Prelude.{All, find, nat_eq, ◌==◌, if◌then◌else◌}
+use Rattle.std.specs.Prelude.{All, find, ◌==◌, if◌then◌else◌}
 use Rattle.std.proofs.lemmas.Bool.Decides.{nat_tests}
 use Rattle.std.proofs.lemmas.List.Elements.{All-nil, All-cons, All-append, All-filter}
+use Rattle.ipc_base.specs.declared.identity.Moment.{Moment}
 use Rattle.ipc_base.specs.declared.identity.Pid.{Pid}
 use Rattle.ipc_base.specs.declared.limits.Limits.{Limits}
-use Rattle.ipc_base.specs.Limits.{longest_reply}
-use Rattle.ipc_wait.specs.Waits.{call_of, without, is_of}
+use Rattle.ipc_wait.specs.Waits.{call_of, without, is_of, is_due}
 use Rattle.ipc_wait.proofs.CallerLemmas.{IsIn, found-in, call_of-without_same, call_of-without_other}
 use Rattle.ipc_wire.specs.Request.{PlainCall, PlainKind, Hello, Interrupt as Interrupts, Calls}
 use Rattle.ipc_wire.specs.Request as requests
-use Rattle.ipc_wire.specs.Reply.{reply_bytes}
-use Rattle.ipc_wire.proofs.CallerLemmas.{length-reply_bytes}
 use Rattle.sysv_msg.specs.Queue.{Queue}
 use Rattle.ipc_state.specs.declared.parked.Awaited.{Awaited}
 use Rattle.ipc_state.specs.declared.parked.Awaited.TheVariants as awaited
@@ -27,11 +25,10 @@ use Rattle.ipc_state.specs.Waiting.{PlainWaiting, IsSoundWaiting, awaited_by}
 use Rattle.ipc_state.proofs.CallerLemmas.{IsGood, without_waiting-sound}
 use Rattle.sysv_calls.specs.Calls.{attempt, touched}
 use Rattle.sysv_calls.proofs.CallerLemmas.{attempt-good}
-use Rattle.ipc_engine.specs.Bytes.{bytes_to, owed}
 use Rattle.ipc_engine.specs.Event.{PlainOutcome}
-use Rattle.ipc_engine.specs.Step.{Step, silent, after, replied, answered, tried_again, can_go_on, resumed, resumed_first, settle_within, settle}
-use Rattle.ipc_engine.specs.View.{reply_of}
+use Rattle.ipc_engine.specs.Step.{Step, silent, after, answered, tried_again, can_go_on, resumed, resumed_first, settle_within, settle}
 use Rattle.ipc_engine.proofs.Lists.{found-all, nothing-passes, nothing-found}
+use Rattle.ipc_engine.proofs.Weights.{weight_to, weight_to-append, one-weighs, held, IsLight}
 
 -- a call that waits on an object is one that may change it
 pub waits-touched : (call : PlainCall) (on : Awaited) → awaited_by (Calls call) ≡ Some on → touched call ≡ Some on
@@ -53,19 +50,9 @@ before-with (awaited.Queue n) s t ws before = before
 pub as-before : (on : Awaited) (s t : State) → t.msg ≡ s.msg → IsAsBefore on s t
 as-before (awaited.Queue n) s t same = ap (λ (m : Keyed Queue). entry_of m n.0) same
 
-pub bytes_to-append : (pid : ℕ) (xs ys : List PlainOutcome) → bytes_to pid (xs ++ ys) ≡ bytes_to pid xs + bytes_to pid ys
-bytes_to-append pid [] ys = omega arith
-bytes_to-append pid (o ∷ xs) ys = omega (arith, bytes_to-append pid xs ys)
-
 module _ (limits : Limits) where
   abbrev Fits : PlainOutcome → Type 0
   Fits o = FitsBody limits o.body
-
-  -- one reply that fits: its process is sent no more than the longest, and no other anything
-  pub one-allowed : (o : PlainOutcome) (pid : ℕ) (asking : Bool) → FitsBody limits o.body → (pid == o.pid) ≡ asking
-      → bytes_to pid (o ∷ []) ≤ (if asking then longest_reply limits else 0)
-  one-allowed o pid true fits same = rw same (omega (arith, fits, length-reply_bytes (reply_of o)))
-  one-allowed o pid false fits same = rw same (omega arith)
 
   -- ---- one that goes on
 
@@ -77,7 +64,8 @@ module _ (limits : Limits) where
     pub clock : t.state.clock ≡ s.clock
     pub wait : t.state.wait ≡ without w.pid s.wait
     pub few : length t.outcomes ≤ 1
-    pub bytes : HasSoundParts limits s → (pid : ℕ) → bytes_to pid t.outcomes ≤ (if pid == w.pid.0 then longest_reply limits else 0)
+    pub weight : (weigh : PlainOutcome → ℕ) (most : ℕ) → IsLight limits weigh most → HasSoundParts limits s → (pid : ℕ)
+        → weight_to weigh pid t.outcomes ≤ (if pid == w.pid.0 then most else 0)
     pub others : (on : Awaited) → w.on ≢ on → is_there on s ≡ true → IsAsBefore on s t.state
 
   pub resumed-has : (s : State) (w : PlainWaiting) → IsSoundWaiting w → HasResumed s w (resumed limits s w)
@@ -93,7 +81,8 @@ module _ (limits : Limits) where
         clock = good.clock;
         wait = good.wait;
         few = omega arith;
-        bytes = λ h pid. one-allowed (record { pid = w.pid.0; serial = w.call.serial; errno = f.errno; body = f.body }) pid (pid == w.pid.0)
+        weight = λ weigh most light h pid. one-weighs weigh limits most light
+            (record { pid = w.pid.0; serial = w.call.serial; errno = f.errno; body = f.body }) pid (pid == w.pid.0)
             (good.body (without_waiting-sound limits s w.pid.0 h)) refl;
         others = λ on apart there.
             before-with on s f.state (without w.pid s.wait)
@@ -106,7 +95,7 @@ module _ (limits : Limits) where
         clock = refl;
         wait = refl;
         few = omega arith;
-        bytes = λ h pid. omega arith;
+        weight = λ weigh most light h pid. omega arith;
         others = λ on apart there. as-before on s (without_waiting s w.pid.0) refl;
       }
 
@@ -162,36 +151,46 @@ module _ (limits : Limits) where
     pub kept : t.state.processes ≡ s.processes
     pub clock : t.state.clock ≡ s.clock
     pub few : length t.outcomes + length t.state.wait ≤ length s.wait
-    pub owes : (pid : ℕ) → bytes_to pid t.outcomes + owed limits t.state pid ≤ owed limits s pid
+    pub owes : (weigh : PlainOutcome → ℕ) (most : ℕ) → IsLight limits weigh most → (pid : ℕ)
+        → weight_to weigh pid t.outcomes + held most t.state pid ≤ held most s pid
+    pub early : (now : Moment) → All (λ (w : PlainWaiting). is_due now w ≡ false) s.wait → All (λ (w : PlainWaiting). is_due now w ≡ false) t.state.wait
     pub linked : All (λ (w : PlainWaiting). is_process s w.pid.0 ≡ true) s.wait → All (λ (w : PlainWaiting). is_process s w.pid.0 ≡ true) t.state.wait
 
   settled-silent : (s : State) → HasSoundParts limits s → HasSettled s (silent s)
   settled-silent s h =
-      record { parts = h; fits = All-nil Fits; kept = refl; clock = refl; few = omega arith; owes = λ pid. omega arith; linked = λ all. all }
+      record {
+        parts = h;
+        fits = All-nil Fits;
+        kept = refl;
+        clock = refl;
+        few = omega arith;
+        owes = λ weigh most light pid. omega arith;
+        early = λ now all. all;
+        linked = λ all. all;
+      }
 
   -- one that goes on is owed nothing any more
-  resumed-owes : (s : State) (w : PlainWaiting) (t : Step) → HasSoundParts limits s → IsIn s.wait w → HasResumed s w t → (pid : ℕ)
-      → bytes_to pid t.outcomes + owed limits t.state pid ≤ owed limits s pid
-  unfolding owed
-  resumed-owes s w t h there r pid = by_test (pid == w.pid.0) refl
+  resumed-owes : (s : State) (w : PlainWaiting) (t : Step) → HasSoundParts limits s → IsIn s.wait w → HasResumed s w t
+      → (weigh : PlainOutcome → ℕ) (most : ℕ) → IsLight limits weigh most → (pid : ℕ)
+      → weight_to weigh pid t.outcomes + held most t.state pid ≤ held most s pid
+  resumed-owes s w t h there r weigh most light pid = by_test (pid == w.pid.0) refl
     where
-      by_test : (b : Bool) → (pid == w.pid.0) ≡ b
-          → bytes_to pid t.outcomes + (if is_waiting t.state pid then longest_reply limits else 0) ≤ (if is_waiting s pid then longest_reply limits else 0)
+      by_test : (b : Bool) → (pid == w.pid.0) ≡ b → weight_to weigh pid t.outcomes + held most t.state pid ≤ held most s pid
       by_test true same =
           let is : pid ≡ w.pid.0 = grind (arith, nat_tests) in
           let before : is_waiting s pid ≡ true = ap (λ (q : ℕ). is_waiting s q) is ∙ ap is_some there.here in
           let later : is_waiting t.state pid ≡ false =
           ap (λ (q : ℕ). is_waiting t.state q) is ∙ (ap (λ (ws : List PlainWaiting). is_some (call_of w.pid ws)) r.wait
           ∙ ap is_some (call_of-without_same w.pid s.wait)) in
-          let most : bytes_to pid t.outcomes ≤ longest_reply limits = rw same at (r.bytes h pid) in
-          rw before (rw later (omega arith))
+          let least : weight_to weigh pid t.outcomes ≤ most = rw same at (r.weight weigh most light h pid) in
+          rw before (rw later (omega (arith, least)))
       by_test false other =
           let apart : record { 0 = pid } ≢ w.pid = λ e. absurd (let is : pid ≡ w.pid.0 = ap (λ (p : Pid). p.0) e in grind (arith, nat_tests)) in
           let same : is_waiting t.state pid ≡ is_waiting s pid =
           ap (λ (ws : List PlainWaiting). is_some (call_of (record { 0 = pid }) ws)) r.wait
           ∙ ap is_some (call_of-without_other w.pid (record { 0 = pid }) s.wait apart) in
-          let none : bytes_to pid t.outcomes ≤ 0 = rw other at (r.bytes h pid) in
-          rw same (omega arith)
+          let none : weight_to weigh pid t.outcomes ≤ 0 = rw other at (r.weight weigh most light h pid) in
+          rw same (omega (arith, none))
 
   settled-more : (s : State) (w : PlainWaiting) (next : State → Step) → HasSoundParts limits s → IsIn s.wait w → IsSoundWaiting w
       → HasSettled (resumed limits s w).state (next (resumed limits s w).state) → HasSettled s (after (resumed limits s w) next)
@@ -204,7 +203,16 @@ module _ (limits : Limits) where
         kept = later.kept ∙ r.kept;
         clock = later.clock ∙ r.clock;
         few = omega (arith, later.few, r.few, there.fewer, ap length r.wait, length-append now.outcomes (next now.state).outcomes);
-        owes = λ pid. omega (arith, later.owes pid, resumed-owes s w now h there r pid, bytes_to-append pid now.outcomes (next now.state).outcomes);
+        owes = λ weigh most light pid.
+            omega (
+              arith,
+              later.owes weigh most light pid,
+              resumed-owes s w now h there r weigh most light pid,
+              weight_to-append weigh pid now.outcomes (next now.state).outcomes,
+            );
+        early = λ at all.
+            later.early at (subst (λ (ws : List PlainWaiting). All (λ (v : PlainWaiting). is_due at v ≡ false) ws) (sym r.wait)
+            (All-filter (λ (v : PlainWaiting). not (is_of w.pid v)) (λ (v : PlainWaiting). is_due at v ≡ false) s.wait all));
         linked = λ all.
             subst (λ (ps : Numbered Process). All (λ (v : PlainWaiting). is_some (entry_of ps v.pid.0) ≡ true) (next now.state).state.wait) r.kept
             (later.linked (subst (λ (ps : Numbered Process). All (λ (v : PlainWaiting). is_some (entry_of ps v.pid.0) ≡ true) now.state.wait) (sym r.kept)

@@ -1,34 +1,36 @@
 -- A step leads from a sound state to a sound state, and its replies fit.
-use Rattle.std.proofs.Common.{◌≡◌, ◌≢◌, ℕ, ◌+◌, ◌<◌, ◌≤◌, Bool, true, false, not, cond, List, [], ◌∷◌, ◌++◌, length}
+use Rattle.std.proofs.Common.{◌≡◌, ◌≢◌, ℕ, Bool, true, false, not, cond, List, [], ◌∷◌, length}
 use Rattle.std.proofs.Common.{get_or, Option, Some, None, is_some, unwrap_or}
 use Rattle.std.proofs.Common.{refl, sym, ap, subst, ◌∙◌, arith}
-use Rattle.std.specs.Prelude.{All, nat_eq, option_map, ◌==◌}
+use Rattle.std.specs.Prelude.{All, option_map, ◌==◌}
 use Rattle.std.proofs.lemmas.Bool.Decides.{nat_tests}
-use Rattle.std.proofs.lemmas.List.Elements.{All-nil, All-cons, All-append, All-filter, All-push}
+use Rattle.std.proofs.lemmas.List.Elements.{All-nil, All-cons, All-append, All-filter, All-map, All-push}
 use Rattle.ipc_base.specs.declared.limits.Limits.{Limits}
 use Rattle.ipc_base.specs.declared.identity.Cred.{Cred}
-use Rattle.ipc_base.specs.declared.identity.Pid.{Pid}
 use Rattle.ipc_base.proofs.CallerLemmas.{choice, other-push, rising-found, value_at-without}
-use Rattle.ipc_wait.specs.Waits.{call_of, without, is_of}
+use Rattle.ipc_wait.specs.Waits.{call_of, without, is_of, is_due}
 use Rattle.ipc_wire.specs.Request.{PlainCall, PlainKind, PlainRequest, Hello, Interrupt as Interrupts, Calls}
 use Rattle.ipc_wire.specs.Spelling.{HasFrame}
 use Rattle.ipc_wire.specs.declared.reply.Body.TheVariants.{Empty}
 use Rattle.ipc_state.specs.declared.parked.Awaited.{Awaited}
 use Rattle.ipc_state.specs.declared.processes.Process.{Process}
-use Rattle.ipc_state.specs.Finish.{Finish, Tried, Finishes, Waits, IfFinishes, has_to_wait, done, refused}
-use Rattle.ipc_state.specs.Numbered.{Numbered, entry_of, with_new, without_entry}
+use Rattle.ipc_state.specs.Finish.{Finish, Tried, Finishes, Waits, IfFinishes, has_to_wait, refused}
+use Rattle.ipc_state.specs.Numbered.{Numbered, entry_of}
 use Rattle.ipc_state.specs.Sound.{HasSoundParts, FitsBody}
-use Rattle.ipc_state.specs.State.{State, at_moment, cred_of, has_all_processes, is_process, is_waiting, exit, with_process, with_waiting, without_waiting}
-use Rattle.ipc_state.specs.Touching.{is_there, IsAsBefore}
-use Rattle.ipc_state.specs.Waiting.{PlainWaiting, IsSoundWaiting, awaited_by}
-use Rattle.ipc_state.proofs.CallerLemmas.{IsGood, begin-sound, exit-sound, restart-sound, with_process-sound, with_waiting-sound, without_waiting-sound}
+use Rattle.ipc_state.specs.State.{State, at_moment, cred_of, due_calls, has_all_processes, is_process, is_waiting, exit}
+use Rattle.ipc_state.specs.State.{with_process, with_waiting, without_waiting}
+use Rattle.ipc_state.specs.Touching.{IsAsBefore}
+use Rattle.ipc_state.specs.Waiting.{PlainWaiting, IsSoundWaiting, awaited_by, deadline_of, expiry}
+use Rattle.ipc_state.proofs.CallerLemmas.{IsGood, begin-sound, exit-sound, restart-sound, with_process-sound, with_waiting-sound}
+use Rattle.ipc_state.proofs.CallerLemmas.{without_due-sound, without_waiting-sound}
 use Rattle.sysv_calls.specs.Calls.{attempt, touched}
 use Rattle.sysv_calls.proofs.CallerLemmas.{attempt-good, waits-alike}
 use Rattle.ipc_engine.specs.Engine.{IsForProcess, HasRequest}
 use Rattle.ipc_engine.specs.Event.{PlainEvent, Connect, Call, Interrupt, Tick, Exit, Restart, PlainOutcome}
 use Rattle.ipc_engine.specs.Sound.{IsSound, HasToWait}
-use Rattle.ipc_engine.specs.Step.{Step, silent, after, step, connect, asked, called, told, joins, interrupt, interrupted, replied, settle, can_go_on}
-use Rattle.ipc_engine.proofs.Settled.{HasSettled, settle-has, settle-done, settle-nothing, as-before}
+use Rattle.ipc_engine.specs.Step.{Step, silent, step, due, expired, waiting_on, connect, asked, told, joins, interrupt, interrupted, replied, settle, can_go_on}
+use Rattle.ipc_engine.proofs.Lists.{none-left}
+use Rattle.ipc_engine.proofs.Settled.{settle-has, settle-done, settle-nothing, as-before}
 
 module _ (limits : Limits) where
   abbrev Fits : PlainOutcome → Type 0
@@ -56,23 +58,28 @@ module _ (limits : Limits) where
   abbrev IsSame : State → State → PlainWaiting → Type 0
   IsSame s t w = entry_of t.processes w.pid.0 ≡ entry_of s.processes w.pid.0
 
-  -- those that waited do so still if the queues are the same, and their processes
-  pub all-wait : (s t : State) (ws : List PlainWaiting) → All IsSoundWaiting ws → t.msg ≡ s.msg → All (IsSame s t) ws → All (HasToWait limits s) ws
-      → All (HasToWait limits t) ws
-  all-wait s t ws sound queues same waits = λ k d h.
+  -- whose deadline has not come
+  abbrev IsEarly : State → PlainWaiting → Type 0
+  IsEarly s w = is_due (record { 0 = s.clock }) w ≡ false
+
+  -- those that waited do so still if the queues are the same, and their processes, and no deadline has come
+  pub all-wait : (s t : State) (ws : List PlainWaiting) → All IsSoundWaiting ws → t.msg ≡ s.msg → All (IsSame s t) ws → All (IsEarly t) ws
+      → All (HasToWait limits s) ws → All (HasToWait limits t) ws
+  all-wait s t ws sound queues same early waits = λ k d h.
       let w = get_or ws k d in
       let process = same k d h in
       record {
         process = ap is_some process ∙ (waits k d h).process;
+        early = early k d h;
         waits = still-waits s t w (sound k d h) (credited s t w.pid.0 process)
             (as-before w.on s t queues) ∙ (waits k d h).waits;
       }
 
-  -- settled, a state is sound whose parts are, and whose waiting calls are of its processes
-  pub settled-sound : (s : State) → HasSoundParts limits s → All (λ (w : PlainWaiting). is_process s w.pid.0 ≡ true) s.wait
+  -- settled, a state is sound whose parts are, and whose waiting calls are of its processes and not due
+  pub settled-sound : (s : State) → HasSoundParts limits s → All (λ (w : PlainWaiting). is_process s w.pid.0 ≡ true) s.wait → All (IsEarly s) s.wait
       → IsSound limits (settle limits s).state
   unfolding settle
-  settled-sound s h linked =
+  settled-sound s h linked early =
       let t = settle limits s in
       let has = settle-has limits (length s.wait) s h in
       let none = settle-done limits (length s.wait) s h (omega arith) in
@@ -81,20 +88,29 @@ module _ (limits : Limits) where
         parts = has.parts;
         waits = λ k d i. record {
           process = ap (λ (ps : Numbered Process). is_some (entry_of ps (get_or t.state.wait k d).pid.0)) has.kept ∙ process k d i;
+          early = ap (λ (n : ℕ). is_due (record { 0 = n }) (get_or t.state.wait k d)) has.clock ∙ has.early (record { 0 = s.clock }) early k d i;
           waits = none k d i;
         };
       }
 
-  linked : (s : State) → IsSound limits s → All (λ (w : PlainWaiting). is_process s w.pid.0 ≡ true) s.wait
+  pub linked : (s : State) → IsSound limits s → All (λ (w : PlainWaiting). is_process s w.pid.0 ≡ true) s.wait
   linked s h = λ k d i. (h.waits k d i).process
+
+  all-early : (s : State) → IsSound limits s → All (IsEarly s) s.wait
+  all-early s h = λ k d i. (h.waits k d i).early
 
   -- ---- what an event does
 
-  pub due-sound : (s : State) (moment : ℕ) → IsSound limits s → IsSound limits (at_moment s moment)
+  pub due-sound : (s : State) (moment : ℕ) → IsSound limits s → IsSound limits (due moment s).state
   due-sound s moment h =
+      let t = at_moment s moment in
+      let test : PlainWaiting → Bool = is_due (record { 0 = t.clock }) in
+      let left : List PlainWaiting = (due moment s).state.wait in
       record {
-        parts = begin-sound limits s moment h.parts;
-        waits = all-wait s (at_moment s moment) s.wait h.parts.wait.each refl (λ k d i. refl) h.waits;
+        parts = without_due-sound limits t (begin-sound limits s moment h.parts);
+        waits = all-wait s (due moment s).state left
+            (All-filter (λ (w : PlainWaiting). not (test w)) IsSoundWaiting s.wait h.parts.wait.each) refl (λ k d i. refl) (none-left test s.wait)
+            (All-filter (λ (w : PlainWaiting). not (test w)) (HasToWait limits s) s.wait h.waits);
       }
 
   connect-sound : (s : State) (cred : Cred) (serial : ℕ) → IsSound limits s → IsSound limits (connect limits cred serial s).state
@@ -107,7 +123,7 @@ module _ (limits : Limits) where
             let pid = (get_or s.wait k d).pid.0 in
             let below = (rising-found 1 s.processes.entries s.processes.next pid h.parts.processes.numbers (h.waits k d i).process).1 in
             other-push s.processes.entries s.processes.next pid (record { cred = cred }) (λ same. absurd (omega arith)))
-            h.waits;
+            (all-early s h) h.waits;
       })
 
   -- who waits besides a process is another one
@@ -127,20 +143,25 @@ module _ (limits : Limits) where
   sound-besides : (s : State) (pid : ℕ) → IsSound limits s → All IsSoundWaiting (without (record { 0 = pid }) s.wait)
   sound-besides s pid h = All-filter (λ (w : PlainWaiting). not (is_of (record { 0 = pid }) w)) IsSoundWaiting s.wait h.parts.wait.each
 
+  early-besides : (s : State) (pid : ℕ) → IsSound limits s → All (IsEarly s) (without (record { 0 = pid }) s.wait)
+  early-besides s pid h = All-filter (λ (w : PlainWaiting). not (is_of (record { 0 = pid }) w)) (IsEarly s) s.wait (all-early s h)
+
   pub exit-waits : (s : State) (pid : ℕ) → IsSound limits s → IsSound limits (exit s pid)
   exit-waits s pid h =
       let gone = apart pid s.wait in
       record {
         parts = exit-sound limits s pid h.parts;
         waits = all-wait s (exit s pid) (without (record { 0 = pid }) s.wait) (sound-besides s pid h) refl
-            (λ k d i. value_at-without s.processes.entries pid (get_or (without (record { 0 = pid }) s.wait) k d).pid.0 (gone k d i)) (waits-besides s pid h);
+            (λ k d i. value_at-without s.processes.entries pid (get_or (without (record { 0 = pid }) s.wait) k d).pid.0 (gone k d i))
+            (early-besides s pid h) (waits-besides s pid h);
       }
 
   pub left-waits : (s : State) (pid : ℕ) → IsSound limits s → IsSound limits (without_waiting s pid)
   left-waits s pid h =
       record {
         parts = without_waiting-sound limits s pid h.parts;
-        waits = all-wait s (without_waiting s pid) (without (record { 0 = pid }) s.wait) (sound-besides s pid h) refl (λ k d i. refl) (waits-besides s pid h);
+        waits = all-wait s (without_waiting s pid) (without (record { 0 = pid }) s.wait) (sound-besides s pid h) refl (λ k d i. refl)
+            (early-besides s pid h) (waits-besides s pid h);
       }
 
   -- nothing goes on in a sound state
@@ -154,30 +175,35 @@ module _ (limits : Limits) where
   pub interrupt-sound : (s : State) (pid serial : ℕ) → IsSound limits s → IsSound limits (interrupt pid serial s).state
   interrupt-sound s pid serial h = interrupted-sound s pid (call_of (record { 0 = pid }) s.wait) h
 
-  -- a call that has to wait joins those that do
+  -- a call that has to wait joins those that do, unless its deadline has come
   pub joins-sound : (s : State) (pid : ℕ) (request : PlainRequest) (on : Option Awaited) → IsSound limits s → is_process s pid ≡ true
       → is_waiting s pid ≡ false
       → HasFrame request → awaited_by request.kind ≡ on → ((call : PlainCall) → request.kind ≡ Calls call
       → has_to_wait (attempt limits s pid false call) ≡ true)
-      → IsSound limits (joins s pid request on)
+      → IsSound limits (joins s pid request on).state
+  unfolding deadline_of
   joins-sound s pid request None h process free frame is waits = h
   joins-sound s pid request (Some on) h process free frame is waits =
-      let w : PlainWaiting = record { pid = record { 0 = pid }; on = on; deadline = None; call = request } in
+      let w : PlainWaiting = waiting_on s pid request on in
       let sound : IsSoundWaiting w = record { frame = frame; on = is; deadline = refl } in
-      let before = all-wait s (with_waiting s w) s.wait h.parts.wait.each refl (λ k d i. refl) h.waits in
+      choice (λ (t : Step). IsSound limits t.state) (is_due (record { 0 = s.clock }) w) (replied pid request.serial (refused s (expiry request.kind)))
+      (silent (with_waiting s w)) (λ _. h)
+      (λ early.
+      let before = all-wait s (with_waiting s w) s.wait h.parts.wait.each refl (λ k d i. refl) (all-early s h) h.waits in
       record {
         parts = with_waiting-sound limits s w h.parts sound free (linked s h) process;
-        waits = All-push (HasToWait limits (with_waiting s w)) s.wait w before (record { process = process; waits = by_kind request.kind refl });
-      }
+        waits = All-push (HasToWait limits (with_waiting s w)) s.wait w before
+            (record { process = process; early = early; waits = by_kind w request.kind refl });
+      })
     where
-      by_kind : (kind : PlainKind) → request.kind ≡ kind
-          → can_go_on limits (with_waiting s (record { pid = record { 0 = pid }; on = on; deadline = None; call = request }))
+      by_kind : (w : PlainWaiting) (kind : PlainKind) → request.kind ≡ kind
+          → can_go_on limits (with_waiting s w)
           (record { pid = record { 0 = pid }; on = on; deadline = None; call = record { serial = request.serial; kind = kind } }) ≡ false
-      by_kind (Calls call) same =
-          let t = with_waiting s (record { pid = record { 0 = pid }; on = on; deadline = None; call = request }) in
+      by_kind w (Calls call) same =
+          let t = with_waiting s w in
           ap not (waits-alike limits s t pid false true call on (ap awaited_by (sym same) ∙ is) refl (as-before on s t refl) ∙ waits call same)
-      by_kind (Hello cred) same = absurd (let no = ap awaited_by (sym same) ∙ is in cc)
-      by_kind Interrupts same = absurd (let no = ap awaited_by (sym same) ∙ is in cc)
+      by_kind w (Hello cred) same = absurd (let no = ap awaited_by (sym same) ∙ is in cc)
+      by_kind w Interrupts same = absurd (let no = ap awaited_by (sym same) ∙ is in cc)
 
   -- what a call leaves that came to its end
   pub ended-waits : (s : State) (touches : Option Awaited) (f : Finish) → IsSound limits s → IsGood limits s touches f
@@ -186,6 +212,8 @@ module _ (limits : Limits) where
       settled-sound f.state (good.state h.parts)
       (subst (λ (ws : List PlainWaiting). All (λ (w : PlainWaiting). is_process f.state w.pid.0 ≡ true) ws) (sym good.wait)
       (λ k d i. ap (λ (ps : Numbered Process). is_some (entry_of ps (get_or s.wait k d).pid.0)) good.kept ∙ (h.waits k d i).process))
+      (subst (λ (ws : List PlainWaiting). All (IsEarly f.state) ws) (sym good.wait)
+      (λ k d i. ap (λ (n : ℕ). is_due (record { 0 = n }) (get_or s.wait k d)) good.clock ∙ (h.waits k d i).early))
 
   told-sound : (s : State) (pid : ℕ) (request : PlainRequest) (call : PlainCall) (t : Tried) → IsSound limits s → is_process s pid ≡ true
       → is_waiting s pid ≡ false
@@ -207,13 +235,13 @@ module _ (limits : Limits) where
       (λ free. told-sound s pid request call (attempt limits s pid false call) h process free frame is refl (attempt-good limits s pid false call))
 
   pub step-sound : (s : State) (e : PlainEvent) → IsSound limits s → IsForProcess s e → HasRequest e → IsSound limits (step limits s e).state
-  step-sound s (Connect cred serial moment) h is has = connect-sound (at_moment s moment) cred serial (due-sound s moment h)
-  step-sound s (Call pid request moment) h is has = asked-sound (at_moment s moment) pid request request.kind (due-sound s moment h) is has refl
-  step-sound s (Interrupt pid serial moment) h is has = interrupt-sound (at_moment s moment) pid serial (due-sound s moment h)
+  step-sound s (Connect cred serial moment) h is has = connect-sound (due moment s).state cred serial (due-sound s moment h)
+  step-sound s (Call pid request moment) h is has = asked-sound (due moment s).state pid request request.kind (due-sound s moment h) is has refl
+  step-sound s (Interrupt pid serial moment) h is has = interrupt-sound (due moment s).state pid serial (due-sound s moment h)
   step-sound s (Tick moment) h is has = due-sound s moment h
   step-sound s (Exit pid moment) h is has =
-      let left = exit-waits (at_moment s moment) pid (due-sound s moment h) in
-      subst (λ (t : Step). IsSound limits t.state) (sym (sound-settled (exit (at_moment s moment) pid) left)) left
+      let left = exit-waits (due moment s).state pid (due-sound s moment h) in
+      subst (λ (t : Step). IsSound limits t.state) (sym (sound-settled (exit (due moment s).state pid) left)) left
   step-sound s Restart h is has = record { parts = restart-sound limits s h.parts; waits = All-nil _ }
 
   -- ---- the bodies of the replies fit
@@ -233,12 +261,19 @@ module _ (limits : Limits) where
       All-append Fits (interrupted s pid (call_of (record { 0 = pid }) s.wait)).outcomes _ (interrupted-fits s pid (call_of
       (record { 0 = pid }) s.wait)) (one-fits _ empty-fits)
 
+  joins-fits : (s : State) (pid : ℕ) (request : PlainRequest) (on : Option Awaited) → All (λ (o : PlainOutcome). FitsBody limits o.body)
+      (joins s pid request on).outcomes
+  joins-fits s pid request None = All-nil Fits
+  joins-fits s pid request (Some on) =
+      choice (λ (t : Step). All (λ (o : PlainOutcome). FitsBody limits o.body) t.outcomes) (is_due (record { 0 = s.clock }) (waiting_on s pid request on)) _ _
+      (λ _. one-fits _ empty-fits) (λ _. All-nil Fits)
+
   told-fits : (s : State) (pid : ℕ) (request : PlainRequest) (call : PlainCall) (t : Tried) → IsSound limits s → IfFinishes (IsGood limits s (touched call)) t
       → All (λ (o : PlainOutcome). FitsBody limits o.body) (told limits pid request s t).outcomes
   unfolding settle
   told-fits s pid request call (Finishes f) h good =
       All-cons Fits _ _ (good.body h.parts) (settle-has limits (length f.state.wait) f.state (good.state h.parts)).fits
-  told-fits s pid request call Waits h good = All-nil Fits
+  told-fits s pid request call Waits h good = joins-fits s pid request (awaited_by request.kind)
 
   asked-fits : (s : State) (pid : ℕ) (request : PlainRequest) (kind : PlainKind) → IsSound limits s
       → All (λ (o : PlainOutcome). FitsBody limits o.body) (asked limits pid request kind s).outcomes
@@ -248,14 +283,21 @@ module _ (limits : Limits) where
       choice (λ (t : Step). All (λ (o : PlainOutcome). FitsBody limits o.body) t.outcomes) (is_waiting s pid) _ _ (λ _. one-fits _ empty-fits)
       (λ _. told-fits s pid request call (attempt limits s pid false call) h (attempt-good limits s pid false call))
 
+  due-fits : (s : State) (moment : ℕ) → All (λ (o : PlainOutcome). FitsBody limits o.body) (due moment s).outcomes
+  due-fits s moment = All-map Fits expired (due_calls (at_moment s moment)) (λ k d i. empty-fits)
+
   pub step-fits : (s : State) (e : PlainEvent) → IsSound limits s → All (λ (o : PlainOutcome). FitsBody limits o.body) (step limits s e).outcomes
   step-fits s (Connect cred serial moment) h =
-      choice (λ (t : Step). All (λ (o : PlainOutcome). FitsBody limits o.body) t.outcomes) (has_all_processes limits (at_moment s moment)) _ _
-      (λ _. one-fits _ empty-fits) (λ _. one-fits _ (omega arith))
-  step-fits s (Call pid request moment) h = asked-fits (at_moment s moment) pid request request.kind (due-sound s moment h)
-  step-fits s (Interrupt pid serial moment) h = interrupt-fits (at_moment s moment) pid serial
-  step-fits s (Tick moment) h = All-nil Fits
+      All-append Fits (due moment s).outcomes _ (due-fits s moment)
+      (choice (λ (t : Step). All (λ (o : PlainOutcome). FitsBody limits o.body) t.outcomes) (has_all_processes limits (due moment s).state) _ _
+      (λ _. one-fits _ empty-fits) (λ _. one-fits _ (omega arith)))
+  step-fits s (Call pid request moment) h =
+      All-append Fits (due moment s).outcomes _ (due-fits s moment) (asked-fits (due moment s).state pid request request.kind (due-sound s moment h))
+  step-fits s (Interrupt pid serial moment) h =
+      All-append Fits (due moment s).outcomes _ (due-fits s moment) (interrupt-fits (due moment s).state pid serial)
+  step-fits s (Tick moment) h = due-fits s moment
   step-fits s (Exit pid moment) h =
-      subst (λ (t : Step). All (λ (o : PlainOutcome). FitsBody limits o.body) t.outcomes)
-      (sym (sound-settled (exit (at_moment s moment) pid) (exit-waits (at_moment s moment) pid (due-sound s moment h)))) (All-nil Fits)
+      All-append Fits (due moment s).outcomes _ (due-fits s moment)
+      (subst (λ (t : Step). All (λ (o : PlainOutcome). FitsBody limits o.body) t.outcomes)
+      (sym (sound-settled (exit (due moment s).state pid) (exit-waits (due moment s).state pid (due-sound s moment h)))) (All-nil Fits))
   step-fits s Restart h = All-nil Fits

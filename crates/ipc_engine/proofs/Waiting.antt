@@ -1,34 +1,35 @@
 -- The laws of waiting, and what an event leaves of the processes and of the clock.
-use Rattle.std.proofs.Common.{◌≡◌, ℕ, zero, suc, ◌+◌, ◌≤◌, Bool, true, false, not, cond, List, [], ◌∷◌, ◌++◌, length}
-use Rattle.std.proofs.Common.{length-append, max, Option, Some, None, refl, sym, ap, subst, ◌∙◌, arith}
+use Rattle.std.proofs.Common.{◌≡◌, ℕ, suc, ◌+◌, ◌≤◌, Bool, true, false, not, List, [], ◌∷◌, ◌++◌, length}
+use Rattle.std.proofs.Common.{length-append, map, max, Option, Some, None, refl, sym, ap, subst, ◌∙◌, arith}
 use Rattle.std.specs.Prelude.{All, find, if◌then◌else◌}
+use Rattle.std.proofs.lemmas.List.{length-map}
 use Rattle.std.proofs.lemmas.List.Elements.{All-head, All-tail}
 use Rattle.ipc_base.specs.declared.errno.Errno.{Errno}
 use Rattle.ipc_base.specs.declared.errno.Errno.TheVariants.{EALREADY}
 use Rattle.ipc_base.specs.declared.limits.Limits.{Limits}
-use Rattle.ipc_base.specs.declared.identity.Cred.{Cred}
 use Rattle.ipc_base.proofs.CallerLemmas.{choice}
-use Rattle.ipc_wait.specs.Waits.{call_of, without, HaveDistinctPids}
-use Rattle.ipc_wait.proofs.CallerLemmas.{found-in, without-here}
+use Rattle.ipc_base.specs.declared.identity.Moment.{Moment}
+use Rattle.ipc_wait.specs.Waits.{call_of, calls_due, calls_left, without, is_due, HaveDistinctPids}
+use Rattle.ipc_wait.proofs.CallerLemmas.{due-or-left, without-here}
 use Rattle.ipc_wire.specs.Request.{PlainCall, PlainKind, PlainRequest, Hello, Interrupt as Interrupts, Calls}
 use Rattle.ipc_wire.specs.declared.reply.Body.TheVariants.{Empty}
 use Rattle.ipc_state.specs.declared.parked.Awaited.{Awaited}
 use Rattle.ipc_state.specs.Finish.{Tried, Finishes, Waits, IfFinishes, has_to_wait, done, refused}
 use Rattle.ipc_state.specs.Sound.{HasSoundParts}
-use Rattle.ipc_state.specs.State.{State, at_moment, has_all_processes, is_waiting, exit, without_waiting, with_waiting}
-use Rattle.ipc_state.specs.Waiting.{PlainWaiting, IsSoundWaiting, awaited_by}
+use Rattle.ipc_state.specs.State.{State, due_calls, has_all_processes, is_waiting, exit, without_due, without_waiting, with_waiting}
+use Rattle.ipc_state.specs.Waiting.{PlainWaiting, IsSoundWaiting, awaited_by, expiry}
 use Rattle.ipc_state.proofs.CallerLemmas.{IsGood}
 use Rattle.sysv_calls.specs.Calls.{attempt, touched}
 use Rattle.sysv_calls.proofs.CallerLemmas.{attempt-good, waits-alike}
 use Rattle.ipc_engine.specs.Bytes.{IsAnswered}
-use Rattle.ipc_engine.specs.Event.{PlainEvent, Connect, Call, Interrupt, Tick, Exit, Restart, PlainOutcome, moment_of}
+use Rattle.ipc_engine.specs.Event.{PlainEvent, Connect, Call, Interrupt, Tick, Exit, Restart, moment_of}
 use Rattle.ipc_engine.specs.Sound.{IsSound}
-use Rattle.ipc_engine.specs.Step.{Step, silent, after, step, asked, called, told, joins, interrupt, interrupted}
+use Rattle.ipc_engine.specs.Step.{Step, silent, after, step, due, expired, waiting_on, asked, called, told, joins, interrupt, interrupted}
 use Rattle.ipc_engine.specs.Step.{replied, connect, settle, settle_within, resumed, resumed_first, tried_again}
 use Rattle.ipc_engine.specs.Step.{answered, can_go_on, most_replies}
 use Rattle.ipc_engine.proofs.Settled.{as-before, settle-has, settle-kept, resumed-has}
 use Rattle.ipc_engine.proofs.Soundness.{due-sound, sound-settled, exit-waits}
-use Rattle.ipc_engine.proofs.Lists.{found-all, found-here}
+use Rattle.ipc_engine.proofs.Lists.{found-here}
 
 -- ---- the processes and the clock
 
@@ -38,9 +39,11 @@ interrupted-keeps s pid None = (refl, refl)
 interrupted-keeps s pid (Some w) = (refl, refl)
 
 joins-keeps : (s : State) (pid : ℕ) (request : PlainRequest) (on : Option Awaited)
-    → ((joins s pid request on).processes ≡ s.processes) × ((joins s pid request on).clock ≡ s.clock)
+    → ((joins s pid request on).state.processes ≡ s.processes) × ((joins s pid request on).state.clock ≡ s.clock)
 joins-keeps s pid request None = (refl, refl)
-joins-keeps s pid request (Some on) = (refl, refl)
+joins-keeps s pid request (Some on) =
+    choice (λ (t : Step). (t.state.processes ≡ s.processes) × (t.state.clock ≡ s.clock)) (is_due (record { 0 = s.clock }) (waiting_on s pid request on)) _ _
+    (λ _. (refl, refl)) (λ _. (refl, refl))
 
 module _ (limits : Limits) where
   told-keeps : (s : State) (pid : ℕ) (request : PlainRequest) (call : PlainCall) (t : Tried) → IfFinishes (IsGood limits s (touched call)) t
@@ -65,52 +68,77 @@ module _ (limits : Limits) where
 
   pub sets-clock : (s : State) (e : PlainEvent) → (step limits s e).state.clock ≡ max s.clock (moment_of e)
   sets-clock s (Connect cred serial moment) =
-      choice (λ (t : Step). t.state.clock ≡ max s.clock moment) (has_all_processes limits (at_moment s moment)) _ _ (λ _. refl) (λ _. refl)
-  sets-clock s (Call pid request moment) = (asked-keeps (at_moment s moment) pid request request.kind).1
-  sets-clock s (Interrupt pid serial moment) = (interrupt-keeps (at_moment s moment) pid serial).1
+      choice (λ (t : Step). t.state.clock ≡ max s.clock moment) (has_all_processes limits (due moment s).state) _ _ (λ _. refl) (λ _. refl)
+  sets-clock s (Call pid request moment) = (asked-keeps (due moment s).state pid request request.kind).1
+  sets-clock s (Interrupt pid serial moment) = (interrupt-keeps (due moment s).state pid serial).1
   sets-clock s (Tick moment) = refl
-  sets-clock s (Exit pid moment) = (settle-kept limits (exit (at_moment s moment) pid)).1
+  sets-clock s (Exit pid moment) = (settle-kept limits (exit (due moment s).state pid)).1
   sets-clock s Restart = omega arith
 
-  -- ---- how many replies there are
+  -- ---- how many replies there are: one, and one to each that waited
+
+  joins-few : (s : State) (pid : ℕ) (request : PlainRequest) (on : Option Awaited) → length (joins s pid request on).outcomes ≤ length s.wait + 1
+  joins-few s pid request None = omega arith
+  joins-few s pid request (Some on) =
+      choice (λ (t : Step). length t.outcomes ≤ length s.wait + 1) (is_due (record { 0 = s.clock }) (waiting_on s pid request on)) _ _
+      (λ _. omega arith) (λ _. omega arith)
 
   told-few : (s : State) (pid : ℕ) (request : PlainRequest) (call : PlainCall) (t : Tried) → IsSound limits s → IfFinishes (IsGood limits s (touched call)) t
-      → length (told limits pid request s t).outcomes ≤ most_replies limits
+      → length (told limits pid request s t).outcomes ≤ length s.wait + 1
   unfolding settle
   told-few s pid request call (Finishes f) h good =
       let later = (settle-has limits (length f.state.wait) f.state (good.state h.parts)).few in
-      omega (arith, later, ap length good.wait, h.parts.wait.few)
-  told-few s pid request call Waits h good = omega arith
+      omega (arith, later, ap length good.wait)
+  told-few s pid request call Waits h good = joins-few s pid request (awaited_by request.kind)
 
-  interrupt-few : (s : State) (pid serial : ℕ) → IsSound limits s → length (interrupt pid serial s).outcomes ≤ most_replies limits
-  interrupt-few s pid serial h = by_call (call_of (record { 0 = pid }) s.wait) refl
+  interrupt-few : (s : State) (pid serial : ℕ) → length (interrupt pid serial s).outcomes ≤ length s.wait + 1
+  interrupt-few s pid serial = by_call (call_of (record { 0 = pid }) s.wait) refl
     where
       some : (ws : List PlainWaiting) (w : PlainWaiting) → call_of (record { 0 = pid }) ws ≡ Some w → 1 ≤ length ws
       some [] w is = cc
       some (v ∷ ws) w is = omega arith
 
       by_call : (r : Option PlainWaiting) → call_of (record { 0 = pid }) s.wait ≡ r
-          → length ((interrupted s pid r).outcomes ++ (replied pid serial (done (interrupted s pid r).state Empty)).outcomes) ≤ most_replies limits
+          → length ((interrupted s pid r).outcomes ++ (replied pid serial (done (interrupted s pid r).state Empty)).outcomes) ≤ length s.wait + 1
       by_call None is = omega arith
-      by_call (Some w) is = omega (arith, some s.wait w is, h.parts.wait.few)
+      by_call (Some w) is = omega (arith, some s.wait w is)
 
   asked-few : (s : State) (pid : ℕ) (request : PlainRequest) (kind : PlainKind) → IsSound limits s
-      → length (asked limits pid request kind s).outcomes ≤ most_replies limits
+      → length (asked limits pid request kind s).outcomes ≤ length s.wait + 1
   asked-few s pid request (Hello cred) h = omega arith
-  asked-few s pid request Interrupts h = interrupt-few s pid request.serial h
+  asked-few s pid request Interrupts h = interrupt-few s pid request.serial
   asked-few s pid request (Calls call) h =
-      choice (λ (t : Step). length t.outcomes ≤ most_replies limits) (is_waiting s pid) _ _ (λ _. omega arith)
+      choice (λ (t : Step). length t.outcomes ≤ length s.wait + 1) (is_waiting s pid) _ _ (λ _. omega arith)
       (λ _. told-few s pid request call (attempt limits s pid false call) h (attempt-good limits s pid false call))
+
+  -- those whose deadline has come, and then the others
+  due-few : (s : State) (moment : ℕ) (next : State → Step) → IsSound limits s
+      → length (next (due moment s).state).outcomes ≤ length (due moment s).state.wait + 1
+      → length (after (due moment s) next).outcomes ≤ most_replies limits
+  due-few s moment next h few =
+      let now : Moment = record { 0 = max s.clock moment } in
+      omega (
+        arith,
+        few,
+        h.parts.wait.few,
+        due-or-left now s.wait,
+        length-map (calls_due now s.wait) expired,
+        length-append (due moment s).outcomes (next (due moment s).state).outcomes,
+      )
 
   pub step-few : (s : State) (e : PlainEvent) → IsSound limits s → length (step limits s e).outcomes ≤ most_replies limits
   step-few s (Connect cred serial moment) h =
-      choice (λ (t : Step). length t.outcomes ≤ most_replies limits) (has_all_processes limits (at_moment s moment)) _ _ (λ _. omega arith) (λ _. omega arith)
-  step-few s (Call pid request moment) h = asked-few (at_moment s moment) pid request request.kind (due-sound limits s moment h)
-  step-few s (Interrupt pid serial moment) h = interrupt-few (at_moment s moment) pid serial (due-sound limits s moment h)
-  step-few s (Tick moment) h = omega arith
+      due-few s moment (connect limits cred serial) h
+      (choice (λ (t : Step). length t.outcomes ≤ length (due moment s).state.wait + 1) (has_all_processes limits (due moment s).state) _ _
+      (λ _. omega arith) (λ _. omega arith))
+  step-few s (Call pid request moment) h =
+      due-few s moment (asked limits pid request request.kind) h (asked-few (due moment s).state pid request request.kind (due-sound limits s moment h))
+  step-few s (Interrupt pid serial moment) h = due-few s moment (interrupt pid serial) h (interrupt-few (due moment s).state pid serial)
+  step-few s (Tick moment) h = omega (arith, due-few s moment silent h (omega arith), length-append (due moment s).outcomes [])
   step-few s (Exit pid moment) h =
-      subst (λ (t : Step). length t.outcomes ≤ most_replies limits)
-      (sym (sound-settled limits (exit (at_moment s moment) pid) (exit-waits limits (at_moment s moment) pid (due-sound limits s moment h)))) (omega arith)
+      due-few s moment (λ t. settle limits (exit t pid)) h
+      (subst (λ (t : Step). length t.outcomes ≤ length (due moment s).state.wait + 1)
+      (sym (sound-settled limits (exit (due moment s).state pid) (exit-waits limits (due moment s).state pid (due-sound limits s moment h)))) (omega arith))
   step-few s Restart h = omega arith
 
   -- ---- who goes on first
@@ -165,29 +193,70 @@ module _ (limits : Limits) where
 
   -- ---- a call that is refused, or waits
 
-  pub refused-same : (s : State) (pid moment : ℕ) (request : PlainRequest) (call : PlainCall) (e : Errno) → IsSound limits s → request.kind ≡ Calls call
-      → attempt limits (at_moment s moment) pid false call ≡ Finishes (refused (at_moment s moment) e)
-      → (step limits s (Call pid request moment)).state ≡ at_moment s moment
-  refused-same s pid moment request call e h is tried =
-      let t = at_moment s moment in
-      ap (λ (kind : PlainKind). (asked limits pid request kind t).state) is
-      ∙ choice (λ (u : Step). u.state ≡ t) (is_waiting t pid) _ _ (λ _. refl)
-      (λ _. ap (λ (r : Tried). (told limits pid request t r).state) tried ∙ ap (λ (u : Step). u.state) (sound-settled limits t (due-sound limits s moment h)))
+  module _ (s : State) (pid moment : ℕ) (request : PlainRequest) (call : PlainCall) (is : request.kind ≡ Calls call) where
+    abbrev here : State
+    here = (due moment s).state
 
-  pub already-same : (s : State) (pid moment : ℕ) (request : PlainRequest) (call : PlainCall) → request.kind ≡ Calls call → is_waiting s pid ≡ true
-      → step limits s (Call pid request moment) ≡ replied pid request.serial (refused (at_moment s moment) EALREADY)
-  already-same s pid moment request call is waits =
-      let t = at_moment s moment in
-      ap (λ (kind : PlainKind). asked limits pid request kind t) is
-      ∙ ap (λ (b : Bool). if b then replied pid request.serial (refused t EALREADY) else told limits pid request t (attempt limits t pid false call)) waits
+    -- what an event of this call comes to
+    as-called : step limits s (Call pid request moment) ≡ after (due moment s) (called limits pid request call)
+    as-called = ap (λ (kind : PlainKind). after (due moment s) (asked limits pid request kind)) is
 
-  pub waits-joins : (s : State) (pid moment : ℕ) (request : PlainRequest) (call : PlainCall) (on : Awaited) → request.kind ≡ Calls call
-      → awaited_by request.kind ≡ Some on
-      → is_waiting s pid ≡ false → attempt limits (at_moment s moment) pid false call ≡ Waits
-      → step limits s (Call pid request moment)
-      ≡ silent (with_waiting (at_moment s moment) (record { pid = record { 0 = pid }; on = on; deadline = None; call = request }))
-  waits-joins s pid moment request call on is awaits free tried =
-      let t = at_moment s moment in
-      ap (λ (kind : PlainKind). asked limits pid request kind t) is
-      ∙ (ap (λ (b : Bool). if b then replied pid request.serial (refused t EALREADY) else told limits pid request t (attempt limits t pid false call)) free
-      ∙ (ap (told limits pid request t) tried ∙ ap (λ (o : Option Awaited). silent (joins t pid request o)) awaits))
+    by-waiting : (b : Bool) → is_waiting here pid ≡ b → called limits pid request call here
+        ≡ (if b then replied pid request.serial (refused here EALREADY) else told limits pid request here (attempt limits here pid false call))
+    by-waiting b same =
+        ap (λ (w : Bool).
+        if w then replied pid request.serial (refused here EALREADY) else told limits pid request here (attempt limits here pid false call)) same
+
+    -- with what it comes to at that moment
+    comes-to : (next : State → Step) → called limits pid request call here ≡ next here → step limits s (Call pid request moment) ≡ after (due moment s) next
+    comes-to next same =
+        as-called ∙ ap (λ (t : Step). let u : Step = record { state = t.state; outcomes = (due moment s).outcomes ++ t.outcomes } in u) same
+
+    pub refused-same : (e : Errno) → IsSound limits s → attempt limits here pid false call ≡ Finishes (refused here e)
+        → (step limits s (Call pid request moment)).state ≡ here
+    refused-same e h tried =
+        ap (λ (t : Step). t.state) as-called
+        ∙ choice (λ (u : Step). u.state ≡ here) (is_waiting here pid) _ _ (λ _. refl)
+        (λ _. ap (λ (r : Tried). (told limits pid request here r).state) tried
+        ∙ ap (λ (u : Step). u.state) (sound-settled limits here (due-sound limits s moment h)))
+
+    pub already-same : is_waiting here pid ≡ true
+        → step limits s (Call pid request moment) ≡ after (due moment s) (λ t. replied pid request.serial (refused t EALREADY))
+    already-same waits = comes-to (λ t. replied pid request.serial (refused t EALREADY)) (by-waiting true waits)
+
+    module _ (on : Awaited) (awaits : awaited_by request.kind ≡ Some on) (free : is_waiting here pid ≡ false)
+        (tried : attempt limits here pid false call ≡ Waits) where
+      by-due : (b : Bool) → is_due (record { 0 = max s.clock moment }) (waiting_on here pid request on) ≡ b → called limits pid request call here
+          ≡ (if b then replied pid request.serial (refused here (expiry request.kind)) else silent (with_waiting here (waiting_on here pid request on)))
+      by-due b same =
+          by-waiting false free ∙ (ap (told limits pid request here) tried ∙ (ap (λ (o : Option Awaited). joins here pid request o) awaits
+          ∙ ap (λ (d : Bool).
+          if d then replied pid request.serial (refused here (expiry request.kind)) else silent
+          (with_waiting here (waiting_on here pid request on))) same))
+
+      pub waits-joins : is_due (record { 0 = max s.clock moment }) (waiting_on here pid request on) ≡ false
+          → step limits s (Call pid request moment) ≡ after (due moment s) (λ t. silent (with_waiting t (waiting_on t pid request on)))
+      waits-joins early = comes-to (λ t. silent (with_waiting t (waiting_on t pid request on))) (by-due false early)
+
+      pub waits-ends : is_due (record { 0 = max s.clock moment }) (waiting_on here pid request on) ≡ true
+          → step limits s (Call pid request moment) ≡ after (due moment s) (λ t. replied pid request.serial (refused t (expiry request.kind)))
+      waits-ends late = comes-to (λ t. replied pid request.serial (refused t (expiry request.kind))) (by-due true late)
+
+  -- ---- a moment that has been
+
+  -- nobody's deadline has come
+  none-due-of : (now : Moment) (ws : List PlainWaiting) → All (λ (w : PlainWaiting). is_due now w ≡ false) ws
+      → (calls_due now ws ≡ []) × (calls_left now ws ≡ ws)
+  none-due-of now [] all = (refl, refl)
+  none-due-of now (w ∷ ws) all =
+      let early = All-head (λ (v : PlainWaiting). is_due now v ≡ false) w ws all in
+      let rest = none-due-of now ws (All-tail (λ (v : PlainWaiting). is_due now v ≡ false) w ws all) in
+      (rw early rest.0, rw early (ap (λ (vs : List PlainWaiting). w ∷ vs) rest.1))
+
+  pub late-nothing : (s : State) (moment : ℕ) → IsSound limits s → moment ≤ s.clock → step limits s (Tick moment) ≡ silent s
+  late-nothing s moment h late =
+      let same : max s.clock moment ≡ s.clock = omega arith in
+      let none = none-due-of (record { 0 = s.clock }) s.wait (λ k d i. (h.waits k d i).early) in
+      ap (λ (n : ℕ). let t : State = record s { clock = n } in
+      let u : Step = record { state = without_due t; outcomes = map expired (due_calls t) } in u) same
+      ∙ (λ i. let u : Step = record { state = record s { wait = none.1 i }; outcomes = map expired (none.0 i) } in u)

@@ -1,4 +1,5 @@
--- How many bytes of frames an event sends a process: none but the replies to what the process has asked for.
+-- How many replies an event sends a process, and how many bytes of frames these are: none but the replies to what the
+-- process has asked for, and to each request one at most.
 use Rattle.std.specs.Prelude.{◌≡◌, ◌⊎◌, ℕ, ◌+◌, Bool, true, false, ◌==◌, if◌then◌else◌, List, [], ◌∷◌, ◌++◌, length}
 use Rattle.ipc_base.specs.declared.limits.Limits.{Limits}
 use Rattle.ipc_base.specs.Limits.{longest_reply}
@@ -14,6 +15,11 @@ abbrev pub bytes_to : ℕ → List PlainOutcome → ℕ
 bytes_to pid [] = 0
 bytes_to pid (o ∷ os) = (if pid == o.pid then length (reply_bytes (reply_of o)) else 0) + bytes_to pid os
 
+-- how many replies are for a process
+abbrev pub replies_to : ℕ → List PlainOutcome → ℕ
+replies_to pid [] = 0
+replies_to pid (o ∷ os) = (if pid == o.pid then 1 else 0) + replies_to pid os
+
 -- whether a process asks something by an event: it makes a request, an INTERRUPT too, or is the one that a HELLO makes
 abbrev pub asks : State → PlainEvent → ℕ → Bool
 asks s (Connect cred serial moment) pid = pid == s.processes.next
@@ -23,6 +29,10 @@ asks s (Tick moment) pid = false
 asks s (Exit gone moment) pid = false
 asks s Restart pid = false
 
+-- how many requests of a process are not answered yet: one if a call of it waits
+abbrev pub unanswered : State → ℕ → ℕ
+unanswered s pid = if is_waiting s pid then 1 else 0
+
 -- how many bytes a process is still owed for what it asked by earlier events: one reply if a call of it waits
 unfoldable pub owed : Limits → State → ℕ → ℕ
 owed limits s pid = if is_waiting s pid then longest_reply limits else 0
@@ -30,6 +40,10 @@ owed limits s pid = if is_waiting s pid then longest_reply limits else 0
 -- no process is owed more
 abbrev pub most_owed : Limits → ℕ
 most_owed limits = longest_reply limits
+
+-- how many requests an event brings of a process
+abbrev pub asked_by : State → PlainEvent → ℕ → ℕ
+asked_by s e pid = if asks s e pid then 1 else 0
 
 -- how many bytes an event adds to what a process is owed: the longest reply if it asks, and else none
 abbrev pub allowed : Limits → State → PlainEvent → ℕ → ℕ

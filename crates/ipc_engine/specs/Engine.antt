@@ -1,11 +1,12 @@
 -- What a caller sees of the machine, and what it may ask.
-use Rattle.std.specs.Prelude.{◌≡◌, Bool, true, false, not, List}
+use Rattle.std.specs.Prelude.{◌≡◌, Bool, true, false, not, ◌&&◌, List}
 use Rattle.ipc_base.specs.declared.limits.Limits.{Limits}
 use Rattle.ipc_wire.specs.Spelling.{HasFrame}
-use Rattle.ipc_state.specs.State.{State, is_process, has_all_processes}
+use Rattle.ipc_state.specs.State.{State, is_process, is_waiting, has_all_processes}
 use Rattle.ipc_state.specs.Held.{Room}
 use Rattle.sysv_calls.specs.Needs.{takes_memory as kind_takes_memory}
 use Rattle.ipc_engine.specs.Event.{PlainEvent, Connect, Call, Interrupt, Tick, Exit, Restart, PlainOutcome}
+use Rattle.ipc_engine.specs.Step.{due}
 
 -- the limits that it keeps, the state, and the replies of the last event
 pub record Machine : Type 0 where
@@ -22,15 +23,16 @@ IsForProcess s (Tick moment) = Unit {0}
 IsForProcess s (Exit pid moment) = is_process s pid ≡ true
 IsForProcess s Restart = Unit {0}
 
--- the request of a call has a frame, so that it can be kept
+-- the request of a call has a frame, as every request of a program does
 abbrev pub HasRequest : PlainEvent → Type 0
 HasRequest (Call pid request moment) = HasFrame request
 HasRequest e = Unit {0}
 
--- whether an event may need memory, and so may be refused
+-- whether an event may need memory, and so may be refused; a call of a process that waits needs none
 abbrev pub takes_memory : Limits → State → PlainEvent → Bool
 takes_memory limits s (Connect cred serial moment) = not (has_all_processes limits s)
-takes_memory limits s (Call pid request moment) = kind_takes_memory request.kind
+takes_memory limits s (Call pid request moment) =
+    kind_takes_memory request.kind && not (is_waiting (due moment s).state pid)
 takes_memory limits s (Interrupt pid serial moment) = false
 takes_memory limits s (Tick moment) = false
 takes_memory limits s (Exit pid moment) = false

@@ -1,7 +1,8 @@
 -- What holds of the state after every event. Each of its parts is sound by itself. A call that waits is one of a
--- connected process, and has to wait: no event leaves one that could go on.
+-- connected process, its deadline has not come, and it has to wait: no event leaves one that could go on.
 use Rattle.std.specs.Prelude.{◌≡◌, true, false, All}
 use Rattle.ipc_base.specs.declared.limits.Limits.{Limits}
+use Rattle.ipc_wait.specs.Waits.{is_due}
 use Rattle.ipc_state.specs.Sound.{HasSoundParts}
 use Rattle.ipc_state.specs.State.{State, is_process}
 use Rattle.ipc_state.specs.Waiting.{PlainWaiting}
@@ -9,6 +10,7 @@ use Rattle.ipc_engine.specs.Step.{can_go_on}
 
 pub record HasToWait (limits : Limits) (s : State) (w : PlainWaiting) : Type 0 where
   pub process : is_process s w.pid.0 ≡ true
+  pub early : is_due (record { 0 = s.clock }) w ≡ false
   pub waits : can_go_on limits s w ≡ false
 
 pub record IsSound (limits : Limits) (s : State) : Type 0 where

@@ -1,19 +1,19 @@
--- One step of the server on one event: the state after it, and the replies in their order. An event first sets the
--- clock, which is the greatest moment so far; a restart has no moment and leaves the clock. Then it does what it says,
--- and at its end those calls go on that waited for it.
+-- One step of the server on one event: the state after it, and the replies in their order. First its moment comes, at
+-- which deadlines may end calls that wait; a restart has no moment and leaves the clock. Then it does what it says, and
+-- at its end those calls go on that waited for it.
 use Rattle.std.specs.Prelude.{ℕ, zero, suc, ◌+◌, List, [], ◌∷◌, ◌++◌, length, if◌then◌else◌, Bool, true, false, not}
-use Rattle.std.specs.Prelude.{Option, Some, None, find}
+use Rattle.std.specs.Prelude.{Option, Some, None, find, map}
 use Rattle.ipc_base.specs.declared.errno.Errno.TheVariants.{EALREADY, EINTR, ENFILE, EPROTO}
 use Rattle.ipc_base.specs.declared.identity.Cred.{Cred}
 use Rattle.ipc_base.specs.declared.limits.Limits.{Limits}
-use Rattle.ipc_wait.specs.Waits.{call_of}
+use Rattle.ipc_wait.specs.Waits.{call_of, is_due}
 use Rattle.ipc_wire.specs.Request.{PlainCall, PlainKind, PlainRequest, Hello, Interrupt as Interrupts, Calls}
 use Rattle.ipc_wire.specs.declared.reply.Body.TheVariants.{Empty, Number}
 use Rattle.ipc_state.specs.declared.parked.Awaited.{Awaited}
 use Rattle.ipc_state.specs.Finish.{Finish, Tried, Finishes, Waits, has_to_wait, done, refused}
 use Rattle.ipc_state.specs.State.{State, at_moment, has_all_processes, with_process, exit, restart}
-use Rattle.ipc_state.specs.State.{is_waiting, with_waiting, without_waiting}
-use Rattle.ipc_state.specs.Waiting.{PlainWaiting, awaited_by}
+use Rattle.ipc_state.specs.State.{due_calls, is_waiting, with_waiting, without_due, without_waiting}
+use Rattle.ipc_state.specs.Waiting.{PlainWaiting, awaited_by, deadline_of, expiry}
 use Rattle.sysv_calls.specs.Calls.{attempt}
 use Rattle.ipc_engine.specs.Event.{PlainEvent, Connect, Call, Interrupt, Tick, Exit, Restart, PlainOutcome}
 
@@ -73,11 +73,30 @@ settle_within limits (suc n) s =
 unfoldable pub settle : Limits → State → Step
 settle limits s = settle_within limits (length s.wait) s
 
--- the call joins the end of the list, with the object on which it waits; calls on message queues have no deadline
-abbrev pub joins : State → ℕ → PlainRequest → Option Awaited → State
-joins s pid request None = s
+-- ---- deadlines
+
+-- the reply to a call whose deadline has come
+abbrev pub expired : PlainWaiting → PlainOutcome
+expired w = record { pid = w.pid.0; serial = w.call.serial; errno = Some (expiry w.call.kind); body = Empty }
+
+-- a moment comes: the clock is the greatest so far, and the calls whose deadline has come leave, in order
+abbrev pub due : ℕ → State → Step
+due moment s =
+    record { state = without_due (at_moment s moment); outcomes = map expired (due_calls (at_moment s moment)) }
+
+-- the call that a process waits with on an object from now on
+abbrev pub waiting_on : State → ℕ → PlainRequest → Awaited → PlainWaiting
+waiting_on s pid request on =
+    record { pid = record { 0 = pid }; on = on; deadline = deadline_of s.clock request.kind; call = request }
+
+-- A call that cannot go on joins the end of the list, with the object on which it waits, unless its deadline is at or
+-- before the clock. What is no call never waits.
+abbrev pub joins : State → ℕ → PlainRequest → Option Awaited → Step
+joins s pid request None = silent s
 joins s pid request (Some on) =
-    with_waiting s (record { pid = record { 0 = pid }; on = on; deadline = None; call = request })
+    if is_due (record { 0 = s.clock }) (waiting_on s pid request on)
+    then replied pid request.serial (refused s (expiry request.kind))
+    else silent (with_waiting s (waiting_on s pid request on))
 
 -- ---- events
 
@@ -95,7 +114,7 @@ connect limits cred serial s =
 -- what a process is told whose call was tried: how it ends, and then others go on; or nothing yet
 abbrev pub told : Limits → ℕ → PlainRequest → State → Tried → Step
 told limits pid request s (Finishes f) = after (replied pid request.serial f) (settle limits)
-told limits pid request s Waits = silent (joins s pid request (awaited_by request.kind))
+told limits pid request s Waits = joins s pid request (awaited_by request.kind)
 
 -- a call of a process, which has one at a time
 abbrev pub called : Limits → ℕ → PlainRequest → PlainCall → State → Step
@@ -119,10 +138,6 @@ abbrev pub asked : Limits → ℕ → PlainRequest → PlainKind → State → S
 asked limits pid request (Hello cred) s = replied pid request.serial (refused s EPROTO)
 asked limits pid request Interrupts s = interrupt pid request.serial s
 asked limits pid request (Calls call) s = called limits pid request call s
-
--- a moment comes; no call has a deadline yet, so it answers none
-abbrev pub due : ℕ → State → Step
-due moment s = silent (at_moment s moment)
 
 abbrev pub step : Limits → State → PlainEvent → Step
 step limits s (Connect cred serial moment) = after (due moment s) (connect limits cred serial)

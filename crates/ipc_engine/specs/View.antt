@@ -1,6 +1,6 @@
 -- Events and replies of a program as plain values.
 use Rattle.std.specs.Prelude.{ℕ, [], ◌∷◌}
-use Rattle.ipc_wire.specs.Request.{plain_request}
+use Rattle.ipc_wire.specs.View.{plain_request}
 use Rattle.ipc_wire.specs.declared.reply.Body.{Body}
 use Rattle.ipc_wire.specs.Reply.{PlainBody, PlainReply, body_of}
 use Rattle.std.specs.Global.{Vec}

@@ -1,20 +1,21 @@
 //! What a process asks: its calls, one at a time, and INTERRUPT.
 
-ghost use Rattle.std.specs.Prelude.{◌≡◌, ◌≢◌, ◌+◌, ◌<◌, ◌≤◌, ◌++◌, [], true, false, length, map, max, vec_capacity};
+ghost use Rattle.std.specs.Prelude.{◌≡◌, ◌+◌, ◌<◌, ◌≤◌, ◌++◌, true, false, length, map, max, vec_capacity};
 ghost use Rattle.ipc_base.specs.Limits.{longest_body};
 ghost use Rattle.ipc_wait.specs.Waits.{call_of};
-ghost use Rattle.ipc_wire.specs.Request.{Calls, PlainRequest, plain_call, plain_request};
+ghost use Rattle.ipc_wire.specs.Request.{Calls, PlainRequest, plain_call};
+ghost use Rattle.ipc_wire.specs.View.{plain_request};
 ghost use Rattle.ipc_state.proofs.CallerLemmas.{IsGood};
 ghost use Rattle.ipc_state.specs.Finish.{finish_of, refused};
 ghost use Rattle.ipc_state.specs.State.{State as PlainState, is_process, is_waiting};
-ghost use Rattle.ipc_state.specs.Waiting.{awaited_by};
+ghost use Rattle.ipc_state.specs.Waiting.{awaited_by, may_wait};
 ghost use Rattle.sysv_calls.specs.Calls.{attempt as attempt_of};
-ghost use Rattle.sysv_calls.specs.Needs.{HasRoomFor, IsReserved, Wait, needs};
+ghost use Rattle.sysv_calls.specs.Needs.{Has, IsReserved, needs};
 ghost use Rattle.sysv_calls.specs.Spare.{IsSpare, room_in as room_in_answer};
 ghost use Rattle.ipc_engine.specs.Buffer.{HasBuffer, room_in};
 ghost use Rattle.ipc_engine.specs.Sound.{IsSound};
 ghost use Rattle.ipc_engine.specs.Step.{after, asked, called, interrupt as interrupt_step, interrupted, joins};
-ghost use Rattle.ipc_engine.specs.Step.{most_replies, replied, settle as settled, told};
+ghost use Rattle.ipc_engine.specs.Step.{replied, settle as settled, told};
 ghost use Rattle.ipc_engine.specs.View.{plain_outcome};
 
 use crate::event::Outcome;
@@ -39,14 +40,16 @@ pub(crate) fn ask(
     requires process { is_process state.old.state pid.0 ≡ true }
     requires room { is_waiting state.old.state pid.0 ≡ false
         → IsReserved state.old.state state.old.room (plain_request request.now) kept }
-    requires none { outcomes.old.items ≡ [] }
-    requires places { most_replies state.old.limits ≤ vec_capacity outcomes.old }
+    requires waits { state.old.limits.processes ≤ state.old.room.waits }
+    requires places { length outcomes.old.items + length state.old.state.wait < vec_capacity outcomes.old }
     requires spare { IsSpare state.old.limits spare.old }
     ensures state { state.new.state ≡ (asked state.old.limits pid.0 (plain_request request.now)
         (plain_request request.now).kind state.old.state).state }
-    ensures outcomes { map plain_outcome outcomes.new.items ≡ (asked state.old.limits pid.0
-        (plain_request request.now) (plain_request request.now).kind state.old.state).outcomes }
+    ensures outcomes { map plain_outcome outcomes.new.items ≡ map plain_outcome outcomes.old.items
+        ++ (asked state.old.limits pid.0 (plain_request request.now)
+        (plain_request request.now).kind state.old.state).outcomes }
     ensures limits { state.new.limits ≡ state.old.limits }
+    ensures waits { state.new.room.waits ≡ state.old.room.waits }
     ensures capacity { vec_capacity outcomes.old ≤ vec_capacity outcomes.new }
     ensures buffer { HasBuffer state.old.limits spare.new outcomes.new.items }
 {
@@ -72,14 +75,15 @@ fn make(
     requires call { (plain_request request.now).kind ≡ Calls (plain_call call.now) }
     requires room { is_waiting state.old.state pid.0 ≡ false
         → IsReserved state.old.state state.old.room (plain_request request.now) kept }
-    requires none { outcomes.old.items ≡ [] }
-    requires places { most_replies state.old.limits ≤ vec_capacity outcomes.old }
+    requires waits { state.old.limits.processes ≤ state.old.room.waits }
+    requires places { length outcomes.old.items + length state.old.state.wait < vec_capacity outcomes.old }
     requires spare { IsSpare state.old.limits spare.old }
     ensures state { state.new.state
         ≡ (called state.old.limits pid.0 (plain_request request.now) (plain_call call.now) state.old.state).state }
-    ensures outcomes { map plain_outcome outcomes.new.items
-        ≡ (called state.old.limits pid.0 (plain_request request.now) (plain_call call.now) state.old.state).outcomes }
+    ensures outcomes { map plain_outcome outcomes.new.items ≡ map plain_outcome outcomes.old.items
+        ++ (called state.old.limits pid.0 (plain_request request.now) (plain_call call.now) state.old.state).outcomes }
     ensures limits { state.new.limits ≡ state.old.limits }
+    ensures waits { state.new.room.waits ≡ state.old.room.waits }
     ensures capacity { vec_capacity outcomes.old ≤ vec_capacity outcomes.new }
     ensures buffer { HasBuffer state.old.limits spare.new outcomes.new.items }
 {
@@ -103,18 +107,19 @@ fn at_once(
 )
     requires sound { IsSound state.old.limits state.old.state }
     requires process { is_process state.old.state pid.0 ≡ true }
-    requires never { needs (Calls (plain_call call.now)) ≢ Wait }
-    requires room { HasRoomFor state.old.state state.old.room (plain_call call.now) }
-    requires none { outcomes.old.items ≡ [] }
-    requires places { most_replies state.old.limits ≤ vec_capacity outcomes.old }
+    requires never { may_wait (Calls (plain_call call.now)) ≡ false }
+    requires room { Has state.old.state state.old.room (needs (Calls (plain_call call.now))) }
+    requires places { length outcomes.old.items + length state.old.state.wait < vec_capacity outcomes.old }
     requires spare { IsSpare state.old.limits spare.old }
     ensures state { (request : PlainRequest) → request.serial ≡ serial
         → state.new.state ≡ (told state.old.limits pid.0 request state.old.state
         (attempt_of state.old.limits state.old.state pid.0 false (plain_call call.now))).state }
     ensures outcomes { (request : PlainRequest) → request.serial ≡ serial
-        → map plain_outcome outcomes.new.items ≡ (told state.old.limits pid.0 request state.old.state
+        → map plain_outcome outcomes.new.items ≡ map plain_outcome outcomes.old.items
+        ++ (told state.old.limits pid.0 request state.old.state
         (attempt_of state.old.limits state.old.state pid.0 false (plain_call call.now))).outcomes }
     ensures limits { state.new.limits ≡ state.old.limits }
+    ensures waits { state.new.room.waits ≡ state.old.room.waits }
     ensures capacity { vec_capacity outcomes.old ≤ vec_capacity outcomes.new }
     ensures buffer { HasBuffer state.old.limits spare.new outcomes.new.items }
 {
@@ -134,36 +139,50 @@ fn try_once(
     requires process { is_process state.old.state pid.0 ≡ true }
     requires free { is_waiting state.old.state pid.0 ≡ false }
     requires call { parked.kind ≡ Calls (plain_call call.now) }
-    requires room { state.old.room.wait ≡ true }
-    requires none { outcomes.old.items ≡ [] }
-    requires places { most_replies state.old.limits ≤ vec_capacity outcomes.old }
+    requires waits { state.old.limits.processes ≤ state.old.room.waits }
+    requires places { length outcomes.old.items + length state.old.state.wait < vec_capacity outcomes.old }
     ensures state { state.new.state ≡ (told state.old.limits pid.0 parked state.old.state
         (attempt_of state.old.limits state.old.state pid.0 false (plain_call call.now))).state }
-    ensures outcomes { map plain_outcome outcomes.new.items ≡ (told state.old.limits pid.0 parked state.old.state
+    ensures outcomes { map plain_outcome outcomes.new.items ≡ map plain_outcome outcomes.old.items
+        ++ (told state.old.limits pid.0 parked state.old.state
         (attempt_of state.old.limits state.old.state pid.0 false (plain_call call.now))).outcomes }
     ensures limits { state.new.limits ≡ state.old.limits }
+    ensures waits { state.new.room.waits ≡ state.old.room.waits }
     ensures capacity { vec_capacity outcomes.old ≤ vec_capacity outcomes.new }
 {
     let serial = parked.serial();
     match try_parked(state, pid, false, parked) {
         Tried::Finishes(answer) => finish(state, outcomes, pid, serial, answer, touched(call)),
-        Tried::Waits(parked) => join(state, pid, parked),
+        Tried::Waits(parked) => join(state, outcomes, pid, parked),
     }
 }
 
-/// A call joins the end of those that wait; it has no deadline.
-fn join(state: &mut State, pid: Pid, parked: Parked)
-    requires room { state.old.room.wait ≡ true }
+/// A call that cannot go on joins the end of those that wait, unless its deadline is at or before the clock.
+fn join(state: &mut State, outcomes: &mut Vec<Outcome>, pid: Pid, parked: Parked)
+    requires room { length state.old.state.wait < state.old.room.waits }
     requires free { is_waiting state.old.state pid.0 ≡ false }
-    ensures state { state.new.state ≡ joins state.old.state pid.0 parked (awaited_by parked.kind) }
+    requires place { length outcomes.old.items < vec_capacity outcomes.old }
+    ensures state { state.new.state ≡ (joins state.old.state pid.0 parked (awaited_by parked.kind)).state }
+    ensures outcomes { map plain_outcome outcomes.new.items ≡ map plain_outcome outcomes.old.items
+        ++ (joins state.old.state pid.0 parked (awaited_by parked.kind)).outcomes }
     ensures limits { state.new.limits ≡ state.old.limits }
+    ensures waits { state.new.room.waits ≡ state.old.room.waits }
+    ensures capacity { vec_capacity outcomes.old ≤ vec_capacity outcomes.new }
 {
-    state.enter_wait(Waiting {
+    let now = state.clock();
+    let serial = parked.serial();
+    let errno = parked.expiry();
+    let waiting = Waiting {
         pid,
         on: parked.awaited(),
-        deadline: None,
+        deadline: parked.deadline(now),
         call: parked,
-    });
+    };
+    if waiting.is_due(now) {
+        refuse(outcomes, pid, serial, errno);
+    } else {
+        state.enter_wait(waiting);
+    }
 }
 
 /// A call has ended so, and may have changed this object: it is answered, and then those go on that wait on the object
@@ -178,13 +197,13 @@ fn finish(
 )
     requires good { (s : PlainState) × IsSound state.old.limits s
         × IsGood state.old.limits s touched (finish_of state.old.state answer) }
-    requires none { outcomes.old.items ≡ [] }
-    requires places { most_replies state.old.limits ≤ vec_capacity outcomes.old }
+    requires places { length outcomes.old.items + length state.old.state.wait < vec_capacity outcomes.old }
     ensures state { state.new.state
         ≡ (after (replied pid.0 serial (finish_of state.old.state answer)) (settled state.old.limits)).state }
-    ensures outcomes { map plain_outcome outcomes.new.items
-        ≡ (after (replied pid.0 serial (finish_of state.old.state answer)) (settled state.old.limits)).outcomes }
+    ensures outcomes { map plain_outcome outcomes.new.items ≡ map plain_outcome outcomes.old.items
+        ++ (after (replied pid.0 serial (finish_of state.old.state answer)) (settled state.old.limits)).outcomes }
     ensures limits { state.new.limits ≡ state.old.limits }
+    ensures waits { state.new.room.waits ≡ state.old.room.waits }
     ensures capacity { vec_capacity outcomes.old ≤ vec_capacity outcomes.new }
     ensures room { room_in_answer answer ≤ room_in outcomes.new.items }
 {
@@ -194,10 +213,9 @@ fn finish(
 
 /// A request is refused.
 fn refuse(outcomes: &mut Vec<Outcome>, pid: Pid, serial: u32, errno: Errno)
-    requires none { outcomes.old.items ≡ [] }
-    requires place { 0 < vec_capacity outcomes.old }
-    ensures outcomes { (s : PlainState)
-        → map plain_outcome outcomes.new.items ≡ (replied pid.0 serial (refused s errno)).outcomes }
+    requires place { length outcomes.old.items < vec_capacity outcomes.old }
+    ensures outcomes { (s : PlainState) → map plain_outcome outcomes.new.items
+        ≡ map plain_outcome outcomes.old.items ++ (replied pid.0 serial (refused s errno)).outcomes }
     ensures capacity { vec_capacity outcomes.old ≤ vec_capacity outcomes.new }
 {
     push(outcomes, reply_to(pid, serial, Err(errno)));
@@ -207,11 +225,12 @@ fn refuse(outcomes: &mut Vec<Outcome>, pid: Pid, serial: u32, errno: Errno)
 /// memory.
 pub(crate) fn interrupt(state: &mut State, outcomes: &mut Vec<Outcome>, pid: Pid, serial: u32)
     requires sound { IsSound state.old.limits state.old.state }
-    requires none { outcomes.old.items ≡ [] }
-    requires places { most_replies state.old.limits ≤ vec_capacity outcomes.old }
+    requires places { length outcomes.old.items + length state.old.state.wait < vec_capacity outcomes.old }
     ensures state { state.new.state ≡ (interrupt_step pid.0 serial state.old.state).state }
-    ensures outcomes { map plain_outcome outcomes.new.items ≡ (interrupt_step pid.0 serial state.old.state).outcomes }
+    ensures outcomes { map plain_outcome outcomes.new.items
+        ≡ map plain_outcome outcomes.old.items ++ (interrupt_step pid.0 serial state.old.state).outcomes }
     ensures limits { state.new.limits ≡ state.old.limits }
+    ensures waits { state.new.room.waits ≡ state.old.room.waits }
     ensures capacity { vec_capacity outcomes.old ≤ vec_capacity outcomes.new }
 {
     end_waiting(state, outcomes, pid);
@@ -220,11 +239,12 @@ pub(crate) fn interrupt(state: &mut State, outcomes: &mut Vec<Outcome>, pid: Pid
 
 /// The call of a process that waits, if there is one, ends with EINTR.
 fn end_waiting(state: &mut State, outcomes: &mut Vec<Outcome>, pid: Pid)
-    requires { length outcomes.old.items < vec_capacity outcomes.old }
+    requires place { length outcomes.old.items < vec_capacity outcomes.old }
     ensures state { state.new.state ≡ (interrupted state.old.state pid.0 (call_of pid state.old.state.wait)).state }
     ensures outcomes { map plain_outcome outcomes.new.items ≡ map plain_outcome outcomes.old.items
         ++ (interrupted state.old.state pid.0 (call_of pid state.old.state.wait)).outcomes }
     ensures limits { state.new.limits ≡ state.old.limits }
+    ensures waits { state.new.room.waits ≡ state.old.room.waits }
     ensures capacity { vec_capacity outcomes.old ≤ vec_capacity outcomes.new }
     ensures few { length outcomes.new.items ≤ length outcomes.old.items + length state.old.state.wait }
 {

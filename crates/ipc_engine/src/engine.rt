@@ -13,6 +13,7 @@ ghost use Rattle.std.specs.Prelude.{
   map,
   length,
   not,
+  ◌&&◌,
   IsOk,
   IsTrue,
   OnOk,
@@ -23,8 +24,8 @@ ghost use Rattle.std.specs.Prelude.{
   max,
 };
 ghost use Rattle.ipc_base.specs.Limits.{ArePassed, longest_body};
-ghost use Rattle.ipc_wire.specs.Request.{plain_kind, plain_request};
-ghost use Rattle.ipc_wire.specs.Spelling.{HasFrame};
+ghost use Rattle.ipc_wire.specs.Request.{plain_kind};
+ghost use Rattle.ipc_wire.specs.View.{plain_request};
 ghost use Rattle.ipc_state.specs.Finish.{finish_of};
 ghost use Rattle.ipc_state.specs.Sound.{FitsBody, HasSoundParts};
 ghost use Rattle.ipc_state.specs.State.{State as PlainState, has_all_processes, is_process, is_waiting, start};
@@ -33,18 +34,19 @@ ghost use Rattle.sysv_calls.specs.Spare.{room_of, room_in as room_in_answer};
 ghost use Rattle.ipc_engine.specs.Buffer.{room_in, HasBuffer};
 ghost use Rattle.ipc_engine.specs.Bytes.{most_owed, owed};
 ghost use Rattle.ipc_engine.specs.Engine.{IsReadyForHello};
-ghost use Rattle.ipc_engine.specs.Step.{step as step_on, connect as connect_step, replied, most_replies};
+ghost use Rattle.ipc_engine.specs.Step.{step as step_on, connect as connect_step, due, replied, most_replies};
 ghost use Rattle.ipc_engine.specs.Listing.{rows_of};
 ghost use Rattle.ipc_engine.specs.Sound.{IsSound};
 ghost use Rattle.ipc_engine.specs.View.{plain_event, plain_outcome, step_of};
 
 use crate::asking::{ask, interrupt};
+use crate::deadlines::begin;
 use crate::event::{Event, Outcome};
 use crate::fault::StateFault;
 use crate::listing::{Row, list_objects};
 use crate::replies::{push, take_back};
 use crate::settling::all_have_to_wait;
-use ipc_base::{Cred, Errno, Limits, Pid};
+use ipc_base::{Cred, Errno, Limits, Moment, Pid};
 use ipc_state::{Parked, State};
 use ipc_wire::{Body, Request};
 use std::alloc::{AllocError, Global};
@@ -79,11 +81,12 @@ impl Model for Engine {
 
     ghost invariant = { λ e. (most_replies e.state.limits ≤ vec_capacity e.outcomes)
         × IsSound e.state.limits e.state.state
-        × ArePassed e.state.limits × HasBuffer e.state.limits e.spare e.outcomes.items };
+        × ArePassed e.state.limits × HasBuffer e.state.limits e.spare e.outcomes.items
+        × (e.state.limits.processes ≤ e.state.room.waits) };
 }
 
 impl Engine {
-    ghost use Rattle.ipc_engine.specs.Engine.{IsForProcess, HasRequest, takes_memory};
+    ghost use Rattle.ipc_engine.specs.Engine.{IsForProcess, takes_memory};
 
     /// A machine to which nothing has happened. Refused for want of memory.
     pub fn new(alloc: Global, limits: Limits) -> Result<Engine, AllocError>
@@ -93,13 +96,7 @@ impl Engine {
         ensures limits { IfOk result (λ engine. engine.limits ≡ limits) }
         ensures sound { IfOk result (λ engine. IsSound engine.limits engine.state) }
     {
-        let outcomes = Vec::with_capacity(alloc, most_replies(&limits))?;
-        let spare = buffer(alloc, &limits)?;
-        Ok(Engine {
-            state: State::new(alloc, limits),
-            outcomes,
-            spare,
-        })
+        Engine::of(alloc, State::new(alloc, limits))
     }
 
     /// A machine that has this state, and no replies. Refused if the state is not sound, or for want of
@@ -114,8 +111,22 @@ impl Engine {
         if !state.is_sound() || !all_have_to_wait(&state) {
             return Err(StateFault::Unsound);
         }
+        let engine = Engine::of(alloc, state)?;
+        Ok(engine)
+    }
+
+    /// A machine that has this sound state, and no replies. It takes the memory that replies and calls that wait may
+    /// need.
+    fn of(alloc: Global, mut state: State) -> Result<Engine, AllocError>
+        requires { IsSound state.limits state.state }
+        ensures state { IfOk result (λ engine. engine.state ≡ state.state) }
+        ensures limits { IfOk result (λ engine. engine.limits ≡ state.limits) }
+        ensures outcomes { IfOk result (λ engine. engine.outcomes ≡ []) }
+        ensures sound { IfOk result (λ engine. IsSound engine.limits engine.state) }
+    {
         let outcomes = Vec::with_capacity(alloc, most_replies(state.limits()))?;
         let spare = buffer(alloc, state.limits())?;
+        state.reserve_waits()?;
         Ok(Engine {
             state,
             outcomes,
@@ -193,13 +204,12 @@ impl Engine {
         &self.outcomes
     }
 
-    /// One step on an event: `outcomes` are its replies. Refused for want of memory, which only a HELLO
-    /// that gets a process, msgget(2), msgsnd(2) and msgrcv(2) take, nothing has changed, the clock included. What is
-    /// answered to a call that waited takes none. The state is sound before and after, and no body of a reply is longer
-    /// than `Limits::longest_reply` says. The request of a call has a frame, since it may be kept.
+    /// One step on an event: `outcomes` are its replies. Refused for want of memory, which only a HELLO that gets a
+    /// process, msgget(2) and msgsnd(2) take, nothing has changed, the clock included. A call that waits, and what is
+    /// answered to one that waited, takes none. The state is sound before and after, and no body of a reply is longer
+    /// than `Limits::longest_reply` says.
     pub fn step(&mut self, event: Event<'_>) -> Result<(), AllocError>
-        requires process { IsForProcess self.old.state (plain_event event) }
-        requires request { HasRequest (plain_event event) }
+        requires { IsForProcess self.old.state (plain_event event) }
         ensures state { OnOk result (self.new.state
             ≡ (step_on self.old.limits self.old.state (plain_event event.entry)).state) }
         ensures outcomes { OnOk result (self.new.outcomes
@@ -220,8 +230,7 @@ impl Engine {
                 moment,
             } => {
                 reserve_hello(&mut self.state)?;
-                take_back(&mut self.outcomes, &mut self.spare);
-                self.state.begin(moment);
+                begin(&mut self.state, &mut self.outcomes, &mut self.spare, moment);
                 let outcome = connect(&mut self.state, cred, serial);
                 push(&mut self.outcomes, outcome);
             }
@@ -230,9 +239,9 @@ impl Engine {
                 request,
                 moment,
             } => {
-                let kept = prepare(&mut self.state, *self.outcomes.allocator(), pid, &request)?;
-                take_back(&mut self.outcomes, &mut self.spare);
-                self.state.begin(moment);
+                let alloc = *self.outcomes.allocator();
+                let kept = prepare(&mut self.state, alloc, pid, &request, moment)?;
+                begin(&mut self.state, &mut self.outcomes, &mut self.spare, moment);
                 ask(
                     &mut self.state,
                     &mut self.outcomes,
@@ -247,17 +256,14 @@ impl Engine {
                 serial,
                 moment,
             } => {
-                take_back(&mut self.outcomes, &mut self.spare);
-                self.state.begin(moment);
+                begin(&mut self.state, &mut self.outcomes, &mut self.spare, moment);
                 interrupt(&mut self.state, &mut self.outcomes, pid, serial);
             }
             Event::Tick { moment } => {
-                take_back(&mut self.outcomes, &mut self.spare);
-                self.state.begin(moment);
+                begin(&mut self.state, &mut self.outcomes, &mut self.spare, moment);
             }
             Event::Exit { pid, moment } => {
-                take_back(&mut self.outcomes, &mut self.spare);
-                self.state.begin(moment);
+                begin(&mut self.state, &mut self.outcomes, &mut self.spare, moment);
                 self.state.remove_process(pid);
             }
             Event::Restart => {
@@ -285,22 +291,25 @@ fn buffer(alloc: Global, limits: &Limits) -> Result<Vec<u8>, AllocError>
     Vec::with_capacity(alloc, limits.longest_reply() as usize)
 }
 
-/// Takes the memory that a request of a process may need; none while a call of the process waits, since it has one at
-/// a time. Gives what is kept of a request that may wait.
+/// Takes the memory that a request of a process may need at this moment; none while a call of the process waits, since
+/// it has one at a time. Gives what is kept of a request that may wait.
 fn prepare(
     state: &mut State,
     alloc: Global,
     pid: Pid,
     request: &Request<'_>,
+    moment: Moment,
 ) -> Result<Option<Parked>, AllocError>
     requires { HasSoundParts state.old.limits state.old.state }
     ensures state { state.new.state ≡ state.old.state }
     ensures limits { state.new.limits ≡ state.old.limits }
-    ensures ok { IfOk result (λ kept. is_waiting state.old.state pid.0 ≡ false
+    ensures waits { state.new.room.waits ≡ state.old.room.waits }
+    ensures ok { IfOk result (λ kept. is_waiting (due moment.0 state.old.state).state pid.0 ≡ false
         → IsReserved state.new.state state.new.room (plain_request request.now) kept) }
-    ensures memory { kind_takes_memory (plain_kind request.now.kind) ≡ false → IsOk result }
+    ensures memory { kind_takes_memory (plain_kind request.now.kind)
+        && not (is_waiting (due moment.0 state.old.state).state pid.0) ≡ false → IsOk result }
 {
-    if state.is_waiting(pid) {
+    if state.still_waits(pid, moment) {
         return Ok(None);
     }
     reserve(state, alloc, request)
@@ -310,6 +319,7 @@ fn prepare(
 fn reserve_hello(state: &mut State) -> Result<(), AllocError>
     ensures state { state.new.state ≡ state.old.state }
     ensures limits { state.new.limits ≡ state.old.limits }
+    ensures waits { state.new.room.waits ≡ state.old.room.waits }
     ensures ok { OnOk result (IsReadyForHello state.new.limits state.new.state state.new.room) }
     ensures memory { not (has_all_processes state.old.limits state.old.state) ≡ false → IsOk result }
     ensures err { OnErr result (state.new ≡ state.old) }
@@ -325,6 +335,7 @@ fn connect(state: &mut State, cred: Cred, serial: u32) -> Outcome
     requires { IsReadyForHello state.old.limits state.old.state state.old.room }
     ensures step { step_of state.new.state result ≡ connect_step state.old.limits cred serial state.old.state }
     ensures limits { state.new.limits ≡ state.old.limits }
+    ensures waits { state.new.room.waits ≡ state.old.room.waits }
 {
     if state.has_all_processes() {
         return Outcome {

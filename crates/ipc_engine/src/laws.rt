@@ -1,7 +1,7 @@
 //! Laws of the definitions alone. A call of one does nothing; its contract is the law.
 
 ghost use Rattle.std.specs.Prelude.{◌≡◌, ◌≢◌, ◌+◌, ◌<◌, ◌≤◌, ℕ, true, false};
-ghost use Rattle.std.specs.Prelude.{List, [], ◌∷◌, ◌++◌, length, max};
+ghost use Rattle.std.specs.Prelude.{List, [], ◌∷◌, ◌++◌, length, map, max};
 ghost use Rattle.std.specs.Prelude.{Option, None, Some, All};
 ghost use Rattle.ipc_base.specs.declared.errno.Errno.{Errno};
 ghost use Rattle.ipc_base.specs.declared.errno.Errno.TheVariants.{EALREADY};
@@ -10,13 +10,16 @@ ghost use Rattle.ipc_base.specs.declared.identity.Cred.{Cred};
 ghost use Rattle.ipc_wire.specs.Request.{PlainCall, PlainRequest, Calls, Interrupt as Interrupts};
 ghost use Rattle.ipc_state.specs.declared.parked.Awaited.{Awaited};
 ghost use Rattle.ipc_state.specs.Finish.{Finishes, Waits, refused};
-ghost use Rattle.ipc_state.specs.State.{State, start, is_process, is_waiting, at_moment, restart, with_waiting};
-ghost use Rattle.ipc_state.specs.Waiting.{PlainWaiting, awaited_by};
+ghost use Rattle.ipc_state.specs.State.{State, start, is_process, is_waiting, restart, with_waiting};
+ghost use Rattle.ipc_state.specs.Waiting.{PlainWaiting, awaited_by, expiry};
+ghost use Rattle.ipc_wait.specs.Waits.{calls_due, calls_left, is_due};
 ghost use Rattle.sysv_calls.specs.Calls.{attempt};
 ghost use Rattle.ipc_engine.specs.Event.{PlainEvent, Connect, Call, Interrupt, Tick, Exit, Restart, moment_of};
 ghost use Rattle.ipc_engine.specs.Step.{step, run, silent, replied, after, settle, resumed, can_go_on, most_replies};
+ghost use Rattle.ipc_engine.specs.Step.{due, expired, waiting_on};
 ghost use Rattle.ipc_state.specs.Sound.{HasSoundParts, FitsBody};
-ghost use Rattle.ipc_engine.specs.Bytes.{IsAnswered, IsGreeted, allowed, asks, bytes_to, most_owed, owed};
+ghost use Rattle.ipc_engine.specs.Bytes.{IsAnswered, IsGreeted, allowed, asked_by, asks, bytes_to, most_owed, owed};
+ghost use Rattle.ipc_engine.specs.Bytes.{replies_to, unanswered};
 ghost use Rattle.ipc_engine.specs.Engine.{IsForProcess, HasRequest};
 ghost use Rattle.ipc_engine.specs.Sound.{IsSound};
 
@@ -28,11 +31,14 @@ pub fn step_keeps_soundness()
         → IsSound limits s → IsForProcess s e → HasRequest e → IsSound limits (step limits s e).state }
 {}
 
-/// After an event no call waits that could go on.
+/// After an event no call waits that could go on, and none whose deadline has come.
 pub fn nobody_waits_who_could_go_on()
-    ensures { (limits : Limits) (s : State) (e : PlainEvent)
+    ensures waits { (limits : Limits) (s : State) (e : PlainEvent)
         → IsSound limits s → IsForProcess s e → HasRequest e
         → All (λ w. can_go_on limits (step limits s e).state w ≡ false) (step limits s e).state.wait }
+    ensures early { (limits : Limits) (s : State) (e : PlainEvent)
+        → IsSound limits s → IsForProcess s e → HasRequest e
+        → All (λ w. is_due (record { 0 = (step limits s e).state.clock }) w ≡ false) (step limits s e).state.wait }
 {}
 
 /// If none of those before a call in the list can go on, and it can, then it is the first that is answered: it leaves
@@ -60,6 +66,14 @@ pub fn replies_fit()
 pub fn replies_are_few()
     ensures { (limits : Limits) (s : State) (e : PlainEvent) → IsSound limits s
         → length (step limits s e).outcomes ≤ most_replies limits }
+{}
+
+/// A request is answered once at most, at once or later: what a process is sent by an event, and what it waits for
+/// then, are no more than what it waited for, and one more if it makes a request by it.
+pub fn a_request_is_answered_once()
+    ensures { (limits : Limits) (s : State) (e : PlainEvent) (pid : ℕ) → IsSound limits s → 0 < pid
+        → replies_to pid (step limits s e).outcomes + unanswered (step limits s e).state pid
+        ≤ unanswered s pid + asked_by s e pid }
 {}
 
 /// An event sends a process no more bytes of frames than it has asked for: what it is sent and what it is owed then are
@@ -92,8 +106,8 @@ pub fn hello_is_answered_last()
 
 /// A tick at a moment that has been changes nothing and says nothing.
 pub fn late_tick_does_nothing()
-    ensures { (limits : Limits) (s : State) (moment : ℕ) → moment ≤ s.clock
-        → step limits s (Tick moment) ≡ record { state = s; outcomes = [] } }
+    ensures { (limits : Limits) (s : State) (moment : ℕ) → IsSound limits s → moment ≤ s.clock
+        → step limits s (Tick moment) ≡ silent s }
 {}
 
 /// A run is a run of its parts: the second part begins where the first ends, and the replies of the first come
@@ -112,27 +126,44 @@ pub fn event_sets_clock()
         → (step limits s e).state.clock ≡ max s.clock (moment_of e) }
 {}
 
-/// A call that is refused changes the clock alone, and so does one of a process of which a call waits: it is refused
-/// with EALREADY.
+/// A call that is refused leaves what its moment leaves, and so does one of a process of which a call waits: it is
+/// refused with EALREADY.
 pub fn refused_call_changes_nothing()
     ensures refused { (limits : Limits) (s : State) (pid moment : ℕ) (request : PlainRequest) (call : PlainCall)
         (e : Errno) → IsSound limits s → request.kind ≡ Calls call
-        → attempt limits (at_moment s moment) pid false call ≡ Finishes (refused (at_moment s moment) e)
-        → (step limits s (Call pid request moment)).state ≡ at_moment s moment }
+        → attempt limits (due moment s).state pid false call ≡ Finishes (refused (due moment s).state e)
+        → (step limits s (Call pid request moment)).state ≡ (due moment s).state }
     ensures waiting { (limits : Limits) (s : State) (pid moment : ℕ) (request : PlainRequest) (call : PlainCall)
-        → request.kind ≡ Calls call → is_waiting s pid ≡ true
+        → request.kind ≡ Calls call → is_waiting (due moment s).state pid ≡ true
         → step limits s (Call pid request moment)
-        ≡ replied pid request.serial (refused (at_moment s moment) EALREADY) }
+        ≡ after (due moment s) (λ t. replied pid request.serial (refused t EALREADY)) }
 {}
 
-/// A call that cannot go on joins the end of those that wait, and nobody is sent anything.
+/// A call that cannot go on joins the end of those that wait, and is not answered yet. If its deadline is at or before
+/// the clock, it is answered instead, as if the deadline had come while it waited.
 pub fn call_that_cannot_go_on_waits()
-    ensures { (limits : Limits) (s : State) (pid moment : ℕ) (request : PlainRequest) (call : PlainCall) (on : Awaited)
-        → request.kind ≡ Calls call → awaited_by request.kind ≡ Some on → is_waiting s pid ≡ false
-        → attempt limits (at_moment s moment) pid false call ≡ Waits
+    ensures joins { (limits : Limits) (s : State) (pid moment : ℕ) (request : PlainRequest) (call : PlainCall)
+        (on : Awaited) → request.kind ≡ Calls call → awaited_by request.kind ≡ Some on
+        → is_waiting (due moment s).state pid ≡ false → attempt limits (due moment s).state pid false call ≡ Waits
+        → is_due (record { 0 = max s.clock moment }) (waiting_on (due moment s).state pid request on) ≡ false
         → step limits s (Call pid request moment)
-        ≡ silent (with_waiting (at_moment s moment)
-        (record { pid = record { 0 = pid }; on = on; deadline = None; call = request })) }
+        ≡ after (due moment s) (λ t. silent (with_waiting t (waiting_on t pid request on))) }
+    ensures ends { (limits : Limits) (s : State) (pid moment : ℕ) (request : PlainRequest) (call : PlainCall)
+        (on : Awaited) → request.kind ≡ Calls call → awaited_by request.kind ≡ Some on
+        → is_waiting (due moment s).state pid ≡ false → attempt limits (due moment s).state pid false call ≡ Waits
+        → is_due (record { 0 = max s.clock moment }) (waiting_on (due moment s).state pid request on) ≡ true
+        → step limits s (Call pid request moment)
+        ≡ after (due moment s) (λ t. replied pid request.serial (refused t (expiry request.kind))) }
+{}
+
+/// A moment ends the calls whose deadline is at or before it, and no other: each is answered once, in the order in
+/// which they came.
+pub fn deadlines_end_calls()
+    ensures answered { (limits : Limits) (s : State) (moment : ℕ)
+        → (step limits s (Tick moment)).outcomes
+        ≡ map expired (calls_due (record { 0 = max s.clock moment }) s.wait) }
+    ensures left { (limits : Limits) (s : State) (moment : ℕ)
+        → (step limits s (Tick moment)).state.wait ≡ calls_left (record { 0 = max s.clock moment }) s.wait }
 {}
 
 /// A restart takes all calls away that wait, and sends nobody anything.
@@ -160,7 +191,7 @@ pub fn pid_is_below_next()
 pub fn connect_adds_one_process()
     ensures fresh { (limits : Limits) (s : State) (cred : Cred) (serial moment pid : ℕ)
         → IsSound limits s → is_process s pid ≡ true
-        → All (λ o. o.pid ≢ pid) (step limits s (Connect cred serial moment)).outcomes }
+        → All (λ o. o.errno ≡ None → o.pid ≢ pid) (step limits s (Connect cred serial moment)).outcomes }
     ensures there { (limits : Limits) (s : State) (cred : Cred) (serial moment : ℕ)
         → All (λ o. o.errno ≡ None
         → is_process (step limits s (Connect cred serial moment)).state o.pid ≡ true)

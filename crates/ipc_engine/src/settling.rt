@@ -29,6 +29,7 @@ pub(crate) fn settle(state: &mut State, outcomes: &mut Vec<Outcome>, touched: Op
     ensures outcomes { map plain_outcome outcomes.new.items
         ≡ map plain_outcome outcomes.old.items ++ (settled state.old.limits state.old.state).outcomes }
     ensures limits { state.new.limits ≡ state.old.limits }
+    ensures waits { state.new.room.waits ≡ state.old.room.waits }
     ensures capacity { vec_capacity outcomes.old ≤ vec_capacity outcomes.new }
     ensures buffer { room_in outcomes.old.items ≤ room_in outcomes.new.items }
 {
@@ -101,6 +102,7 @@ fn resume(state: &mut State, outcomes: &mut Vec<Outcome>, pid: Pid)
         → map plain_outcome outcomes.new.items
         ≡ map plain_outcome outcomes.old.items ++ (resumed state.old.limits state.old.state w).outcomes }
     ensures limits { state.new.limits ≡ state.old.limits }
+    ensures waits { state.new.room.waits ≡ state.old.room.waits }
     ensures capacity { vec_capacity outcomes.old ≤ vec_capacity outcomes.new }
     ensures buffer { room_in outcomes.old.items ≤ room_in outcomes.new.items }
 {
@@ -135,10 +137,12 @@ fn all_have_place(state: &State, calls: &[Waiting<Awaited, Parked>]) -> bool
     true
 }
 
-/// Whether a call is one of a connected process, and has to wait.
+/// Whether a call is one of a connected process, its deadline has not come, and it has to wait.
 fn has_place(state: &State, waiting: &Waiting<Awaited, Parked>) -> bool
     requires { IsSoundWaiting waiting.now }
     ensures { IsTrue result ↔ HasToWait state.now.limits state.now.state waiting.now }
 {
-    state.has_process(waiting.pid) && has_to_wait(state, waiting.pid, &waiting.call)
+    state.has_process(waiting.pid)
+        && !waiting.is_due(state.clock())
+        && has_to_wait(state, waiting.pid, &waiting.call)
 }

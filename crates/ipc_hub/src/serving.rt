@@ -4,8 +4,7 @@ ghost use Rattle.std.specs.Prelude.{◌≡◌, ◌+◌, ◌<◌, ◌≤◌, ◌^
 ghost use Rattle.std.specs.Prelude.{nat_eq, option_map, IfSome};
 ghost use Rattle.ipc_base.specs.Limits.{longest_reply, ArePassed};
 ghost use Rattle.ipc_base.specs.Table.{value_at, keys_of, IsRising};
-ghost use Rattle.ipc_wire.specs.Request.{plain_request};
-ghost use Rattle.ipc_wire.specs.Spelling.{HasFrame};
+ghost use Rattle.ipc_wire.specs.View.{plain_request};
 ghost use Rattle.ipc_wire.specs.Stream.{first};
 ghost use Rattle.ipc_engine.specs.Event.{Tick};
 ghost use Rattle.ipc_engine.specs.View.{plain_event, plain_outcome, reply_of};
@@ -47,7 +46,7 @@ pub(crate) enum Asked {
 /// The event that a request of a process, or of none, makes; none, if the request has no place.
 fn event_of<'a>(process: Option<Pid>, request: &Request<'a>, moment: Moment) -> Option<Event<'a>>
     ensures event { option_map plain_event result ≡ event_made (pid_of process) (plain_request request.now) moment.0 }
-    ensures record { IfSome result (λ event. HasFrame (plain_request request.now) → HasRecord (plain_event event)) }
+    ensures record { IfSome result (λ event. HasRecord (plain_event event)) }
 {
     match (process, request.kind) {
         (None, RequestKind::Hello(cred)) => Some(Event::Connect {

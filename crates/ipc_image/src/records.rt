@@ -25,6 +25,7 @@ ghost use Rattle.ipc_image.specs.Records.{
   kind_of,
   details,
   record_bytes,
+  HasDetails,
   HasRecord,
   BeginsWith,
   plain_found,
@@ -51,7 +52,7 @@ const RESTART: u8 = 6;
 /// How many bytes the record of an event takes, its length with it.
 pub fn record_len(event: &Event<'_>) -> usize
     ensures exact { result ≡ length (record_bytes (plain_event event.now)) }
-    ensures bounded { HasRecord (plain_event event.now) → result ≤ 8465 }
+    ensures bounded { result ≤ 8465 }
 {
     13 + match event {
         Event::Connect { .. } => 12,
@@ -72,6 +73,7 @@ pub fn write_event(event: &Event<'_>, out: &mut [u8]) -> bool
         × (9 + length (details (plain_event event.now)) < 2 ^ 32)) }
     ensures written { OnTrue result (out.new
         ≡ record_bytes (plain_event event.now) ++ drop (length (record_bytes (plain_event event.now))) out.old) }
+    ensures has { OnTrue result (HasRecord (plain_event event.now)) }
     ensures unchanged { OnFalse result (out.new ≡ out.old) }
 {
     let whole = record_len(event);
@@ -106,7 +108,8 @@ fn kind_of(event: &Event<'_>) -> u8
 /// Puts what an event says besides its moment into a buffer that has room for it.
 fn put_details(put: &mut Put, out: &mut [u8], event: &Event<'_>)
     requires { put.old + length (details (plain_event event.now)) ≤ length out.old }
-    ensures { Puts (details (plain_event event.now)) put.old put.new out.old out.new true }
+    ensures has { HasDetails (plain_event event.now) }
+    ensures bytes { Puts (details (plain_event event.now)) put.old put.new out.old out.new true }
 {
     match event {
         Event::Connect { cred, serial, .. } => {

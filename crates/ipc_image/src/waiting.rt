@@ -143,7 +143,6 @@ fn deadline_from(number: u64) -> Option<Moment>
 // How many bytes the request of a call has.
 #[tactic(auto, unfolding(ipc_wire::specs::Spelling::frame))]
 fn call_len(call: &Parked) -> u32
-    requires { HasFrame call.now }
     ensures { result ≡ length (request_bytes call.now) }
 {
     (request_len(&call.request()) - 4) as u32
@@ -193,7 +192,8 @@ pub(crate) fn restore_waits(
 {
     let mut calls = Vec::new(alloc);
     read_counted::<Waiting<Awaited, Parked>>(&mut calls, bytes)?;
-    let Some(waits) = WaitList::from_calls(calls) else {
+    let list = WaitList::from_calls(alloc, calls)?;
+    let Some(waits) = list else {
         return Err(StateFault::Unsound);
     };
     state.restore_waits(waits);

@@ -22,7 +22,7 @@ use Rattle.ipc_base.proofs.CallerLemmas.{test_cases as test, flipped, same_key a
 use Rattle.ipc_script.proofs.RisingNumbers.{gone}
 use Rattle.ipc_script.proofs.HubAndClients.{connected}
 use Rattle.ipc_script.proofs.FedPieces.{open_here}
-use Rattle.ipc_script.proofs.UnchangedHeads.{heads, heads_leave, same_keys, same_untouched}
+use Rattle.ipc_script.proofs.UnchangedHeads.{heads, heads_leave, heads_tick, same_keys, same_untouched}
 
 -- ---- one comes
 
@@ -142,6 +142,14 @@ keys_left (e ∷ es) n =
       | inr f ↦ rw f (ap (λ (ks : List ℕ). e.0 ∷ ks) (keys_left es n))
     ]
 
+heads_left : (t : List (ℕ × Client)) (n : ℕ) → heads (without nat_eq t n) ≡ without nat_eq (heads t) n
+heads_left [] n = refl
+heads_left (e ∷ es) n =
+    elim (test (nat_eq e.0 n)) [
+      | inl t ↦ rw t refl
+      | inr f ↦ rw f (ap (λ (hs : List (ℕ × ℕ)). (e.0, e.1.consumed) ∷ hs) (heads_left es n))
+    ]
+
 -- a connection was closed, and taken out of those that are open
 pub close_in : {D : Type 0} (medium : D → Medium) (limits : Limits) (hub next : StoredHub D) (os items : List Opened) (r : Run) (conn moment : ℕ)
     → RunMatchesBetween limits hub os r
@@ -153,8 +161,10 @@ close_in medium limits hub next os items r conn moment b known takes left =
     let t : List (ℕ × Client) = r.hub.clients in
     let now : Clients = hangup limits r.hub conn moment in
     let rest = without nat_eq t conn in
+    let ticked : Clients = tick limits r.hub moment in
     let like : heads now.clients ≡ heads rest =
-    heads_leave limits (record (tick limits r.hub moment) { clients = rest }) (process_at (tick limits r.hub moment) conn) moment in
+    heads_leave limits (record ticked { clients = without nat_eq ticked.clients conn }) (process_at ticked conn) moment
+    ∙ (heads_left ticked.clients conn ∙ (ap (λ (hs : List (ℕ × ℕ)). without nat_eq hs conn) (heads_tick limits conn moment r.hub) ∙ sym (heads_left t conn))) in
     let keys : keys_of now.clients ≡ keys_of rest = same_keys rest now.clients like in (
       open_here limits hub os r conn i known,
       record {

@@ -1,6 +1,7 @@
 -- What the crates above cite: each change of the state leads from a sound state to a sound state, and so does a call
 -- whose steps do.
-use Rattle.std.proofs.Common.{◌≡◌, ◌≢◌, ℕ, ℤ, ◌<◌, Bool, true, false, Option, Some, None, refl, arith, sym, ap, subst, ◌∙◌, List, [], ◌∷◌, ◌++◌, not}
+use Rattle.std.proofs.Common.{◌≡◌, ◌≢◌, ℕ, ℤ, ◌<◌, Bool, true, false, Option, Some, None, refl, arith, sym, ap, subst, ◌∙◌, List}
+use Rattle.std.proofs.Common.{[], ◌∷◌, ◌++◌, not, length, length-append}
 use Rattle.std.proofs.lemmas.Nat.{and_le_r}
 use Rattle.std.specs.Prelude.{Ok, Err, option_map, All}
 use Rattle.std.proofs.lemmas.List.Elements.{All-nil, All-filter, All-push}
@@ -15,12 +16,14 @@ use Rattle.ipc_state.specs.Lends.{HasPutObject}
 use Rattle.ipc_state.specs.Tables.{HeldObjects}
 use Rattle.ipc_base.specs.declared.errno.Errno.{Errno}
 use Rattle.ipc_base.specs.declared.identity.Cred.{Cred}
+use Rattle.ipc_base.specs.declared.identity.Moment.{Moment}
 use Rattle.ipc_base.specs.declared.identity.Pid.{Pid}
 use Rattle.ipc_base.specs.declared.limits.Limits.{Limits}
-use Rattle.ipc_wait.specs.Waits.{is_of, call_of, without}
-use Rattle.ipc_wait.proofs.CallerLemmas.{without-distinct, HaveDistinctPids-enter}
+use Rattle.ipc_wait.specs.Waits.{is_of, is_due, call_of, without, calls_left}
+use Rattle.ipc_wait.proofs.CallerLemmas.{without-distinct, left-distinct, due-or-left, HaveDistinctPids-enter}
 use Rattle.sysv_msg.specs.Queue.{Queue, new_queue}
 use Rattle.ipc_wire.specs.Reply.{PlainBody}
+use Rattle.ipc_wire.specs.Request.{PlainRequest, Interrupt}
 use Rattle.ipc_state.specs.declared.keyed.Entry.{Entry}
 use Rattle.ipc_perm.specs.declared.perm.Perm.{Perm}
 use Rattle.ipc_perm.specs.Perm.{perm_of, owned_by}
@@ -28,7 +31,7 @@ use Rattle.ipc_state.specs.Numbered.{Numbered, entry_of, with_entry, without_ent
 use Rattle.ipc_state.specs.Keyed.{Keyed, holding, permitting, keyed, AreKeyed, AreNamed}
 use Rattle.ipc_state.specs.declared.processes.Process.{Process}
 use Rattle.ipc_state.specs.State.{State, start, at_moment, has_all_processes, is_process, with_process, exit, restart}
-use Rattle.ipc_state.specs.State.{is_waiting, with_waiting, without_waiting, queue_of, with_queue, with_new_queue}
+use Rattle.ipc_state.specs.State.{is_waiting, with_waiting, without_due, without_waiting, queue_of, with_queue, with_new_queue}
 use Rattle.ipc_state.specs.Sound.{HasSoundParts, IsSoundQueue, IsSoundSet, FitsBody}
 use Rattle.ipc_state.specs.Waiting.{PlainWaiting, AreSoundWaits, IsSoundWaiting}
 use Rattle.ipc_state.specs.Finish.{Finish, IfFinishes, Attempt, Halt, Fails, Blocks, Done, ended, done, answer, refuse, stop, ◌orstop◌, ◌>>◌, ◌>>=◌, if_some}
@@ -56,7 +59,8 @@ module _ (limits : Limits) where
       → HasSoundParts limits (record s { processes = processes })
   set-processes s processes h good = record { processes = good; wait = h.wait; msg = h.msg; sem = h.sem }
 
-  pub set-wait : (s : State) (calls : List PlainWaiting) → HasSoundParts limits s → AreSoundWaits limits calls → HasSoundParts limits (record s { wait = calls })
+  pub set-wait : (s : State) (calls : List PlainWaiting) → HasSoundParts limits s → AreSoundWaits limits calls
+      → HasSoundParts limits (record s { wait = calls })
   set-wait s calls h good = record { processes = h.processes; wait = good; msg = h.msg; sem = h.sem }
 
   pub set-msg : (s : State) (msg : Keyed Queue) → HasSoundParts limits s → AreKeyed limits.msgmni (IsSoundQueue limits) msg
@@ -90,6 +94,16 @@ module _ (limits : Limits) where
         each = All-push IsSoundWaiting s.wait w h.wait.each good;
       })
 
+  -- so there are fewer calls than processes may be
+  pub room-waiting : (s : State) (pid : ℕ) → HasSoundParts limits s → is_waiting s pid ≡ false
+      → All (λ (v : PlainWaiting). is_process s v.pid.0 ≡ true) s.wait → is_process s pid ≡ true → length s.wait < limits.processes
+  room-waiting s pid h free connected process =
+      let call : PlainRequest = record { serial = 0; kind = Interrupt } in
+      let w : PlainWaiting = record { pid = record { 0 = pid }; on = awaited.Queue (record { 0 = 0 }); deadline = None; call = call } in
+      let distinct = HaveDistinctPids-enter s.wait w h.wait.pids (nobody (call_of w.pid s.wait) free) in
+      let all = All-push (λ (v : PlainWaiting). is_process s v.pid.0 ≡ true) s.wait w connected process in
+      omega (arith, few-waiting s.processes.entries (s.wait ++ w ∷ []) distinct all, h.processes.count, length-append s.wait (w ∷ []))
+
   pub start-sound : HasSoundParts limits start
   start-sound =
       record {
@@ -101,6 +115,15 @@ module _ (limits : Limits) where
 
   pub begin-sound : (s : State) (moment : ℕ) → HasSoundParts limits s → HasSoundParts limits (at_moment s moment)
   begin-sound s moment h = record { processes = h.processes; wait = h.wait; msg = h.msg; sem = h.sem }
+
+  pub without_due-sound : (s : State) → HasSoundParts limits s → HasSoundParts limits (without_due s)
+  without_due-sound s h =
+      let now : Moment = record { 0 = s.clock } in
+      set-wait s _ h (record {
+        pids = left-distinct now s.wait h.wait.pids;
+        few = omega (arith, due-or-left now s.wait, h.wait.few);
+        each = All-filter (λ (w : PlainWaiting). not (is_due now w)) IsSoundWaiting s.wait h.wait.each;
+      })
 
   pub exit-sound : (s : State) (pid : ℕ) → HasSoundParts limits s → HasSoundParts limits (exit s pid)
   exit-sound s pid h =

@@ -9,14 +9,14 @@ use Rattle.ipc_state.specs.Keyed.{keyed}
 use Rattle.ipc_state.specs.State.{State}
 
 -- whether there is room for one process more, and for one queue; the directory of the queues' keys, with those that
--- have room there; whether a queue without messages is kept ready to be added; whether there is room for one call more
--- that waits, and for one semaphore set more; the directory of the sets' keys
+-- have room there; whether a queue without messages is kept ready to be added; for how many calls that wait there is
+-- room; whether there is room for one semaphore set more; the directory of the sets' keys
 pub record Room : Type 0 where
   pub process : Bool
   pub queue : Bool
   pub keys : FinMap int_cmp ℕ
   pub fresh : Bool
-  pub wait : Bool
+  pub waits : ℕ
   pub set : Bool
   pub set_keys : FinMap int_cmp ℕ
 

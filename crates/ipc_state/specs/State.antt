@@ -4,7 +4,7 @@ use Rattle.std.specs.Prelude.{ℕ, ℤ, Bool, max, List, Option, [], ◌∷◌, 
 use Rattle.std.specs.Prelude.{is_some, unwrap_or}
 use Rattle.ipc_base.specs.declared.identity.Cred.{Cred}
 use Rattle.ipc_base.specs.declared.limits.Limits.{Limits}
-use Rattle.ipc_wait.specs.Waits.{call_of, without}
+use Rattle.ipc_wait.specs.Waits.{call_of, calls_due, calls_left, without}
 use Rattle.sysv_msg.specs.Queue.{Queue, new_queue}
 use Rattle.sysv_sem.specs.Set.{Set}
 use Rattle.ipc_state.specs.declared.keyed.Entry.{Entry}
@@ -47,6 +47,14 @@ with_waiting s w = record s { wait = s.wait ++ w ∷ [] }
 -- without the call of the process
 abbrev pub without_waiting : State → ℕ → State
 without_waiting s pid = record s { wait = without (record { 0 = pid }) s.wait }
+
+-- the calls whose deadline has come, in order
+abbrev pub due_calls : State → List PlainWaiting
+due_calls s = calls_due (record { 0 = s.clock }) s.wait
+
+-- without them
+abbrev pub without_due : State → State
+without_due s = record s { wait = calls_left (record { 0 = s.clock }) s.wait }
 
 -- ---- processes
 

@@ -1,5 +1,8 @@
 -- Calls that wait (msgop(2)): on which object each of them waits, and what holds of one that does.
-use Rattle.std.specs.Prelude.{◌≡◌, ◌≤◌, List, length, Option, Some, None, All}
+use Rattle.std.specs.Prelude.{◌≡◌, ◌≤◌, ℕ, Bool, true, false, is_some, List, length, Option, Some, None, All}
+use Rattle.ipc_base.specs.declared.errno.Errno.{Errno}
+use Rattle.ipc_base.specs.declared.errno.Errno.TheVariants.{EAGAIN}
+use Rattle.ipc_base.specs.declared.identity.Moment.{Moment}
 use Rattle.ipc_base.specs.declared.limits.Limits.{Limits}
 use Rattle.ipc_wait.specs.Waits.{HaveDistinctPids}
 use Rattle.ipc_wait.specs.declared.list.Waiting.{Waiting}
@@ -20,6 +23,23 @@ abbrev pub awaited_by : PlainKind → Option Awaited
 awaited_by (Calls (requests.Msgsnd id flags mtype text)) = Some (awaited.Queue (record { 0 = id }))
 awaited_by (Calls (requests.Msgrcv id flags size mtype)) = Some (awaited.Queue (record { 0 = id }))
 awaited_by _ = None
+
+-- whether the request is of a call that may wait
+abbrev pub may_wait : PlainKind → Bool
+may_wait kind = is_some (awaited_by kind)
+
+-- whether a text of it is kept while its call waits, in memory of its own
+abbrev pub has_text : PlainKind → Bool
+has_text (Calls (requests.Msgsnd id flags mtype text)) = true
+has_text _ = false
+
+-- until when a call waits that comes at this moment: the calls of message queues wait without end
+unfoldable pub deadline_of : ℕ → PlainKind → Option Moment
+deadline_of now kind = None
+
+-- what a call is told whose deadline has come
+unfoldable pub expiry : PlainKind → Errno
+expiry kind = EAGAIN
 
 -- the request of a call that is kept
 abbrev pub parked_kind : ParkedCall → PlainKind

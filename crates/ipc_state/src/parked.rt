@@ -1,14 +1,12 @@
 //! A request that is kept while its call waits, in memory of its own.
 
-ghost use Rattle.std.specs.Prelude.{◌≡◌, ◌↔◌, Some, IfOk, IfSome, IfNone, IsTrue, None, length};
-ghost use Rattle.ipc_wire.specs.Request.{Calls, plain_call, plain_kind, plain_request};
-ghost use Rattle.ipc_base.specs.Numbers.{AreInRange};
-ghost use Rattle.ipc_wire.specs.Request as requests;
+ghost use Rattle.std.specs.Prelude.{◌≡◌, false, Some, IfOk, IfSome, IfNone, IsOk, None};
+ghost use Rattle.ipc_wire.specs.Request.{plain_kind};
 ghost use Rattle.ipc_wire.specs.Spelling.{HasFrame};
-ghost use Rattle.ipc_wire.specs.Table.{msgrcv, msgsnd};
+ghost use Rattle.ipc_wire.specs.View.{plain_request};
 
-use ipc_base::{Id, MsgFlags};
-use ipc_wire::{Call, GREATEST_FRAME, Request, RequestKind, request_len};
+use ipc_base::{Errno, Id, Moment, MsgFlags};
+use ipc_wire::{Call, Request, RequestKind};
 use std::alloc::{AllocError, Global};
 use std::marker::Model;
 use sysv_msg::Message;
@@ -38,7 +36,7 @@ pub enum ParkedCall {
     },
 }
 
-/// The request of a call that waits. A contract sees the request.
+/// The request of a call that waits, which has a frame. A contract sees the request.
 #[derive(Drop)]
 pub struct Parked {
     serial: u32,
@@ -47,22 +45,26 @@ pub struct Parked {
 
 impl Model for Parked {
     ghost use Rattle.ipc_wire.specs.Request.{PlainRequest};
+    ghost use Rattle.ipc_wire.specs.Spelling.{HasFrame};
     ghost use Rattle.ipc_state.specs.Waiting.{parked_kind};
 
     ghost Value = { PlainRequest };
 
     ghost view = { λ p. record { serial = p.serial; kind = parked_kind p.call } };
+
+    ghost invariant = { λ p. HasFrame (record { serial = p.serial; kind = parked_kind p.call }) };
 }
 
 impl Parked {
-    ghost use Rattle.ipc_state.specs.Waiting.{awaited_by, parked_kind};
-    ghost use Rattle.ipc_wire.specs.Fields.{MayHave};
-    ghost use Rattle.ipc_wire.specs.Table.{parts_of};
+    ghost use Rattle.ipc_state.specs.Waiting.{awaited_by, deadline_of, expiry, has_text, parked_kind};
 
-    /// A request that is to wait; none, if its call never waits. Refused for want of memory.
+    /// A request that may have to wait; none, if its call never waits. Refused for want of memory, which only a text
+    /// takes.
     pub fn new(alloc: Global, request: &Request<'_>) -> Result<Option<Parked>, AllocError>
         ensures some { IfOk result (λ r. IfSome r (λ p. p ≡ plain_request request.now)) }
         ensures none { IfOk result (λ r. IfNone r (awaited_by (plain_kind request.now.kind) ≡ None)) }
+        ensures never { awaited_by (plain_kind request.now.kind) ≡ None → IfOk result (λ r. r ≡ None) }
+        ensures memory { has_text (plain_kind request.now.kind) ≡ false → IsOk result }
     {
         let call = match request.kind {
             RequestKind::Call(
@@ -98,23 +100,32 @@ impl Parked {
         }))
     }
 
-    /// The request. Each of its numbers is in the range of its field.
+    /// The request.
     pub fn request(&self) -> Request<'_>
-        ensures request { plain_request result ≡ self.now }
-        ensures numbers { AreInRange (parts_of self.now.kind).row.fields (parts_of self.now.kind).values }
-        ensures rest { MayHave (parts_of self.now.kind).row.rest (length (parts_of self.now.kind).rest) }
+        ensures { plain_request result ≡ self.now }
     {
-        match &self.call {
-            ParkedCall::Msgsnd { id, flags, message } => called(
-                self.serial,
-                send(*id, *flags, message.mtype, &message.text),
-            ),
+        let call = match &self.call {
+            ParkedCall::Msgsnd { id, flags, message } => Call::Msgsnd {
+                id: *id,
+                flags: *flags,
+                mtype: message.mtype,
+                text: &message.text,
+            },
             ParkedCall::Msgrcv {
                 id,
                 flags,
                 size,
                 mtype,
-            } => called(self.serial, receive(*id, *flags, *size, *mtype)),
+            } => Call::Msgrcv {
+                id: *id,
+                flags: *flags,
+                size: *size,
+                mtype: *mtype,
+            },
+        };
+        Request {
+            serial: self.serial,
+            kind: RequestKind::Call(call),
         }
     }
 
@@ -123,6 +134,22 @@ impl Parked {
         ensures { result ≡ self.now.serial }
     {
         self.serial
+    }
+
+    /// Until when it waits, if it comes at this moment; calls of message queues wait without end.
+    #[tactic(auto, unfolding(crate::specs::Waiting::deadline_of))]
+    pub fn deadline(&self, _now: Moment) -> Option<Moment>
+        ensures { result ≡ deadline_of _now.0 self.now.kind }
+    {
+        None
+    }
+
+    /// What it is told when its deadline has come.
+    #[tactic(auto, unfolding(crate::specs::Waiting::expiry))]
+    pub fn expiry(&self) -> Errno
+        ensures { result ≡ expiry self.now.kind }
+    {
+        Errno::EAGAIN
     }
 
     /// The call.
@@ -139,55 +166,13 @@ impl Parked {
         self.call
     }
 
-    /// The object on which it waits.
+    /// The object on which it waits; its request has a frame.
     pub fn awaited(&self) -> Awaited
-        ensures { awaited_by self.now.kind ≡ Some result }
+        ensures on { awaited_by self.now.kind ≡ Some result }
+        ensures frame { HasFrame self.now }
     {
         match &self.call {
             ParkedCall::Msgsnd { id, .. } | ParkedCall::Msgrcv { id, .. } => Awaited::Queue(*id),
         }
-    }
-
-    /// Whether it has a frame: its serial is not 0, and it is not too long.
-    pub(crate) fn has_frame(&self) -> bool
-        ensures { IsTrue result ↔ HasFrame self.now }
-    {
-        self.serial != 0 && request_len(&self.request()) <= GREATEST_FRAME
-    }
-}
-
-/// A call under its serial.
-fn called<'a>(serial: u32, call: Call<'a>) -> Request<'a>
-    ensures { plain_request result ≡ record { serial = serial; kind = Calls (plain_call call.entry) } }
-{
-    Request {
-        serial,
-        kind: RequestKind::Call(call),
-    }
-}
-
-/// A send; each of its numbers is in its range.
-fn send<'a>(id: Id, flags: MsgFlags, mtype: i64, text: &'a [u8]) -> Call<'a>
-    ensures call { plain_call result ≡ requests.Msgsnd id.0 flags.0 mtype text.now }
-    ensures numbers { AreInRange msgsnd.fields (id.0, (flags.0, (mtype, tt))) }
-{
-    Call::Msgsnd {
-        id,
-        flags,
-        mtype,
-        text,
-    }
-}
-
-/// A receive; each of its numbers is in its range.
-fn receive(id: Id, flags: MsgFlags, size: u32, mtype: i64) -> Call<'static>
-    ensures call { plain_call result ≡ requests.Msgrcv id.0 flags.0 size mtype }
-    ensures numbers { AreInRange msgrcv.fields (id.0, (flags.0, (size, (mtype, tt)))) }
-{
-    Call::Msgrcv {
-        id,
-        flags,
-        size,
-        mtype,
     }
 }

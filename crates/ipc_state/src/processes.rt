@@ -65,6 +65,7 @@ impl State {
     pub fn reserve_process(&mut self) -> Result<(), AllocError>
         ensures state { self.new.state ≡ self.old.state }
         ensures limits { self.new.limits ≡ self.old.limits }
+        ensures waits { self.new.room.waits ≡ self.old.room.waits }
         ensures ok { OnOk result (self.new.room.process ≡ true) }
         ensures succeeds { self.old.room.process ≡ true → IsOk result }
         ensures err { OnErr result (self.new ≡ self.old) }
@@ -79,6 +80,7 @@ impl State {
         ensures state { self.new.state ≡ with_process self.old.state cred }
         ensures pid { result.0 ≡ self.old.state.processes.next }
         ensures limits { self.new.limits ≡ self.old.limits }
+        ensures waits { self.new.room.waits ≡ self.old.room.waits }
     {
         Pid(self.processes.add(Process { cred }))
     }
@@ -87,6 +89,7 @@ impl State {
     pub fn remove_process(&mut self, pid: Pid)
         ensures state { self.new.state ≡ exit self.old.state pid.0 }
         ensures limits { self.new.limits ≡ self.old.limits }
+        ensures waits { self.new.room.waits ≡ self.old.room.waits }
         ensures keys { self.new.room.keys ≡ self.old.room.keys }
     {
         self.processes.remove(pid.0);
@@ -98,6 +101,7 @@ impl State {
     pub fn restart(&mut self)
         ensures state { self.new.state ≡ restart self.old.state }
         ensures limits { self.new.limits ≡ self.old.limits }
+        ensures waits { self.new.room.waits ≡ self.old.room.waits }
         ensures keys { self.new.room.keys ≡ self.old.room.keys }
     {
         self.processes.clear();

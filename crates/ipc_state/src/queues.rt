@@ -78,7 +78,7 @@ impl State {
     pub fn reserve_queue(&mut self, key: i32) -> Result<(), AllocError>
         ensures state { self.new.state ≡ self.old.state }
         ensures limits { self.new.limits ≡ self.old.limits }
-        ensures wait { self.new.room.wait ≡ self.old.room.wait }
+        ensures waits { self.new.room.waits ≡ self.old.room.waits }
         ensures ok { OnOk result (ArePositive self.old.state.msg.entries
             → HasQueuePlace self.new.state self.new.room key) }
         ensures succeeds { ArePositive self.old.state.msg.entries
@@ -98,7 +98,7 @@ impl State {
         ensures limits { self.new.limits ≡ self.old.limits }
         ensures queue { self.new.room.queue ≡ self.old.room.queue }
         ensures keys { self.new.room.keys ≡ self.old.room.keys }
-        ensures wait { self.new.room.wait ≡ self.old.room.wait }
+        ensures waits { self.new.room.waits ≡ self.old.room.waits }
         ensures ok { OnOk result (self.new.room.fresh ≡ true) }
         ensures succeeds { self.old.room.fresh ≡ true → IsOk result }
     {
@@ -119,7 +119,7 @@ impl State {
         ensures state { self.new.state ≡ with_new_queue self.old.limits self.old.state key perm }
         ensures id { result.0 ≡ self.old.state.msg.next }
         ensures limits { self.new.limits ≡ self.old.limits }
-        ensures wait { self.new.room.wait ≡ self.old.room.wait }
+        ensures waits { self.new.room.waits ≡ self.old.room.waits }
         ensures key { key ≢ pos 0 → is_vacant self.new.room.keys key ≡ false }
         ensures others { (other : ℤ) → other ≢ key
             → is_vacant self.new.room.keys other ≡ is_vacant self.old.room.keys other }

@@ -35,7 +35,7 @@ pub struct State {
 impl Model for State {
     ghost use Rattle.ipc_base.specs.Limits.{ArePassed};
     ghost use Rattle.std.specs.Coded.{codes};
-    ghost use Rattle.std.specs.Prelude.{length, nat_lt, is_some};
+    ghost use Rattle.std.specs.Prelude.{is_some};
     ghost use Rattle.ipc_keys.specs.contracts.keys.KeyDir as directory;
     ghost use Rattle.ipc_state.specs.Held.{Held};
     ghost use Rattle.ipc_state.specs.Tables.{numbered_of, has_place};
@@ -58,7 +58,7 @@ impl Model for State {
         queue = s.msg.place;
         keys = s.msg.keys;
         fresh = is_some s.fresh;
-        wait = nat_lt (length s.wait.calls) s.wait.room;
+        waits = s.wait.room;
         set = s.sem.place;
         set_keys = s.sem.keys;
       };

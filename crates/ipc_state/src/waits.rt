@@ -1,14 +1,15 @@
 //! The calls that wait.
 
-ghost use Rattle.std.specs.Prelude.{◌≡◌, ◌↔◌, true, false, All, IsTrue, IsOk, OnOk, OnErr};
+ghost use Rattle.std.specs.Prelude.{◌≡◌, ◌<◌, ◌≤◌, ◌↔◌, ◌∷◌, [], Some, false, All, IsTrue, IsOk, OnOk};
+ghost use Rattle.std.specs.Prelude.{IfSome, IfNone, length};
 ghost use Rattle.ipc_state.specs.Restored.{with_waits};
-ghost use Rattle.ipc_state.specs.State.{is_waiting, with_waiting, without_waiting};
+ghost use Rattle.ipc_state.specs.State.{at_moment, due_calls, is_waiting, with_waiting, without_due, without_waiting};
 ghost use Rattle.ipc_state.specs.Waiting.{AreSoundWaits, IsSoundWaiting};
 ghost use Rattle.ipc_wait.specs.Waits.{call_of};
 
 use crate::parked::{Awaited, Parked};
 use crate::state::State;
-use ipc_base::Pid;
+use ipc_base::{Moment, Pid};
 use ipc_wait::{WaitList, Waiting};
 use std::alloc::AllocError;
 
@@ -27,27 +28,34 @@ impl State {
         self.wait.is_waiting(pid)
     }
 
-    /// Takes the memory for one call more that waits; never refused if it is there already. Refused, all is
-    /// as before.
-    pub fn reserve_wait(&mut self) -> Result<(), AllocError>
+    /// Takes the memory for a call of each process that there may be; never refused if it is there already. Refused,
+    /// the state is as before.
+    pub fn reserve_waits(&mut self) -> Result<(), AllocError>
         ensures state { self.new.state ≡ self.old.state }
         ensures limits { self.new.limits ≡ self.old.limits }
-        ensures keys { self.new.room.keys ≡ self.old.room.keys }
-        ensures fresh { self.new.room.fresh ≡ self.old.room.fresh }
-        ensures ok { OnOk result (self.new.room.wait ≡ true) }
-        ensures succeeds { self.old.room.wait ≡ true → IsOk result }
-        ensures err { OnErr result (self.new ≡ self.old) }
+        ensures ok { OnOk result (self.new.limits.processes ≤ self.new.room.waits) }
+        ensures succeeds { self.old.limits.processes ≤ self.old.room.waits → IsOk result }
     {
-        self.wait.reserve()
+        self.wait.reserve(self.limits.processes as usize)
+    }
+
+    /// Whether a call of the process still waits when this moment comes: it does now, and its deadline has not come
+    /// then.
+    pub fn still_waits(&self, pid: Pid, moment: Moment) -> bool
+        ensures { result ≡ is_waiting (without_due (at_moment self.now.state moment.0)) pid.0 }
+    {
+        self.wait
+            .waits_past(pid, Moment(self.clock.0.max(moment.0)))
     }
 
     /// Puts a call at the end of those that wait; its process has none there. It takes no memory.
     pub fn enter_wait(&mut self, waiting: Waiting<Awaited, Parked>)
-        requires room { self.old.room.wait ≡ true }
+        requires room { length self.old.state.wait < self.old.room.waits }
         requires free { is_waiting self.old.state waiting.pid.0 ≡ false }
         ensures state { self.new.state ≡ with_waiting self.old.state waiting }
         ensures limits { self.new.limits ≡ self.old.limits }
         ensures keys { self.new.room.keys ≡ self.old.room.keys }
+        ensures waits { self.new.room.waits ≡ self.old.room.waits }
     {
         self.wait.enter(waiting);
     }
@@ -58,7 +66,25 @@ impl State {
         ensures state { self.new.state ≡ without_waiting self.old.state pid.0 }
         ensures limits { self.new.limits ≡ self.old.limits }
         ensures keys { self.new.room.keys ≡ self.old.room.keys }
+        ensures waits { self.new.room.waits ≡ self.old.room.waits }
     {
+        self.wait.leave(pid)
+    }
+
+    /// Takes out the first call whose deadline has come, and gives it. If none has, this takes no longer with more
+    /// calls.
+    pub fn leave_due(&mut self) -> Option<Waiting<Awaited, Parked>>
+        ensures none { IfNone result ((due_calls self.old.state ≡ []) × (self.new ≡ self.old)) }
+        ensures first { IfSome result (λ w. due_calls self.old.state ≡ w ∷ due_calls self.new.state) }
+        ensures call { IfSome result (λ w. call_of w.pid self.old.state.wait ≡ Some w) }
+        ensures state { IfSome result (λ w. self.new.state ≡ without_waiting self.old.state w.pid.0) }
+        ensures limits { self.new.limits ≡ self.old.limits }
+        ensures room { self.new.room ≡ self.old.room }
+    {
+        let Some(due) = self.wait.first_due(self.clock) else {
+            return None;
+        };
+        let pid = due.pid;
         self.wait.leave(pid)
     }
 
@@ -93,5 +119,5 @@ fn are_sound(calls: &[Waiting<Awaited, Parked>]) -> bool
 fn is_sound(waiting: &Waiting<Awaited, Parked>) -> bool
     ensures { IsTrue result ↔ IsSoundWaiting waiting.now }
 {
-    waiting.call.has_frame() && waiting.call.awaited() == waiting.on && waiting.deadline.is_none()
+    waiting.call.awaited() == waiting.on && waiting.deadline.is_none()
 }

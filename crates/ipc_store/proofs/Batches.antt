@@ -1,5 +1,5 @@
 -- The bytes of a batch in its buffer.
-use Rattle.std.proofs.Common.{◌≡◌, ◌≤◌, ◌+◌, ◌-◌, ◌++◌, ℕ, List, ◌∷◌, length, take, drop, sym, ap, ◌∙◌, arith}
+use Rattle.std.proofs.Common.{◌≡◌, ◌≤◌, ◌<◌, ◌+◌, ◌-◌, ◌^◌, ◌++◌, ℕ, List, ◌∷◌, length, take, drop, sym, ap, ◌∙◌, arith}
 use Rattle.std.proofs.lemmas.List.{take-append-drop, take-take, length-take, length-drop, length-append, take_at, drop_at, append_assoc, drop-append-le}
 use Rattle.byteorder.specs.Endian.{big_bytes}
 use Rattle.std.specs.Int.{w32, w64, to_be_bytes}
@@ -85,3 +85,11 @@ details-most Restart has = omega arith
 -- the longest record has 8465 bytes
 pub record-most : (e : PlainEvent) → HasRecord e → length (record_bytes e) ≤ 8465
 record-most e has = omega (arith, record-length e, details-most e has.details)
+
+-- a record goes into the bytes from a place on, if one of the greatest length does
+pub record-goes : (e : PlainEvent) (bytes : List ℕ) (len : ℕ) → len + 8465 ≤ length bytes → length (record_bytes e) ≤ 8465
+    → (length (record_bytes e) ≤ length (take (length bytes - len) (drop len bytes))) × (9 + length (details e) < 2 ^ 32)
+record-goes e bytes len room most = (
+  omega (arith, room, most, length-take (length bytes - len) (drop len bytes), length-drop len bytes),
+  omega (arith, record-length e, most),
+)

@@ -82,8 +82,8 @@ impl Batch {
 
     /// Adds the record of an event.
     pub(crate) fn push(&mut self, event: &Event<'_>)
-        requires record { HasRecord (plain_event event.now) }
         requires room { 4 + length self.old.records + 8465 ≤ most_bytes }
+        ensures record { HasRecord (plain_event event.now) }
         ensures records { self.new.records ≡ self.old.records ++ record_bytes (plain_event event.now) }
         ensures count { self.new.count ≡ self.old.count + 1 }
     {
@@ -112,10 +112,10 @@ impl Batch {
 // Puts the record of an event directly after the batch in the first `len` bytes. Answers how many bytes the batch has
 // then.
 fn put_record(bytes: &mut [u8], len: usize, event: &Event<'_>) -> usize
-    requires record { HasRecord (plain_event event.now) }
     requires size { length bytes.old ≡ most_bytes }
     requires least { 4 ≤ len }
     requires room { len + 8465 ≤ most_bytes }
+    ensures record { HasRecord (plain_event event.now) }
     ensures len { result ≡ len + length (record_bytes (plain_event event.now)) }
     ensures least { len + 13 ≤ result }
     ensures most { result ≤ len + 8465 }

@@ -13,7 +13,7 @@ ghost use Rattle.ipc_engine.specs.Engine.{IsForProcess, takes_memory};
 ghost use Rattle.ipc_engine.specs.Event.{PlainEvent};
 ghost use Rattle.ipc_engine.specs.Step.{step as step_on, run};
 ghost use Rattle.ipc_engine.specs.View.{plain_event};
-ghost use Rattle.ipc_image.specs.Records.{record_bytes, HasRecord};
+ghost use Rattle.ipc_image.specs.Records.{record_bytes};
 ghost use Rattle.ipc_store.specs.Histories.{Takes};
 ghost use Rattle.ipc_store.specs.View.{HasRoom, HasPlace, HasTurned, IsStopped, IsAtLastEpoch, IsReadyFor};
 ghost use Rattle.ipc_store.specs.View.{events_left, store_view, Spends};
@@ -128,7 +128,6 @@ impl<D: SectorDisk> Store<D> {
     pub fn step(&mut self, event: Event<'_>) -> Result<(), StepError>
         requires room { HasRoom self.old }
         requires process { IsForProcess self.old.machine.state (plain_event event) }
-        requires record { HasRecord (plain_event event) }
         // The machine takes the step, and the event waits.
         ensures state { OnOk result (self.new.machine.state
             ≡ (step_on self.old.machine.limits self.old.machine.state (plain_event event.entry)).state) }

@@ -4,12 +4,15 @@ use Rattle.std.proofs.Common.{filter, Option, Some, None, is_some, append-nil, r
 use Rattle.std.specs.List.{find}
 use Rattle.std.proofs.lemmas.Bool.Decides.{nat_tests}
 use Rattle.std.proofs.lemmas.List.Elements.{filter-append}
+use Rattle.std.proofs.lemmas.List.Filters.{length-filter_both}
+use Rattle.std.proofs.lemmas.Option.{same_Some}
+use Rattle.ipc_base.proofs.CallerLemmas.{nobody}
 use Rattle.ipc_base.specs.declared.identity.Pid.{Pid}
 use Rattle.ipc_base.specs.declared.identity.Moment.{Moment}
 use Rattle.ipc_wait.specs.declared.list.Waiting.{Waiting}
-use Rattle.ipc_wait.specs.Waits.{call_of, without, HaveDistinctPids, is_of, has_come, is_due, next_deadline}
+use Rattle.ipc_wait.specs.Waits.{call_of, without, HaveDistinctPids, is_of, has_come, is_due, calls_due, calls_left, next_deadline}
 use Rattle.ipc_wait.proofs.Lists.{HaveDistinctPids-filter, filter-filter, none_later, same_process, same_number, turned}
-use Rattle.ipc_wait.proofs.Lists.{call_of-past, find-parts, one_due}
+use Rattle.ipc_wait.proofs.Lists.{call_of-past, find-filter_none, find-parts, one_due}
 pub use Rattle.ipc_wait.proofs.Lists.{HaveDistinctPids-enter, filter-none}
 
 -- a deadline that has come stays so
@@ -69,6 +72,10 @@ module _ {O C : Type 0} where
     not_before v [] none = turned v.pid.0 w.pid.0 ∙ (none_later (is_of v.pid) w after none).0
     not_before v (u ∷ before) none = not_before v before (none_later (is_of v.pid) u (before ++ w ∷ after) none).1
 
+    pub none_before : (before : List (Waiting O C)) → HaveDistinctPids (before ++ w ∷ after) → call_of w.pid before ≡ None
+    none_before [] distinct = refl
+    none_before (v ∷ before) distinct = (λ i. cond (not_before v before distinct.0 i) (Some v) (none_before before distinct.1 i))
+
     pub call_of-here : (before : List (Waiting O C)) → HaveDistinctPids (before ++ w ∷ after) → call_of w.pid (before ++ w ∷ after) ≡ Some w
     call_of-here [] distinct = ap (λ b. cond b (Some w) (call_of w.pid after)) (same_number w.pid.0)
     call_of-here (v ∷ before) distinct = (λ i. cond (not_before v before distinct.0 i) (Some v) (call_of-here before distinct.1 i))
@@ -111,6 +118,55 @@ module _ {O C : Type 0} where
   call_of-found test found calls w distinct is =
       let parts = find-parts found (filter test calls) w is in
       call_of-passing test calls parts.0 parts.1 w distinct parts.2
+
+  -- what a process has among those that pass a test: its call, if that passes
+  pub call_of-passes : (test : Waiting O C → Bool) (q : Pid) (calls : List (Waiting O C)) (w : Waiting O C) → HaveDistinctPids calls
+      → call_of q calls ≡ Some w → is_some (call_of q (filter test calls)) ≡ test w
+  call_of-passes test q [] w distinct h = cc
+  call_of-passes test q (v ∷ calls) w distinct h =
+      elim (is_of q v) as (λ b. is_of q v ≡ b → cond b (Some v) (call_of q calls) ≡ Some w → is_some (call_of q (filter test (v ∷ calls))) ≡ test w) [
+        | true ↦ λ e h.
+            elim (test v) as (λ b. test v ≡ b → is_some (call_of q (cond b (v ∷ filter test calls) (filter test calls))) ≡ b) [
+              | true ↦ λ _. (λ i. is_some (cond (e i) (Some v) (call_of q (filter test calls))))
+              | false ↦ λ _. ap is_some (find-filter_none (is_of q) test calls (subst (λ p. call_of p calls ≡ None) (same_process v.pid q e) distinct.0))
+            ] refl ∙ ap test (same_Some v w h)
+        | false ↦ λ e h.
+            elim (test v) as (λ b. is_some (call_of q (cond b (v ∷ filter test calls) (filter test calls))) ≡ test w) [
+              | true ↦ (λ i. is_some (cond (e i) (Some v) (call_of q (filter test calls)))) ∙ call_of-passes test q calls w distinct.1 h
+              | false ↦ call_of-passes test q calls w distinct.1 h
+            ]
+      ] refl h
+
+  -- a process that has no call has none among those that pass a test
+  pub call_of-none : (test : Waiting O C → Bool) (q : Pid) (calls : List (Waiting O C)) → call_of q calls ≡ None → call_of q (filter test calls) ≡ None
+  call_of-none test q calls none = find-filter_none (is_of q) test calls none
+
+  -- if a call leaves that is due, those that are not stay as they are
+  pub due-leaves : (now : Moment) (calls : List (Waiting O C)) (w : Waiting O C) → HaveDistinctPids calls → call_of w.pid calls ≡ Some w
+      → is_due now w ≡ true → calls_left now (without w.pid calls) ≡ calls_left now calls
+  due-leaves now calls w distinct here due =
+      let gone : is_some (call_of w.pid (calls_left now calls)) ≡ false =
+      call_of-passes (λ v. not (is_due now v)) w.pid calls w distinct here ∙ ap not due in
+      filter-without (λ v. not (is_due now v)) w.pid calls
+      ∙ filter-none (is_of w.pid) (calls_left now calls) (nobody (call_of w.pid (calls_left now calls)) gone)
+
+  -- after those that are due have left, no process has two calls
+  pub left-distinct : (now : Moment) (calls : List (Waiting O C)) → HaveDistinctPids calls → HaveDistinctPids (calls_left now calls)
+  left-distinct now = HaveDistinctPids-filter (λ w. not (is_due now w))
+
+  -- each call is due or left
+  pub due-or-left : (now : Moment) (calls : List (Waiting O C)) → length (calls_due now calls) + length (calls_left now calls) ≡ length calls
+  due-or-left now = length-filter_both (is_due now) (λ w. not (is_due now w)) (λ w. refl)
+
+  -- none is due where all are left
+  pub none-due : (now : Moment) (calls : List (Waiting O C)) → calls_due now calls ≡ [] → calls_left now calls ≡ calls
+  none-due now [] none = refl
+  none-due now (w ∷ calls) none =
+      elim (is_due now w) as (λ b. cond b (w ∷ calls_due now calls) (calls_due now calls) ≡ [] → cond (not b) (w ∷ calls_left now calls)
+      (calls_left now calls) ≡ w ∷ calls) [
+        | true ↦ λ h. cc
+        | false ↦ λ h. ap (λ ws. w ∷ ws) (none-due now calls h)
+      ] none
 
   -- one is due if and only if the earliest deadline has come
   pub has_come-next_deadline : (now : Moment) (calls : List (Waiting O C)) → has_come now (next_deadline calls) ≡ is_some (find (is_due now) calls)

@@ -1,3 +1,4 @@
 pub mod CallerLemmas
 pub mod Due
+pub mod Index
 pub mod Lists

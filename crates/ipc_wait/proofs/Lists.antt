@@ -29,7 +29,7 @@ module _ {X : Type 0} (test : X → Bool) where
       λ i. cond (not (later.0 i)) (x ∷ filter-none xs later.1 i) (filter (λ y. not (test y)) xs)
 
   -- nothing passes of what passes another test too
-  find-filter_none : (other : X → Bool) (xs : List X) → find test xs ≡ None → find test (filter other xs) ≡ None
+  pub find-filter_none : (other : X → Bool) (xs : List X) → find test xs ≡ None → find test (filter other xs) ≡ None
   find-filter_none other [] none = refl
   find-filter_none other (x ∷ xs) none =
       let later = none_later x xs none in

@@ -48,6 +48,10 @@ module _ {O C : Type 0} where
   abbrev pub calls_due : Moment → List (Waiting O C) → List (Waiting O C)
   calls_due now calls = filter (is_due now) calls
 
+  -- the others, in order
+  abbrev pub calls_left : Moment → List (Waiting O C) → List (Waiting O C)
+  calls_left now calls = filter (λ w. not (is_due now w)) calls
+
   -- the earliest deadline
   abbrev pub next_deadline : List (Waiting O C) → Option Moment
   next_deadline calls = fold (λ soonest w. earlier soonest w.deadline) None calls

@@ -4,6 +4,7 @@
 mod laws;
 mod list;
 mod of;
+mod pids;
 
 pub use laws::{deadlines_come, entered_is_last, others_on_its_object_stay, others_stay};
 pub use list::{WaitList, Waiting};

@@ -1,12 +1,13 @@
 //! The list of the calls that wait.
 
 ghost use Rattle.std.specs.Prelude.{◌≡◌, ◌<◌, ◌≤◌, ◌↔◌, ◌++◌, ◌∷◌, [], Some, None, is_some, IsTrue};
-ghost use Rattle.std.specs.Prelude.{IsOk, OnOk, OnErr, IfSome, IfNone, length, slice_get, find, position};
+ghost use Rattle.std.specs.Prelude.{IsOk, OnOk, IfOk, IfSome, IfNone, length, slice_get, find, position};
 ghost use Rattle.std.specs.Option.{option_copied};
 ghost use Rattle.ipc_wait.specs.Waits.{HaveDistinctPids, is_of, call_of, without, calls_on, is_due};
-ghost use Rattle.ipc_wait.specs.Waits.{calls_due, has_come, earlier, next_deadline};
+ghost use Rattle.ipc_wait.specs.Waits.{calls_due, calls_left, has_come, earlier, next_deadline};
 
 use crate::of::Of;
+use crate::pids::{index_of, place_in, put_in};
 use ipc_base::{Moment, Pid};
 use std::alloc::{AllocError, Global};
 use std::marker::Model;
@@ -21,25 +22,40 @@ pub struct Waiting<O, C> {
     pub call: C,
 }
 
+impl<O, C> Waiting<O, C> {
+    /// Whether its deadline is at or before the moment.
+    pub fn is_due(&self, now: Moment) -> bool
+        ensures { result ≡ is_due now self.now }
+    {
+        has_come(now, self.deadline)
+    }
+}
+
 /// The calls that wait, in the order in which they came, of each process one at most. A contract sees
-/// the calls, and for how many there is room. A method may look through all of them; there are no more
-/// than processes.
+/// the calls, and for how many there is room. Whether a process has a call, a binary search finds,
+/// however many wait: `is_waiting` does no more, nor do `get` and `leave` if the process has none. If
+/// it has one, these two look through the calls.
 #[derive(Drop)]
 pub struct WaitList<O, C> {
     calls: Vec<Waiting<O, C>>,
+    pids: Vec<Pid>,
     earliest: Option<Moment>,
 }
 
 impl<O, C> Model for WaitList<O, C> {
-    ghost use Rattle.std.specs.Prelude.{◌≡◌, vec_capacity};
+    ghost use Rattle.std.specs.Prelude.{◌≡◌, min, vec_capacity};
     ghost use Rattle.ipc_wait.specs.Waits.{Waits, next_deadline, HaveDistinctPids};
+    ghost use Rattle.ipc_wait.specs.Relations.{IsIndexOf};
 
     ghost Value = { Waits O C };
 
-    ghost view = { λ w. record { calls = w.calls.items; room = vec_capacity w.calls } };
+    ghost view = { λ w. record {
+      calls = w.calls.items;
+      room = min (vec_capacity w.calls) (vec_capacity w.pids);
+    } };
 
     ghost invariant = { λ w. (w.earliest ≡ next_deadline w.calls.items)
-        × HaveDistinctPids w.calls.items };
+        × HaveDistinctPids w.calls.items × IsIndexOf w.calls.items w.pids.items };
 }
 
 impl<O: Copy + Eq, C: Drop> WaitList<O, C> {
@@ -49,20 +65,28 @@ impl<O: Copy + Eq, C: Drop> WaitList<O, C> {
     {
         WaitList {
             calls: Vec::new(alloc),
+            pids: Vec::new(alloc),
             earliest: None,
         }
     }
 
-    /// These calls; none, only if two are of one process. It takes no memory.
-    pub fn from_calls(calls: Vec<Waiting<O, C>>) -> Option<WaitList<O, C>>
-        ensures some { IfSome result (λ list. list.calls ≡ calls.items) }
-        ensures none { IfNone result (¬ HaveDistinctPids calls.items) }
+    /// These calls; none, only if two are of one process. Refused only for want of memory.
+    pub fn from_calls(
+        alloc: Global,
+        calls: Vec<Waiting<O, C>>,
+    ) -> Result<Option<WaitList<O, C>>, AllocError>
+        ensures some { IfOk result (λ r. IfSome r (λ list. list.calls ≡ calls.items)) }
+        ensures none { IfOk result (λ r. IfNone r (¬ HaveDistinctPids calls.items)) }
     {
-        if !have_distinct_pids(&calls) {
-            return None;
-        }
+        let Some(pids) = index_of(alloc, &calls)? else {
+            return Ok(None);
+        };
         let earliest = earliest_of(&calls);
-        Some(WaitList { calls, earliest })
+        Ok(Some(WaitList {
+            calls,
+            pids,
+            earliest,
+        }))
     }
 
     /// The calls, in order.
@@ -88,16 +112,17 @@ impl<O: Copy + Eq, C: Drop> WaitList<O, C> {
         self.calls.is_empty()
     }
 
-    /// Makes room for one call more. Refused for want of memory, and then all is as before; never refused if the
-    /// room is there.
-    pub fn reserve(&mut self) -> Result<(), AllocError>
+    /// Makes room for so many calls in all. Refused for want of memory, and then the calls are as before
+    /// and no room is lost; never refused if the room is there.
+    pub fn reserve(&mut self, most: usize) -> Result<(), AllocError>
         ensures calls { self.new.calls ≡ self.old.calls }
-        ensures ok { OnOk result (length self.new.calls < self.new.room) }
+        ensures ok { OnOk result (most ≤ self.new.room) }
         ensures room { self.old.room ≤ self.new.room }
-        ensures succeeds { length self.old.calls < self.old.room → IsOk result }
-        ensures err { OnErr result (self.new ≡ self.old) }
+        ensures succeeds { most ≤ self.old.room → IsOk result }
     {
-        self.calls.reserve(1)
+        let more = most.saturating_sub(self.calls.len());
+        self.calls.reserve(more)?;
+        self.pids.reserve(more)
     }
 
     /// Puts a call at the end; its process has none. It takes no memory: there is room.
@@ -108,6 +133,7 @@ impl<O: Copy + Eq, C: Drop> WaitList<O, C> {
         ensures room { self.new.room ≡ self.old.room }
     {
         self.earliest = earlier(self.earliest, waiting.deadline);
+        put_in(&mut self.pids, waiting.pid);
         self.calls.push_reserved(waiting);
     }
 
@@ -131,6 +157,9 @@ impl<O: Copy + Eq, C: Drop> WaitList<O, C> {
     pub fn get(&self, pid: Pid) -> Option<&Waiting<O, C>>
         ensures { option_copied result ≡ call_of pid self.now.calls }
     {
+        if !self.is_waiting(pid) {
+            return None;
+        }
         call_among(&self.calls, pid)
     }
 
@@ -138,7 +167,20 @@ impl<O: Copy + Eq, C: Drop> WaitList<O, C> {
     pub fn is_waiting(&self, pid: Pid) -> bool
         ensures { result ≡ is_some (call_of pid self.now.calls) }
     {
-        self.get(pid).is_some()
+        place_in(&self.pids, pid).is_some()
+    }
+
+    /// Whether a call of the process waits on when this moment comes: its deadline is later, or none.
+    pub fn waits_past(&self, pid: Pid, now: Moment) -> bool
+        ensures { result ≡ is_some (call_of pid (calls_left now self.now.calls)) }
+    {
+        let Some(_) = place_in(&self.pids, pid) else {
+            return false;
+        };
+        match call_among(&self.calls, pid) {
+            Some(waiting) => !waiting.is_due(now),
+            None => false,
+        }
     }
 
     /// The calls on the object, in order.
@@ -170,7 +212,9 @@ impl<O: Copy + Eq, C: Drop> WaitList<O, C> {
         ensures others { self.new.calls ≡ without pid self.old.calls }
         ensures room { self.new.room ≡ self.old.room }
     {
+        let index = place_in(&self.pids, pid)?;
         let place = place_of(&self.calls, pid)?;
+        self.pids.remove(index);
         let left = self.calls.remove(place);
         self.earliest = earliest_of(&self.calls);
         Some(left)
@@ -182,6 +226,7 @@ impl<O: Copy + Eq, C: Drop> WaitList<O, C> {
         ensures room { self.new.room ≡ self.old.room }
     {
         self.calls.clear();
+        self.pids.clear();
         self.earliest = None;
     }
 }
@@ -205,20 +250,6 @@ fn has_come(now: Moment, deadline: Option<Moment>) -> bool
         Some(deadline) => deadline.0 <= now.0,
         None => false,
     }
-}
-
-/// Whether no process has two of these calls.
-fn have_distinct_pids<O, C>(calls: &[Waiting<O, C>]) -> bool
-    ensures { IsTrue result ↔ HaveDistinctPids calls.now }
-{
-    let mut rest = calls;
-    while let Some((first, others)) = rest.split_first() {
-        if call_among(others, first.pid).is_some() {
-            return false;
-        }
-        rest = others;
-    }
-    true
 }
 
 /// The call of a process among these.

@@ -1,15 +1,18 @@
 -- What is read as a request is spelled so: its bytes are the frame of that request.
 use Rattle.std.proofs.Common.{◌≡◌, ℕ, ◌+◌, ◌≤◌, ◌<◌, ◌^◌, ◌⊎◌, Bool, true, false, cond, ltb, eqb, List, ◌∷◌, ◌++◌, length, take, drop, Option, Some, None, refl}
-use Rattle.std.proofs.Common.{sym, ap, ◌∙◌, arith, inl, inr, All}
+use Rattle.std.proofs.Common.{sym, ap, subst, ◌∙◌, arith, inl, inr, All}
 use Rattle.std.specs.Int.{w32, to_be_bytes}
 use Rattle.std.specs.Prelude.{slice_index}
 use Rattle.std.proofs.lemmas.Bool.{cases_lt, ltb-false, eqb-false}
 use Rattle.std.proofs.lemmas.List.{length-take-le, length-drop, take-take, drop-take, take-append-drop, drop_more}
 use Rattle.std.proofs.lemmas.Nat.{be_bytes_4}
+use Rattle.ipc_wire.specs.declared.request.Frame.{Frame}
+use Rattle.ipc_wire.specs.declared.request.Frame.TheVariants as frames
 use Rattle.ipc_wire.specs.Request.{PlainKind, PlainRequest}
-use Rattle.ipc_wire.specs.Stream.{PlainFrame, part, u32_at, kind_of, request_or_fault, frame_of, first}
+use Rattle.ipc_wire.specs.Stream.{PlainFrame, plain_frame, part, u32_at, kind_of, request_or_fault, frame_of, first}
 use Rattle.ipc_wire.specs.Stream.PlainFrame.{More, Whole, Fault}
 use Rattle.ipc_wire.specs.Spelling.{opcode_of, fields_of, request_bytes, frame, HasFrame}
+use Rattle.ipc_wire.specs.View.{plain_request}
 use Rattle.ipc_base.proofs.CallerLemmas.{AreBytes, bytes-all, bytes-drop, bytes-take}
 use Rattle.ipc_wire.proofs.Frames.{first_short, first_long, is_out_of_range, in_range}
 use Rattle.ipc_wire.proofs.Rows.{kind_again, kind_back}
@@ -60,6 +63,13 @@ request_found (Some call) size serial used request e =
     let parts : (size ≡ used) × (record { serial = serial; kind = call } ≡ request) = (cc, cc) in
     (ap (λ (r : PlainRequest). Some r.kind) parts.1, parts.0, ap (λ (r : PlainRequest). r.serial) parts.1)
 
+-- what was read of fields, under a serial, has a frame
+pub kind_framed : (opcode serial : ℕ) (fields : List ℕ) (kind : PlainKind) → 1 ≤ serial → serial < 2 ^ 32 → AreBytes fields → length fields ≤ 8443
+    → kind_of opcode fields ≡ Some kind → HasFrame (record { serial = serial; kind = kind })
+kind_framed opcode serial fields kind least below fits short e =
+    let spelled = kind_back opcode fields kind fits e in
+    record { serial = (least, below); fields = spelled.fit; rest = spelled.rest; short = omega (arith, ap length spelled.fields_are) }
+
 record Read (text : List ℕ) (used : ℕ) (request : PlainRequest) : Type 0 where
   used_is : 4 + length text ≡ used
   text_is : text ≡ text_of request.serial (opcode_of request.kind) (fields_of request.kind)
@@ -87,13 +97,8 @@ text_back text used request fits least most e =
             used_is = found.1;
             text_is = sym (take-append-drop 4 text) ∙ sym (side (to_be_bytes w32 request.serial) (take 4 text) (opcode_of request.kind ∷ fields_of request.kind)
                 (drop 4 text) serial fields);
-            has = record {
-              serial = (least_serial, most_serial);
-              fields = spelled.fit;
-              rest = spelled.rest;
-              short = omega
-                  (arith, ap length spelled.fields_are, length-drop 5 text);
-            };
+            has = kind_framed (slice_index text 4) request.serial (drop 5 text) request.kind least_serial most_serial (bytes-drop 5 text fits)
+                (omega (arith, length-drop 5 text)) found.0;
           }
     ]
 
@@ -167,6 +172,10 @@ bytes_back bytes used request all e = (request_back bytes used request (bytes-al
 pub has_back : (bytes : List ℕ) (used : ℕ) (request : PlainRequest) → All (λ byte. byte < 256) bytes → first bytes ≡ Whole used request → HasFrame request
 has_back bytes used request all e = (request_back bytes used request (bytes-all bytes all) e).1
 
--- so it is of the bytes of the code
-pub frame_back : (bytes : List ℕ) (used : ℕ) (request : PlainRequest) → AreBytes bytes → first bytes ≡ Whole used request → HasFrame request
-frame_back bytes used request all e = (request_back bytes used request all e).1
+-- so it is of what the code reads, by its type
+pub whole_framed : (f : Frame) (used : ℕ) (request : PlainRequest) → plain_frame f ≡ Whole used request → HasFrame request
+whole_framed frames.More used request e = absurd cc
+whole_framed (frames.Whole n r) used request e =
+    let same : plain_request r ≡ request = cc in
+    subst HasFrame same r.frame
+whole_framed (frames.Fault serial) used request e = absurd cc

@@ -3,7 +3,6 @@ use Rattle.std.specs.Prelude.{ℕ, ℤ, List}
 use Rattle.ipc_base.specs.declared.identity.Cred.{Cred}
 use Rattle.ipc_wire.specs.declared.request.Call.{Call}
 use Rattle.ipc_wire.specs.declared.request.Call.TheVariants as calls
-use Rattle.ipc_wire.specs.declared.request.Request.{Request}
 use Rattle.ipc_wire.specs.declared.request.RequestKind.{RequestKind}
 use Rattle.ipc_wire.specs.declared.request.RequestKind.TheVariants as kinds
 
@@ -37,6 +36,3 @@ abbrev pub plain_kind : RequestKind → PlainKind
 plain_kind (kinds.Hello cred) = Hello cred
 plain_kind kinds.Interrupt = Interrupt
 plain_kind (kinds.Call call) = Calls (plain_call call)
-
-abbrev pub plain_request : Request → PlainRequest
-plain_request r = record { serial = r.serial; kind = plain_kind r.kind }

@@ -7,8 +7,9 @@ use Rattle.ipc_wire.specs.declared.request.Frame.{Frame}
 use Rattle.ipc_wire.specs.declared.request.Frame.TheVariants as frames
 use Rattle.ipc_base.specs.Numbers.{total, values_of}
 use Rattle.ipc_wire.specs.Fields.{fits}
-use Rattle.ipc_wire.specs.Request.{PlainKind, PlainRequest, plain_request}
+use Rattle.ipc_wire.specs.Request.{PlainKind, PlainRequest}
 use Rattle.ipc_wire.specs.Table.{Row, row_of}
+use Rattle.ipc_wire.specs.View.{plain_request}
 
 -- What stands at the front of a stream: no whole frame yet, a request and how many bytes its frame takes, or
 -- a fault, with the serial of the frame or 0.

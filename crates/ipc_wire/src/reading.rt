@@ -1,7 +1,7 @@
 //! Requests read from the front of a stream.
 
 ghost use Rattle.std.specs.Prelude.{◌≡◌, ℕ, ◌<◌, ◌≤◌, ◌+◌, length, option_map, IfSome, Some};
-ghost use Rattle.ipc_wire.specs.Request.{PlainRequest, plain_kind, plain_request};
+ghost use Rattle.ipc_wire.specs.Request.{PlainRequest, plain_kind};
 ghost use Rattle.ipc_wire.specs.Spelling.{HasFrame, request_bytes};
 ghost use Rattle.ipc_wire.specs.Stream.{
   plain_frame,
@@ -13,6 +13,7 @@ ghost use Rattle.ipc_wire.specs.Stream.{
   made_by,
 };
 ghost use Rattle.ipc_wire.specs.Table as table;
+ghost use Rattle.ipc_wire.specs.View.{plain_request};
 ghost use Rattle.ipc_wire.specs.Stream.PlainFrame.{More, Whole};
 
 use crate::request::{Call, Frame, Request, RequestKind};
@@ -109,7 +110,7 @@ pub fn read_request(text: &[u8]) -> Option<Request<'_>>
 /// The frame of which these bytes stand behind the length.
 #[tactic(auto, unfolding(crate::specs::Stream::frame_of, crate::specs::Stream::u32_at))]
 fn whole_frame(text: &[u8]) -> Frame<'_>
-    requires { 5 ≤ length text.now }
+    requires { (5 ≤ length text.now) × (length text.now ≤ 8448) }
     ensures { plain_frame result ≡ frame_of text.now }
 {
     let mut cursor = Cursor::new(text);

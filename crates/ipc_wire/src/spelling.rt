@@ -15,9 +15,12 @@ ghost use Rattle.std.specs.Prelude.{
 };
 ghost use Rattle.std.specs.Bool.{OnTrue, OnFalse};
 ghost use Rattle.ipc_base.specs.Fields.{Puts};
-ghost use Rattle.ipc_base.specs.Numbers.{record_bytes};
-ghost use Rattle.ipc_wire.specs.Request.{Calls, plain_call, plain_kind, plain_request};
-ghost use Rattle.ipc_wire.specs.Spelling.{HasFrame, opcode_of, fields_of, request_bytes, frame};
+ghost use Rattle.ipc_base.specs.Numbers.{AreInRange, record_bytes};
+ghost use Rattle.ipc_wire.specs.Fields.{MayHave};
+ghost use Rattle.ipc_wire.specs.Request.{Calls, plain_call, plain_kind};
+ghost use Rattle.ipc_wire.specs.Spelling.{opcode_of, fields_of, request_bytes, frame};
+ghost use Rattle.ipc_wire.specs.Table.{parts_of};
+ghost use Rattle.ipc_wire.specs.View.{plain_request};
 
 use crate::reading::{
     HELLO, INTERRUPT, MSGCTL_RMID, MSGCTL_SET, MSGCTL_STAT, MSGGET, MSGRCV, MSGSND,
@@ -40,32 +43,27 @@ pub struct RequestParts<'a> {
 #[tactic(auto, unfolding(crate::specs::Spelling::frame))]
 pub fn request_len(request: &Request<'_>) -> usize
     ensures exact { result ≡ length (frame (plain_request request.now)) }
-    ensures bounded { HasFrame (plain_request request.now) → result ≤ 8452 }
-    ensures far_from_overflow { result + 2 ^ 32 < 2 ^ 64 }
+    ensures bounded { result ≤ 8452 }
 {
     let parts = request_parts(request.kind);
     9 + parts.fields.as_slice().len() + text_len(parts.rest)
 }
 
 /// Writes the frame of the request to the front of the buffer. Answers `false`, and changes nothing, if the
-/// buffer is shorter than the frame or the request is too long for its length field of four bytes.
+/// buffer is shorter than the frame.
 #[tactic(auto, unfolding(crate::specs::Spelling::frame))]
 pub fn write_request(request: &Request<'_>, out: &mut [u8]) -> bool
-    ensures fits { IsTrue result ↔ ((length (frame (plain_request request.now)) ≤ length out.old)
-        × (5 + length (fields_of (plain_kind request.now.kind)) < 2 ^ 32)) }
+    ensures fits { IsTrue result ↔ (length (frame (plain_request request.now)) ≤ length out.old) }
     ensures written { OnTrue result (out.new
         ≡ frame (plain_request request.now) ++ drop (length (frame (plain_request request.now))) out.old) }
     ensures unchanged { OnFalse result (out.new ≡ out.old) }
 {
     let whole = request_len(request);
-    let Ok(length) = u32::try_from(whole - 4) else {
-        return false;
-    };
     if whole > out.len() {
         return false;
     }
     let mut put = Put::new(0);
-    put.u32(out, length);
+    put.u32(out, (whole - 4) as u32);
     put_request(&mut put, out, request);
     true
 }
@@ -86,6 +84,10 @@ pub fn put_request(put: &mut Put, out: &mut [u8], request: &Request<'_>)
 pub fn request_parts(kind: RequestKind<'_>) -> RequestParts<'_>
     ensures opcode { result.opcode ≡ opcode_of (plain_kind kind.entry) }
     ensures fields { result.fields ++ result.rest.now ≡ fields_of (plain_kind kind.entry) }
+    ensures numbers { AreInRange (parts_of (plain_kind kind.entry)).row.fields
+        (parts_of (plain_kind kind.entry)).values }
+    ensures rest { MayHave (parts_of (plain_kind kind.entry)).row.rest
+        (length (parts_of (plain_kind kind.entry)).rest) }
 {
     match kind {
         RequestKind::Hello(cred) => spelled(
@@ -101,6 +103,10 @@ pub fn request_parts(kind: RequestKind<'_>) -> RequestParts<'_>
 fn call_parts(call: Call<'_>) -> RequestParts<'_>
     ensures opcode { result.opcode ≡ opcode_of (Calls (plain_call call.entry)) }
     ensures fields { result.fields ++ result.rest.now ≡ fields_of (Calls (plain_call call.entry)) }
+    ensures numbers { AreInRange (parts_of (Calls (plain_call call.entry))).row.fields
+        (parts_of (Calls (plain_call call.entry))).values }
+    ensures rest { MayHave (parts_of (Calls (plain_call call.entry))).row.rest
+        (length (parts_of (Calls (plain_call call.entry))).rest) }
 {
     match call {
         Call::Msgget { key, flags } => spelled(

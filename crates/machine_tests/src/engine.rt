@@ -2,7 +2,7 @@
 //! refused, a step is taken again, so that the tests pass whichever allocation is refused.
 
 ghost use Rattle.ipc_base.specs.Limits.{ArePassed};
-ghost use Rattle.ipc_engine.specs.Engine.{HasRequest, IsForProcess};
+ghost use Rattle.ipc_engine.specs.Engine.{IsForProcess};
 ghost use Rattle.ipc_engine.specs.View.{plain_event};
 
 mod restored;
@@ -61,7 +61,6 @@ fn small_engine(alloc: Global) -> Result<Engine, AllocError> {
 /// A step; after a refusal for memory, which leaves the replies as they were, the same step again.
 fn take(rt: &impl Abort, engine: &mut Engine, event: Event<'_>) -> Result<(), AllocError>
     requires process { IsForProcess engine.old.state (plain_event event) }
-    requires request { HasRequest (plain_event event) }
 {
     let replies = engine.outcomes().len();
     match engine.step(event) {
@@ -157,10 +156,7 @@ type Line = (Ask<'static>, Answer<'static>);
 /// The requests of a process, each with its answer.
 fn talk(rt: &impl Abort, engine: &mut Engine, pid: Pid, lines: &[Line]) -> Result<(), AllocError> {
     for (line, (asked, wanted)) in lines.iter().enumerate() {
-        let request = Request {
-            serial: 9,
-            kind: kind_of(*asked),
-        };
+        let request = Request::new(9, kind_of(*asked)).expect(rt, "a frame");
         make_request(rt, engine, pid, request)?;
         assert!(rt; is_answer(engine, pid, 9, *wanted), "at line {line}");
     }

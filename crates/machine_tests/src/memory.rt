@@ -69,7 +69,7 @@ fn requests_have_memory(rt: HostRuntime) -> Result<(), Fail> {
     let mut state = State::new(rt.alloc(), small());
     state.reserve_process()?;
     state.reserve_queue(1234)?;
-    state.reserve_wait()?;
+    state.reserve_waits()?;
     assert_eq!(rt; kept(&rt, &mut state, rt.alloc(), &SEND), Some(7));
     assert_eq!(rt; kept(&rt, &mut state, rt.alloc(), &GET), None);
     Ok(())

@@ -214,6 +214,26 @@ const FRAMES: [(Request<'static>, &[u8]); 5] = [
     ),
 ];
 
+/// One byte more than the longest text of a request.
+static TEXT: [u8; 8428] = [7; 8428];
+
+fn send(text: &[u8]) -> RequestKind<'_> {
+    RequestKind::Call(Call::Msgsnd {
+        id: Id(1),
+        flags: MsgFlags(0),
+        mtype: 5,
+        text,
+    })
+}
+
+#[test]
+fn a_request_has_a_frame(rt: HostRuntime) {
+    assert!(rt; Request::new(0, RequestKind::Interrupt).is_none());
+    assert!(rt; Request::new(1, send(&TEXT)).is_none());
+    let longest = Request::new(1, send(&TEXT[1..])).expect(&rt, "the longest");
+    assert_eq!(rt; request_len(&longest), 8452);
+}
+
 #[test]
 fn requests_are_written(rt: HostRuntime) {
     for (request, frame) in FRAMES {

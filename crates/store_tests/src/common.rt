@@ -154,13 +154,10 @@ pub(crate) fn hello(uid: u32) -> Event<'static> {
 }
 
 /// A request of a process with serial 4, at moment 0.
-pub(crate) fn call(pid: u32, call: Call<'_>) -> Event<'_> {
+pub(crate) fn call<'a>(rt: &impl Abort, pid: u32, call: Call<'a>) -> Event<'a> {
     Event::Call {
         pid: Pid(pid),
-        request: Request {
-            serial: 4,
-            kind: RequestKind::Call(call),
-        },
+        request: Request::new(4, RequestKind::Call(call)).expect(rt, "a frame"),
         moment: Moment(0),
     }
 }
@@ -222,7 +219,7 @@ pub(crate) fn received_by(
 ) -> Result<Vec<u8>, Fail> {
     let mut store = opened(alloc, disk)?;
     take(rt, &mut store, hello(1000))?;
-    replies_to(rt, alloc, &mut store, call(pid, receive(1)))
+    replies_to(rt, alloc, &mut store, call(rt, pid, receive(1)))
 }
 
 /// A commit has this error.
@@ -276,7 +273,7 @@ pub(crate) fn send_texts<D: SectorDisk>(
 ) -> Result<usize, StepError> {
     let mut bytes: usize = 4;
     for len in lens {
-        take(rt, store, call(1, send(1, text(*len))))?;
+        take(rt, store, call(rt, 1, send(1, text(*len))))?;
         bytes = bytes.saturating_add(38).saturating_add(*len);
     }
     Ok(bytes)

@@ -13,7 +13,11 @@ use std::test::Fail;
 // A device on which process 1 made its queue and sent the message, by one commit, and that was saved then, or not.
 fn with_message(rt: &impl Abort, alloc: Global, save: bool) -> Result<MemoryDisk, Fail> {
     let mut store = new_store(alloc)?;
-    let events = [hello(1000), call(1, get(1234)), call(1, send(1, b"hi"))];
+    let events = [
+        hello(1000),
+        call(rt, 1, get(1234)),
+        call(rt, 1, send(1, b"hi")),
+    ];
     commit_all(rt, &mut store, &events)?;
     if save {
         store.save()?;

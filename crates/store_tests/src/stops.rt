@@ -123,13 +123,10 @@ static SCRIPT: [Line; 62] = [
 ];
 
 // A request of a process, with the number of its line as its serial and moment.
-fn asked(number: u32, pid: u32, call: Call<'static>) -> Event<'static> {
+fn asked(rt: &impl Abort, number: u32, pid: u32, call: Call<'static>) -> Event<'static> {
     Event::Call {
         pid: Pid(pid),
-        request: Request {
-            serial: number,
-            kind: RequestKind::Call(call),
-        },
+        request: Request::new(number, RequestKind::Call(call)).expect(rt, "a frame"),
         moment: Moment(number as u64),
     }
 }
@@ -144,7 +141,7 @@ fn sent(id: u32, mtype: i64, text: &'static [u8]) -> Call<'static> {
 }
 
 // The event of a line with a number; none for a commit and a save.
-fn event_of(number: u32, line: Line) -> Option<Event<'static>> {
+fn event_of(rt: &impl Abort, number: u32, line: Line) -> Option<Event<'static>> {
     let moment = Moment(number as u64);
     let event = match line {
         Hello(uid) => Event::Connect {
@@ -154,13 +151,14 @@ fn event_of(number: u32, line: Line) -> Option<Event<'static>> {
         },
         Get(pid, key, flags) => {
             let flags = GetFlags(flags);
-            asked(number, pid, Call::Msgget { key, flags })
+            asked(rt, number, pid, Call::Msgget { key, flags })
         }
-        Send(pid, id, mtype, bytes) => asked(number, pid, sent(id, mtype, bytes)),
-        Refused(pid, len) => asked(number, pid, sent(1, 1, text(len))),
+        Send(pid, id, mtype, bytes) => asked(rt, number, pid, sent(id, mtype, bytes)),
+        Refused(pid, len) => asked(rt, number, pid, sent(1, 1, text(len))),
         Receive(pid, id, size, mtype) => {
             let flags = MsgFlags(0x800);
             asked(
+                rt,
                 number,
                 pid,
                 Call::Msgrcv {
@@ -250,12 +248,12 @@ fn add_probe<M: Probed>(
 ) -> Result<(), Fail> {
     ask(rt, replies, machine, hello(1000))?;
     let pid = first_pid(rt, machine.machine());
-    ask(rt, replies, machine, call(pid, find(7)))?;
-    ask(rt, replies, machine, call(pid, find(8)))?;
-    ask(rt, replies, machine, call(pid, get(0)))?;
+    ask(rt, replies, machine, call(rt, pid, find(7)))?;
+    ask(rt, replies, machine, call(rt, pid, find(8)))?;
+    ask(rt, replies, machine, call(rt, pid, get(0)))?;
     for _ in 0..8 {
-        ask(rt, replies, machine, call(pid, receive(1)))?;
-        ask(rt, replies, machine, call(pid, receive(2)))?;
+        ask(rt, replies, machine, call(rt, pid, receive(1)))?;
+        ask(rt, replies, machine, call(rt, pid, receive(2)))?;
     }
     Ok(())
 }
@@ -278,7 +276,7 @@ fn go_to(rt: &impl Abort, engine: &mut Engine, count: u64) -> Result<(), Fail> {
         if left == 0 {
             break;
         }
-        if let Some(event) = event_of(number, *line) {
+        if let Some(event) = event_of(rt, number, *line) {
             engine.go(rt, event)?;
             left -= 1;
         }
@@ -316,7 +314,7 @@ pub(crate) struct Stopped {
 fn work_on(rt: &impl Abort, store: &mut Store<FuseDisk>) -> Result<(u64, bool), Fail> {
     let mut accepted: u64 = 0;
     for (number, line) in (1..).zip(&SCRIPT) {
-        match event_of(number, *line) {
+        match event_of(rt, number, *line) {
             Some(event) => {
                 take(rt, store, event)?;
                 accepted = accepted.saturating_add(1);
@@ -524,7 +522,11 @@ fn an_opening_that_is_stopped_anywhere(rt: HostRuntime) -> Result<(), Fail> {
 // A device whose journal is full.
 fn full_device(rt: &impl Abort, alloc: Global) -> Result<MemoryDisk, Fail> {
     let mut store = new_store(alloc)?;
-    let events = [hello(1000), call(1, get(7)), call(1, send(1, b"hi"))];
+    let events = [
+        hello(1000),
+        call(rt, 1, get(7)),
+        call(rt, 1, send(1, b"hi")),
+    ];
     commit_all(rt, &mut store, &events)?;
     for _ in 0..254 {
         commit_all(rt, &mut store, &[TICK])?;
@@ -548,7 +550,7 @@ fn probes_see_each_commit(rt: HostRuntime) -> Result<(), Fail> {
     let mut count: u64 = 0;
     let mut lasting: u64 = 0;
     for (number, line) in (1..).zip(&SCRIPT) {
-        if event_of(number, *line).is_some() {
+        if event_of(&rt, number, *line).is_some() {
             count = count.saturating_add(1);
             continue;
         }

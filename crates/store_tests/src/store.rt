@@ -115,8 +115,8 @@ fn about_to_send<D: SectorDisk + Drop>(
     disk: D,
 ) -> Result<Opened<D>, Fail> {
     let mut store = opened(alloc, disk)?;
-    commit_all(rt, &mut store, &[hello(1000), call(1, get(1234))])?;
-    take_all(rt, &mut store, &[TICK, call(1, send(1, b"hi"))])?;
+    commit_all(rt, &mut store, &[hello(1000), call(rt, 1, get(1234))])?;
+    take_all(rt, &mut store, &[TICK, call(rt, 1, send(1, b"hi"))])?;
     Ok(store)
 }
 
@@ -194,7 +194,7 @@ fn has_number(
     (key, id): (i32, u8),
 ) -> Result<(), Fail> {
     let wanted = [0, 0, 0, 2, 0, 0, 0, 10, 0, 0, 0, 4, 0, 0, 0, 0, 0, id];
-    is_answered(rt, alloc, store, call(2, get(key)), &wanted)
+    is_answered(rt, alloc, store, call(rt, 2, get(key)), &wanted)
 }
 
 // A store whose message is lost goes on.
@@ -261,7 +261,7 @@ fn an_open_syncs_before_it_reads(rt: HostRuntime) -> Result<(), Fail> {
 fn left_behind(rt: &impl Abort, alloc: Global) -> Result<MemoryDisk, Fail> {
     let mut store = about_to_send(rt, alloc, small_device(alloc)?)?;
     commit_all(rt, &mut store, &[hello(1000)])?;
-    take_all(rt, &mut store, &[hello(1000), call(3, receive(1))])?;
+    take_all(rt, &mut store, &[hello(1000), call(rt, 3, receive(1))])?;
     holds(rt, store.engine().connected(Pid(3)), "pid", 3);
     Ok(closed(store))
 }
@@ -275,7 +275,7 @@ fn has_queue(rt: &impl Abort, alloc: Global, store: &mut Store<MemoryDisk>) -> R
     is_answered(rt, alloc, store, hello(1000), &welcome)?;
     let mut wanted = HI;
     wanted[3] = 3;
-    is_answered(rt, alloc, store, call(3, receive(1)), &wanted)
+    is_answered(rt, alloc, store, call(rt, 3, receive(1)), &wanted)
 }
 
 #[test]
@@ -365,7 +365,7 @@ fn takes_the_longest(rt: &impl Abort, store: &mut Store<MemoryDisk>) -> Result<(
     commit_all(rt, store, &[hello(1000)])?;
     takes_more(rt, store, 18446744073709551613, 3);
     for (left, longest) in &AFTER_EACH {
-        take(rt, store, call(1, send(1, &TEXT)))?;
+        take(rt, store, call(rt, 1, send(1, &TEXT)))?;
         takes_more(rt, store, *left, *longest);
     }
     store.commit()?;

@@ -1,7 +1,7 @@
 -- What the crates above cite of the calls. From a sound state each ends in one, with a body that fits, and changes no more
 -- than its own object. Whether it has to wait depends on the limits, who makes it and its own object alone.
 use Rattle.std.proofs.Common.{◌≡◌, ◌≢◌, ℕ, ℤ, pos, ◌<◌, ◌≤◌, Bool, true, false, not, List, [], ◌∷◌, ◌++◌, length, take, refl, subst, sym, ap, ◌∙◌, cond, arith}
-use Rattle.std.specs.Prelude.{nat_eq, nat_lt, int_lt, is_some, Option, Some, None, Ok, Err}
+use Rattle.std.specs.Prelude.{nat_eq, nat_lt, int_lt, is_some, if◌then◌else◌, Option, Some, None, Ok, Err}
 use Rattle.std.proofs.lemmas.Bool.{ltb-false}
 use Rattle.std.proofs.lemmas.List.{length-take}
 use Rattle.std.proofs.lemmas.List.Elements.{All-get_or}
@@ -30,7 +30,7 @@ use Rattle.ipc_state.specs.Finish.{answer, refuse, stop, if_some, ◌orelse◌, 
 use Rattle.ipc_state.specs.Sound.{HasSoundParts, IsSoundMessage, IsSoundQueue, FitsBody}
 use Rattle.ipc_state.specs.State.{State, cred_of, with_queue, with_new_queue}
 use Rattle.ipc_state.specs.Touching.{is_there, IsAsBefore}
-use Rattle.ipc_state.specs.Waiting.{awaited_by}
+use Rattle.ipc_state.specs.Waiting.{awaited_by, may_wait}
 use Rattle.ipc_state.proofs.CallerLemmas.{IsGood, Ends, after-refuse, after-attempt, by-if_some, answered, read, ended-good}
 use Rattle.ipc_state.proofs.CallerLemmas.{perm_of-mode, owned_by-mode, with_new_queue-sound, with_queue-sound, queue-sound, sent-sound, taken-sound}
 use Rattle.ipc_state.proofs.CallerLemmas.{changed-sound, permitted-sound, without_queue-sound}
@@ -38,7 +38,7 @@ use Rattle.sysv_calls.specs.Calls.{write, except, has, is_exclusive, is_too_long
 use Rattle.sysv_calls.specs.Calls.{reached, gone, may_make, removed, message_at, touched, waits_or, call_of, attempt}
 use Rattle.sysv_calls.specs.Records.{perm_fields, queue_fields}
 use Rattle.sysv_calls.specs.Seen.{seen, place_in}
-use Rattle.sysv_calls.specs.Needs.{Needs, Nothing, Place, Wait, needs, Has, HasRoomFor, IsReserved}
+use Rattle.sysv_calls.specs.Needs.{IsReserved}
 use Rattle.ipc_state.specs.Held.{Room}
 use Rattle.sysv_calls.proofs.Reaching.{reached-there, removed-is, sends, receives}
 use Rattle.sysv_calls.specs.Calls as defined
@@ -398,30 +398,19 @@ waits-as-tested limits s pid again (requests.MsgctlRmid id) = never-waits limits
 
 -- ---- what is reserved
 
-module _ (s : State) (room : Room) where
+module _ (s : State) (room : Room) (request : PlainRequest) where
   -- a request of which nothing was kept never waits
-  pub never-kept : (request : PlainRequest) → IsReserved s room request None → needs request.kind ≢ Wait
-  never-kept request has = by_needs (needs request.kind) has
+  pub never-kept : IsReserved s room request None → may_wait request.kind ≡ false
+  never-kept has = by_test (may_wait request.kind) has.call
     where
-      by_needs : (n : Needs) → Has s room request None n → n ≢ Wait
-      by_needs Nothing has is = cc
-      by_needs (Place key) has is = cc
-      by_needs Wait has is = cc (has.0)
+      by_test : (b : Bool) → None ≡ (if b then Some request else None) → b ≡ false
+      by_test true is = cc
+      by_test false is = refl
 
-  -- and the attempt of its call has what it needs
-  pub has-room : (serial : ℕ) (call : PlainCall) → IsReserved s room (record { serial = serial; kind = Calls call }) None → HasRoomFor s room call
-  has-room serial call has = by_needs (needs (Calls call)) has
+  -- what was kept is the request
+  pub kept-is : (kept : PlainRequest) → IsReserved s room request (Some kept) → kept ≡ request
+  kept-is kept has = by_test (may_wait request.kind) has.call
     where
-      by_needs : (n : Needs) → Has s room (record { serial = serial; kind = Calls call }) None n → Has s room (record { serial = 0; kind = Calls call }) None n
-      by_needs Nothing has = has
-      by_needs (Place key) has = has
-      by_needs Wait has = cc (has.0)
-
-  -- what was kept is the request, and there is room for it to wait
-  pub kept-is : (request kept : PlainRequest) → IsReserved s room request (Some kept) → (kept ≡ request) × (room.wait ≡ true)
-  kept-is request kept has = by_needs (needs request.kind) has
-    where
-      by_needs : (n : Needs) → Has s room request (Some kept) n → (kept ≡ request) × (room.wait ≡ true)
-      by_needs Nothing has = cc has
-      by_needs (Place key) has = cc (has.0)
-      by_needs Wait has = let same : kept ≡ request = cc (has.0) in (same, has.1)
+      by_test : (b : Bool) → Some kept ≡ (if b then Some request else None) → kept ≡ request
+      by_test true is = cc
+      by_test false is = cc

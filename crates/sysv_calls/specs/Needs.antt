@@ -1,14 +1,15 @@
 -- What a request may need of memory. It is taken before the call is tried, so that nothing that is answered takes any:
 -- neither the call itself, nor one that waited.
-use Rattle.std.specs.Prelude.{◌≡◌, ◌≢◌, ℤ, ℕ, Bool, true, false, Option, None, Some}
+use Rattle.std.specs.Prelude.{◌≡◌, ◌≢◌, ℤ, ℕ, Bool, true, false, if◌then◌else◌, Option, None, Some}
 use Rattle.ipc_keys.specs.Directory.{is_vacant}
-use Rattle.ipc_wire.specs.Request.{PlainCall, PlainKind, PlainRequest, Calls}
+use Rattle.ipc_wire.specs.Request.{PlainKind, PlainRequest, Calls}
 use Rattle.ipc_wire.specs.Request as requests
 use Rattle.std.specs.FinMap.{FinMap}
 use Rattle.std.specs.Ordering.{int_cmp}
 use Rattle.ipc_state.specs.Directory.{HasNoSpareKey}
 use Rattle.ipc_state.specs.Held.{Room, HasQueuePlace}
 use Rattle.ipc_state.specs.State.{State}
+use Rattle.ipc_state.specs.Waiting.{may_wait}
 use Rattle.sysv_calls.specs.declared.memory.Needs.{Needs as Wants}
 use Rattle.sysv_calls.specs.declared.memory.Needs.TheVariants as wants
 
@@ -16,37 +17,40 @@ pub data Needs : Type 0 where
   Nothing : Needs
   -- room for one queue more, and for its key
   Place : (key : ℤ) → Needs
-  -- room to wait: the request in memory of its own, and a place among those that wait
-  Wait : Needs
+  -- a text in memory of its own
+  Text : Needs
 
 -- the table: a request that it does not name needs nothing
 abbrev pub needs : PlainKind → Needs
 needs (Calls (requests.Msgget key flags)) = Place key
-needs (Calls (requests.Msgsnd id flags mtype text)) = Wait
-needs (Calls (requests.Msgrcv id flags size mtype)) = Wait
+needs (Calls (requests.Msgsnd id flags mtype text)) = Text
 needs _ = Nothing
 
 abbrev pub is_something : Needs → Bool
 is_something Nothing = false
 is_something _ = true
 
+abbrev pub is_place : Needs → Bool
+is_place (Place key) = true
+is_place _ = false
+
 -- whether a request may need memory
 abbrev pub takes_memory : PlainKind → Bool
 takes_memory kind = is_something (needs kind)
 
--- what is needed is there; what was kept of the request is it, if it may wait
-abbrev pub Has : State → Room → PlainRequest → Option PlainRequest → Needs → Type 0
-Has s room request kept Nothing = kept ≡ None
-Has s room request kept (Place key) = (kept ≡ None) × HasQueuePlace s room key
-Has s room request kept Wait = (kept ≡ Some request) × (room.wait ≡ true)
+-- what is kept of a request: it is, if its call may wait
+abbrev pub kept_of : PlainRequest → Option PlainRequest
+kept_of request = if may_wait request.kind then Some request else None
+
+-- what is needed is there; of a text it is what was kept
+abbrev pub Has : State → Room → Needs → Type 0
+Has s room (Place key) = HasQueuePlace s room key
+Has s room _ = Unit {0}
 
 -- what a request needs is there
-abbrev pub IsReserved : State → Room → PlainRequest → Option PlainRequest → Type 0
-IsReserved s room request kept = Has s room request kept (needs request.kind)
-
--- the same for a call that never waits: nothing is kept of it
-abbrev pub HasRoomFor : State → Room → PlainCall → Type 0
-HasRoomFor s room call = IsReserved s room (record { serial = 0; kind = Calls call }) None
+pub record IsReserved (s : State) (places : Room) (request : PlainRequest) (kept : Option PlainRequest) : Type 0 where
+  pub call : kept ≡ kept_of request
+  pub room : Has s places (needs request.kind)
 
 -- no key but that of the call has room that no queue has
 abbrev pub HasSpareKeyOf : FinMap int_cmp ℕ → Needs → Type 0
@@ -57,4 +61,4 @@ HasSpareKeyOf keys _ = HasNoSpareKey keys
 abbrev pub plain_needs : Wants → Needs
 plain_needs wants.Nothing = Nothing
 plain_needs (wants.Place key) = Place key
-plain_needs wants.Wait = Wait
+plain_needs wants.Text = Text

@@ -12,8 +12,8 @@ pub(crate) enum Needs {
     Nothing,
     /// Room for one queue more and its key.
     Place { key: i32 },
-    /// Room to wait.
-    Wait,
+    /// A text in memory of its own.
+    Text,
 }
 
 /// The table of needs, by request.
@@ -22,7 +22,7 @@ pub(crate) fn needed_by(kind: &RequestKind<'_>) -> Needs
 {
     match kind {
         RequestKind::Call(Call::Msgget { key, .. }) => Needs::Place { key: *key },
-        RequestKind::Call(Call::Msgsnd { .. } | Call::Msgrcv { .. }) => Needs::Wait,
+        RequestKind::Call(Call::Msgsnd { .. }) => Needs::Text,
         _ => Needs::Nothing,
     }
 }

@@ -46,6 +46,7 @@ pub(crate) fn msgget(state: &mut State, cred: Cred, key: i32, flags: GetFlags) -
     ensures finish { Finishes (finish_of state.new.state result) ≡ ended state.old.state
         (defined.msgget state.old.limits state.old.state cred key flags.0) }
     ensures limits { state.new.limits ≡ state.old.limits }
+    ensures waits { state.new.room.waits ≡ state.old.room.waits }
     ensures no_key { HasSpareKeyOf state.old.room.keys (Place key) → HasNoSpareKey state.new.room.keys }
 {
     let answer = get_queue(state, cred, key, flags);
@@ -60,6 +61,7 @@ fn get_queue(state: &mut State, cred: Cred, key: i32, flags: GetFlags) -> Answer
     ensures finish { Finishes (finish_of state.new.state result) ≡ ended state.old.state
         (defined.msgget state.old.limits state.old.state cred key flags.0) }
     ensures limits { state.new.limits ≡ state.old.limits }
+    ensures waits { state.new.room.waits ≡ state.old.room.waits }
     ensures others { (other : ℤ) → other ≢ key
         → is_vacant state.new.room.keys other ≡ is_vacant state.old.room.keys other }
 {
@@ -122,6 +124,7 @@ pub(crate) fn send(state: &mut State, pid: Pid, id: Id, message: Message)
         ≡ with_queue state.old.state id.0 (holding e (sent e.object (plain message) pid.0 state.old.state.clock)) }
     ensures limits { state.new.limits ≡ state.old.limits }
     ensures keys { state.new.room.keys ≡ state.old.room.keys }
+    ensures waits { state.new.room.waits ≡ state.old.room.waits }
 {
     let now = state.clock();
     state.msg_mut().get_mut(id).unwrap().send(message, pid, now);
@@ -168,6 +171,7 @@ pub(crate) fn receive(state: &mut State, pid: Pid, id: Id, at: usize, size: u32)
         ≡ body.Message (defined.message_at e.object at).mtype (take size (defined.message_at e.object at).text) }
     ensures limits { state.new.limits ≡ state.old.limits }
     ensures keys { state.new.room.keys ≡ state.old.room.keys }
+    ensures waits { state.new.room.waits ≡ state.old.room.waits }
 {
     let now = state.clock();
     let message = state.msg_mut().get_mut(id).unwrap().take(at, pid, now);
@@ -216,6 +220,7 @@ pub(crate) fn msgctl_set(
         (defined.msgctl_set state.old.limits state.old.state cred id.0 uid gid mode qbytes) }
     ensures limits { state.new.limits ≡ state.old.limits }
     ensures keys { state.new.room.keys ≡ state.old.room.keys }
+    ensures waits { state.new.room.waits ≡ state.old.room.waits }
 {
     let perm = owned(state.msg(), cred, id)?.perm;
     if qbytes > state.limits().msgmnb {
@@ -235,6 +240,7 @@ pub(crate) fn msgctl_rmid(state: &mut State, cred: Cred, id: Id) -> Answer
         ≡ ended state.old.state (defined.msgctl_rmid state.old.state cred id.0) }
     ensures limits { state.new.limits ≡ state.old.limits }
     ensures keys { HasNoSpareKey state.old.room.keys → HasNoSpareKey state.new.room.keys }
+    ensures waits { state.new.room.waits ≡ state.old.room.waits }
 {
     remove(state.msg_mut(), cred, id)?;
     Ok(Body::Empty)

@@ -34,6 +34,7 @@ pub fn try_parked(state: &mut State, pid: Pid, again: bool, call: Parked) -> Tri
     ensures kept { IsKeptIn state.old call state.new result }
     ensures limits { state.new.limits ≡ state.old.limits }
     ensures keys { state.new.room.keys ≡ state.old.room.keys }
+    ensures waits { state.new.room.waits ≡ state.old.room.waits }
 {
     let cred = state.cred(pid);
     let at = match ready(state, cred, again, call.call()) {

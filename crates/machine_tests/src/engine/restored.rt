@@ -366,23 +366,21 @@ struct Wait {
     mtype: i64,
 }
 
-fn receive(wait: Wait) -> Request<'static> {
-    Request {
-        serial: wait.serial,
-        kind: RequestKind::Call(Call::Msgrcv {
-            id: Id(wait.id),
-            flags: MsgFlags(wait.flags),
-            size: 64,
-            mtype: wait.mtype,
-        }),
-    }
+fn receive(rt: &impl Abort, wait: Wait) -> Request<'static> {
+    let call = Call::Msgrcv {
+        id: Id(wait.id),
+        flags: MsgFlags(wait.flags),
+        size: 64,
+        mtype: wait.mtype,
+    };
+    Request::new(wait.serial, RequestKind::Call(call)).expect(rt, "a frame")
 }
 
 /// The small state, in which a receive waits.
 fn waiting_state(rt: &impl Abort, alloc: Global, wait: Wait) -> Result<State, AllocError> {
     let mut state = state_of(alloc, &SMALL)?;
-    let call = Parked::new(alloc, &receive(wait))?.expect(rt, "a receive may wait");
-    state.reserve_wait()?;
+    let call = Parked::new(alloc, &receive(rt, wait))?.expect(rt, "a receive may wait");
+    state.reserve_waits()?;
     assert!(rt; !state.is_waiting(Pid(wait.pid)));
     state.enter_wait(Waiting {
         pid: Pid(wait.pid),
@@ -416,8 +414,8 @@ const HAS_TO_WAIT: Wait = Wait {
     mtype: 4,
 };
 
-/// It could go on, is not of a connected process, has no frame, or waits on another object.
-const NEED_NOT_WAIT: [Wait; 6] = [
+/// It could go on, is not of a connected process, or waits on another object.
+const NEED_NOT_WAIT: [Wait; 5] = [
     Wait {
         mtype: 5,
         ..HAS_TO_WAIT
@@ -433,10 +431,6 @@ const NEED_NOT_WAIT: [Wait; 6] = [
     },
     Wait {
         pid: 2,
-        ..HAS_TO_WAIT
-    },
-    Wait {
-        serial: 0,
         ..HAS_TO_WAIT
     },
     Wait {

@@ -44,8 +44,8 @@ fn call(
     serial: u32,
     call: Call<'_>,
 ) -> Result<(), AllocError> {
-    let kind = RequestKind::Call(call);
-    make_request(rt, engine, Pid(pid), Request { serial, kind })
+    let request = Request::new(serial, RequestKind::Call(call)).expect(rt, "a frame");
+    make_request(rt, engine, Pid(pid), request)
 }
 
 fn send(

@@ -1,4 +1,3 @@
-use Rattle.std.proofs.Common.{◌≡◌, sym, ap, ◌∙◌}
 use Rattle.ipc_engine.proofs.asking.ask.Goals as goal
 
 pub returns-in-Hello-clause-outcomes : goal.returns-in-Hello-clause-outcomes

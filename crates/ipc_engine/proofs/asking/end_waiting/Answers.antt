@@ -1,4 +1,4 @@
-use Rattle.std.proofs.Common.{◌≡◌, ◌+◌, ◌≤◌, List, [], ◌∷◌, ◌++◌, map, length, append-nil, sym, ap, ◌∙◌, Some, arith, length-append}
+use Rattle.std.proofs.Common.{◌≡◌, ◌≤◌, List, [], ◌∷◌, ◌++◌, map, length, append-nil, sym, ap, ◌∙◌, Some, arith, length-append}
 use Rattle.ipc_base.specs.declared.errno.Errno.TheVariants.{EINTR}
 use Rattle.ipc_base.specs.declared.identity.Pid.{Pid}
 use Rattle.ipc_wire.specs.declared.reply.Body.TheVariants.{Empty}
@@ -6,7 +6,6 @@ use Rattle.ipc_wait.proofs.CallerLemmas.{filter-none}
 use Rattle.ipc_wait.specs.Waits.{call_of, is_of}
 use Rattle.ipc_state.specs.State.{State, without_waiting}
 use Rattle.ipc_state.specs.Waiting.{PlainWaiting}
-use Rattle.ipc_engine.specs.Event.{PlainOutcome}
 use Rattle.ipc_engine.specs.Step.{Step, interrupted}
 use Rattle.ipc_engine.specs.View.{plain_outcome}
 use Rattle.ipc_engine.proofs.Buffers.{pushed}

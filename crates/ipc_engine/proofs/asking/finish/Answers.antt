@@ -1,10 +1,9 @@
-use Rattle.std.proofs.Common.{◌≡◌, ◌+◌, ◌≤◌, ℕ, List, [], ◌∷◌, ◌++◌, map, length, sym, subst, ap, ◌∙◌, arith, length-append}
+use Rattle.std.proofs.Common.{◌≡◌, List, [], ◌∷◌, ◌++◌, map, length, sym, subst, ap, ◌∙◌, arith, length-append, append_assoc}
 use Rattle.ipc_state.specs.Finish.{finish_of}
 use Rattle.ipc_state.specs.State.{State}
 use Rattle.ipc_state.specs.Sound.{HasSoundParts}
 use Rattle.ipc_engine.specs.Event.{PlainOutcome}
 use Rattle.ipc_engine.specs.Settling.{AreLinked, OthersWait}
-use Rattle.ipc_engine.specs.declared.event.Outcome.{Outcome}
 use Rattle.ipc_engine.specs.Step.{Step, settle, replied}
 use Rattle.ipc_engine.specs.View.{plain_outcome}
 use Rattle.ipc_engine.proofs.Buffers.{finish-state, pushed}
@@ -33,16 +32,10 @@ settle-requires-clause-others c =
 
 pub settle-requires-clause-room : goal.settle-requires-clause-room
 settle-requires-clause-room c =
-    let s = c.args.state.now in
-    let g = c.requires.good in
-    let same : s.state.wait ≡ g.0.wait = ap (λ (t : State). t.wait) (sym (finish-state s.state c.args.answer)) ∙ g.2.wait in
     omega (
       arith,
-      ap length same,
-      g.1.parts.wait.few,
       c.requires.places,
       ap length c.push.ensures.items,
-      ap length c.requires.none,
       length-append c.args.outcomes.now.items (c.reply_to.result ∷ []),
       c.push.ensures.capacity,
     )
@@ -55,14 +48,15 @@ returns-clause-state c =
 pub returns-clause-outcomes : goal.returns-clause-outcomes
 returns-clause-outcomes c =
     let s = c.args.state.now in
+    let old = map plain_outcome c.args.outcomes.now.items in
     let own = (replied c.args.pid.0 c.args.serial (finish_of s.state c.args.answer)).outcomes in
-    let first : map plain_outcome c.push.new.outcomes.items ≡ own =
+    let others = (settle s.limits s.state).outcomes in
+    let first : map plain_outcome c.push.new.outcomes.items ≡ old ++ own =
     pushed c.args.outcomes.now.items c.push.new.outcomes.items c.reply_to.result own c.push.ensures.items (ap
-    (λ (t : Step). t.outcomes) (c.reply_to.ensures.reply s.state))
-    ∙ ap (λ (os : List Outcome). map plain_outcome os ++ own) c.requires.none in
+    (λ (t : Step). t.outcomes) (c.reply_to.ensures.reply s.state)) in
     c.settle.ensures.outcomes
-    ∙ (ap (λ (xs : List PlainOutcome). xs ++ (settle s.limits s.state).outcomes) first
-    ∙ ap (λ (t : State). own ++ (settle s.limits t).outcomes) (sym (finish-state s.state c.args.answer)))
+    ∙ (ap (λ (xs : List PlainOutcome). xs ++ others) first
+    ∙ (append_assoc old own others ∙ ap (λ (t : State). old ++ (own ++ (settle s.limits t).outcomes)) (sym (finish-state s.state c.args.answer))))
 
 pub returns-clause-room : goal.returns-clause-room
 returns-clause-room c = omega (arith, c.push.ensures.room, c.reply_to.ensures.room, c.settle.ensures.buffer)

@@ -1,8 +1,7 @@
-use Rattle.std.proofs.Common.{◌≡◌, List, [], ◌++◌, map, sym, ap, ◌∙◌}
+use Rattle.std.proofs.Common.{List, ◌++◌, map, ap, ◌∙◌, append_assoc}
 use Rattle.ipc_wait.specs.Waits.{call_of}
 use Rattle.ipc_state.specs.Finish.{done}
 use Rattle.ipc_wire.specs.declared.reply.Body.TheVariants.{Empty}
-use Rattle.ipc_engine.specs.declared.event.Outcome.{Outcome}
 use Rattle.ipc_engine.specs.Event.{PlainOutcome}
 use Rattle.ipc_engine.specs.Step.{Step, interrupted, replied}
 use Rattle.ipc_engine.specs.View.{plain_outcome}
@@ -13,9 +12,8 @@ pub returns-clause-outcomes : goal.returns-clause-outcomes
 returns-clause-outcomes c =
     let s = c.args.state.now.state in
     let first = interrupted s c.args.pid.0 (call_of c.args.pid s.wait) in
-    let before : map plain_outcome c.end_waiting.new.outcomes.items ≡ first.outcomes =
-    c.end_waiting.ensures.outcomes ∙ ap (λ (os : List Outcome). map plain_outcome os ++ first.outcomes) c.requires.none in
     let own = (replied c.args.pid.0 c.args.serial (done first.state Empty)).outcomes in
     pushed c.end_waiting.new.outcomes.items c.push.new.outcomes.items c.reply_to.result own c.push.ensures.items
     (ap (λ (t : Step). t.outcomes) (c.reply_to.ensures.reply first.state))
-    ∙ ap (λ (xs : List PlainOutcome). xs ++ own) before
+    ∙ (ap (λ (xs : List PlainOutcome). xs ++ own) c.end_waiting.ensures.outcomes
+    ∙ append_assoc (map plain_outcome c.args.outcomes.now.items) first.outcomes own)

@@ -1,8 +1,6 @@
-use Rattle.std.proofs.Common.{◌≡◌, List, [], ◌++◌, map, ap, ◌∙◌}
+use Rattle.std.proofs.Common.{ap}
 use Rattle.ipc_state.specs.Finish.{refused}
-use Rattle.ipc_engine.specs.declared.event.Outcome.{Outcome}
 use Rattle.ipc_engine.specs.Step.{Step, replied}
-use Rattle.ipc_engine.specs.View.{plain_outcome}
 use Rattle.ipc_engine.proofs.Buffers.{pushed}
 use Rattle.ipc_engine.proofs.asking.refuse.Goals as goal
 
@@ -11,4 +9,3 @@ returns-clause-outcomes c s =
     let own = (replied c.args.pid.0 c.args.serial (refused s c.args.errno)).outcomes in
     pushed c.args.outcomes.now.items c.push.new.outcomes.items c.reply_to.result own c.push.ensures.items (ap
     (λ (t : Step). t.outcomes) (c.reply_to.ensures.reply s))
-    ∙ ap (λ (os : List Outcome). map plain_outcome os ++ own) c.requires.none

@@ -1,20 +1,17 @@
-use Rattle.std.proofs.Common.{◌≡◌, ℕ, false, List, [], map, sym, subst, ap, ◌∙◌}
-use Rattle.ipc_base.specs.declared.limits.Limits.{Limits}
-use Rattle.ipc_wire.specs.Request.{PlainRequest, Calls, plain_call}
+use Rattle.std.proofs.Common.{◌<◌, false, ◌++◌, map, length, sym, subst, ap, ◌∙◌, arith}
+use Rattle.ipc_wire.specs.Request.{plain_call}
 use Rattle.ipc_state.specs.declared.parked.Awaited.{Awaited}
 use Rattle.std.specs.Prelude.{Option}
-use Rattle.ipc_state.specs.Finish.{Finish, Tried, Finishes, Waits, finish_of}
+use Rattle.ipc_state.specs.Finish.{Tried, finish_of}
 use Rattle.ipc_state.specs.Held.{Held}
-use Rattle.ipc_state.specs.State.{State, is_waiting}
 use Rattle.ipc_state.specs.Waiting.{awaited_by}
 use Rattle.ipc_state.proofs.CallerLemmas.{IsGood}
-use Rattle.sysv_calls.specs.Calls.{attempt}
-use Rattle.ipc_engine.specs.declared.event.Outcome.{Outcome}
-use Rattle.ipc_engine.specs.Event.{PlainOutcome}
-use Rattle.ipc_engine.specs.Sound.{IsSound}
 use Rattle.ipc_engine.specs.Step.{after, replied, settle, told, joins}
 use Rattle.ipc_engine.specs.View.{plain_outcome}
+use Rattle.ipc_state.proofs.CallerLemmas.{room-waiting}
+use Rattle.ipc_engine.proofs.Buffers.{waits-kept}
 use Rattle.ipc_engine.proofs.Resumes.{good-of, good-here}
+use Rattle.ipc_engine.proofs.Soundness.{linked}
 use Rattle.ipc_engine.proofs.asking.try_once.Goals as goal
 
 pub finish-requires-clause-good : goal.finish-requires-clause-good
@@ -34,26 +31,45 @@ returns-in-Finishes-clause-state c =
     ∙ ap (λ (t : Tried). (told s.limits c.args.pid.0 c.args.parked s.state t).state) (c.in-Finishes.ensures.finish
     (plain_call c.args.call.now) c.requires.call))
 
+pub finish-requires-clause-places : goal.finish-requires-clause-places
+finish-requires-clause-places c =
+    let s = c.args.state.now in
+    let f = finish_of c.try_parked.new.state.state c.in-Finishes.answer in
+    let good = good-of s.limits s.state c.args.pid.0 false (plain_call c.args.call.now) f (c.in-Finishes.ensures.finish
+    (plain_call c.args.call.now) c.requires.call) in
+    omega (arith, c.requires.places, ap length (waits-kept c.try_parked.new.state.state s.state c.in-Finishes.answer good.wait))
+
 pub returns-in-Finishes-clause-outcomes : goal.returns-in-Finishes-clause-outcomes
 returns-in-Finishes-clause-outcomes c =
     let s = c.args.state.now in
+    let old = map plain_outcome c.args.outcomes.now.items in
     let f = finish_of c.try_parked.new.state.state c.in-Finishes.answer in
     c.finish.ensures.outcomes
-    ∙ ((λ i. (after (replied c.args.pid.0 (c.serial-serial.ensures i) f) (settle (c.try_parked.ensures.limits i))).outcomes)
-    ∙ ap (λ (t : Tried). (told s.limits c.args.pid.0 c.args.parked s.state t).outcomes) (c.in-Finishes.ensures.finish
+    ∙ ((λ i. old ++ (after (replied c.args.pid.0 (c.serial-serial.ensures i) f) (settle (c.try_parked.ensures.limits i))).outcomes)
+    ∙ ap (λ (t : Tried). old ++ (told s.limits c.args.pid.0 c.args.parked s.state t).outcomes) (c.in-Finishes.ensures.finish
     (plain_call c.args.call.now) c.requires.call))
+
+pub join-requires-clause-room : goal.join-requires-clause-room
+join-requires-clause-room c =
+    let s = c.args.state.now in
+    let fewer = room-waiting s.limits s.state c.args.pid.0 c.requires.sound.parts c.requires.free (linked s.limits s.state c.requires.sound)
+    c.requires.process in
+    subst (λ (h : Held). length h.state.wait < h.room.waits) (sym c.in-Waits.ensures.kept.1) (omega (arith, fewer, c.requires.waits))
 
 pub returns-in-Waits-clause-state : goal.returns-in-Waits-clause-state
 returns-in-Waits-clause-state c =
     let s = c.args.state.now in
     let kept = c.in-Waits.ensures.kept in
     c.join.ensures.state
-    ∙ ((λ i. joins (kept.1 i).state c.args.pid.0 (kept.0 i) (awaited_by (kept.0 i).kind))
+    ∙ ((λ i. (joins (kept.1 i).state c.args.pid.0 (kept.0 i) (awaited_by (kept.0 i).kind)).state)
     ∙ ap (λ (t : Tried). (told s.limits c.args.pid.0 c.args.parked s.state t).state) (c.in-Waits.ensures.finish (plain_call c.args.call.now) c.requires.call))
 
 pub returns-in-Waits-clause-outcomes : goal.returns-in-Waits-clause-outcomes
 returns-in-Waits-clause-outcomes c =
     let s = c.args.state.now in
-    ap (map plain_outcome) c.requires.none
-    ∙ ap (λ (t : Tried). (told s.limits c.args.pid.0 c.args.parked s.state t).outcomes) (c.in-Waits.ensures.finish
-    (plain_call c.args.call.now) c.requires.call)
+    let kept = c.in-Waits.ensures.kept in
+    let old = map plain_outcome c.args.outcomes.now.items in
+    c.join.ensures.outcomes
+    ∙ ((λ i. old ++ (joins (kept.1 i).state c.args.pid.0 (kept.0 i) (awaited_by (kept.0 i).kind)).outcomes)
+    ∙ ap (λ (t : Tried). old ++ (told s.limits c.args.pid.0 c.args.parked s.state t).outcomes) (c.in-Waits.ensures.finish
+    (plain_call c.args.call.now) c.requires.call))

@@ -1,4 +1,4 @@
-use Rattle.std.proofs.Common.{◌≡◌, true, List, [], ◌∷◌, ◌++◌, map, Option, Some, sym, ap, subst, ◌∙◌, append-nil}
+use Rattle.std.proofs.Common.{◌≡◌, true, List, ◌++◌, map, sym, ap, subst, ◌∙◌, append-nil}
 use Rattle.ipc_base.specs.declared.identity.Pid.{Pid}
 use Rattle.ipc_base.specs.declared.limits.Limits.{Limits}
 use Rattle.ipc_state.specs.Finish.{finish_of}

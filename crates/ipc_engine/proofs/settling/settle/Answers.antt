@@ -1,13 +1,10 @@
-use Rattle.std.proofs.Common.{◌≡◌, ◌+◌, ◌-◌, ◌≤◌, ℕ, zero, suc, List, [], ◌∷◌, ◌++◌, Some, None, Option, map, length, append-nil, sym, subst, ap, ◌∙◌, arith}
+use Rattle.std.proofs.Common.{◌≡◌, ◌+◌, ◌-◌, ℕ, suc, ◌++◌, Some, Option, map, length, append-nil, sym, subst, ap, ◌∙◌, arith}
 use Rattle.std.proofs.lemmas.List.{length-map}
 use Rattle.ipc_base.specs.declared.limits.Limits.{Limits}
 use Rattle.ipc_state.specs.declared.parked.Awaited.{Awaited}
-use Rattle.ipc_state.specs.State.{State}
 use Rattle.ipc_state.specs.Sound.{HasSoundParts}
-use Rattle.ipc_state.specs.Waiting.{PlainWaiting}
-use Rattle.ipc_engine.specs.Event.{PlainOutcome}
-use Rattle.ipc_engine.specs.Settling.{AreLinked, OthersWait}
-use Rattle.ipc_engine.specs.Step.{Step, silent, after, settle, settle_within, resumed}
+use Rattle.ipc_engine.specs.Settling.{OthersWait}
+use Rattle.ipc_engine.specs.Step.{Step, silent, settle, settle_within}
 use Rattle.ipc_engine.specs.View.{plain_outcome}
 use Rattle.ipc_engine.proofs.Going.{untouched-settled, goes-on, within-none, within-all, within-nothing}
 use Rattle.ipc_engine.proofs.settling.settle.Goals as goal
@@ -35,6 +32,7 @@ loop-gone-init c =
       others = subst (λ (o : Option Awaited). OthersWait s.limits s.state o) c.in-Some.is c.requires.others;
       room = c.requires.room;
       limits = λ i. s.limits;
+      waits = λ i. s.room.waits;
       capacity = omega arith;
       buffer = omega arith;
       state = ap (λ (t : Step). t.state) all;
@@ -81,6 +79,7 @@ loop-gone-preserved c =
         c.resume.ensures.capacity,
       );
       limits = same ∙ l.invariant.limits;
+      waits = c.resume.ensures.waits ∙ l.invariant.waits;
       capacity = omega (arith, l.invariant.capacity, c.resume.ensures.capacity);
       buffer = omega (arith, l.invariant.buffer, c.resume.ensures.buffer);
       state = ap (λ (x : Limits). (settle_within x left c.resume.new.state.state).state) same ∙ (on.state ∙ (ap (λ (t : Step). t.state) (sym all)

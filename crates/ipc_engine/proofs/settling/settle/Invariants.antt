@@ -16,6 +16,7 @@ invariant-loop-gone l =
       others : OthersWait l.state.limits l.state.state (Some l.on);
       room : length l.outcomes.items + length l.state.state.wait ≤ vec_capacity l.outcomes;
       limits : l.state.limits ≡ l.fn.state.limits;
+      waits : l.state.room.waits ≡ l.fn.state.room.waits;
       capacity : vec_capacity l.fn.outcomes ≤ vec_capacity l.outcomes;
       buffer : room_in l.fn.outcomes.items ≤ room_in l.outcomes.items;
       state : (settle_within l.state.limits left l.state.state).state ≡ (settled l.fn.state.limits l.fn.state.state).state;

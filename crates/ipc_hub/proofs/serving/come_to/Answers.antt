@@ -1,8 +1,8 @@
 use Rattle.std.proofs.Common.{◌≡◌, inl, inr, true, Some, None, refl, sym, ap, ◌∙◌, rules}
 use Rattle.std.specs.Prelude.{option_map}
 use Rattle.ipc_base.proofs.CallerLemmas.{test_cases}
-use Rattle.ipc_wire.specs.Request.{plain_request}
-use Rattle.ipc_wire.specs.Stream.{first, plain_frame}
+use Rattle.ipc_wire.specs.View.{plain_request}
+use Rattle.ipc_wire.specs.Stream.{first}
 use Rattle.ipc_wire.specs.Stream.PlainFrame.{Whole}
 use Rattle.ipc_engine.specs.Engine.{takes_memory}
 use Rattle.ipc_engine.specs.View.{plain_event}
@@ -12,11 +12,6 @@ use Rattle.ipc_store.proofs.CallerLemmas.{ready-less}
 use Rattle.ipc_hub.specs.Relations.Requests.{Steps}
 use Rattle.ipc_hub.specs.Relations.Rows.{pid_of}
 use Rattle.ipc_hub.proofs.serving.come_to.Goals as goal
-
-pub step-requires-clause-record : goal.step-requires-clause-record
-step-requires-clause-record g c =
-    let whole : plain_frame c.read_frame.result ≡ Whole c.in-Whole.used (plain_request c.in-Whole.request) = search rules in
-    c.in-Some.ensures.record (c.read_frame.ensures.has_frame c.in-Whole.used (plain_request c.in-Whole.request) whole)
 
 pub returns-in_default-clause-comes : goal.returns-in_default-clause-comes
 returns-in_default-clause-comes g c =
@@ -52,8 +47,7 @@ returns-in-Ok-clause-comes g c =
     let whole : first c.args.connection.now.input.items ≡ Whole c.in-Whole.used (plain_request c.in-Whole.request) = search rules in
     let made : event_of (pid_of c.args.connection.now.process) (plain_request c.in-Whole.request) c.args.moment.0 ≡ Some e =
     sym c.event_of.ensures.event ∙ ap (option_map plain_event) c.in-Some.is in
-    let framed : plain_frame c.read_frame.result ≡ Whole c.in-Whole.used (plain_request c.in-Whole.request) = search rules in
-    let has : HasRecord e = c.in-Some.ensures.record (c.read_frame.ensures.has_frame c.in-Whole.used (plain_request c.in-Whole.request) framed) in
+    let has : HasRecord e = c.in-Some.ensures.record in
     let steps : Steps g.D.SectorDisk.medium old new e = record {
       limits = c.in-Ok.ensures.limits;
       state = c.in-Ok.ensures.state;

@@ -5,7 +5,8 @@ use Rattle.ipc_wire.specs.Table.{parts_of}
 use Rattle.ipc_hub.proofs.serving.event_of.Goals as goal
 
 pub returns-in-None-Hello-clause-record : goal.returns-in-None-Hello-clause-record
-returns-in-None-Hello-clause-record c framed =
+returns-in-None-Hello-clause-record c =
+    let framed = c.args.request.now.frame in
     let fields : AreInRange (parts_of (Hello c.in-None-Hello.cred)).row.fields (parts_of (Hello c.in-None-Hello.cred)).values =
     subst (λ (k : PlainKind). AreInRange (parts_of k).row.fields (parts_of k).values) (ap plain_kind c.in-None-Hello.is-1) framed.fields in
     let early : c.args.moment.0 < 2 ^ 64 = search rules in

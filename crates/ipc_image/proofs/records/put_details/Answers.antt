@@ -1,12 +1,12 @@
 use Rattle.std.proofs.Common.{◌≤◌, ◌+◌, ◌++◌, List, ℕ, length, arith}
 use Rattle.std.specs.Int.{w32, to_be_bytes}
 use Rattle.ipc_base.proofs.CallerLemmas.{puts_room, puts_both, puts_more}
-use Rattle.ipc_wire.specs.Request.{plain_request}
+use Rattle.ipc_wire.specs.View.{plain_request}
 use Rattle.ipc_wire.specs.Spelling.{request_bytes}
 use Rattle.ipc_image.proofs.records.put_details.Goals as goal
 
-pub returns-in-Connect : goal.returns-in-Connect
-returns-in-Connect c =
+pub returns-in-Connect-clause-bytes : goal.returns-in-Connect-clause-bytes
+returns-in-Connect-clause-bytes c =
     let at : ℕ = c.args.put.now in
     let old : List ℕ = c.args.out.now in
     let room : at + 12 ≤ length old = rw c.in-Connect.is at c.requires in
@@ -21,8 +21,8 @@ returns-in-Connect c =
     c.u32-in-Connect.new.buffer c.u32-in-Connect-2.new.buffer
     c.u32-in-Connect-2.result b c.u32-in-Connect-2.ensures (omega (arith, room)))
 
-pub returns-in-Call : goal.returns-in-Call
-returns-in-Call c =
+pub returns-in-Call-clause-bytes : goal.returns-in-Call-clause-bytes
+returns-in-Call-clause-bytes c =
     let at : ℕ = c.args.put.now in
     let old : List ℕ = c.args.out.now in
     let pid : List ℕ = to_be_bytes w32 c.in-Call.pid.0 in
@@ -32,8 +32,8 @@ returns-in-Call c =
     rw c.in-Call.is (puts_both pid request at c.u32-in-Call.new.self c.put_request.new.put old c.u32-in-Call.new.buffer
     c.put_request.new.out a c.put_request.ensures)
 
-pub returns-in-Interrupt : goal.returns-in-Interrupt
-returns-in-Interrupt c =
+pub returns-in-Interrupt-clause-bytes : goal.returns-in-Interrupt-clause-bytes
+returns-in-Interrupt-clause-bytes c =
     let at : ℕ = c.args.put.now in
     let old : List ℕ = c.args.out.now in
     let room : at + 8 ≤ length old = rw c.in-Interrupt.is at c.requires in

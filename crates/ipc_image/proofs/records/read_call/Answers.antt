@@ -1,5 +1,5 @@
 use Rattle.std.proofs.Common.{◌∙◌, arith}
-use Rattle.ipc_wire.specs.Request.{plain_request}
+use Rattle.ipc_wire.specs.View.{plain_request}
 use Rattle.ipc_image.proofs.Numbers.{AreBelow}
 use Rattle.ipc_image.proofs.EventRecords.{Got, call_found, call_only}
 use Rattle.ipc_image.proofs.records.read_call.Goals as goal

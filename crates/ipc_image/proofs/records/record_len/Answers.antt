@@ -1,5 +1,5 @@
 use Rattle.std.proofs.Common.{◌≡◌, ◌∙◌, length, ap, sym, arith}
-use Rattle.ipc_wire.specs.Request.{plain_request}
+use Rattle.ipc_wire.specs.View.{plain_request}
 use Rattle.ipc_engine.specs.View.{plain_event}
 use Rattle.ipc_image.specs.Records.{details}
 use Rattle.ipc_image.proofs.EventRecords.{length_record, length_call}

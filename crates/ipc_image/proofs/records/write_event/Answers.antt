@@ -25,7 +25,7 @@ returns-clause-written c =
     let m = puts_more (number ++ kind) moment at c.u8.new.self c.u64.new.self old c.u8.new.buffer c.u64.new.buffer c.u64.result b
     c.u64.ensures (omega (arith, start, room)) in
     let all : List ℕ = (number ++ kind) ++ moment in
-    let d = puts_both all (details e) at c.u64.new.self c.put_details.new.put old c.u64.new.buffer c.put_details.new.out m c.put_details.ensures in
+    let d = puts_both all (details e) at c.u64.new.self c.put_details.new.put old c.u64.new.buffer c.put_details.new.out m c.put_details.ensures.bytes in
     let bytes : all ++ details e ≡ record_bytes e =
     ap (λ (n : ℕ). to_be_bytes w32 n ++ c.kind_of.result ∷ moment ++ details e) size
     ∙ ap (λ (n : ℕ). to_be_bytes w32 (9 + length (details e)) ++ n ∷ moment ++ details e) c.kind_of.ensures

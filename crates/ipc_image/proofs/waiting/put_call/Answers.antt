@@ -1,7 +1,8 @@
 use Rattle.std.proofs.Common.{ℕ, List, [], ◌∷◌, ◌++◌, ◌<◌, ◌∙◌, ap, arith}
 use Rattle.ipc_base.specs.declared.field.Field.TheVariants as Field
 use Rattle.ipc_base.specs.Numbers.{record_bytes}
-use Rattle.ipc_wire.specs.Request.{PlainRequest, plain_request}
+use Rattle.ipc_wire.specs.Request.{PlainRequest}
+use Rattle.ipc_wire.specs.View.{plain_request}
 use Rattle.ipc_wire.specs.Spelling.{request_bytes}
 use Rattle.ipc_image.specs.Window.{passed}
 use Rattle.ipc_image.proofs.WaitingCalls.{call_spelled}
@@ -19,4 +20,4 @@ returns c =
     ∙ passed-both w (head ++ c.as_slice.result.now) parts.rest.now
     ∙ ap (λ (l : List ℕ). passed ((head ++ l) ++ parts.rest.now) w) c.as_slice.ensures
     ∙ ap (λ (l : List ℕ). passed l w) (call_spelled (plain_request c.request-request.result) parts.opcode byte parts.fields parts.rest.now is.opcode is.fields)
-    ∙ ap (λ (r : PlainRequest). passed (request_bytes r) w) c.request-request.ensures.request
+    ∙ ap (λ (r : PlainRequest). passed (request_bytes r) w) c.request-request.ensures

@@ -1,8 +1,7 @@
-use Rattle.std.proofs.Common.{◌≡◌, ◌+◌, ◌∙◌, arith, length, ap, sym, rules}
+use Rattle.std.proofs.Common.{◌≡◌, ◌+◌, ◌∙◌, arith, length, ap, sym}
 use Rattle.std.proofs.lemmas.List.{length-drop, length-take}
-use Rattle.ipc_wire.specs.Stream.{first, plain_frame, u32_at}
 use Rattle.ipc_wire.proofs.Frames.{frame_takes, frame_waits}
-use Rattle.ipc_wire.proofs.Read.{frame_back}
+use Rattle.ipc_wire.proofs.Read.{whole_framed}
 use Rattle.ipc_wire.proofs.reading.read_frame.Goals as goal
 
 pub returns-in-Some-bytes-clause-used : goal.returns-in-Some-bytes-clause-used
@@ -18,7 +17,4 @@ pub returns-in-Some-bytes-clause-waiting : goal.returns-in-Some-bytes-clause-wai
 returns-in-Some-bytes-clause-waiting c = λ w. absurd (frame_waits c.in-Some-bytes.text.now (sym c.whole_frame.ensures ∙ w))
 
 pub returns-in-Some-bytes-clause-has_frame : goal.returns-in-Some-bytes-clause-has_frame
-unfolding first u32_at
-returns-in-Some-bytes-clause-has_frame c used request is =
-    let whole : plain_frame c.whole_frame.result ≡ first c.args.bytes.now = search rules in
-    frame_back c.args.bytes.now used request (λ i. omega (arith, c.type_inv.bytes i)) (sym whole ∙ is)
+returns-in-Some-bytes-clause-has_frame c = whole_framed c.whole_frame.result

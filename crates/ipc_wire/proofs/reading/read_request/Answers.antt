@@ -1,5 +1,5 @@
 use Rattle.std.proofs.Common.{◌≡◌, ◌∙◌, sym, ap, arith}
-use Rattle.ipc_wire.specs.Request.{plain_request}
+use Rattle.ipc_wire.specs.View.{plain_request}
 use Rattle.ipc_wire.specs.Stream.{plain_frame, frame_of}
 use Rattle.ipc_wire.specs.Stream.PlainFrame.{Whole, Fault, More}
 use Rattle.ipc_base.proofs.CallerLemmas.{AreBytes}

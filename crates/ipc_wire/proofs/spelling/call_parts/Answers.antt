@@ -25,3 +25,21 @@ returns-in-MsgctlSet-clause-fields c = rw c.in-MsgctlSet.is c.spelled-in-MsgctlS
 
 pub returns-in-MsgctlRmid-clause-fields : goal.returns-in-MsgctlRmid-clause-fields
 returns-in-MsgctlRmid-clause-fields c = rw c.in-MsgctlRmid.is c.spelled-in-MsgctlRmid.ensures.fields
+
+pub returns-in-Msgget-clause-numbers : goal.returns-in-Msgget-clause-numbers
+returns-in-Msgget-clause-numbers c = rw c.in-Msgget.is (search rules)
+
+pub returns-in-Msgsnd-clause-numbers : goal.returns-in-Msgsnd-clause-numbers
+returns-in-Msgsnd-clause-numbers c = rw c.in-Msgsnd.is (search rules)
+
+pub returns-in-Msgrcv-clause-numbers : goal.returns-in-Msgrcv-clause-numbers
+returns-in-Msgrcv-clause-numbers c = rw c.in-Msgrcv.is (search rules)
+
+pub returns-in-MsgctlStat-clause-numbers : goal.returns-in-MsgctlStat-clause-numbers
+returns-in-MsgctlStat-clause-numbers c = rw c.in-MsgctlStat.is (search rules)
+
+pub returns-in-MsgctlSet-clause-numbers : goal.returns-in-MsgctlSet-clause-numbers
+returns-in-MsgctlSet-clause-numbers c = rw c.in-MsgctlSet.is (search rules)
+
+pub returns-in-MsgctlRmid-clause-numbers : goal.returns-in-MsgctlRmid-clause-numbers
+returns-in-MsgctlRmid-clause-numbers c = rw c.in-MsgctlRmid.is (search rules)

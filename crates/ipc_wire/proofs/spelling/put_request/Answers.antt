@@ -3,8 +3,9 @@ use Rattle.std.specs.Int.{w32, to_be_bytes}
 use Rattle.std.proofs.lemmas.List.{length-append}
 use Rattle.ipc_base.specs.Fields.{Puts}
 use Rattle.ipc_base.proofs.CallerLemmas.{puts_room, puts_more}
-use Rattle.ipc_wire.specs.Request.{plain_kind, plain_request}
+use Rattle.ipc_wire.specs.Request.{plain_kind}
 use Rattle.ipc_wire.specs.Spelling.{fields_of, request_bytes}
+use Rattle.ipc_wire.specs.View.{plain_request}
 use Rattle.ipc_wire.proofs.spelling.put_request.Goals as goal
 
 pub returns : goal.returns

@@ -1,4 +1,4 @@
-use Rattle.std.proofs.Common.{◌≡◌, true, false, ap, ◌∙◌, sym, refl, rules}
+use Rattle.std.proofs.Common.{◌≡◌, true, false, refl, rules}
 use Rattle.ipc_state.specs.State.{is_waiting}
 use Rattle.ipc_engine.specs.Bytes.{owed}
 use Rattle.ipc_engine.proofs.engine.Engine.owed.Goals as goal

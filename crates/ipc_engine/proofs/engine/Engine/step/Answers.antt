@@ -1,159 +1,110 @@
-use Rattle.std.proofs.Common.{◌≡◌, ◌≤◌, map, vec_capacity, true, sym, subst, ap, ◌∙◌, arith, rules}
+use Rattle.std.proofs.Common.{◌≡◌, ◌≤◌, ℕ, ◌++◌, [], List, map, append-nil, vec_capacity, false, sym, subst, ap, ◌∙◌, arith, rules}
+use Rattle.std.specs.Prelude.{Option}
+use Rattle.std.specs.Global.{Vec}
 use Rattle.ipc_base.specs.declared.limits.Limits.{Limits}
 use Rattle.ipc_base.specs.Limits.{ArePassed}
-use Rattle.ipc_wire.specs.Request.{plain_request}
-use Rattle.ipc_wire.specs.Spelling.{HasFrame}
-use Rattle.ipc_engine.specs.Engine.{Machine}
-use Rattle.ipc_engine.specs.Event.{Connect, Call, Interrupt, Tick, Exit, Restart}
-use Rattle.ipc_state.specs.State.{at_moment, exit, is_process}
-use Rattle.ipc_engine.specs.Step.{Step, most_replies, silent, settle}
+use Rattle.ipc_wire.specs.Request.{PlainRequest}
+use Rattle.ipc_wire.specs.View.{plain_request}
+use Rattle.ipc_state.specs.Held.{Room}
+use Rattle.ipc_state.specs.State.{State, exit, is_waiting}
+use Rattle.sysv_calls.specs.Needs.{Has, IsReserved, Needs, Nothing, Place, Text, needs}
+use Rattle.ipc_engine.specs.declared.event.Outcome.{Outcome}
 use Rattle.ipc_engine.specs.Buffer.{HasBuffer}
+use Rattle.ipc_engine.specs.Engine.{Machine}
+use Rattle.ipc_engine.specs.Event.{PlainOutcome, Connect, Call, Interrupt, Tick, Exit, Restart}
+use Rattle.ipc_engine.specs.Sound.{IsSound}
+use Rattle.ipc_engine.specs.Step.{Step, connect, due, most_replies, settle}
 use Rattle.ipc_engine.specs.View.{plain_outcome}
-use Rattle.ipc_engine.proofs.Buffers.{buffer-spare, buffer-same, begun-sound, after-sound, after-fits}
+use Rattle.ipc_engine.proofs.Buffers.{buffer-spare, after-sound, after-fits, pushed}
 use Rattle.ipc_engine.proofs.Soundness.{due-sound, exit-waits, sound-settled}
 use Rattle.ipc_engine.proofs.engine.Engine.step.Goals as goal
+
+-- what the machine keeps, told of what is known to be equal
+keeps : (limits now : Limits) (before after capacity : ℕ) (t : State) (spare : Vec ℕ) (os : List Outcome) → now ≡ limits → most_replies limits ≤ capacity
+    → IsSound now t → ArePassed limits → HasBuffer now spare os → limits.processes ≤ before → after ≡ before
+    → (most_replies now ≤ capacity) × IsSound now t × ArePassed now × HasBuffer now spare os × (now.processes ≤ after)
+keeps limits now before after capacity t spare os same places sound passed buffer waits as_before = (
+  subst (λ (l : Limits). most_replies l ≤ capacity) (sym same) places,
+  sound,
+  subst (λ (l : Limits). ArePassed l) (sym same) passed,
+  buffer,
+  omega (arith, waits, as_before, ap (λ (l : Limits). l.processes) same),
+)
+
+-- what was reserved is there when the moment has come
+reserved-due : (s : State) (places : Room) (request : PlainRequest) (kept : Option PlainRequest) (moment : ℕ) → IsReserved s places request kept
+    → IsReserved (due moment s).state places request kept
+reserved-due s places request kept moment h = record { call = h.call; room = by_needs (needs request.kind) h.room }
+  where
+    by_needs : (n : Needs) → Has s places n → Has (due moment s).state places n
+    by_needs Nothing has = has
+    by_needs (Place key) has = record { queue = has.queue; fresh = has.fresh; vacant = has.vacant }
+    by_needs Text has = has
+
+-- nobody goes on by an exit
+exit-settled : (limits : Limits) (s : State) (pid moment : ℕ) → IsSound limits s
+    → settle limits (exit (due moment s).state pid) ≡ record { state = exit (due moment s).state pid; outcomes = [] }
+exit-settled limits s pid moment h =
+    sound-settled limits (exit (due moment s).state pid) (exit-waits limits (due moment s).state pid (due-sound limits s moment h))
 
 pub returns-in_ok-reserve_hello-in-Connect-clause-sound : goal.returns-in_ok-reserve_hello-in-Connect-clause-sound
 returns-in_ok-reserve_hello-in-Connect-clause-sound c =
     let old = c.self.inside.state in
-    after-sound old.limits c.connect-outcome.new.state.limits old.state c.connect-outcome.new.state.state
-    (Connect c.in-Connect.cred c.in-Connect.serial c.in-Connect.moment.0) (search rules) (search rules) c.self.invariant.1 tt tt
+    let new = c.connect-outcome.new.state in
+    after-sound old.limits new.limits old.state new.state (Connect c.in-Connect.cred c.in-Connect.serial c.in-Connect.moment.0) (search rules)
+    (search rules) c.self.invariant.1 tt tt
+
+pub returns-in_ok-reserve_hello-in-Connect-clause-fits : goal.returns-in_ok-reserve_hello-in-Connect-clause-fits
+returns-in_ok-reserve_hello-in-Connect-clause-fits c =
+    let old = c.self.inside.state in
+    let cred = c.in-Connect.cred in
+    let serial = c.in-Connect.serial in
+    let moment = c.in-Connect.moment.0 in
+    let own = (connect old.limits cred serial (due moment old.state).state).outcomes in
+    let limits = c.begin.ensures.limits ∙ c.reserve_hello.ensures.limits in
+    let begun = c.begin.ensures.state ∙ ap (λ (s : State). (due moment s).state) c.reserve_hello.ensures.state in
+    let told : map plain_outcome c.push.new.outcomes.items ≡ (due moment old.state).outcomes ++ own =
+    pushed c.begin.new.outcomes.items c.push.new.outcomes.items c.connect-outcome.result own c.push.ensures.items
+    (ap (λ (t : Step). t.outcomes) c.connect-outcome.ensures.step ∙ (λ i. (connect (limits i) cred serial (begun i)).outcomes))
+    ∙ ap (λ (xs : List PlainOutcome). xs ++ own) (c.begin.ensures.outcomes ∙ ap (λ (s : State). (due moment s).outcomes) c.reserve_hello.ensures.state) in
+    after-fits old.limits c.connect-outcome.new.state.limits old.state (map plain_outcome c.push.new.outcomes.items) (Connect cred serial moment)
+    (search rules) told c.self.invariant.1
 
 pub invariant_of-self-in-Connect : goal.invariant_of-self-in-Connect
 invariant_of-self-in-Connect c =
     let old = c.self.inside.state in
-    let same : c.connect-outcome.new.state.limits ≡ old.limits = search rules in
-    let room : most_replies old.limits ≤ vec_capacity c.push.new.outcomes = search rules in (
-      subst (λ (l : Limits). most_replies l ≤ vec_capacity c.push.new.outcomes) (sym same) room,
-      after-sound old.limits c.connect-outcome.new.state.limits old.state c.connect-outcome.new.state.state
-          (Connect c.in-Connect.cred c.in-Connect.serial c.in-Connect.moment.0) same (search rules) c.self.invariant.1 tt tt,
-      subst (λ (l : Limits). ArePassed l) (sym same) c.self.invariant.2,
-      buffer-spare old.limits c.connect-outcome.new.state.limits c.self.inside.spare c.take_back.new.spare c.self.inside.outcomes.items
-          c.push.new.outcomes.items same c.self.invariant.3 c.take_back.ensures.room,
-    )
+    let new = c.connect-outcome.new.state in
+    let same : new.limits ≡ old.limits = search rules in
+    let waits = c.connect-outcome.ensures.waits ∙ (ap (λ (r : Room). r.waits) c.begin.ensures.room ∙ c.reserve_hello.ensures.waits) in
+    keeps old.limits new.limits old.room.waits new.room.waits (vec_capacity c.push.new.outcomes) new.state c.begin.new.spare c.push.new.outcomes.items
+    same (search rules)
+    (after-sound old.limits new.limits old.state new.state (Connect c.in-Connect.cred c.in-Connect.serial c.in-Connect.moment.0) same (search rules)
+    c.self.invariant.1 tt tt)
+    c.self.invariant.2
+    (buffer-spare old.limits new.limits c.self.inside.spare c.begin.new.spare c.self.inside.outcomes.items c.push.new.outcomes.items same c.self.invariant.3
+    c.begin.ensures.buffer)
+    c.self.invariant.4 waits
+
+pub ask-requires-clause-room : goal.ask-requires-clause-room
+ask-requires-clause-room c free =
+    let old = c.self.inside.state in
+    let ready = c.prepare.new.state in
+    let now = c.begin-in-Call.new.state in
+    let moment = c.in-Call.moment.0 in
+    let request = plain_request c.in-Call.request in
+    let kept = c.in_ok-kept-in-Call.kept in
+    let is : now.state ≡ (due moment old.state).state = c.begin-in-Call.ensures.state ∙ ap (λ (s : State). (due moment s).state) c.prepare.ensures.state in
+    let has = c.in_ok-kept-in-Call.ensures.ok (subst (λ (s : State). is_waiting s c.in-Call.pid.0 ≡ false) is free) in
+    subst (λ (r : Room). IsReserved now.state r request kept) (sym c.begin-in-Call.ensures.room)
+    (subst (λ (s : State). IsReserved s ready.room request kept) (sym c.begin-in-Call.ensures.state)
+    (reserved-due ready.state ready.room request kept moment has))
 
 pub returns-in_ok-kept-in-Call-clause-sound : goal.returns-in_ok-kept-in-Call-clause-sound
 returns-in_ok-kept-in-Call-clause-sound c =
     let old = c.self.inside.state in
-    after-sound old.limits c.ask.new.state.limits old.state c.ask.new.state.state (Call c.in-Call.pid.0
-    (plain_request c.in-Call.request) c.in-Call.moment.0) (search rules) (search rules) c.self.invariant.1 (search rules) (search rules)
-
-pub invariant_of-self-in-Call : goal.invariant_of-self-in-Call
-invariant_of-self-in-Call c =
-    let old = c.self.inside.state in
-    let same : c.ask.new.state.limits ≡ old.limits = search rules in
-    let room : most_replies old.limits ≤ vec_capacity c.ask.new.outcomes = search rules in (
-      subst (λ (l : Limits). most_replies l ≤ vec_capacity c.ask.new.outcomes) (sym same) room,
-      after-sound old.limits c.ask.new.state.limits old.state c.ask.new.state.state (Call c.in-Call.pid.0
-          (plain_request c.in-Call.request) c.in-Call.moment.0) same (search rules) c.self.invariant.1 (search rules) (search rules),
-      subst (λ (l : Limits). ArePassed l) (sym same) c.self.invariant.2,
-      buffer-same old.limits c.ask.new.state.limits c.ask.new.spare c.ask.new.outcomes.items same
-          (let begun : c.begin-in-Call.new.self.limits ≡ old.limits = search rules in
-          subst (λ (l : Limits). HasBuffer l c.ask.new.spare c.ask.new.outcomes.items) begun c.ask.ensures.buffer),
-    )
-
-pub returns-in-Interrupt-clause-sound : goal.returns-in-Interrupt-clause-sound
-returns-in-Interrupt-clause-sound c =
-    let old = c.self.inside.state in
-    after-sound old.limits c.interrupt.new.state.limits old.state c.interrupt.new.state.state
-    (Interrupt c.in-Interrupt.pid.0 c.in-Interrupt.serial c.in-Interrupt.moment.0) (search rules) (search rules) c.self.invariant.1 (search rules) tt
-
-pub invariant_of-self-in-Interrupt : goal.invariant_of-self-in-Interrupt
-invariant_of-self-in-Interrupt c =
-    let old = c.self.inside.state in
-    let same : c.interrupt.new.state.limits ≡ old.limits = search rules in
-    let room : most_replies old.limits ≤ vec_capacity c.interrupt.new.outcomes = search rules in (
-      subst (λ (l : Limits). most_replies l ≤ vec_capacity c.interrupt.new.outcomes) (sym same) room,
-      after-sound old.limits c.interrupt.new.state.limits old.state c.interrupt.new.state.state
-          (Interrupt c.in-Interrupt.pid.0 c.in-Interrupt.serial c.in-Interrupt.moment.0) same (search rules) c.self.invariant.1 (search rules) tt,
-      subst (λ (l : Limits). ArePassed l) (sym same) c.self.invariant.2,
-      buffer-spare old.limits c.interrupt.new.state.limits c.self.inside.spare c.take_back-in-Interrupt.new.spare c.self.inside.outcomes.items
-          c.interrupt.new.outcomes.items same c.self.invariant.3 c.take_back-in-Interrupt.ensures.room,
-    )
-
-pub returns-in-Tick-clause-sound : goal.returns-in-Tick-clause-sound
-returns-in-Tick-clause-sound c =
-    let old = c.self.inside.state in
-    after-sound old.limits c.begin-in-Tick.new.self.limits old.state c.begin-in-Tick.new.self.state (Tick c.in-Tick.moment.0) (search rules)
-    (search rules) c.self.invariant.1 tt tt
-
-pub invariant_of-self-in-Tick : goal.invariant_of-self-in-Tick
-invariant_of-self-in-Tick c =
-    let old = c.self.inside.state in
-    let same : c.begin-in-Tick.new.self.limits ≡ old.limits = search rules in
-    let room : most_replies old.limits ≤ vec_capacity c.take_back-in-Tick.new.outcomes = search rules in (
-      subst (λ (l : Limits). most_replies l ≤ vec_capacity c.take_back-in-Tick.new.outcomes) (sym same) room,
-      after-sound old.limits c.begin-in-Tick.new.self.limits old.state c.begin-in-Tick.new.self.state (Tick c.in-Tick.moment.0) same
-          (search rules) c.self.invariant.1 tt tt,
-      subst (λ (l : Limits). ArePassed l) (sym same) c.self.invariant.2,
-      buffer-spare old.limits c.begin-in-Tick.new.self.limits c.self.inside.spare c.take_back-in-Tick.new.spare c.self.inside.outcomes.items
-          c.take_back-in-Tick.new.outcomes.items same c.self.invariant.3 c.take_back-in-Tick.ensures.room,
-    )
-
-pub returns-in-Exit-clause-state : goal.returns-in-Exit-clause-state
-returns-in-Exit-clause-state c =
-    let old = c.self.inside.state in
-    let moment = c.in-Exit.moment.0 in
-    let pid = c.in-Exit.pid.0 in
-    let left = sound-settled old.limits (exit (at_moment old.state moment) pid)
-    (exit-waits old.limits (at_moment old.state moment) pid (due-sound old.limits old.state moment c.self.invariant.1)) in
-    let is : c.remove_process.new.self.state ≡ exit (at_moment old.state moment) pid = search rules in
-    rw c.in-Exit.is (is ∙ (sym (ap (λ (t : Step). t.state) left)
-    ∙ ap (λ (m : Machine). (settle m.limits (exit (at_moment m.state moment) pid)).state) c.self.view_is))
-
-pub returns-in-Exit-clause-outcomes : goal.returns-in-Exit-clause-outcomes
-returns-in-Exit-clause-outcomes c =
-    let old = c.self.inside.state in
-    let moment = c.in-Exit.moment.0 in
-    let pid = c.in-Exit.pid.0 in
-    let left = sound-settled old.limits (exit (at_moment old.state moment) pid)
-    (exit-waits old.limits (at_moment old.state moment) pid (due-sound old.limits old.state moment c.self.invariant.1)) in
-    rw c.in-Exit.is (ap (map plain_outcome) c.take_back-in-Exit.ensures.gone
-    ∙ (sym (ap (λ (t : Step). t.outcomes) left) ∙ ap (λ (m : Machine). (settle m.limits (exit (at_moment m.state moment) pid)).outcomes) c.self.view_is))
-
-pub returns-in-Exit-clause-sound : goal.returns-in-Exit-clause-sound
-returns-in-Exit-clause-sound c =
-    let old = c.self.inside.state in
-    after-sound old.limits c.remove_process.new.self.limits old.state c.remove_process.new.self.state (Exit c.in-Exit.pid.0 c.in-Exit.moment.0) (search rules)
-    (let moment = c.in-Exit.moment.0 in let pid = c.in-Exit.pid.0 in
-    let left = sound-settled old.limits (exit (at_moment old.state moment) pid)
-    (exit-waits old.limits (at_moment old.state moment) pid (due-sound old.limits old.state moment c.self.invariant.1)) in
-    let is : c.remove_process.new.self.state ≡ exit (at_moment old.state moment) pid = search rules in is ∙ sym (ap (λ (t : Step). t.state) left))
-    c.self.invariant.1 (search rules) tt
-
-pub invariant_of-self-in-Exit : goal.invariant_of-self-in-Exit
-invariant_of-self-in-Exit c =
-    let old = c.self.inside.state in
-    let same : c.remove_process.new.self.limits ≡ old.limits = search rules in
-    let room : most_replies old.limits ≤ vec_capacity c.take_back-in-Exit.new.outcomes = search rules in (
-      subst (λ (l : Limits). most_replies l ≤ vec_capacity c.take_back-in-Exit.new.outcomes) (sym same) room,
-      after-sound old.limits c.remove_process.new.self.limits old.state c.remove_process.new.self.state (Exit c.in-Exit.pid.0 c.in-Exit.moment.0) same
-          (let moment = c.in-Exit.moment.0 in let pid = c.in-Exit.pid.0 in
-          let left = sound-settled old.limits (exit (at_moment old.state moment) pid)
-          (exit-waits old.limits (at_moment old.state moment) pid (due-sound old.limits old.state moment c.self.invariant.1)) in
-          let is : c.remove_process.new.self.state ≡ exit (at_moment old.state moment) pid = search rules in is ∙ sym (ap (λ (t : Step). t.state) left))
-          c.self.invariant.1 (search rules) tt,
-      subst (λ (l : Limits). ArePassed l) (sym same) c.self.invariant.2,
-      buffer-spare old.limits c.remove_process.new.self.limits c.self.inside.spare c.take_back-in-Exit.new.spare c.self.inside.outcomes.items
-          c.take_back-in-Exit.new.outcomes.items same c.self.invariant.3 c.take_back-in-Exit.ensures.room,
-    )
-
-pub returns-in-Restart-clause-sound : goal.returns-in-Restart-clause-sound
-returns-in-Restart-clause-sound c =
-    let old = c.self.inside.state in
-    after-sound old.limits c.restart.new.self.limits old.state c.restart.new.self.state (Restart) (search rules) (search rules) c.self.invariant.1 tt tt
-
-pub invariant_of-self-in-Restart : goal.invariant_of-self-in-Restart
-invariant_of-self-in-Restart c =
-    let old = c.self.inside.state in
-    let same : c.restart.new.self.limits ≡ old.limits = search rules in
-    let room : most_replies old.limits ≤ vec_capacity c.take_back-in-Restart.new.outcomes = search rules in (
-      subst (λ (l : Limits). most_replies l ≤ vec_capacity c.take_back-in-Restart.new.outcomes) (sym same) room,
-      after-sound old.limits c.restart.new.self.limits old.state c.restart.new.self.state (Restart) same (search rules) c.self.invariant.1 tt tt,
-      subst (λ (l : Limits). ArePassed l) (sym same) c.self.invariant.2,
-      buffer-spare old.limits c.restart.new.self.limits c.self.inside.spare c.take_back-in-Restart.new.spare c.self.inside.outcomes.items
-          c.take_back-in-Restart.new.outcomes.items same c.self.invariant.3 c.take_back-in-Restart.ensures.room,
-    )
+    let new = c.ask.new.state in
+    after-sound old.limits new.limits old.state new.state (Call c.in-Call.pid.0 (plain_request c.in-Call.request) c.in-Call.moment.0) (search rules)
+    (search rules) c.self.invariant.1 (search rules) c.in-Call.request.frame
 
 pub returns-in_ok-kept-in-Call-clause-fits : goal.returns-in_ok-kept-in-Call-clause-fits
 returns-in_ok-kept-in-Call-clause-fits c =
@@ -161,14 +112,124 @@ returns-in_ok-kept-in-Call-clause-fits c =
     let event = Call c.in-Call.pid.0 (plain_request c.in-Call.request) c.in-Call.moment.0 in
     after-fits old.limits c.ask.new.state.limits old.state (map plain_outcome c.ask.new.outcomes.items) event (search rules) (search rules) c.self.invariant.1
 
-pub ask-requires-clause-sound : goal.ask-requires-clause-sound
-ask-requires-clause-sound c =
+pub invariant_of-self-in-Call : goal.invariant_of-self-in-Call
+invariant_of-self-in-Call c =
     let old = c.self.inside.state in
-    begun-sound old.limits c.begin-in-Call.new.self.limits old.state c.begin-in-Call.new.self.state c.in-Call.moment.0 (search rules)
-    (search rules) c.self.invariant.1
+    let new = c.ask.new.state in
+    let same : new.limits ≡ old.limits = search rules in
+    let begun : c.begin-in-Call.new.state.limits ≡ new.limits = sym c.ask.ensures.limits in
+    let waits = c.ask.ensures.waits ∙ (ap (λ (r : Room). r.waits) c.begin-in-Call.ensures.room ∙ c.prepare.ensures.waits) in
+    keeps old.limits new.limits old.room.waits new.room.waits (vec_capacity c.ask.new.outcomes) new.state c.ask.new.spare c.ask.new.outcomes.items
+    same (search rules)
+    (after-sound old.limits new.limits old.state new.state (Call c.in-Call.pid.0 (plain_request c.in-Call.request) c.in-Call.moment.0) same (search rules)
+    c.self.invariant.1 (search rules) c.in-Call.request.frame)
+    c.self.invariant.2
+    (subst (λ (l : Limits). HasBuffer l c.ask.new.spare c.ask.new.outcomes.items) begun c.ask.ensures.buffer)
+    c.self.invariant.4 waits
 
-pub interrupt-requires-clause-sound : goal.interrupt-requires-clause-sound
-interrupt-requires-clause-sound c =
+pub returns-in-Interrupt-clause-sound : goal.returns-in-Interrupt-clause-sound
+returns-in-Interrupt-clause-sound c =
     let old = c.self.inside.state in
-    begun-sound old.limits c.begin-in-Interrupt.new.self.limits old.state c.begin-in-Interrupt.new.self.state c.in-Interrupt.moment.0 (search rules)
-    (search rules) c.self.invariant.1
+    let new = c.interrupt.new.state in
+    after-sound old.limits new.limits old.state new.state (Interrupt c.in-Interrupt.pid.0 c.in-Interrupt.serial c.in-Interrupt.moment.0) (search rules)
+    (search rules) c.self.invariant.1 (search rules) tt
+
+pub returns-in-Interrupt-clause-fits : goal.returns-in-Interrupt-clause-fits
+returns-in-Interrupt-clause-fits c =
+    let old = c.self.inside.state in
+    let event = Interrupt c.in-Interrupt.pid.0 c.in-Interrupt.serial c.in-Interrupt.moment.0 in
+    after-fits old.limits c.interrupt.new.state.limits old.state (map plain_outcome c.interrupt.new.outcomes.items) event (search rules) (search rules)
+    c.self.invariant.1
+
+pub invariant_of-self-in-Interrupt : goal.invariant_of-self-in-Interrupt
+invariant_of-self-in-Interrupt c =
+    let old = c.self.inside.state in
+    let new = c.interrupt.new.state in
+    let same : new.limits ≡ old.limits = search rules in
+    let waits = c.interrupt.ensures.waits ∙ ap (λ (r : Room). r.waits) c.begin-in-Interrupt.ensures.room in
+    keeps old.limits new.limits old.room.waits new.room.waits (vec_capacity c.interrupt.new.outcomes) new.state c.begin-in-Interrupt.new.spare
+    c.interrupt.new.outcomes.items same (search rules)
+    (after-sound old.limits new.limits old.state new.state (Interrupt c.in-Interrupt.pid.0 c.in-Interrupt.serial c.in-Interrupt.moment.0) same (search rules)
+    c.self.invariant.1 (search rules) tt)
+    c.self.invariant.2
+    (buffer-spare old.limits new.limits c.self.inside.spare c.begin-in-Interrupt.new.spare c.self.inside.outcomes.items c.interrupt.new.outcomes.items same
+    c.self.invariant.3 c.begin-in-Interrupt.ensures.buffer)
+    c.self.invariant.4 waits
+
+pub returns-in-Tick-clause-fits : goal.returns-in-Tick-clause-fits
+returns-in-Tick-clause-fits c =
+    let old = c.self.inside.state in
+    after-fits old.limits c.begin-in-Tick.new.state.limits old.state (map plain_outcome c.begin-in-Tick.new.outcomes.items) (Tick c.in-Tick.moment.0)
+    (search rules) (search rules) c.self.invariant.1
+
+-- what an exit leaves is sound
+left-sound : (c : goal.After-remove_process) → IsSound c.remove_process.new.self.limits c.remove_process.new.self.state
+left-sound c =
+    let old = c.self.inside.state in
+    let moment = c.in-Exit.moment.0 in
+    let pid = c.in-Exit.pid.0 in
+    let is : c.remove_process.new.self.state ≡ exit (due moment old.state).state pid = search rules in
+    after-sound old.limits c.remove_process.new.self.limits old.state c.remove_process.new.self.state (Exit pid moment) (search rules)
+    (is ∙ sym (ap (λ (t : Step). t.state) (exit-settled old.limits old.state pid moment c.self.invariant.1))) c.self.invariant.1 (search rules) tt
+
+pub returns-in-Exit-clause-state : goal.returns-in-Exit-clause-state
+returns-in-Exit-clause-state c =
+    let old = c.self.inside.state in
+    let moment = c.in-Exit.moment.0 in
+    let pid = c.in-Exit.pid.0 in
+    let is : c.remove_process.new.self.state ≡ exit (due moment old.state).state pid = search rules in
+    rw c.in-Exit.is (is ∙ (sym (ap (λ (t : Step). t.state) (exit-settled old.limits old.state pid moment c.self.invariant.1))
+    ∙ ap (λ (m : Machine). (settle m.limits (exit (due moment m.state).state pid)).state) c.self.view_is))
+
+pub returns-in-Exit-clause-outcomes : goal.returns-in-Exit-clause-outcomes
+returns-in-Exit-clause-outcomes c =
+    let old = c.self.inside.state in
+    let moment = c.in-Exit.moment.0 in
+    let pid = c.in-Exit.pid.0 in
+    rw c.in-Exit.is (c.begin-in-Exit.ensures.outcomes ∙ (sym (append-nil (due moment old.state).outcomes)
+    ∙ (ap (λ (t : Step). (due moment old.state).outcomes ++ t.outcomes) (sym (exit-settled old.limits old.state pid moment c.self.invariant.1))
+    ∙ ap (λ (m : Machine). (due moment m.state).outcomes ++ (settle m.limits (exit (due moment m.state).state pid)).outcomes) c.self.view_is)))
+
+pub returns-in-Exit-clause-sound : goal.returns-in-Exit-clause-sound
+returns-in-Exit-clause-sound c = left-sound c
+
+pub returns-in-Exit-clause-fits : goal.returns-in-Exit-clause-fits
+returns-in-Exit-clause-fits c =
+    let old = c.self.inside.state in
+    let moment = c.in-Exit.moment.0 in
+    let pid = c.in-Exit.pid.0 in
+    let told : map plain_outcome c.begin-in-Exit.new.outcomes.items ≡ (due moment old.state).outcomes ++ (settle old.limits
+    (exit (due moment old.state).state pid)).outcomes = c.begin-in-Exit.ensures.outcomes ∙ (sym (append-nil (due moment old.state).outcomes)
+    ∙ ap (λ (t : Step). (due moment old.state).outcomes ++ t.outcomes) (sym (exit-settled old.limits old.state pid moment c.self.invariant.1))) in
+    after-fits old.limits c.remove_process.new.self.limits old.state (map plain_outcome c.begin-in-Exit.new.outcomes.items) (Exit pid moment) (search rules)
+    told c.self.invariant.1
+
+pub invariant_of-self-in-Exit : goal.invariant_of-self-in-Exit
+invariant_of-self-in-Exit c =
+    let old = c.self.inside.state in
+    let new = c.remove_process.new.self in
+    let same : new.limits ≡ old.limits = search rules in
+    let waits = c.remove_process.ensures.waits ∙ ap (λ (r : Room). r.waits) c.begin-in-Exit.ensures.room in
+    keeps old.limits new.limits old.room.waits new.room.waits (vec_capacity c.begin-in-Exit.new.outcomes) new.state c.begin-in-Exit.new.spare
+    c.begin-in-Exit.new.outcomes.items same (search rules) (left-sound c) c.self.invariant.2
+    (buffer-spare old.limits new.limits c.self.inside.spare c.begin-in-Exit.new.spare c.self.inside.outcomes.items c.begin-in-Exit.new.outcomes.items same
+    c.self.invariant.3 c.begin-in-Exit.ensures.buffer)
+    c.self.invariant.4 waits
+
+pub returns-in-Restart-clause-sound : goal.returns-in-Restart-clause-sound
+returns-in-Restart-clause-sound c =
+    let old = c.self.inside.state in
+    let new = c.restart.new.self in
+    after-sound old.limits new.limits old.state new.state Restart (search rules) (search rules) c.self.invariant.1 tt tt
+
+pub invariant_of-self-in-Restart : goal.invariant_of-self-in-Restart
+invariant_of-self-in-Restart c =
+    let old = c.self.inside.state in
+    let new = c.restart.new.self in
+    let same : new.limits ≡ old.limits = search rules in
+    keeps old.limits new.limits old.room.waits new.room.waits (vec_capacity c.take_back.new.outcomes) new.state c.take_back.new.spare
+    c.take_back.new.outcomes.items same (search rules)
+    (after-sound old.limits new.limits old.state new.state Restart same (search rules) c.self.invariant.1 tt tt) c.self.invariant.2
+    (buffer-spare old.limits new.limits c.self.inside.spare c.take_back.new.spare c.self.inside.outcomes.items c.take_back.new.outcomes.items same
+    c.self.invariant.3 c.take_back.ensures.room)
+    c.self.invariant.4 c.restart.ensures.waits

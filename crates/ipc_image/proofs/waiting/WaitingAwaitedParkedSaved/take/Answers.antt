@@ -18,7 +18,7 @@ returns-clause-ok c =
     let found = c.in-Some.ensures.some in
     let call = c.in_ok-call.ensures.ok in
     let made = made_is cut.pid cut.deadline cut.text.now c.awaited.result c.deadline_from.result c.in_ok-call.call found.0 c.deadline_from.ensures
-    call.0 call.1 c.awaited.ensures in
+    call.0 call.1 c.awaited.ensures.on in
     let w : PlainWaiting = record { pid = record { 0 = cut.pid }; on = c.awaited.result; deadline = c.deadline_from.result; call = c.in_ok-call.call } in (
       w,
       made.0,

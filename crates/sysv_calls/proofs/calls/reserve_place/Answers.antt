@@ -1,10 +1,9 @@
-use Rattle.std.proofs.Common.{◌≡◌, ℤ, true, None, refl, subst, rules}
+use Rattle.std.proofs.Common.{◌≡◌, ℤ, true, refl, subst, rules}
 use Rattle.std.specs.Int.{w32, cast_signed as to_z, cast_unsigned as of_z}
-use Rattle.ipc_wire.specs.Request.{plain_request}
 use Rattle.ipc_state.specs.Held.{HasQueuePlace}
 use Rattle.ipc_state.proofs.CallerLemmas.{held-positive}
-use Rattle.sysv_calls.specs.Needs.{Needs, Has}
-use Rattle.sysv_calls.proofs.calls.reserve.Goals as goal
+use Rattle.sysv_calls.specs.Needs.{Has}
+use Rattle.sysv_calls.proofs.calls.reserve_place.Goals as goal
 
 pub returns-in_ok-reserve_queue-in-Place-clause-ok : goal.returns-in_ok-reserve_queue-in-Place-clause-ok
 returns-in_ok-reserve_queue-in-Place-clause-ok c =
@@ -13,4 +12,4 @@ returns-in_ok-reserve_queue-in-Place-clause-ok c =
     let n : to_z w32 (of_z w32 c.in-Place.key) ≡ c.in-Place.key = search rules in
     let positive = held-positive (record { objects = old.state.msg; place = true; keys = old.room.keys }) old.state.msg refl c.requires.sound.msg in
     let place = subst (λ (z : ℤ). HasQueuePlace new.state new.room z) n (c.in_ok-reserve_queue-in-Place.ensures.ok positive) in
-    subst (λ (needs : Needs). Has new.state new.room (plain_request c.args.request.now) None needs) c.in-Place.ensures (refl, place)
+    rw c.in-Place.is place
