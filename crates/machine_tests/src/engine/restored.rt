@@ -5,7 +5,7 @@ use ipc_base::{Cred, Errno, Id, Moment, MsgFlags, Pid};
 use ipc_engine::{Engine, Row, StateFault};
 use ipc_perm::Perm;
 use ipc_state::{Awaited, Entry, Numbers, Parked, Process, State};
-use ipc_wait::Waiting;
+use ipc_wait::{WaitList, Waiting};
 use ipc_wire::{Call, Request, RequestKind};
 use std::alloc::{AllocError, Global};
 use std::process::Abort;
@@ -380,14 +380,15 @@ fn receive(rt: &impl Abort, wait: Wait) -> Request<'static> {
 fn waiting_state(rt: &impl Abort, alloc: Global, wait: Wait) -> Result<State, AllocError> {
     let mut state = state_of(alloc, &SMALL)?;
     let call = Parked::new(alloc, &receive(rt, wait))?.expect(rt, "a receive may wait");
-    state.reserve_waits()?;
-    assert!(rt; !state.is_waiting(Pid(wait.pid)));
-    state.enter_wait(Waiting {
+    let mut calls = Vec::new(alloc);
+    calls.push(Waiting {
         pid: Pid(wait.pid),
         on: Awaited::Queue(Id(wait.on)),
         deadline: None,
         call,
-    });
+    })?;
+    let waits = WaitList::from_calls(alloc, calls)?.expect(rt, "one call is of one process");
+    state.restore_waits(waits);
     Ok(state)
 }
 
