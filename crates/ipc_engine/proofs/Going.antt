@@ -1,5 +1,5 @@
 -- Which calls can go on when one object has changed: those that wait on it, and no other.
-use Rattle.std.proofs.Common.{◌≡◌, ◌≢◌, ℕ, zero, suc, ◌⊎◌, inl, inr, Bool, true, false, not, List, ◌++◌}
+use Rattle.std.proofs.Common.{◌≡◌, ◌≢◌, ℕ, zero, suc, ℤ, ◌⊎◌, inl, inr, Bool, true, false, not, List, ◌++◌}
 use Rattle.std.proofs.Common.{Option, Some, None, is_some, get_or, length, length-append, append_assoc, ◌+◌, ◌≤◌}
 use Rattle.std.proofs.Common.{refl, sym, ap, subst, ◌∙◌, arith}
 use Rattle.std.specs.Prelude.{All, find, nat_eq}
@@ -10,20 +10,22 @@ use Rattle.ipc_base.specs.declared.identity.Id.{Id}
 use Rattle.ipc_base.proofs.CallerLemmas.{test_cases}
 use Rattle.ipc_wait.specs.Waits.{is_of}
 use Rattle.ipc_wait.proofs.CallerLemmas.{found-in}
-use Rattle.ipc_wire.specs.Request.{PlainKind, Hello, Interrupt as Interrupts, Calls}
+use Rattle.ipc_wire.specs.Request.{PlainCall, PlainKind, Hello, Interrupt as Interrupts, Calls}
+use Rattle.ipc_wire.specs.Request as requests
 use Rattle.ipc_state.specs.declared.parked.Awaited.{Awaited}
 use Rattle.ipc_state.specs.declared.parked.Awaited.TheVariants as awaited
 use Rattle.ipc_state.specs.declared.processes.Process.{Process}
-use Rattle.ipc_state.specs.Finish.{Finish, has_to_wait}
+use Rattle.ipc_state.specs.Finish.{Finish, Finishes, IfFinishes, has_to_wait}
 use Rattle.ipc_state.specs.Numbered.{Numbered, entry_of}
 use Rattle.ipc_state.specs.Sound.{HasSoundParts}
 use Rattle.ipc_state.specs.State.{State, is_process}
 use Rattle.ipc_state.specs.Touching.{is_there}
 use Rattle.ipc_state.specs.Waiting.{PlainWaiting, IsSoundWaiting, awaited_by}
 use Rattle.ipc_state.proofs.CallerLemmas.{IsGood}
-use Rattle.sysv_calls.proofs.CallerLemmas.{waits-there}
+use Rattle.sysv_calls.specs.Calls.{attempt, is_receive, touched}
+use Rattle.sysv_calls.proofs.CallerLemmas.{attempt-good, by-waiting, received-waits, waits-there}
 use Rattle.ipc_engine.specs.Event.{PlainOutcome}
-use Rattle.ipc_engine.specs.Settling.{AreLinked, OthersWait}
+use Rattle.ipc_engine.specs.Settling.{AreLinked, OthersWait, ReceivesWait}
 use Rattle.ipc_engine.specs.Sound.{IsSound}
 use Rattle.ipc_engine.specs.Step.{Step, silent, after, resumed, resumed_first, settle_within, settle, can_go_on, tried_again}
 use Rattle.ipc_engine.proofs.Lists.{found-all, found-passes}
@@ -61,6 +63,39 @@ module _ (limits : Limits) where
       let waits = (h.waits k d i).waits in
       still-waits limits s f.state w sound (credited limits s f.state w.pid.0 (ap (λ (ps : Numbered Process). entry_of ps w.pid.0) good.kept))
       (good.others w.on apart (there-of s w sound waits)) ∙ waits)
+
+  -- after a receive the other receives have to wait on
+  module _ (s : State) (pid : ℕ) (f : Finish) (h : IsSound limits s) where
+    abbrev StillReceive : PlainCall → Type 0
+    StillReceive call = attempt limits s pid false call ≡ Finishes f → is_receive (Calls call) ≡ true → ReceivesWait limits f.state
+
+    -- one that had to wait, if it is a receive
+    abbrev StillWaits : ℕ → PlainKind → Type 0
+    StillWaits other kind = is_receive kind ≡ true → not (has_to_wait (tried_again limits s other kind)) ≡ false
+        → not (has_to_wait (tried_again limits f.state other kind)) ≡ false
+
+    after-receive : (id flags size : ℕ) (mtype : ℤ) → StillReceive (requests.Msgrcv id flags size mtype)
+    after-receive id flags size mtype is receive =
+        subst (λ (ws : List PlainWaiting). All (λ (w : PlainWaiting). is_receive w.call.kind ≡ true → can_go_on limits f.state w ≡ false) ws) (sym good.wait)
+        (λ k d i other. by_kind (get_or s.wait k d).pid.0 (get_or s.wait k d).call.kind other (h.waits k d i).waits)
+      where
+        good : IsGood limits s (touched (requests.Msgrcv id flags size mtype)) f
+        good = subst (IfFinishes (IsGood limits s (touched (requests.Msgrcv id flags size mtype)))) is
+            (attempt-good limits s pid false (requests.Msgrcv id flags size mtype))
+
+        opposite : (b : Bool) → not b ≡ false → b ≡ true
+        opposite true is = refl
+        opposite false is = cc
+
+        by_kind : (other : ℕ) (kind : PlainKind) → StillWaits other kind
+        by_kind other (Calls call) = by-waiting (λ (c : PlainCall). StillWaits other (Calls c)) (λ i fs mt text one. cc)
+            (λ i fs sz mt one waits. ap not (received-waits limits s pid false id flags size mtype f is other i fs sz mt (opposite _ waits)))
+            (λ c none one. let both = sym none.no_receive ∙ one in cc) call
+        by_kind other (Hello cred) = λ one. cc
+        by_kind other Interrupts = λ one. cc
+
+    pub receives-after : (call : PlainCall) → attempt limits s pid false call ≡ Finishes f → is_receive (Calls call) ≡ true → ReceivesWait limits f.state
+    receives-after = by-waiting StillReceive (λ id flags mtype text is one. cc) after-receive (λ call none is one. let both = sym none.no_receive ∙ one in cc)
 
   pub linked-after : (s : State) (touches : Option Awaited) (f : Finish) → IsSound limits s → IsGood limits s touches f → AreLinked f.state
   linked-after s touches f h good =

@@ -10,7 +10,6 @@ use Rattle.ipc_base.specs.declared.limits.Limits.{Limits}
 use Rattle.ipc_wait.specs.Waits.{call_of, without, is_of, is_due}
 use Rattle.ipc_wait.proofs.CallerLemmas.{IsIn, found-in, call_of-without_same, call_of-without_other}
 use Rattle.ipc_wire.specs.Request.{PlainCall, PlainKind, Hello, Interrupt as Interrupts, Calls}
-use Rattle.ipc_wire.specs.Request as requests
 use Rattle.sysv_msg.specs.Queue.{Queue}
 use Rattle.ipc_state.specs.declared.parked.Awaited.{Awaited}
 use Rattle.ipc_state.specs.declared.parked.Awaited.TheVariants as awaited
@@ -24,7 +23,7 @@ use Rattle.ipc_state.specs.Touching.{is_there, IsAsBefore}
 use Rattle.ipc_state.specs.Waiting.{PlainWaiting, IsSoundWaiting, awaited_by}
 use Rattle.ipc_state.proofs.CallerLemmas.{IsGood, without_waiting-sound}
 use Rattle.sysv_calls.specs.Calls.{attempt, touched}
-use Rattle.sysv_calls.proofs.CallerLemmas.{attempt-good}
+use Rattle.sysv_calls.proofs.CallerLemmas.{attempt-good, by-waiting}
 use Rattle.ipc_engine.specs.Event.{PlainOutcome}
 use Rattle.ipc_engine.specs.Step.{Step, silent, after, answered, tried_again, can_go_on, resumed, resumed_first, settle_within, settle}
 use Rattle.ipc_engine.proofs.Lists.{found-all, nothing-passes, nothing-found}
@@ -32,12 +31,9 @@ use Rattle.ipc_engine.proofs.Weights.{weight_to, weight_to-append, one-weighs, h
 
 -- a call that waits on an object is one that may change it
 pub waits-touched : (call : PlainCall) (on : Awaited) → awaited_by (Calls call) ≡ Some on → touched call ≡ Some on
-waits-touched (requests.Msgsnd id flags mtype text) on is = is
-waits-touched (requests.Msgrcv id flags size mtype) on is = is
-waits-touched (requests.Msgget key flags) on is = cc
-waits-touched (requests.MsgctlStat id) on is = cc
-waits-touched (requests.MsgctlSet id uid gid mode qbytes) on is = cc
-waits-touched (requests.MsgctlRmid id) on is = cc
+waits-touched =
+    by-waiting (λ call. (on : Awaited) → awaited_by (Calls call) ≡ Some on → touched call ≡ Some on) (λ id flags mtype text on is. is)
+    (λ id flags size mtype on is. is) (λ call other on is. let both = sym is ∙ other.never in cc)
 
 -- who waits tells nothing of the objects
 pub there-with : (on : Awaited) (s : State) (ws : List PlainWaiting) → is_there on s ≡ true → is_there on (record s { wait = ws }) ≡ true

@@ -5,6 +5,7 @@ use Rattle.ipc_base.specs.declared.limits.Limits.{Limits}
 use Rattle.ipc_state.specs.declared.parked.Awaited.{Awaited}
 use Rattle.ipc_state.specs.State.{State, is_process}
 use Rattle.ipc_state.specs.Waiting.{PlainWaiting}
+use Rattle.sysv_calls.specs.Calls.{is_receive}
 use Rattle.ipc_engine.specs.Step.{can_go_on}
 
 -- each call that waits is one of a connected process
@@ -14,6 +15,11 @@ AreLinked s = All (λ (w : PlainWaiting). is_process s w.pid.0 ≡ true) s.wait
 -- those that wait on another object than this have to
 abbrev pub OthersWait : Limits → State → Option Awaited → Type 0
 OthersWait limits s touched = All (λ (w : PlainWaiting). touched ≢ Some w.on → can_go_on limits s w ≡ false) s.wait
+
+-- the receives that wait have to
+abbrev pub ReceivesWait : Limits → State → Type 0
+ReceivesWait limits s =
+    All (λ (w : PlainWaiting). is_receive w.call.kind ≡ true → can_go_on limits s w ≡ false) s.wait
 
 -- the process of the first that passes, or none
 abbrev pub IsFirst : (PlainWaiting → Bool) → List PlainWaiting → Option Pid → Type 0

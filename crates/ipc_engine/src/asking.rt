@@ -13,6 +13,7 @@ ghost use Rattle.sysv_calls.specs.Calls.{attempt as attempt_of};
 ghost use Rattle.sysv_calls.specs.Needs.{Has, IsReserved, needs};
 ghost use Rattle.sysv_calls.specs.Spare.{IsSpare, room_in as room_in_answer};
 ghost use Rattle.ipc_engine.specs.Buffer.{HasBuffer, room_in};
+ghost use Rattle.ipc_engine.specs.Settling.{ReceivesWait};
 ghost use Rattle.ipc_engine.specs.Sound.{IsSound};
 ghost use Rattle.ipc_engine.specs.Step.{after, asked, called, interrupt as interrupt_step, interrupted, joins};
 ghost use Rattle.ipc_engine.specs.Step.{replied, settle as settled, told};
@@ -25,7 +26,7 @@ use ipc_base::{Errno, Pid};
 use ipc_state::{Awaited, Parked, State};
 use ipc_wait::Waiting;
 use ipc_wire::{Body, Call, Request, RequestKind};
-use sysv_calls::{Answer, Tried, attempt, touched, try_parked};
+use sysv_calls::{Answer, Tried, attempt, receives, touched, try_parked};
 
 /// What a process is told at a request whose memory is reserved. It takes none.
 pub(crate) fn ask(
@@ -124,7 +125,7 @@ fn at_once(
     ensures buffer { HasBuffer state.old.limits spare.new outcomes.new.items }
 {
     let answer = attempt(state, pid, call, spare);
-    finish(state, outcomes, pid, serial, answer, touched(call));
+    finish(state, outcomes, pid, serial, answer, touched(call), false);
 }
 
 /// A call that may wait is tried: it ends, and others go on, or it joins those that wait.
@@ -152,7 +153,15 @@ fn try_once(
 {
     let serial = parked.serial();
     match try_parked(state, pid, false, parked) {
-        Tried::Finishes(answer) => finish(state, outcomes, pid, serial, answer, touched(call)),
+        Tried::Finishes(answer) => finish(
+            state,
+            outcomes,
+            pid,
+            serial,
+            answer,
+            touched(call),
+            receives(call),
+        ),
         Tried::Waits(parked) => join(state, outcomes, pid, parked),
     }
 }
@@ -186,7 +195,7 @@ fn join(state: &mut State, outcomes: &mut Vec<Outcome>, pid: Pid, parked: Parked
 }
 
 /// A call has ended so, and may have changed this object: it is answered, and then those go on that wait on the object
-/// and can.
+/// and can. `received`, if it was a receive.
 fn finish(
     state: &mut State,
     outcomes: &mut Vec<Outcome>,
@@ -194,9 +203,11 @@ fn finish(
     serial: u32,
     answer: Answer,
     touched: Option<Awaited>,
+    received: bool,
 )
     requires good { (s : PlainState) × IsSound state.old.limits s
         × IsGood state.old.limits s touched (finish_of state.old.state answer) }
+    requires receives { received ≡ true → ReceivesWait state.old.limits state.old.state }
     requires places { length outcomes.old.items + length state.old.state.wait < vec_capacity outcomes.old }
     ensures state { state.new.state
         ≡ (after (replied pid.0 serial (finish_of state.old.state answer)) (settled state.old.limits)).state }
@@ -208,7 +219,7 @@ fn finish(
     ensures room { room_in_answer answer ≤ room_in outcomes.new.items }
 {
     push(outcomes, reply_to(pid, serial, answer));
-    settle(state, outcomes, touched);
+    settle(state, outcomes, touched, received);
 }
 
 /// A request is refused.

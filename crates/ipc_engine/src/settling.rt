@@ -6,7 +6,8 @@ ghost use Rattle.ipc_state.specs.Sound.{HasSoundParts};
 ghost use Rattle.ipc_state.specs.State.{is_process};
 ghost use Rattle.ipc_state.specs.Waiting.{IsSoundWaiting, PlainWaiting};
 ghost use Rattle.ipc_engine.specs.Buffer.{room_in};
-ghost use Rattle.ipc_engine.specs.Settling.{AreLinked, IsFirst, OthersWait};
+ghost use Rattle.sysv_calls.specs.Calls.{is_receive};
+ghost use Rattle.ipc_engine.specs.Settling.{AreLinked, IsFirst, OthersWait, ReceivesWait};
 ghost use Rattle.ipc_engine.specs.Sound.{HasToWait};
 ghost use Rattle.ipc_engine.specs.Step.{can_go_on, resumed, settle as settled};
 ghost use Rattle.ipc_engine.specs.View.{plain_outcome};
@@ -16,14 +17,20 @@ use crate::replies::{push, reply_to};
 use ipc_base::Pid;
 use ipc_state::{Awaited, Parked, State};
 use ipc_wait::Waiting;
-use sysv_calls::{Tried, has_to_wait, try_parked};
+use sysv_calls::{Tried, has_to_wait, is_receive, try_parked};
 
 /// Calls that wait on the object that has changed go on: the first that can, and after it all are looked at again. If
-/// nothing has changed, none can. It takes no memory.
-pub(crate) fn settle(state: &mut State, outcomes: &mut Vec<Outcome>, touched: Option<Awaited>)
+/// nothing has changed, none can; if a receive has changed it (`received`), no receive is the first. It takes no memory.
+pub(crate) fn settle(
+    state: &mut State,
+    outcomes: &mut Vec<Outcome>,
+    touched: Option<Awaited>,
+    mut received: bool,
+)
     requires parts { HasSoundParts state.old.limits state.old.state }
     requires linked { AreLinked state.old.state }
     requires others { OthersWait state.old.limits state.old.state touched }
+    requires receives { received ≡ true → ReceivesWait state.old.limits state.old.state }
     requires room { length outcomes.old.items + length state.old.state.wait ≤ vec_capacity outcomes.old }
     ensures state { state.new.state ≡ (settled state.old.limits state.old.state).state }
     ensures outcomes { map plain_outcome outcomes.new.items
@@ -37,48 +44,62 @@ pub(crate) fn settle(state: &mut State, outcomes: &mut Vec<Outcome>, touched: Op
         return;
     };
     for gone in 0..state.waits().len() {
-        let Some(pid) = first_to_go(state, on) else {
+        let Some(pid) = first_to_go(state, on, received) else {
             return;
         };
         resume(state, outcomes, pid);
+        received = false;
     }
 }
 
 /// The process of the first call that can go on, which waits on this object.
-fn first_to_go(state: &State, on: Awaited) -> Option<Pid>
+fn first_to_go(state: &State, on: Awaited, received: bool) -> Option<Pid>
     requires parts { HasSoundParts state.now.limits state.now.state }
     requires linked { AreLinked state.now.state }
     requires others { OthersWait state.now.limits state.now.state (Some on) }
+    requires receives { received ≡ true → ReceivesWait state.now.limits state.now.state }
     ensures { IsFirst (can_go_on state.now.limits state.now.state) state.now.state.wait result }
 {
-    first_among(state, on, state.waits())
+    first_among(state, on, received, state.waits())
 }
 
 /// The same of these calls.
-fn first_among(state: &State, on: Awaited, calls: &[Waiting<Awaited, Parked>]) -> Option<Pid>
+fn first_among(
+    state: &State,
+    on: Awaited,
+    received: bool,
+    calls: &[Waiting<Awaited, Parked>],
+) -> Option<Pid>
     requires sound { All IsSoundWaiting calls.now }
     requires linked { All (λ w. is_process state.now.state w.pid.0 ≡ true) calls.now }
     requires others { All (λ w. Some on ≢ Some w.on
         → can_go_on state.now.limits state.now.state w ≡ false) calls.now }
+    requires receives { received ≡ true → All (λ w. is_receive w.call.kind ≡ true
+        → can_go_on state.now.limits state.now.state w ≡ false) calls.now }
     ensures { IsFirst (can_go_on state.now.limits state.now.state) calls.now result }
 {
     for waiting in calls {
-        if can_go(state, on, waiting) {
+        if can_go(state, on, received, waiting) {
             return Some(waiting.pid);
         }
     }
     None
 }
 
-/// Whether a call can go on, which has to wait if it waits on another object than this.
-fn can_go(state: &State, on: Awaited, waiting: &Waiting<Awaited, Parked>) -> bool
+/// Whether a call can go on, which has to wait if it waits on another object than this, or is a receive after another.
+fn can_go(state: &State, on: Awaited, received: bool, waiting: &Waiting<Awaited, Parked>) -> bool
     requires sound { IsSoundWaiting waiting.now }
     requires process { is_process state.now.state waiting.now.pid.0 ≡ true }
     requires other { Some on ≢ Some waiting.now.on
         → can_go_on state.now.limits state.now.state waiting.now ≡ false }
+    requires receive { received ≡ true → is_receive waiting.now.call.kind ≡ true
+        → can_go_on state.now.limits state.now.state waiting.now ≡ false }
     ensures { result ≡ can_go_on state.now.limits state.now.state waiting.now }
 {
-    waits_on(waiting, on) && !has_to_wait(state, waiting.pid, &waiting.call)
+    if !waits_on(waiting, on) || received && is_receive(&waiting.call) {
+        return false;
+    }
+    !has_to_wait(state, waiting.pid, &waiting.call)
 }
 
 /// Whether a call waits on this object.

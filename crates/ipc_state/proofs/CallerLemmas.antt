@@ -1,11 +1,13 @@
 -- What the crates above cite: each change of the state leads from a sound state to a sound state, and so does a call
 -- whose steps do.
-use Rattle.std.proofs.Common.{◌≡◌, ◌≢◌, ℕ, ℤ, ◌<◌, Bool, true, false, Option, Some, None, refl, arith, sym, ap, subst, ◌∙◌, List}
+use Rattle.std.proofs.Common.{◌≡◌, ◌≢◌, ℕ, ℤ, ◌+◌, ◌<◌, ◌≤◌, Bool, true, false, Option, Some, None, refl, arith, sym, ap, subst, ◌∙◌, List}
 use Rattle.std.proofs.Common.{[], ◌∷◌, ◌++◌, not, length, length-append}
 use Rattle.std.proofs.lemmas.Nat.{and_le_r}
 use Rattle.std.specs.Prelude.{Ok, Err, option_map, All}
 use Rattle.std.proofs.lemmas.List.Elements.{All-nil, All-filter, All-push}
+use Rattle.std.proofs.lemmas.List.{length-replicate}
 use Rattle.std.proofs.lemmas.List.Filters.{length-filter_both}
+use Rattle.sysv_sem.specs.declared.set.Semaphore.{Semaphore}
 use Rattle.std.specs.Borrow.{MutBor}
 use Rattle.std.specs.Option.{option_copied_mut, IsSome}
 use Rattle.ipc_base.specs.Table.{keys_of}
@@ -19,9 +21,10 @@ use Rattle.ipc_base.specs.declared.identity.Cred.{Cred}
 use Rattle.ipc_base.specs.declared.identity.Moment.{Moment}
 use Rattle.ipc_base.specs.declared.identity.Pid.{Pid}
 use Rattle.ipc_base.specs.declared.limits.Limits.{Limits}
-use Rattle.ipc_wait.specs.Waits.{is_of, is_due, call_of, without, calls_left}
+use Rattle.ipc_wait.specs.Waits.{is_of, is_due, call_of, without}
 use Rattle.ipc_wait.proofs.CallerLemmas.{without-distinct, left-distinct, due-or-left, HaveDistinctPids-enter}
 use Rattle.sysv_msg.specs.Queue.{Queue, new_queue}
+use Rattle.sysv_sem.specs.Set.{Set, new_set}
 use Rattle.ipc_wire.specs.Reply.{PlainBody}
 use Rattle.ipc_wire.specs.Request.{PlainRequest, Interrupt}
 use Rattle.ipc_state.specs.declared.keyed.Entry.{Entry}
@@ -32,7 +35,8 @@ use Rattle.ipc_state.specs.Keyed.{Keyed, holding, permitting, keyed, AreKeyed, A
 use Rattle.ipc_state.specs.declared.processes.Process.{Process}
 use Rattle.ipc_state.specs.State.{State, start, at_moment, has_all_processes, is_process, with_process, exit, restart}
 use Rattle.ipc_state.specs.State.{is_waiting, with_waiting, without_due, without_waiting, queue_of, with_queue, with_new_queue}
-use Rattle.ipc_state.specs.Sound.{HasSoundParts, IsSoundQueue, IsSoundSet, FitsBody}
+use Rattle.ipc_state.specs.State.{set_of, with_set, with_new_set}
+use Rattle.ipc_state.specs.Sound.{HasSoundParts, IsSoundQueue, IsSoundSet, AreSoundSets, semaphore_count, FitsBody}
 use Rattle.ipc_state.specs.Waiting.{PlainWaiting, AreSoundWaits, IsSoundWaiting}
 use Rattle.ipc_state.specs.Finish.{Finish, IfFinishes, Attempt, Halt, Fails, Blocks, Done, ended, done, answer, refuse, stop, ◌orstop◌, ◌>>◌, ◌>>=◌, if_some}
 use Rattle.ipc_state.specs.Touching.{is_there, IsAsBefore}
@@ -42,9 +46,11 @@ use Rattle.ipc_state.proofs.Numbering.{none_yet-numbered, with_new-numbered, wit
 use Rattle.ipc_state.proofs.Counting.{few-waiting}
 use Rattle.ipc_state.proofs.Keying as keying
 use Rattle.ipc_state.proofs.SoundQueues as queues
+use Rattle.ipc_state.proofs.SoundSets as sets
 pub use Rattle.ipc_state.proofs.Keying.{All-seen}
 pub use Rattle.ipc_state.proofs.Numbering.{neither}
 pub use Rattle.ipc_state.proofs.SoundQueues.{queue-numbers, sent-sound, taken-sound, changed-sound}
+pub use Rattle.ipc_state.proofs.SoundSets.{with_value-sound, with_values-sound, changed_set-sound}
 
 -- the mode of a new object has nine bits
 pub perm_of-mode : (cred : Cred) (flags : ℕ) → (perm_of cred flags).mode < 512
@@ -66,6 +72,9 @@ module _ (limits : Limits) where
   pub set-msg : (s : State) (msg : Keyed Queue) → HasSoundParts limits s → AreKeyed limits.msgmni (IsSoundQueue limits) msg
       → HasSoundParts limits (record s { msg = msg })
   set-msg s msg h good = record { processes = h.processes; wait = h.wait; msg = good; sem = h.sem }
+
+  pub set-sem : (s : State) (sem : Keyed Set) → HasSoundParts limits s → AreSoundSets limits sem → HasSoundParts limits (record s { sem = sem })
+  set-sem s sem h good = record { processes = h.processes; wait = h.wait; msg = h.msg; sem = good }
 
   none-waits : AreSoundWaits limits []
   none-waits = record { pids = tt; few = omega arith; each = All-nil IsSoundWaiting }
@@ -163,6 +172,42 @@ module _ (limits : Limits) where
 
   pub queue-sound : (s : State) (id : ℕ) (e : Entry Queue) → queue_of s id ≡ Some e → HasSoundParts limits s → IsSoundQueue limits e.object
   queue-sound s id e is h = keying.entry-sound limits.msgmni (IsSoundQueue limits) s.msg id e is h.msg
+
+  pub with_new_set-sound : (s : State) (key : ℤ) (perm : Perm) (nsems : ℕ) → keyed s.sem key ≡ None → is_full limits.semmni s.sem ≡ false
+      → perm.mode < 512 → 0 < nsems → nsems ≤ limits.semmsl → semaphore_count s.sem + nsems ≤ limits.semmns
+      → HasSoundParts limits s → HasSoundParts limits (with_new_set s key perm nsems)
+  with_new_set-sound s key perm nsems unused room mode some few all h =
+      let e : Entry Set = record { key = key; perm = perm; object = new_set nsems s.clock } in
+      let len = length-replicate nsems (let x : Semaphore = record { value = 0; pid = record { 0 = 0 } } in x) in
+      set-sem s _ h (record {
+        keyed = keying.with_new-keyed limits.semmni (IsSoundSet limits) s.sem e unused room mode (sets.new_set-sound limits nsems s.clock some few) h.sem.keyed;
+        count = omega (arith, sets.count-new s.sem e, len, all);
+      })
+
+  -- another set of as many semaphores in the place of one that is there, used by others
+  pub permitted_set-sound : (s : State) (id : ℕ) (e : Entry Set) (perm : Perm) (x : Set) → set_of s id ≡ Some e → perm.mode < 512 → IsSoundSet limits x
+      → length x.semaphores ≡ length e.object.semaphores → HasSoundParts limits s → HasSoundParts limits (with_set s id (holding (permitting e perm) x))
+  permitted_set-sound s id e perm x is mode good same h =
+      let f : Entry Set = holding (permitting e perm) x in
+      set-sem s _ h (record {
+        keyed = keying.with_entry-keyed limits.semmni (IsSoundSet limits) s.sem id e f is refl mode good h.sem.keyed;
+        count = omega (arith, sets.count-with s.sem id e f is same, h.sem.count);
+      })
+
+  pub with_set-sound : (s : State) (id : ℕ) (e : Entry Set) (x : Set) → set_of s id ≡ Some e → IsSoundSet limits x
+      → length x.semaphores ≡ length e.object.semaphores → HasSoundParts limits s → HasSoundParts limits (with_set s id (holding e x))
+  with_set-sound s id e x is good same h =
+      permitted_set-sound s id e e.perm x is (keying.entry-mode limits.semmni (IsSoundSet limits) s.sem id e is h.sem.keyed) good same h
+
+  pub without_set-sound : (s : State) (id : ℕ) → HasSoundParts limits s → HasSoundParts limits (record s { sem = without_entry s.sem id })
+  without_set-sound s id h =
+      set-sem s _ h (record {
+        keyed = keying.without_entry-keyed limits.semmni (IsSoundSet limits) s.sem id h.sem.keyed;
+        count = omega (arith, sets.count-without s.sem id, h.sem.count);
+      })
+
+  pub set-sound : (s : State) (id : ℕ) (e : Entry Set) → set_of s id ≡ Some e → HasSoundParts limits s → IsSoundSet limits e.object
+  set-sound s id e is h = keying.entry-sound limits.semmni (IsSoundSet limits) s.sem id e is h.sem.keyed
 
 -- ---- objects that are held, and those of the definitions
 

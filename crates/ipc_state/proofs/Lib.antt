@@ -4,4 +4,5 @@ mod Counting
 mod Places
 mod Keying
 mod SoundQueues
+mod SoundSets
 mod Directories

@@ -2,15 +2,18 @@
 -- that a change takes no memory.
 use Rattle.std.specs.FinMap.{FinMap}
 use Rattle.std.specs.Ordering.{int_cmp}
-use Rattle.std.specs.Prelude.{◌≡◌, ◌≢◌, ℕ, ℤ, pos, Bool, true, None}
+use Rattle.std.specs.Prelude.{◌≡◌, ◌≢◌, ℕ, ℤ, pos, Bool, true, Option, Some, None}
 use Rattle.ipc_base.specs.declared.limits.Limits.{Limits}
 use Rattle.ipc_keys.specs.Directory.{is_vacant}
+use Rattle.sysv_sem.specs.Set.{Set, new_set}
+use Rattle.ipc_state.specs.Directory.{HasNoSpareKey}
 use Rattle.ipc_state.specs.Keyed.{keyed}
 use Rattle.ipc_state.specs.State.{State}
 
 -- whether there is room for one process more, and for one queue; the directory of the queues' keys, with those that
 -- have room there; whether a queue without messages is kept ready to be added; for how many calls that wait there is
--- room; whether there is room for one semaphore set more; the directory of the sets' keys
+-- room; whether there is room for one semaphore set more; the directory of the sets' keys; the set that is kept ready
+-- to be added
 pub record Room : Type 0 where
   pub process : Bool
   pub queue : Bool
@@ -19,6 +22,7 @@ pub record Room : Type 0 where
   pub waits : ℕ
   pub set : Bool
   pub set_keys : FinMap int_cmp ℕ
+  pub fresh_set : Option Set
 
 pub record Held : Type 0 where
   pub limits : Limits
@@ -30,3 +34,18 @@ pub record HasQueuePlace (s : State) (room : Room) (key : ℤ) : Type 0 where
   pub queue : room.queue ≡ true
   pub fresh : room.fresh ≡ true
   pub vacant : key ≢ pos 0 → keyed s.msg key ≡ None → is_vacant room.keys key ≡ true
+
+-- a set of so many semaphores is ready
+abbrev pub HasFreshSet : Room → ℕ → Type 0
+HasFreshSet room nsems = (moment : ℕ) × (room.fresh_set ≡ Some (new_set nsems moment))
+
+-- there is room for one set more of this key, and one of so many semaphores that is ready to be it
+pub record HasSetPlace (s : State) (room : Room) (key : ℤ) (nsems : ℕ) : Type 0 where
+  pub set : room.set ≡ true
+  pub fresh : HasFreshSet room nsems
+  pub vacant : key ≢ pos 0 → keyed s.sem key ≡ None → is_vacant room.set_keys key ≡ true
+
+-- no key has room that no object has
+pub record HasNoSpareKeys (room : Room) : Type 0 where
+  pub queues : HasNoSpareKey room.keys
+  pub sets : HasNoSpareKey room.set_keys

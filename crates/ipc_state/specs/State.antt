@@ -6,7 +6,7 @@ use Rattle.ipc_base.specs.declared.identity.Cred.{Cred}
 use Rattle.ipc_base.specs.declared.limits.Limits.{Limits}
 use Rattle.ipc_wait.specs.Waits.{call_of, calls_due, calls_left, without}
 use Rattle.sysv_msg.specs.Queue.{Queue, new_queue}
-use Rattle.sysv_sem.specs.Set.{Set}
+use Rattle.sysv_sem.specs.Set.{Set, new_set}
 use Rattle.ipc_state.specs.declared.keyed.Entry.{Entry}
 use Rattle.ipc_perm.specs.declared.perm.Perm.{Perm}
 use Rattle.ipc_state.specs.declared.processes.Process.{Process}
@@ -97,3 +97,18 @@ with_queue s id e = record s { msg = with_entry s.msg id e }
 abbrev pub with_new_queue : Limits → State → ℤ → Perm → State
 with_new_queue limits s key perm =
     record s { msg = with_new s.msg (record { key = key; perm = perm; object = new_queue limits.msgmnb s.clock }) }
+
+-- ---- semaphore sets
+
+-- the set that an identifier has
+abbrev pub set_of : State → ℕ → Option (Entry Set)
+set_of s id = entry_of s.sem id
+
+-- the state with another set at an identifier that it has
+abbrev pub with_set : State → ℕ → Entry Set → State
+with_set s id e = record s { sem = with_entry s.sem id e }
+
+-- the state with a new set of so many semaphores
+abbrev pub with_new_set : State → ℤ → Perm → ℕ → State
+with_new_set s key perm nsems =
+    record s { sem = with_new s.sem (record { key = key; perm = perm; object = new_set nsems s.clock }) }

@@ -1,6 +1,6 @@
 -- What a call changes as far as other calls wait for it. What comes of a call that waits depends on the limits, who
 -- made it and the object on which it waits, and on nothing else of the state.
-use Rattle.std.specs.Prelude.{◌≡◌, Bool, true, is_some}
+use Rattle.std.specs.Prelude.{◌≡◌, Bool, is_some}
 use Rattle.ipc_state.specs.declared.parked.Awaited.{Awaited}
 use Rattle.ipc_state.specs.declared.parked.Awaited.TheVariants as awaited
 use Rattle.ipc_state.specs.Numbered.{entry_of}

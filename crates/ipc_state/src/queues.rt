@@ -79,6 +79,7 @@ impl State {
         ensures state { self.new.state ≡ self.old.state }
         ensures limits { self.new.limits ≡ self.old.limits }
         ensures waits { self.new.room.waits ≡ self.old.room.waits }
+        ensures set_keys { self.new.room.set_keys ≡ self.old.room.set_keys }
         ensures ok { OnOk result (ArePositive self.old.state.msg.entries
             → HasQueuePlace self.new.state self.new.room key) }
         ensures succeeds { ArePositive self.old.state.msg.entries
@@ -99,6 +100,7 @@ impl State {
         ensures queue { self.new.room.queue ≡ self.old.room.queue }
         ensures keys { self.new.room.keys ≡ self.old.room.keys }
         ensures waits { self.new.room.waits ≡ self.old.room.waits }
+        ensures set_keys { self.new.room.set_keys ≡ self.old.room.set_keys }
         ensures ok { OnOk result (self.new.room.fresh ≡ true) }
         ensures succeeds { self.old.room.fresh ≡ true → IsOk result }
     {
@@ -120,6 +122,7 @@ impl State {
         ensures id { result.0 ≡ self.old.state.msg.next }
         ensures limits { self.new.limits ≡ self.old.limits }
         ensures waits { self.new.room.waits ≡ self.old.room.waits }
+        ensures set_keys { self.new.room.set_keys ≡ self.old.room.set_keys }
         ensures key { key ≢ pos 0 → is_vacant self.new.room.keys key ≡ false }
         ensures others { (other : ℤ) → other ≢ key
             → is_vacant self.new.room.keys other ≡ is_vacant self.old.room.keys other }

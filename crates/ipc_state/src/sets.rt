@@ -1,11 +1,17 @@
 //! The semaphore sets.
 
-ghost use Rattle.std.specs.Prelude.{◌≡◌, ◌≤◌, ◌↔◌, map, length, All, sum_by, IsTrue, OnOk, OnErr};
+ghost use Rattle.std.specs.Prelude.{◌≡◌, ◌≢◌, ◌<◌, ◌≤◌, ◌+◌, ◌↔◌, ℕ, ℤ, pos, true, false, is_some};
+ghost use Rattle.std.specs.Prelude.{map, length, All, sum_by, IsTrue, OnOk, OnErr};
 ghost use Rattle.std.specs.Borrow.{sem};
 ghost use Rattle.ipc_base.specs.Limits.{ArePassed};
+ghost use Rattle.ipc_keys.specs.Directory.{is_vacant};
+ghost use Rattle.ipc_state.specs.Directory.{ArePositive};
+ghost use Rattle.ipc_state.specs.Held.{HasFreshSet, HasSetPlace};
 ghost use Rattle.ipc_state.specs.LendsSem.{lends_sem};
+ghost use Rattle.ipc_state.specs.Numbered.{is_full};
 ghost use Rattle.ipc_state.specs.Restored.{with_last_set};
-ghost use Rattle.ipc_state.specs.Sound.{AreSoundSets, IsSoundSet};
+ghost use Rattle.ipc_state.specs.Sound.{AreSoundSets, IsSoundSet, semaphore_count};
+ghost use Rattle.ipc_state.specs.State.{with_new_set};
 ghost use Rattle.ipc_state.specs.Tables.{item_row};
 
 use crate::keyed::{Entry, Keyed};
@@ -13,6 +19,7 @@ use crate::numbered::Item;
 use crate::sound::SoundAlone;
 use crate::state::State;
 use ipc_base::{Id, Limits};
+use ipc_perm::Perm;
 use std::alloc::AllocError;
 use sysv_sem::SemSet;
 
@@ -49,6 +56,76 @@ impl State {
         &mut self.sem
     }
 
+    /// Takes the memory for one set more of this key, if no set has it, and of so many semaphores. Refused, no key has
+    /// room that had none.
+    pub fn reserve_set(&mut self, key: i32, nsems: usize) -> Result<(), AllocError>
+        ensures state { self.new.state ≡ self.old.state }
+        ensures limits { self.new.limits ≡ self.old.limits }
+        ensures waits { self.new.room.waits ≡ self.old.room.waits }
+        ensures keys { self.new.room.keys ≡ self.old.room.keys }
+        ensures ok { OnOk result (ArePositive self.old.state.sem.entries
+            → HasSetPlace self.new.state self.new.room key nsems) }
+        ensures others { (other : ℤ) → other ≢ key
+            → is_vacant self.new.room.set_keys other ≡ is_vacant self.old.room.set_keys other }
+        ensures err { OnErr result ((other : ℤ)
+            → is_vacant self.new.room.set_keys other ≡ is_vacant self.old.room.set_keys other) }
+    {
+        self.reserve_fresh_set(nsems)?;
+        self.sem_mut().reserve(key)
+    }
+
+    /// Makes a set of so many semaphores that is ready to be added.
+    fn reserve_fresh_set(&mut self, nsems: usize) -> Result<(), AllocError>
+        ensures state { self.new.state ≡ self.old.state }
+        ensures limits { self.new.limits ≡ self.old.limits }
+        ensures set { self.new.room.set ≡ self.old.room.set }
+        ensures keys { self.new.room.keys ≡ self.old.room.keys }
+        ensures set_keys { self.new.room.set_keys ≡ self.old.room.set_keys }
+        ensures waits { self.new.room.waits ≡ self.old.room.waits }
+        ensures ok { OnOk result (HasFreshSet self.new.room nsems) }
+    {
+        let set = SemSet::new(self.alloc, nsems, self.clock)?;
+        self.fresh_set = Some(set);
+        Ok(())
+    }
+
+    /// Adds the set that is ready under the next identifier, which it gives. It takes no memory.
+    pub fn add_set(&mut self, key: i32, perm: Perm) -> Id
+        requires room { self.old.room.set ≡ true }
+        requires fresh { is_some self.old.room.fresh_set ≡ true }
+        requires key { key ≢ pos 0 → is_vacant self.old.room.set_keys key ≡ true }
+        requires number { 0 < self.old.state.sem.next }
+        requires more { is_full self.old.limits.semmni self.old.state.sem ≡ false }
+        ensures state { (nsems : ℕ) → HasFreshSet self.old.room nsems
+            → self.new.state ≡ with_new_set self.old.state key perm nsems }
+        ensures id { result.0 ≡ self.old.state.sem.next }
+        ensures limits { self.new.limits ≡ self.old.limits }
+        ensures waits { self.new.room.waits ≡ self.old.room.waits }
+        ensures keys { self.new.room.keys ≡ self.old.room.keys }
+        ensures key { key ≢ pos 0 → is_vacant self.new.room.set_keys key ≡ false }
+        ensures others { (other : ℤ) → other ≢ key
+            → is_vacant self.new.room.set_keys other ≡ is_vacant self.old.room.set_keys other }
+    {
+        let mut object = self.fresh_set.take().unwrap();
+        object.set(self.clock);
+        self.sem.add(key, perm, object)
+    }
+
+    /// Whether so many semaphores more may come: all sets together have no more than the limit says then.
+    pub fn may_have_more(&self, nsems: usize) -> bool
+        ensures { IsTrue result ↔ (semaphore_count self.now.state.sem + nsems ≤ self.now.limits.semmns) }
+    {
+        let most = self.limits.semmns as usize;
+        nsems <= most && self.have_at_most(most - nsems)
+    }
+
+    /// Whether all sets have together no more semaphores than `most`.
+    fn have_at_most(&self, most: usize) -> bool
+        ensures { IsTrue result ↔ (semaphore_count self.now.state.sem ≤ most) }
+    {
+        are_few(self.sem.items(), most)
+    }
+
     /// Adds a set that was read, at the end. Refused for want of memory, all is as before.
     pub fn restore_set(&mut self, id: Id, entry: Entry<SemSet>) -> Result<(), AllocError>
         ensures state { OnOk result (self.new.state ≡ with_last_set self.old.state id.0 entry) }
@@ -63,7 +140,7 @@ impl State {
         ensures { IsTrue result ↔ AreSoundSets self.now.limits self.now.state.sem }
     {
         self.sem.are_sound(self.limits.semmni, &self.limits)
-            && are_few(self.sem.items(), self.limits.semmns)
+            && self.have_at_most(self.limits.semmns as usize)
     }
 }
 
@@ -77,10 +154,10 @@ impl SoundAlone for SemSet {
 }
 
 /// Whether these sets have together no more semaphores than `most`.
-fn are_few(sets: &[Item<Entry<SemSet>>], most: u32) -> bool
+fn are_few(sets: &[Item<Entry<SemSet>>], most: usize) -> bool
     ensures { IsTrue result ↔ (sum_by (λ e. length e.value.object.semaphores) sets.now ≤ most) }
 {
-    let mut left = most as usize;
+    let mut left = most;
     for item in sets {
         let nsems = item.value.object.stat().nsems;
         if left < nsems {

@@ -30,6 +30,8 @@ pub struct State {
     /// A queue that is ready to be added, so that this takes no memory.
     pub(crate) fresh: Option<MsgQueue>,
     pub(crate) sem: Keyed<SemSet>,
+    /// A set that is ready to be added.
+    pub(crate) fresh_set: Option<SemSet>,
 }
 
 impl Model for State {
@@ -61,6 +63,7 @@ impl Model for State {
         waits = s.wait.room;
         set = s.sem.place;
         set_keys = s.sem.keys;
+        fresh_set = s.fresh_set;
       };
     } };
 
@@ -92,6 +95,7 @@ impl State {
             msg: Keyed::new(alloc),
             fresh: None,
             sem: Keyed::new(alloc),
+            fresh_set: None,
         }
     }
 

@@ -55,6 +55,7 @@ impl State {
         ensures state { self.new.state ≡ with_waiting self.old.state waiting }
         ensures limits { self.new.limits ≡ self.old.limits }
         ensures keys { self.new.room.keys ≡ self.old.room.keys }
+        ensures set_keys { self.new.room.set_keys ≡ self.old.room.set_keys }
         ensures waits { self.new.room.waits ≡ self.old.room.waits }
     {
         self.wait.enter(waiting);
@@ -66,6 +67,7 @@ impl State {
         ensures state { self.new.state ≡ without_waiting self.old.state pid.0 }
         ensures limits { self.new.limits ≡ self.old.limits }
         ensures keys { self.new.room.keys ≡ self.old.room.keys }
+        ensures set_keys { self.new.room.set_keys ≡ self.old.room.set_keys }
         ensures waits { self.new.room.waits ≡ self.old.room.waits }
     {
         self.wait.leave(pid)

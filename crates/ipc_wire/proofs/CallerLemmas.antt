@@ -1,11 +1,13 @@
--- What the crates above cite of streams, requests and replies.
-use Rattle.std.proofs.Common.{◌≡◌, ℕ, true, refl, ◌+◌, ◌≤◌, ◌<◌, List, ◌++◌, length, drop, Some, ap, ◌∙◌, arith}
+-- What the crates above cite of streams, requests, replies and numbers of two bytes.
+use Rattle.std.proofs.Common.{◌≡◌, ℕ, true, refl, ◌+◌, ◌/◌, ◌≤◌, ◌<◌, List, ◌++◌, length, drop, Some, ap, ◌∙◌, arith}
+use Rattle.ipc_wire.specs.Pairs.{numbers_in}
 use Rattle.ipc_wire.specs.Reply.{PlainReply, body_bytes, reply_bytes}
 use Rattle.ipc_wire.specs.Request.{PlainRequest}
 use Rattle.ipc_wire.specs.Spelling.{HasFrame, fields_of, request_bytes}
 use Rattle.ipc_wire.specs.Stream.{PlainFrame, is_more, TakesBytes, first, missing, frame_of, begins_with, stream_of, continued}
 use Rattle.ipc_wire.specs.Stream.PlainFrame.{More, Whole, Fault}
 use Rattle.ipc_wire.proofs.Frames as frames
+use Rattle.ipc_wire.proofs.PairNumbers as pairs
 use Rattle.ipc_wire.proofs.Read as read
 use Rattle.ipc_wire.proofs.Streams as streams
 
@@ -56,3 +58,7 @@ one_text = read.one_text
 -- the bytes of a request are its frame without the length
 pub framed : (r : PlainRequest) → HasFrame r → frame_of (request_bytes r) ≡ Whole (9 + length (fields_of r.kind)) r
 framed r has = (read.request_text (request_bytes r) r has refl).whole
+
+-- the numbers that bytes spell two by two are half as many as the bytes
+pub numbers_count : (bytes : List ℕ) → length (numbers_in bytes) ≡ length bytes / 2
+numbers_count = pairs.numbers_count

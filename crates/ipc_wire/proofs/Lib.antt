@@ -1,3 +1,4 @@
+pub mod PairNumbers
 pub mod Rows
 pub mod Frames
 pub mod Read

@@ -36,6 +36,15 @@ has_row (Calls (requests.Msgrcv id flags size mtype)) = record { row = refl; mad
 has_row (Calls (requests.MsgctlStat id)) = record { row = refl; made = refl }
 has_row (Calls (requests.MsgctlSet id uid gid mode qbytes)) = record { row = refl; made = refl }
 has_row (Calls (requests.MsgctlRmid id)) = record { row = refl; made = refl }
+has_row (Calls (requests.Semget key nsems flags)) = record { row = refl; made = refl }
+has_row (Calls (requests.SemctlGetVal id num)) = record { row = refl; made = refl }
+has_row (Calls (requests.SemctlGetPid id num)) = record { row = refl; made = refl }
+has_row (Calls (requests.SemctlSetVal id num value)) = record { row = refl; made = refl }
+has_row (Calls (requests.SemctlGetAll id)) = record { row = refl; made = refl }
+has_row (Calls (requests.SemctlSetAll id values)) = record { row = refl; made = refl }
+has_row (Calls (requests.SemctlStat id)) = record { row = refl; made = refl }
+has_row (Calls (requests.SemctlSet id uid gid mode)) = record { row = refl; made = refl }
+has_row (Calls (requests.SemctlRmid id)) = record { row = refl; made = refl }
 
 -- the requests of a row are taken apart into what made them
 abbrev Undoes : Row → Type 0

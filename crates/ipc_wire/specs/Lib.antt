@@ -1,5 +1,6 @@
 pub mod Fields
 pub mod OneProof
+pub mod Pairs
 pub mod Reply
 pub mod Request
 pub mod Spelling

@@ -5,6 +5,7 @@ use Rattle.ipc_wire.specs.declared.request.Call.{Call}
 use Rattle.ipc_wire.specs.declared.request.Call.TheVariants as calls
 use Rattle.ipc_wire.specs.declared.request.RequestKind.{RequestKind}
 use Rattle.ipc_wire.specs.declared.request.RequestKind.TheVariants as kinds
+use Rattle.ipc_wire.specs.Pairs.{bytes_of}
 
 pub data PlainCall : Type 0 where
   Msgget : (key : ℤ) → (flags : ℕ) → PlainCall
@@ -13,6 +14,15 @@ pub data PlainCall : Type 0 where
   MsgctlStat : (id : ℕ) → PlainCall
   MsgctlSet : (id uid gid mode qbytes : ℕ) → PlainCall
   MsgctlRmid : (id : ℕ) → PlainCall
+  Semget : (key nsems : ℤ) → (flags : ℕ) → PlainCall
+  SemctlGetVal SemctlGetPid : (id num : ℕ) → PlainCall
+  SemctlSetVal : (id num : ℕ) → (value : ℤ) → PlainCall
+  SemctlGetAll : (id : ℕ) → PlainCall
+  -- the values are the bytes that spell them: `numbers_in` of Pairs.antt reads them
+  SemctlSetAll : (id : ℕ) → (values : List ℕ) → PlainCall
+  SemctlStat : (id : ℕ) → PlainCall
+  SemctlSet : (id uid gid mode : ℕ) → PlainCall
+  SemctlRmid : (id : ℕ) → PlainCall
 
 -- HELLO, INTERRUPT, or a call of the process
 pub data PlainKind : Type 0 where
@@ -31,6 +41,15 @@ plain_call (calls.Msgrcv id flags size mtype) = Msgrcv id.0 flags.0 size mtype
 plain_call (calls.MsgctlStat id) = MsgctlStat id.0
 plain_call (calls.MsgctlSet id uid gid mode qbytes) = MsgctlSet id.0 uid gid mode qbytes
 plain_call (calls.MsgctlRmid id) = MsgctlRmid id.0
+plain_call (calls.Semget key nsems flags) = Semget key nsems flags.0
+plain_call (calls.SemctlGetVal id num) = SemctlGetVal id.0 num
+plain_call (calls.SemctlGetPid id num) = SemctlGetPid id.0 num
+plain_call (calls.SemctlSetVal id num value) = SemctlSetVal id.0 num value
+plain_call (calls.SemctlGetAll id) = SemctlGetAll id.0
+plain_call (calls.SemctlSetAll id values) = SemctlSetAll id.0 (bytes_of values)
+plain_call (calls.SemctlStat id) = SemctlStat id.0
+plain_call (calls.SemctlSet id uid gid mode) = SemctlSet id.0 uid gid mode
+plain_call (calls.SemctlRmid id) = SemctlRmid id.0
 
 abbrev pub plain_kind : RequestKind → PlainKind
 plain_kind (kinds.Hello cred) = Hello cred

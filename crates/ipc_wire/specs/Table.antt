@@ -1,7 +1,7 @@
 -- The table of requests: a row for each has its opcode, what follows it, and the request that this makes.
 use Rattle.std.specs.Prelude.{ℕ, List, [], ◌∷◌, ◌==◌, if◌then◌else◌, Option, Some, None}
 use Rattle.ipc_base.specs.Numbers.{Kind, U32, I32, I64, Values}
-use Rattle.ipc_wire.specs.Fields.{Rest, Nothing, Bytes}
+use Rattle.ipc_wire.specs.Fields.{Rest, Nothing, Bytes, Units}
 use Rattle.ipc_wire.specs.Request.{PlainKind, Hello, Interrupt, Calls}
 use Rattle.ipc_wire.specs.Request as requests
 
@@ -86,8 +86,102 @@ msgctl_rmid =
       make = λ v rest. Calls (requests.MsgctlRmid v.0);
     }
 
+-- key, nsems, flags
+abbrev pub semget : Row
+semget =
+    record {
+      opcode = 0x14;
+      fields = I32 ∷ I32 ∷ U32 ∷ [];
+      rest = Nothing;
+      make = λ v rest. Calls (requests.Semget v.0 v.1.0 v.1.1.0);
+    }
+
+-- id, num
+abbrev pub semctl_get_val : Row
+semctl_get_val =
+    record {
+      opcode = 0x16;
+      fields = U32 ∷ U32 ∷ [];
+      rest = Nothing;
+      make = λ v rest. Calls (requests.SemctlGetVal v.0 v.1.0);
+    }
+
+-- id, num
+abbrev pub semctl_get_pid : Row
+semctl_get_pid =
+    record {
+      opcode = 0x17;
+      fields = U32 ∷ U32 ∷ [];
+      rest = Nothing;
+      make = λ v rest. Calls (requests.SemctlGetPid v.0 v.1.0);
+    }
+
+-- id, num, value
+abbrev pub semctl_set_val : Row
+semctl_set_val =
+    record {
+      opcode = 0x1a;
+      fields = U32 ∷ U32 ∷ I32 ∷ [];
+      rest = Nothing;
+      make = λ v rest. Calls (requests.SemctlSetVal v.0 v.1.0 v.1.1.0);
+    }
+
+-- id
+abbrev pub semctl_get_all : Row
+semctl_get_all =
+    record {
+      opcode = 0x1b;
+      fields = U32 ∷ [];
+      rest = Nothing;
+      make = λ v rest. Calls (requests.SemctlGetAll v.0);
+    }
+
+-- id; the rest is the values, each of two bytes
+abbrev pub semctl_set_all : Row
+semctl_set_all =
+    record {
+      opcode = 0x1c;
+      fields = U32 ∷ [];
+      rest = Units 2;
+      make = λ v rest. Calls (requests.SemctlSetAll v.0 rest);
+    }
+
+-- id
+abbrev pub semctl_stat : Row
+semctl_stat =
+    record {
+      opcode = 0x1d;
+      fields = U32 ∷ [];
+      rest = Nothing;
+      make = λ v rest. Calls (requests.SemctlStat v.0);
+    }
+
+-- id, uid, gid, mode
+abbrev pub semctl_set : Row
+semctl_set =
+    record {
+      opcode = 0x1e;
+      fields = U32 ∷ U32 ∷ U32 ∷ U32 ∷ [];
+      rest = Nothing;
+      make = λ v rest. Calls (requests.SemctlSet v.0 v.1.0 v.1.1.0 v.1.1.1.0);
+    }
+
+-- id
+abbrev pub semctl_rmid : Row
+semctl_rmid =
+    record {
+      opcode = 0x1f;
+      fields = U32 ∷ [];
+      rest = Nothing;
+      make = λ v rest. Calls (requests.SemctlRmid v.0);
+    }
+
 abbrev pub rows : List Row
-rows = hello ∷ interrupt ∷ msgget ∷ msgsnd ∷ msgrcv ∷ msgctl_stat ∷ msgctl_set ∷ msgctl_rmid ∷ []
+rows =
+    hello ∷ interrupt
+    ∷ msgget ∷ msgsnd ∷ msgrcv ∷ msgctl_stat ∷ msgctl_set ∷ msgctl_rmid
+    ∷ semget ∷ semctl_get_val ∷ semctl_get_pid ∷ semctl_set_val ∷ semctl_get_all ∷ semctl_set_all
+    ∷ semctl_stat ∷ semctl_set ∷ semctl_rmid ∷ []
 
 -- the row of an opcode among rows, if it has one
 abbrev pub row_among : List Row → ℕ → Option Row
@@ -115,3 +209,16 @@ parts_of (Calls (requests.MsgctlStat id)) = record { row = msgctl_stat; values =
 parts_of (Calls (requests.MsgctlSet id uid gid mode qbytes)) =
     record { row = msgctl_set; values = (id, (uid, (gid, (mode, (qbytes, tt))))); rest = [] }
 parts_of (Calls (requests.MsgctlRmid id)) = record { row = msgctl_rmid; values = (id, tt); rest = [] }
+parts_of (Calls (requests.Semget key nsems flags)) =
+    record { row = semget; values = (key, (nsems, (flags, tt))); rest = [] }
+parts_of (Calls (requests.SemctlGetVal id num)) = record { row = semctl_get_val; values = (id, (num, tt)); rest = [] }
+parts_of (Calls (requests.SemctlGetPid id num)) = record { row = semctl_get_pid; values = (id, (num, tt)); rest = [] }
+parts_of (Calls (requests.SemctlSetVal id num value)) =
+    record { row = semctl_set_val; values = (id, (num, (value, tt))); rest = [] }
+parts_of (Calls (requests.SemctlGetAll id)) = record { row = semctl_get_all; values = (id, tt); rest = [] }
+parts_of (Calls (requests.SemctlSetAll id values)) =
+    record { row = semctl_set_all; values = (id, tt); rest = values }
+parts_of (Calls (requests.SemctlStat id)) = record { row = semctl_stat; values = (id, tt); rest = [] }
+parts_of (Calls (requests.SemctlSet id uid gid mode)) =
+    record { row = semctl_set; values = (id, (uid, (gid, (mode, tt)))); rest = [] }
+parts_of (Calls (requests.SemctlRmid id)) = record { row = semctl_rmid; values = (id, tt); rest = [] }

@@ -2,6 +2,7 @@
 #![tactic(auto)]
 
 mod laws;
+mod pairs;
 mod reading;
 mod record;
 mod reply;
@@ -13,6 +14,7 @@ pub use laws::{
     found_frame_stays, frame_is_bounded, read_request_is_spelled, spelled_request_is_read,
     stream_begins, stream_in_pieces,
 };
+pub use pairs::Pairs;
 pub use reading::{
     GREATEST_FRAME, GREATEST_LENGTH, LEAST_LENGTH, bytes_missing, read_frame, read_request,
 };

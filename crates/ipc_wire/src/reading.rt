@@ -1,6 +1,8 @@
 //! Requests read from the front of a stream.
 
-ghost use Rattle.std.specs.Prelude.{◌≡◌, ℕ, ◌<◌, ◌≤◌, ◌+◌, length, option_map, IfSome, Some};
+ghost use Rattle.std.specs.Prelude.{◌≡◌, ℕ, ◌<◌, ◌≤◌, ◌+◌, ◌==◌, if◌then◌else◌};
+ghost use Rattle.std.specs.Prelude.{length, drop, option_map, IfSome, Some, None};
+ghost use Rattle.ipc_base.specs.Numbers.{U32, number_of};
 ghost use Rattle.ipc_wire.specs.Request.{PlainRequest, plain_kind};
 ghost use Rattle.ipc_wire.specs.Spelling.{HasFrame, request_bytes};
 ghost use Rattle.ipc_wire.specs.Stream.{
@@ -16,6 +18,7 @@ ghost use Rattle.ipc_wire.specs.Table as table;
 ghost use Rattle.ipc_wire.specs.View.{plain_request};
 ghost use Rattle.ipc_wire.specs.Stream.PlainFrame.{More, Whole};
 
+use crate::pairs::Pairs;
 use crate::request::{Call, Frame, Request, RequestKind};
 use ipc_base::{Cred, Cursor, GetFlags, Id, MsgFlags};
 
@@ -51,6 +54,33 @@ pub(crate) const MSGCTL_SET: u8 = 0x0e;
 
 /// The opcode of IPC_RMID of msgctl(2).
 pub(crate) const MSGCTL_RMID: u8 = 0x0f;
+
+/// The opcode of semget(2).
+pub(crate) const SEMGET: u8 = 0x14;
+
+/// The opcode of GETVAL of semctl(2).
+pub(crate) const SEMCTL_GET_VAL: u8 = 0x16;
+
+/// The opcode of GETPID of semctl(2).
+pub(crate) const SEMCTL_GET_PID: u8 = 0x17;
+
+/// The opcode of SETVAL of semctl(2).
+pub(crate) const SEMCTL_SET_VAL: u8 = 0x1a;
+
+/// The opcode of GETALL of semctl(2).
+pub(crate) const SEMCTL_GET_ALL: u8 = 0x1b;
+
+/// The opcode of SETALL of semctl(2).
+pub(crate) const SEMCTL_SET_ALL: u8 = 0x1c;
+
+/// The opcode of IPC_STAT of semctl(2).
+pub(crate) const SEMCTL_STAT: u8 = 0x1d;
+
+/// The opcode of IPC_SET of semctl(2).
+pub(crate) const SEMCTL_SET: u8 = 0x1e;
+
+/// The opcode of IPC_RMID of semctl(2).
+pub(crate) const SEMCTL_RMID: u8 = 0x1f;
 
 /// What stands at the front of the bytes. It takes no memory: the text of a message stays where it is.
 #[tactic(auto, unfolding(crate::specs::Stream::first, crate::specs::Stream::u32_at))]
@@ -146,6 +176,15 @@ fn read_kind(opcode: u8, fields: &[u8]) -> Option<RequestKind<'_>>
         MSGCTL_STAT => read_msgctl_stat(fields),
         MSGCTL_SET => read_msgctl_set(fields),
         MSGCTL_RMID => read_msgctl_rmid(fields),
+        SEMGET => read_semget(fields),
+        SEMCTL_GET_VAL => read_semctl_get_val(fields),
+        SEMCTL_GET_PID => read_semctl_get_pid(fields),
+        SEMCTL_SET_VAL => read_semctl_set_val(fields),
+        SEMCTL_GET_ALL => read_semctl_get_all(fields),
+        SEMCTL_SET_ALL => read_semctl_set_all(fields),
+        SEMCTL_STAT => read_semctl_stat(fields),
+        SEMCTL_SET => read_semctl_set(fields),
+        SEMCTL_RMID => read_semctl_rmid(fields),
         _ => None,
     }
 }
@@ -222,15 +261,10 @@ fn read_msgrcv(fields: &[u8]) -> Option<RequestKind<'_>>
     }))
 }
 
-#[tactic(auto, unfolding(ipc_base::specs::Numbers::number_of))]
 fn read_msgctl_stat(fields: &[u8]) -> Option<RequestKind<'_>>
     ensures { option_map plain_kind result ≡ made_by table.msgctl_stat fields.now }
 {
-    let mut cursor = Cursor::new(fields);
-    let id = Id(cursor.u32()?);
-    if !cursor.is_empty() {
-        return None;
-    }
+    let id = read_id(fields)?;
     Some(RequestKind::Call(Call::MsgctlStat { id }))
 }
 
@@ -256,14 +290,128 @@ fn read_msgctl_set(fields: &[u8]) -> Option<RequestKind<'_>>
     }))
 }
 
-#[tactic(auto, unfolding(ipc_base::specs::Numbers::number_of))]
 fn read_msgctl_rmid(fields: &[u8]) -> Option<RequestKind<'_>>
     ensures { option_map plain_kind result ≡ made_by table.msgctl_rmid fields.now }
+{
+    let id = read_id(fields)?;
+    Some(RequestKind::Call(Call::MsgctlRmid { id }))
+}
+
+#[tactic(auto, unfolding(ipc_base::specs::Numbers::number_of))]
+fn read_semget(fields: &[u8]) -> Option<RequestKind<'_>>
+    ensures { option_map plain_kind result ≡ made_by table.semget fields.now }
+{
+    let mut cursor = Cursor::new(fields);
+    let key = cursor.i32()?;
+    let nsems = cursor.i32()?;
+    let flags = GetFlags(cursor.u32()?);
+    if !cursor.is_empty() {
+        return None;
+    }
+    Some(RequestKind::Call(Call::Semget { key, nsems, flags }))
+}
+
+fn read_semctl_get_val(fields: &[u8]) -> Option<RequestKind<'_>>
+    ensures { option_map plain_kind result ≡ made_by table.semctl_get_val fields.now }
+{
+    let (id, num) = read_id_and_num(fields)?;
+    Some(RequestKind::Call(Call::SemctlGetVal { id, num }))
+}
+
+fn read_semctl_get_pid(fields: &[u8]) -> Option<RequestKind<'_>>
+    ensures { option_map plain_kind result ≡ made_by table.semctl_get_pid fields.now }
+{
+    let (id, num) = read_id_and_num(fields)?;
+    Some(RequestKind::Call(Call::SemctlGetPid { id, num }))
+}
+
+#[tactic(auto, unfolding(ipc_base::specs::Numbers::number_of))]
+fn read_semctl_set_val(fields: &[u8]) -> Option<RequestKind<'_>>
+    ensures { option_map plain_kind result ≡ made_by table.semctl_set_val fields.now }
+{
+    let mut cursor = Cursor::new(fields);
+    let id = Id(cursor.u32()?);
+    let num = cursor.u32()?;
+    let value = cursor.i32()?;
+    if !cursor.is_empty() {
+        return None;
+    }
+    Some(RequestKind::Call(Call::SemctlSetVal { id, num, value }))
+}
+
+fn read_semctl_get_all(fields: &[u8]) -> Option<RequestKind<'_>>
+    ensures { option_map plain_kind result ≡ made_by table.semctl_get_all fields.now }
+{
+    let id = read_id(fields)?;
+    Some(RequestKind::Call(Call::SemctlGetAll { id }))
+}
+
+#[tactic(auto, unfolding(ipc_base::specs::Numbers::number_of))]
+fn read_semctl_set_all(fields: &[u8]) -> Option<RequestKind<'_>>
+    ensures { option_map plain_kind result ≡ made_by table.semctl_set_all fields.now }
+{
+    let mut cursor = Cursor::new(fields);
+    let id = Id(cursor.u32()?);
+    let values = Pairs::new(cursor.rest())?;
+    Some(RequestKind::Call(Call::SemctlSetAll { id, values }))
+}
+
+fn read_semctl_stat(fields: &[u8]) -> Option<RequestKind<'_>>
+    ensures { option_map plain_kind result ≡ made_by table.semctl_stat fields.now }
+{
+    let id = read_id(fields)?;
+    Some(RequestKind::Call(Call::SemctlStat { id }))
+}
+
+#[tactic(auto, unfolding(ipc_base::specs::Numbers::number_of))]
+fn read_semctl_set(fields: &[u8]) -> Option<RequestKind<'_>>
+    ensures { option_map plain_kind result ≡ made_by table.semctl_set fields.now }
+{
+    let mut cursor = Cursor::new(fields);
+    let id = Id(cursor.u32()?);
+    let uid = cursor.u32()?;
+    let gid = cursor.u32()?;
+    let mode = cursor.u32()?;
+    if !cursor.is_empty() {
+        return None;
+    }
+    Some(RequestKind::Call(Call::SemctlSet { id, uid, gid, mode }))
+}
+
+fn read_semctl_rmid(fields: &[u8]) -> Option<RequestKind<'_>>
+    ensures { option_map plain_kind result ≡ made_by table.semctl_rmid fields.now }
+{
+    let id = read_id(fields)?;
+    Some(RequestKind::Call(Call::SemctlRmid { id }))
+}
+
+/// The identifier that is all of these fields, or `None` if they have another size.
+#[tactic(auto, unfolding(ipc_base::specs::Numbers::number_of))]
+fn read_id(fields: &[u8]) -> Option<Id>
+    ensures { option_map (λ id. id.0) result
+        ≡ if length fields.now == 4 then Some (number_of U32 fields.now) else None }
 {
     let mut cursor = Cursor::new(fields);
     let id = Id(cursor.u32()?);
     if !cursor.is_empty() {
         return None;
     }
-    Some(RequestKind::Call(Call::MsgctlRmid { id }))
+    Some(id)
+}
+
+/// The identifier of a set and the number of a semaphore in it that are all of these fields, or `None` if they
+/// have another size.
+#[tactic(auto, unfolding(ipc_base::specs::Numbers::number_of))]
+fn read_id_and_num(fields: &[u8]) -> Option<(Id, u32)>
+    ensures { option_map {U = ℕ × ℕ} (λ both. (both.0.0, both.1)) result
+        ≡ if length fields.now == 8
+        then Some (number_of U32 fields.now, number_of U32 (drop 4 fields.now)) else None }
+{
+    let mut cursor = Cursor::new(fields);
+    let id = Id(cursor.u32()?);
+    let num = cursor.u32()?;
+    if !cursor.is_empty() {
+        return None;
+    }
+    Some((id, num))
 }

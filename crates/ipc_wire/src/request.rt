@@ -4,6 +4,7 @@ ghost use Rattle.ipc_wire.specs.OneProof.{HasFrame-prop};
 ghost use Rattle.ipc_wire.specs.Request.{plain_kind};
 ghost use Rattle.ipc_wire.specs.Spelling.{HasFrame};
 
+use crate::pairs::Pairs;
 use crate::reading::{GREATEST_LENGTH, LEAST_LENGTH};
 use crate::spelling::request_parts;
 use ipc_base::{Cred, GetFlags, Id, MsgFlags};
@@ -84,6 +85,52 @@ pub enum Call<'a> {
     },
     /// IPC_RMID of msgctl(2).
     MsgctlRmid {
+        id: Id,
+    },
+    /// semget(2).
+    Semget {
+        key: i32,
+        nsems: i32,
+        flags: GetFlags,
+    },
+    /// GETVAL of semctl(2).
+    SemctlGetVal {
+        id: Id,
+        num: u32,
+    },
+    /// GETPID of semctl(2).
+    SemctlGetPid {
+        id: Id,
+        num: u32,
+    },
+    /// SETVAL of semctl(2).
+    SemctlSetVal {
+        id: Id,
+        num: u32,
+        value: i32,
+    },
+    /// GETALL of semctl(2).
+    SemctlGetAll {
+        id: Id,
+    },
+    /// SETALL of semctl(2); the values are the rest of the frame, and there may be none.
+    SemctlSetAll {
+        id: Id,
+        values: Pairs<'a>,
+    },
+    /// IPC_STAT of semctl(2).
+    SemctlStat {
+        id: Id,
+    },
+    /// IPC_SET of semctl(2): the owner and the mode.
+    SemctlSet {
+        id: Id,
+        uid: u32,
+        gid: u32,
+        mode: u32,
+    },
+    /// IPC_RMID of semctl(2).
+    SemctlRmid {
         id: Id,
     },
 }

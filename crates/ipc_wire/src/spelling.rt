@@ -23,11 +23,14 @@ ghost use Rattle.ipc_wire.specs.Table.{parts_of};
 ghost use Rattle.ipc_wire.specs.View.{plain_request};
 
 use crate::reading::{
-    HELLO, INTERRUPT, MSGCTL_RMID, MSGCTL_SET, MSGCTL_STAT, MSGGET, MSGRCV, MSGSND,
+    HELLO, INTERRUPT, MSGCTL_RMID, MSGCTL_SET, MSGCTL_STAT, MSGGET, MSGRCV, MSGSND, SEMCTL_GET_ALL,
+    SEMCTL_GET_PID, SEMCTL_GET_VAL, SEMCTL_RMID, SEMCTL_SET, SEMCTL_SET_ALL, SEMCTL_SET_VAL,
+    SEMCTL_STAT, SEMGET,
 };
 use crate::record::Record;
 use crate::request::{Call, Request, RequestKind};
 use crate::writing::text_len;
+use ipc_base::Field::{I32, I64, U32};
 use ipc_base::{Field, Put};
 
 /// A request taken apart, as it stands in its frame after its serial.
@@ -90,11 +93,7 @@ pub fn request_parts(kind: RequestKind<'_>) -> RequestParts<'_>
         (length (parts_of (plain_kind kind.entry)).rest) }
 {
     match kind {
-        RequestKind::Hello(cred) => spelled(
-            HELLO,
-            &[Field::U32(cred.uid), Field::U32(cred.gid)],
-            &[],
-        ),
+        RequestKind::Hello(cred) => spelled(HELLO, &[U32(cred.uid), U32(cred.gid)], &[]),
         RequestKind::Interrupt => spelled(INTERRUPT, &[], &[]),
         RequestKind::Call(call) => call_parts(call),
     }
@@ -109,21 +108,13 @@ fn call_parts(call: Call<'_>) -> RequestParts<'_>
         (length (parts_of (Calls (plain_call call.entry))).rest) }
 {
     match call {
-        Call::Msgget { key, flags } => spelled(
-            MSGGET,
-            &[Field::I32(key), Field::U32(flags.0)],
-            &[],
-        ),
+        Call::Msgget { key, flags } => spelled(MSGGET, &[I32(key), U32(flags.0)], &[]),
         Call::Msgsnd {
             id,
             flags,
             mtype,
             text,
-        } => spelled(
-            MSGSND,
-            &[Field::U32(id.0), Field::U32(flags.0), Field::I64(mtype)],
-            text,
-        ),
+        } => spelled(MSGSND, &[U32(id.0), U32(flags.0), I64(mtype)], text),
         Call::Msgrcv {
             id,
             flags,
@@ -131,15 +122,10 @@ fn call_parts(call: Call<'_>) -> RequestParts<'_>
             mtype,
         } => spelled(
             MSGRCV,
-            &[
-                Field::U32(id.0),
-                Field::U32(flags.0),
-                Field::U32(size),
-                Field::I64(mtype),
-            ],
+            &[U32(id.0), U32(flags.0), U32(size), I64(mtype)],
             &[],
         ),
-        Call::MsgctlStat { id } => spelled(MSGCTL_STAT, &[Field::U32(id.0)], &[]),
+        Call::MsgctlStat { id } => spelled(MSGCTL_STAT, &[U32(id.0)], &[]),
         Call::MsgctlSet {
             id,
             uid,
@@ -148,16 +134,31 @@ fn call_parts(call: Call<'_>) -> RequestParts<'_>
             qbytes,
         } => spelled(
             MSGCTL_SET,
-            &[
-                Field::U32(id.0),
-                Field::U32(uid),
-                Field::U32(gid),
-                Field::U32(mode),
-                Field::U32(qbytes),
-            ],
+            &[U32(id.0), U32(uid), U32(gid), U32(mode), U32(qbytes)],
             &[],
         ),
-        Call::MsgctlRmid { id } => spelled(MSGCTL_RMID, &[Field::U32(id.0)], &[]),
+        Call::MsgctlRmid { id } => spelled(MSGCTL_RMID, &[U32(id.0)], &[]),
+        Call::Semget { key, nsems, flags } => spelled(
+            SEMGET,
+            &[I32(key), I32(nsems), U32(flags.0)],
+            &[],
+        ),
+        Call::SemctlGetVal { id, num } => spelled(SEMCTL_GET_VAL, &[U32(id.0), U32(num)], &[]),
+        Call::SemctlGetPid { id, num } => spelled(SEMCTL_GET_PID, &[U32(id.0), U32(num)], &[]),
+        Call::SemctlSetVal { id, num, value } => spelled(
+            SEMCTL_SET_VAL,
+            &[U32(id.0), U32(num), I32(value)],
+            &[],
+        ),
+        Call::SemctlGetAll { id } => spelled(SEMCTL_GET_ALL, &[U32(id.0)], &[]),
+        Call::SemctlSetAll { id, values } => spelled(SEMCTL_SET_ALL, &[U32(id.0)], values.bytes()),
+        Call::SemctlStat { id } => spelled(SEMCTL_STAT, &[U32(id.0)], &[]),
+        Call::SemctlSet { id, uid, gid, mode } => spelled(
+            SEMCTL_SET,
+            &[U32(id.0), U32(uid), U32(gid), U32(mode)],
+            &[],
+        ),
+        Call::SemctlRmid { id } => spelled(SEMCTL_RMID, &[U32(id.0)], &[]),
     }
 }
 

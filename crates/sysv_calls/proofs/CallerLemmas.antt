@@ -1,17 +1,16 @@
 -- What the crates above cite of the calls. From a sound state each ends in one, with a body that fits, and changes no more
 -- than its own object. Whether it has to wait depends on the limits, who makes it and its own object alone.
 use Rattle.std.proofs.Common.{◌≡◌, ◌≢◌, ℕ, ℤ, pos, ◌<◌, ◌≤◌, Bool, true, false, not, List, [], ◌∷◌, ◌++◌, length, take, refl, subst, sym, ap, ◌∙◌, cond, arith}
-use Rattle.std.specs.Prelude.{nat_eq, nat_lt, int_lt, is_some, if◌then◌else◌, Option, Some, None, Ok, Err}
+use Rattle.std.specs.Prelude.{nat_eq, nat_lt, int_lt, is_some, if◌then◌else◌, Option, Some, None, Ok}
 use Rattle.std.proofs.lemmas.Bool.{ltb-false}
 use Rattle.std.proofs.lemmas.List.{length-take}
 use Rattle.std.proofs.lemmas.List.Elements.{All-get_or}
 use Rattle.std.proofs.lemmas.Option.{unwrap_or-slice_get}
 use Rattle.ipc_base.specs.Table.{value_at}
-use Rattle.ipc_base.specs.declared.errno.Errno.{Errno}
 use Rattle.ipc_base.specs.declared.identity.Cred.{Cred}
 use Rattle.ipc_base.specs.declared.identity.Id.{Id}
 use Rattle.ipc_base.specs.declared.limits.Limits.{Limits}
-use Rattle.ipc_base.specs.declared.errno.Errno.TheVariants.{EPERM, ENOENT, EACCES, EEXIST, EINVAL, ENOSPC, EAGAIN, ENOMSG, E2BIG}
+use Rattle.ipc_base.specs.declared.errno.Errno.TheVariants.{EPERM, EACCES, EINVAL, ENOSPC, EAGAIN, ENOMSG}
 use Rattle.ipc_base.specs.Numbers.{record_bytes}
 use Rattle.ipc_base.proofs.CallerLemmas.{message-is_bounded, other-with, value_at-without}
 use Rattle.ipc_wire.specs.Request.{PlainCall, PlainRequest, Calls}
@@ -21,12 +20,12 @@ use Rattle.sysv_msg.specs.Queue.{Queue, PlainMessage, pick, full, sent, taken, c
 use Rattle.ipc_state.specs.declared.keyed.Entry.{Entry}
 use Rattle.ipc_state.specs.declared.parked.Awaited.{Awaited}
 use Rattle.ipc_state.specs.declared.parked.Awaited.TheVariants as awaited
-use Rattle.ipc_state.specs.Numbered.{entry_of, is_full, last_number, without_entry}
+use Rattle.ipc_state.specs.Numbered.{entry_of, last_number, without_entry}
 use Rattle.ipc_state.specs.Keyed.{Keyed, holding, permitting, keyed}
 use Rattle.ipc_perm.specs.declared.perm.Perm.{Perm}
 use Rattle.ipc_perm.specs.Perm.{perm_of, owned_by, asked_by, may, owns}
-use Rattle.ipc_state.specs.Finish.{Attempt, Done, Halt, Fails, Blocks, IfFinishes, ended, has_to_wait}
-use Rattle.ipc_state.specs.Finish.{answer, refuse, stop, if_some, ◌orelse◌, ◌orstop◌, ◌>>◌, ◌>>=◌}
+use Rattle.ipc_state.specs.Finish.{Attempt, Done, Finish, Halt, Finishes, IfFinishes, has_to_wait}
+use Rattle.ipc_state.specs.Finish.{refuse, stop, ◌orelse◌, ◌>>◌, ◌>>=◌}
 use Rattle.ipc_state.specs.Sound.{HasSoundParts, IsSoundMessage, IsSoundQueue, FitsBody}
 use Rattle.ipc_state.specs.State.{State, cred_of, with_queue, with_new_queue}
 use Rattle.ipc_state.specs.Touching.{is_there, IsAsBefore}
@@ -34,14 +33,27 @@ use Rattle.ipc_state.specs.Waiting.{awaited_by, may_wait}
 use Rattle.ipc_state.proofs.CallerLemmas.{IsGood, Ends, after-refuse, after-attempt, by-if_some, answered, read, ended-good}
 use Rattle.ipc_state.proofs.CallerLemmas.{perm_of-mode, owned_by-mode, with_new_queue-sound, with_queue-sound, queue-sound, sent-sound, taken-sound}
 use Rattle.ipc_state.proofs.CallerLemmas.{changed-sound, permitted-sound, without_queue-sound}
-use Rattle.sysv_calls.specs.Calls.{write, except, has, is_exclusive, is_too_long, sendable, receivable, accessible}
-use Rattle.sysv_calls.specs.Calls.{reached, gone, may_make, removed, message_at, touched, waits_or, call_of, attempt}
-use Rattle.sysv_calls.specs.Records.{perm_fields, queue_fields}
-use Rattle.sysv_calls.specs.Seen.{seen, place_in}
+use Rattle.sysv_calls.specs.Access.{write, has, is_exclusive, accessible, reached, gone, may_make, removed, sought}
+use Rattle.sysv_calls.specs.Msg.{except, is_too_long, sendable, receivable, message_at, waits_or}
+use Rattle.sysv_calls.specs.Calls.{touched, call_of, attempt}
+use Rattle.sysv_calls.specs.Records.{perm_fields, queue_fields, set_fields}
+use Rattle.sysv_calls.specs.Seen.{place_in}
 use Rattle.sysv_calls.specs.Needs.{IsReserved}
 use Rattle.ipc_state.specs.Held.{Room}
-use Rattle.sysv_calls.proofs.Reaching.{reached-there, removed-is, sends, receives}
-use Rattle.sysv_calls.specs.Calls as defined
+use Rattle.sysv_calls.proofs.Received.{receive_steps, left, after-receive, blocked-left}
+use Rattle.sysv_calls.proofs.Reaching.{reached-there, removed-is, sought-none, sends, receives}
+use Rattle.sysv_calls.proofs.SetEnds.{semget-ends, semctl_getval-ends, semctl_getpid-ends, semctl_setval-ends, semctl_getall-ends, semctl_setall-ends}
+use Rattle.sysv_calls.proofs.SetEnds.{semctl_stat-ends, semctl_set-ends, semctl_rmid-ends}
+use Rattle.sysv_calls.proofs.Running.{waits-blocked, blocked-then, blocked-seen, listed-runs, msgget-runs, msgctl_set-runs, msgctl_rmid-runs, semget-runs}
+use Rattle.sysv_calls.proofs.Running.{semctl_getval-runs, semctl_getpid-runs, semctl_setval-runs, semctl_getall-runs, semctl_setall-runs, semctl_set-runs}
+use Rattle.sysv_calls.proofs.Running.{semctl_rmid-runs}
+pub use Rattle.sysv_calls.proofs.Families.{IsOther, by-waiting}
+pub use Rattle.sysv_calls.proofs.Running.{is_blocked}
+use Rattle.sysv_calls.specs.Msg as defined
+use Rattle.sysv_calls.specs.Access as access
+
+some-none : {X : Type 0} {x : X} → Some x ≡ None → ⊥
+some-none is = cc
 
 not_false : (b : Bool) → not b ≡ false → b ≡ true
 not_false true h = refl
@@ -73,9 +85,10 @@ module _ (limits : Limits) (s : State) where
 
   msgget-ends : (cred : Cred) (key : ℤ) (flags : ℕ) → Ends limits s None (defined.msgget limits s cred key flags)
   msgget-ends cred key flags =
-      by-if_some (λ id _. after-refuse EEXIST {b = is_exclusive flags} (λ _. after-attempt {a = accessible false s.msg cred id (asked_by flags)} (λ e _.
-      read (Number id) (λ _. omega arith))))
-      (λ unused. after-refuse ENOENT (λ _. after-refuse ENOSPC (λ room.
+      after-attempt {a = sought s.msg key flags} (λ found is. by-if_some (λ id _.
+      after-attempt {a = accessible false s.msg cred id (asked_by flags)} (λ e _. read (Number id) (λ _. omega arith)))
+      (λ none. after-refuse ENOSPC (λ room.
+      let unused : keyed s.msg key ≡ None = sought-none s.msg key flags (is ∙ ap (λ (f : Option ℕ). Ok f) none) in
       answered (with_new_queue limits s key (perm_of cred flags)) (Number s.msg.next) (record {
         state = λ h. with_new_queue-sound limits s key (perm_of cred flags) unused room (perm_of-mode cred flags) h;
         body = λ _. omega arith;
@@ -178,6 +191,15 @@ module _ (limits : Limits) (s : State) where
   call-ends pid again (requests.MsgctlStat id) = msgctl_stat-ends (cred_of s pid) id
   call-ends pid again (requests.MsgctlSet id uid gid mode qbytes) = msgctl_set-ends (cred_of s pid) id uid gid mode qbytes
   call-ends pid again (requests.MsgctlRmid id) = msgctl_rmid-ends (cred_of s pid) id
+  call-ends pid again (requests.Semget key nsems flags) = semget-ends limits s (cred_of s pid) key nsems flags
+  call-ends pid again (requests.SemctlGetVal id num) = semctl_getval-ends limits s (cred_of s pid) id num
+  call-ends pid again (requests.SemctlGetPid id num) = semctl_getpid-ends limits s (cred_of s pid) id num
+  call-ends pid again (requests.SemctlSetVal id num value) = semctl_setval-ends limits s (cred_of s pid) pid id num value
+  call-ends pid again (requests.SemctlGetAll id) = semctl_getall-ends limits s (cred_of s pid) id
+  call-ends pid again (requests.SemctlSetAll id values) = semctl_setall-ends limits s (cred_of s pid) pid id values
+  call-ends pid again (requests.SemctlStat id) = semctl_stat-ends limits s (cred_of s pid) id
+  call-ends pid again (requests.SemctlSet id uid gid mode) = semctl_set-ends limits s (cred_of s pid) id uid gid mode
+  call-ends pid again (requests.SemctlRmid id) = semctl_rmid-ends limits s (cred_of s pid) id
 
 -- what a call that comes to its end leaves and answers
 pub attempt-good : (limits : Limits) (s : State) (pid : ℕ) (again : Bool) (call : PlainCall)
@@ -185,27 +207,6 @@ pub attempt-good : (limits : Limits) (s : State) (pid : ℕ) (again : Bool) (cal
 attempt-good limits s pid again call = ended-good limits s (touched call) (call_of limits s pid again call) (call-ends limits s pid again call)
 
 -- ---- whether a call has to wait
-
-abbrev pub is_blocked : {X : Type 0} → Attempt X → Bool
-is_blocked (Ok x) = false
-is_blocked (Err (Fails e)) = false
-is_blocked (Err Blocks) = true
-
-waits-blocked : (s : State) (a : Attempt Done) → has_to_wait (ended s a) ≡ is_blocked a
-waits-blocked s (Ok d) = refl
-waits-blocked s (Err (Fails e)) = refl
-waits-blocked s (Err Blocks) = refl
-
--- what is done at the end, and what is looked at, tell nothing of it
-blocked-then : {X Y : Type 0} (a : Attempt X) (f : X → Y) → is_blocked (a >>= (λ x. Ok (f x))) ≡ is_blocked a
-blocked-then (Ok x) f = refl
-blocked-then (Err (Fails e)) f = refl
-blocked-then (Err Blocks) f = refl
-
-blocked-seen : {X Y : Type 0} (f : X → Y) (a : Attempt X) → is_blocked (seen f a) ≡ is_blocked a
-blocked-seen f (Ok x) = refl
-blocked-seen f (Err (Fails e)) = refl
-blocked-seen f (Err Blocks) = refl
 
 module _ (limits : Limits) (s : State) (pid : ℕ) (again : Bool) where
   waits-send : (id flags : ℕ) (mtype : ℤ) (text : List ℕ) → has_to_wait (attempt limits s pid again (requests.Msgsnd id flags mtype text))
@@ -234,12 +235,6 @@ send_steps again b1 b2 f refuses h fills =
     refuse EINVAL b1 >> (refuse EINVAL b2 >> ((f orelse gone again >>= (λ e. refuse EACCES (refuses e.perm) >> Ok e))
     >>= (λ e. stop h (fills e.object) >> Ok e)))
 
--- the tests of a receive
-abbrev receive_steps : Bool → Bool → Option (Entry Queue) → (Perm → Bool) → Halt → (Queue → Option ℕ) → (Queue → ℕ → Bool) → Attempt (Entry Queue × ℕ)
-receive_steps again b1 f refuses h picks long =
-    refuse EINVAL b1 >> ((f orelse gone again >>= (λ e. refuse EACCES (refuses e.perm) >> Ok e))
-    >>= (λ e. picks e.object orstop h >>= (λ at. refuse E2BIG (long e.object at) >> Ok (e, at))))
-
 -- whether it is blocked does not tell whether it waited before
 sends-alike : (again other b1 b2 : Bool) (f : Option (Entry Queue)) (refuses : Perm → Bool) (h : Halt) (fills : Queue → Bool)
     → is_blocked (send_steps again b1 b2 f refuses h fills) ≡ is_blocked (send_steps other b1 b2 f refuses h fills)
@@ -255,36 +250,41 @@ receives-alike again other false None refuses h picks long = refl
 receives-alike again other false (Some e) refuses h picks long = refl
 
 -- two states that have the same caller and the same object make the same call wait, whether it waited before or not
-pub waits-alike : (limits : Limits) (s t : State) (pid : ℕ) (again other : Bool) (call : PlainCall) (on : Awaited) → awaited_by (Calls call) ≡ Some on
-    → cred_of t pid ≡ cred_of s pid → IsAsBefore on s t → has_to_wait (attempt limits t pid other call) ≡ has_to_wait (attempt limits s pid again call)
-waits-alike limits s t pid again other (requests.Msgsnd id flags mtype text) (awaited.Queue n) is cred alike =
-    let b1 = not (int_lt (pos 0) mtype) in
-    let b2 = nat_lt limits.msgmax (length text) in
-    let fills : Queue → Bool = λ q. full q (length text) in
-    let h = waits_or flags EAGAIN in
-    let mine : Perm → Bool = λ perm. not (may (cred_of s pid) perm write) in
-    let same : entry_of t.msg id ≡ entry_of s.msg id = subst (λ (k : ℕ). entry_of t.msg k ≡ entry_of s.msg k) (sym (own_id id n is)) alike in
-    waits-send limits t pid other id flags mtype text
-    ∙ (ap (λ (c : Cred). is_blocked (send_steps other b1 b2 (entry_of t.msg id) (λ perm. not (may c perm write)) h fills)) cred
-    ∙ (ap (λ (f : Option (Entry Queue)). is_blocked (send_steps other b1 b2 f mine h fills)) same
-    ∙ (sends-alike other again b1 b2 (entry_of s.msg id) mine h fills
-    ∙ sym (waits-send limits s pid again id flags mtype text))))
-waits-alike limits s t pid again other (requests.Msgrcv id flags size mtype) (awaited.Queue n) is cred alike =
-    let b1 = nat_lt last_number size in
-    let picks : Queue → Option ℕ = λ q. pick q.messages mtype (has flags except) in
-    let long : Queue → ℕ → Bool = λ q at. is_too_long flags size (length (message_at q at).text) in
-    let h = waits_or flags ENOMSG in
-    let mine : Perm → Bool = λ perm. not (may (cred_of s pid) perm defined.read) in
-    let same : entry_of t.msg id ≡ entry_of s.msg id = subst (λ (k : ℕ). entry_of t.msg k ≡ entry_of s.msg k) (sym (own_id id n is)) alike in
-    waits-receive limits t pid other id flags size mtype
-    ∙ (ap (λ (c : Cred). is_blocked (receive_steps other b1 (entry_of t.msg id) (λ perm. not (may c perm defined.read)) h picks long)) cred
-    ∙ (ap (λ (f : Option (Entry Queue)). is_blocked (receive_steps other b1 f mine h picks long)) same
-    ∙ (receives-alike other again b1 (entry_of s.msg id) mine h picks long
-    ∙ sym (waits-receive limits s pid again id flags size mtype))))
-waits-alike limits s t pid again other (requests.Msgget key flags) on is cred alike = cc
-waits-alike limits s t pid again other (requests.MsgctlStat id) on is cred alike = cc
-waits-alike limits s t pid again other (requests.MsgctlSet id uid gid mode qbytes) on is cred alike = cc
-waits-alike limits s t pid again other (requests.MsgctlRmid id) on is cred alike = cc
+module _ (limits : Limits) (s t : State) (pid : ℕ) (again other : Bool) where
+  abbrev IsAlike : PlainCall → Type 0
+  IsAlike call = (on : Awaited) → awaited_by (Calls call) ≡ Some on → cred_of t pid ≡ cred_of s pid → IsAsBefore on s t
+      → has_to_wait (attempt limits t pid other call) ≡ has_to_wait (attempt limits s pid again call)
+
+  alike-send : (id flags : ℕ) (mtype : ℤ) (text : List ℕ) → IsAlike (requests.Msgsnd id flags mtype text)
+  alike-send id flags mtype text (awaited.Queue n) is cred alike =
+      let b1 = not (int_lt (pos 0) mtype) in
+      let b2 = nat_lt limits.msgmax (length text) in
+      let fills : Queue → Bool = λ q. full q (length text) in
+      let h = waits_or flags EAGAIN in
+      let mine : Perm → Bool = λ perm. not (may (cred_of s pid) perm write) in
+      let same : entry_of t.msg id ≡ entry_of s.msg id = subst (λ (k : ℕ). entry_of t.msg k ≡ entry_of s.msg k) (sym (own_id id n is)) alike in
+      waits-send limits t pid other id flags mtype text
+      ∙ (ap (λ (c : Cred). is_blocked (send_steps other b1 b2 (entry_of t.msg id) (λ perm. not (may c perm write)) h fills)) cred
+      ∙ (ap (λ (f : Option (Entry Queue)). is_blocked (send_steps other b1 b2 f mine h fills)) same
+      ∙ (sends-alike other again b1 b2 (entry_of s.msg id) mine h fills
+      ∙ sym (waits-send limits s pid again id flags mtype text))))
+
+  alike-receive : (id flags size : ℕ) (mtype : ℤ) → IsAlike (requests.Msgrcv id flags size mtype)
+  alike-receive id flags size mtype (awaited.Queue n) is cred alike =
+      let b1 = nat_lt last_number size in
+      let picks : Queue → Option ℕ = λ q. pick q.messages mtype (has flags except) in
+      let long : Queue → ℕ → Bool = λ q at. is_too_long flags size (length (message_at q at).text) in
+      let h = waits_or flags ENOMSG in
+      let mine : Perm → Bool = λ perm. not (may (cred_of s pid) perm access.read) in
+      let same : entry_of t.msg id ≡ entry_of s.msg id = subst (λ (k : ℕ). entry_of t.msg k ≡ entry_of s.msg k) (sym (own_id id n is)) alike in
+      waits-receive limits t pid other id flags size mtype
+      ∙ (ap (λ (c : Cred). is_blocked (receive_steps other b1 (entry_of t.msg id) (λ perm. not (may c perm access.read)) h picks long)) cred
+      ∙ (ap (λ (f : Option (Entry Queue)). is_blocked (receive_steps other b1 f mine h picks long)) same
+      ∙ (receives-alike other again b1 (entry_of s.msg id) mine h picks long
+      ∙ sym (waits-receive limits s pid again id flags size mtype))))
+
+  pub waits-alike : (call : PlainCall) → IsAlike call
+  waits-alike call = by-waiting IsAlike alike-send alike-receive (λ call none on is. absurd (some-none (sym is ∙ none.never))) call
 
 sends-there : (again b1 b2 : Bool) (f : Option (Entry Queue)) (refuses : Perm → Bool) (h : Halt) (fills : Queue → Bool)
     → is_blocked (send_steps again b1 b2 f refuses h fills) ≡ true → is_some f ≡ true
@@ -300,101 +300,75 @@ receives-there again false None refuses h picks long is = cc
 receives-there again false (Some e) refuses h picks long is = refl
 
 -- what waits on an object finds it there
-pub waits-there : (limits : Limits) (s : State) (pid : ℕ) (again : Bool) (call : PlainCall) (on : Awaited) → awaited_by (Calls call) ≡ Some on
-    → has_to_wait (attempt limits s pid again call) ≡ true → is_there on s ≡ true
-waits-there limits s pid again (requests.Msgsnd id flags mtype text) (awaited.Queue n) is waits =
-    let there : is_some (entry_of s.msg id) ≡ true =
-    sends-there again (not (int_lt (pos 0) mtype)) (nat_lt limits.msgmax (length text)) (entry_of s.msg id) (λ perm. not (may (cred_of s pid) perm write))
-    (waits_or flags EAGAIN) (λ q. full q (length text)) (sym (waits-send limits s pid again id flags mtype text) ∙ waits) in
-    subst (λ (k : ℕ). is_some (entry_of s.msg k) ≡ true) (own_id id n is) there
-waits-there limits s pid again (requests.Msgrcv id flags size mtype) (awaited.Queue n) is waits =
-    let there : is_some (entry_of s.msg id) ≡ true =
-    receives-there again (nat_lt last_number size) (entry_of s.msg id) (λ perm. not (may (cred_of s pid) perm defined.read))
-    (waits_or flags ENOMSG) (λ q. pick q.messages mtype (has flags except)) (λ q at. is_too_long flags size (length (message_at q at).text))
-    (sym (waits-receive limits s pid again id flags size mtype) ∙ waits) in
-    subst (λ (k : ℕ). is_some (entry_of s.msg k) ≡ true) (own_id id n is) there
-waits-there limits s pid again (requests.Msgget key flags) on is waits = cc
-waits-there limits s pid again (requests.MsgctlStat id) on is waits = cc
-waits-there limits s pid again (requests.MsgctlSet id uid gid mode qbytes) on is waits = cc
-waits-there limits s pid again (requests.MsgctlRmid id) on is waits = cc
+module _ (limits : Limits) (s : State) (pid : ℕ) (again : Bool) where
+  abbrev IsThere : PlainCall → Type 0
+  IsThere call = (on : Awaited) → awaited_by (Calls call) ≡ Some on → has_to_wait (attempt limits s pid again call) ≡ true → is_there on s ≡ true
+
+  there-send : (id flags : ℕ) (mtype : ℤ) (text : List ℕ) → IsThere (requests.Msgsnd id flags mtype text)
+  there-send id flags mtype text (awaited.Queue n) is waits =
+      let there : is_some (entry_of s.msg id) ≡ true =
+      sends-there again (not (int_lt (pos 0) mtype)) (nat_lt limits.msgmax (length text)) (entry_of s.msg id) (λ perm. not (may (cred_of s pid) perm write))
+      (waits_or flags EAGAIN) (λ q. full q (length text)) (sym (waits-send limits s pid again id flags mtype text) ∙ waits) in
+      subst (λ (k : ℕ). is_some (entry_of s.msg k) ≡ true) (own_id id n is) there
+
+  there-receive : (id flags size : ℕ) (mtype : ℤ) → IsThere (requests.Msgrcv id flags size mtype)
+  there-receive id flags size mtype (awaited.Queue n) is waits =
+      let there : is_some (entry_of s.msg id) ≡ true =
+      receives-there again (nat_lt last_number size) (entry_of s.msg id) (λ perm. not (may (cred_of s pid) perm access.read))
+      (waits_or flags ENOMSG) (λ q. pick q.messages mtype (has flags except)) (λ q at. is_too_long flags size (length (message_at q at).text))
+      (sym (waits-receive limits s pid again id flags size mtype) ∙ waits) in
+      subst (λ (k : ℕ). is_some (entry_of s.msg k) ≡ true) (own_id id n is) there
+
+  pub waits-there : (call : PlainCall) → IsThere call
+  waits-there call = by-waiting IsThere there-send there-receive (λ call none on is. absurd (some-none (sym is ∙ none.never))) call
+
+-- after a receive has come to its end, each other receive that had to wait has to wait on
+pub received-waits : (limits : Limits) (s : State) (pid : ℕ) (again : Bool) (id flags size : ℕ) (mtype : ℤ) (f : Finish)
+    → attempt limits s pid again (requests.Msgrcv id flags size mtype) ≡ Finishes f
+    → (other other_id other_flags other_size : ℕ) (other_type : ℤ)
+    → has_to_wait (attempt limits s other true (requests.Msgrcv other_id other_flags other_size other_type)) ≡ true
+    → has_to_wait (attempt limits f.state other true (requests.Msgrcv other_id other_flags other_size other_type)) ≡ true
+received-waits limits s pid again id flags size mtype f is other n flags' size' mtype' waits =
+    after-receive s (cred_of s pid) pid again id flags size mtype f
+    (λ t. has_to_wait (attempt limits t other true (requests.Msgrcv n flags' size' mtype')) ≡ true) is waits
+    (λ found ok. let t : State = left s pid id found in
+    waits-receive limits t other true n flags' size' mtype'
+    ∙ blocked-left s pid id found (cred_of s other) true n flags' size' mtype' ok.there
+    (sym (waits-receive limits s other true n flags' size' mtype') ∙ waits))
 
 -- a call that waits on nothing never waits
-refused-never : (e : Errno) (b : Bool) (rest : Attempt Done) → is_blocked rest ≡ false → is_blocked (refuse e b >> rest) ≡ false
-refused-never e true rest never = refl
-refused-never e false rest never = never
-
-reached-never : (s : Keyed Queue) (id : ℕ) (e : Errno) (refuses : Perm → Bool) (rest : Entry Queue → Attempt Done)
-    → ((f : Entry Queue) → is_blocked (rest f) ≡ false) → is_blocked (reached false s id e refuses >>= rest) ≡ false
-reached-never s id e refuses rest never = by_entry (entry_of s id)
-  where
-    by_test : (b : Bool) (f : Entry Queue) → is_blocked ((refuse e b >> Ok f) >>= rest) ≡ false
-    by_test true f = refl
-    by_test false f = never f
-
-    by_entry : (o : Option (Entry Queue)) → is_blocked ((o orelse EINVAL >>= (λ f. refuse e (refuses f.perm) >> Ok f)) >>= rest) ≡ false
-    by_entry None = refl
-    by_entry (Some f) = by_test (refuses f.perm) f
-
--- a removal never does
-abbrev runs : {X : Type 0} → Attempt X → Bool
-runs (Ok x) = true
-runs (Err (Fails e)) = true
-runs (Err Blocks) = false
-
-removed-runs : (s : Keyed Queue) (cred : Cred) (id : ℕ) → runs (removed s cred id) ≡ true
-removed-runs s cred id = by_entry (entry_of s id)
-  where
-    by_test : (b : Bool) (f : Entry Queue) → runs ((refuse EPERM b >> Ok f) >>= (λ e. Ok (without_entry s id))) ≡ true
-    by_test true f = refl
-    by_test false f = refl
-
-    by_entry : (o : Option (Entry Queue))
-        → runs ((o orelse EINVAL >>= (λ f. refuse EPERM (not (owns cred f.perm)) >> Ok f)) >>= (λ e. Ok (without_entry s id))) ≡ true
-    by_entry None = refl
-    by_entry (Some f) = by_test (not (owns cred f.perm)) f
+never-blocked : (limits : Limits) (s : State) (pid : ℕ) (again : Bool) (call : PlainCall) → awaited_by (Calls call) ≡ None
+    → is_blocked (call_of limits s pid again call) ≡ false
+never-blocked limits s pid again (requests.Msgget key flags) is = msgget-runs limits s (cred_of s pid) key flags
+never-blocked limits s pid again (requests.MsgctlStat id) is = listed-runs s s.msg (cred_of s pid) id queue_fields
+never-blocked limits s pid again (requests.MsgctlSet id uid gid mode qbytes) is = msgctl_set-runs limits s (cred_of s pid) id uid gid mode qbytes
+never-blocked limits s pid again (requests.MsgctlRmid id) is = msgctl_rmid-runs s (cred_of s pid) id
+never-blocked limits s pid again (requests.Semget key nsems flags) is = semget-runs limits s (cred_of s pid) key nsems flags
+never-blocked limits s pid again (requests.SemctlGetVal id num) is = semctl_getval-runs s (cred_of s pid) id num
+never-blocked limits s pid again (requests.SemctlGetPid id num) is = semctl_getpid-runs s (cred_of s pid) id num
+never-blocked limits s pid again (requests.SemctlSetVal id num value) is = semctl_setval-runs s (cred_of s pid) pid id num value
+never-blocked limits s pid again (requests.SemctlGetAll id) is = semctl_getall-runs s (cred_of s pid) id
+never-blocked limits s pid again (requests.SemctlSetAll id values) is = semctl_setall-runs s (cred_of s pid) pid id values
+never-blocked limits s pid again (requests.SemctlStat id) is = listed-runs s s.sem (cred_of s pid) id set_fields
+never-blocked limits s pid again (requests.SemctlSet id uid gid mode) is = semctl_set-runs s (cred_of s pid) id uid gid mode
+never-blocked limits s pid again (requests.SemctlRmid id) is = semctl_rmid-runs s (cred_of s pid) id
+never-blocked limits s pid again (requests.Msgsnd id flags mtype text) is = cc
+never-blocked limits s pid again (requests.Msgrcv id flags size mtype) is = cc
 
 pub never-waits : (limits : Limits) (s : State) (pid : ℕ) (again : Bool) (call : PlainCall) → awaited_by (Calls call) ≡ None
     → has_to_wait (attempt limits s pid again call) ≡ false
-never-waits limits s pid again (requests.Msgget key flags) is = waits-blocked s (defined.msgget limits s (cred_of s pid) key flags) ∙ by_key (keyed s.msg key)
-  where
-    by_key : (o : Option ℕ) → is_blocked (if_some o
-        (λ id. refuse EEXIST (is_exclusive flags) >> (accessible false s.msg (cred_of s pid) id (asked_by flags) >>= (λ e. answer s (Number id))))
-        (refuse ENOENT (not (may_make key flags)) >> (refuse ENOSPC (is_full limits.msgmni s.msg)
-        >> answer (with_new_queue limits s key (perm_of (cred_of s pid) flags)) (Number s.msg.next)))) ≡ false
-    by_key None = refused-never ENOENT (not (may_make key flags)) _ (refused-never ENOSPC (is_full limits.msgmni s.msg) _ refl)
-    by_key (Some id) =
-        refused-never EEXIST (is_exclusive flags) _
-        (reached-never s.msg id EACCES (λ perm. not (may (cred_of s pid) perm (asked_by flags))) (λ e. answer s (Number id)) (λ f. refl))
-never-waits limits s pid again (requests.MsgctlStat id) is =
-    waits-blocked s (defined.msgctl_stat s (cred_of s pid) id)
-    ∙ reached-never s.msg id EACCES (λ perm. not (may (cred_of s pid) perm defined.read)) _ (λ f. refl)
-never-waits limits s pid again (requests.MsgctlSet id uid gid mode qbytes) is =
-    waits-blocked s (defined.msgctl_set limits s (cred_of s pid) id uid gid mode qbytes)
-    ∙ reached-never s.msg id EPERM (λ perm. not (owns (cred_of s pid) perm)) _ (λ f. refused-never EPERM (nat_lt limits.msgmnb qbytes) _ refl)
-never-waits limits s pid again (requests.MsgctlRmid id) is =
-    waits-blocked s (defined.msgctl_rmid s (cred_of s pid) id)
-    ∙ by_removed (removed s.msg (cred_of s pid) id) (removed-runs s.msg (cred_of s pid) id)
-  where
-    by_removed : (a : Attempt (Keyed Queue)) → runs a ≡ true → is_blocked (a >>= (λ queues. answer (record s { msg = queues }) Empty)) ≡ false
-    by_removed (Ok m) is = refl
-    by_removed (Err (Fails e)) is = refl
-    by_removed (Err Blocks) is = cc
-never-waits limits s pid again (requests.Msgsnd id flags mtype text) is = cc
-never-waits limits s pid again (requests.Msgrcv id flags size mtype) is = cc
+never-waits limits s pid again call is = waits-blocked s (call_of limits s pid again call) ∙ never-blocked limits s pid again call is
 
 -- whether a call has to wait, by its tests
 pub waits-as-tested : (limits : Limits) (s : State) (pid : ℕ) (again : Bool) (call : PlainCall)
     → has_to_wait (attempt limits s pid again call) ≡ is_blocked (place_in limits s (cred_of s pid) again call)
-waits-as-tested limits s pid again (requests.Msgsnd id flags mtype text) =
-    waits-send limits s pid again id flags mtype text
-    ∙ sym (blocked-seen (λ (e : Entry Queue). 0) (sendable limits s (cred_of s pid) again id flags mtype text))
-waits-as-tested limits s pid again (requests.Msgrcv id flags size mtype) =
-    waits-receive limits s pid again id flags size mtype
-    ∙ sym (blocked-seen (λ (found : Entry Queue × ℕ). found.1) (receivable s (cred_of s pid) again id flags size mtype))
-waits-as-tested limits s pid again (requests.Msgget key flags) = never-waits limits s pid again (requests.Msgget key flags) refl
-waits-as-tested limits s pid again (requests.MsgctlStat id) = never-waits limits s pid again (requests.MsgctlStat id) refl
-waits-as-tested limits s pid again (requests.MsgctlSet id uid gid mode qbytes) = never-waits limits s pid again (requests.MsgctlSet id uid gid mode qbytes) refl
-waits-as-tested limits s pid again (requests.MsgctlRmid id) = never-waits limits s pid again (requests.MsgctlRmid id) refl
+waits-as-tested limits s pid again =
+    by-waiting (λ call. has_to_wait (attempt limits s pid again call) ≡ is_blocked (place_in limits s (cred_of s pid) again call))
+    (λ id flags mtype text. waits-send limits s pid again id flags mtype text
+    ∙ sym (blocked-seen (λ (e : Entry Queue). 0) (sendable limits s (cred_of s pid) again id flags mtype text)))
+    (λ id flags size mtype. waits-receive limits s pid again id flags size mtype
+    ∙ sym (blocked-seen (λ (found : Entry Queue × ℕ). found.1) (receivable s (cred_of s pid) again id flags size mtype)))
+    (λ call other. never-waits limits s pid again call other.never ∙ sym (ap is_blocked (other.untested limits s (cred_of s pid) again)))
 
 -- ---- what is reserved
 

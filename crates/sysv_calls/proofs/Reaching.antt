@@ -1,24 +1,38 @@
 -- What an identifier has for a caller, in what is held and in the definitions.
-use Rattle.std.proofs.Common.{◌≡◌, ℕ, ℤ, pos, ◌<◌, Bool, true, false, List, [], length, Option, Some, None, refl, sym, ap, subst, ◌∙◌}
-use Rattle.std.specs.Prelude.{not, is_some, nat_lt, int_lt, Ok, Err}
+use Rattle.std.proofs.Common.{◌≡◌, ℕ, zero, suc, ℤ, pos, negsuc, ◌*◌, ◌<◌, Bool, true, false, List, [], ◌∷◌, length, map, arith, Option, Some, None, refl, sym, ap, subst, ◌∙◌}
+use Rattle.std.specs.Prelude.{not, is_some, nat_le, nat_lt, int_lt, ◌≤◌, ◌==◌, slice_get, sum_by, All, if◌then◌else◌, Ok, Err}
+use Rattle.std.proofs.lemmas.Bool.{eqb-true, leb-true}
+use Rattle.std.proofs.lemmas.Bool.Decides.{nat_tests}
+use Rattle.std.proofs.lemmas.List.Elements.{All-weaker}
+use Rattle.std.proofs.lemmas.List.Sums.{AllPass-from_list_all, sum_by-cons}
+use Rattle.std.proofs.lemmas.List.Concat.{length-flat_map}
+use Rattle.ipc_base.specs.declared.field.Field.{Field}
+use Rattle.ipc_base.specs.declared.field.Field.TheVariants.{U16}
+use Rattle.ipc_base.specs.Numbers.{field_bytes, record_bytes}
 use Rattle.std.proofs.lemmas.List.Quantifiers.{position-Some}
 use Rattle.ipc_base.specs.declared.limits.Limits.{Limits}
 use Rattle.ipc_base.specs.declared.errno.Errno.{Errno}
-use Rattle.ipc_base.specs.declared.errno.Errno.TheVariants.{EACCES, EINVAL, EAGAIN, ENOMSG, E2BIG}
+use Rattle.ipc_base.specs.declared.errno.Errno.TheVariants.{EACCES, EEXIST, ENOENT, EINVAL, EAGAIN, ENOMSG, E2BIG, ERANGE}
 use Rattle.ipc_base.specs.declared.identity.Cred.{Cred}
 use Rattle.ipc_perm.specs.declared.perm.Perm.{Perm}
 use Rattle.ipc_state.specs.declared.keyed.Entry.{Entry}
 use Rattle.ipc_perm.specs.Perm.{may}
 use Rattle.sysv_msg.specs.Queue.{Queue, PlainMessage, is_allowed, pick, full}
 use Rattle.ipc_state.specs.Numbered.{entry_of, last_number, without_entry}
-use Rattle.ipc_state.specs.Keyed.{Keyed}
+use Rattle.ipc_state.specs.Keyed.{Keyed, keyed}
+use Rattle.sysv_sem.specs.declared.set.Semaphore.{Semaphore}
+use Rattle.sysv_sem.specs.Operation.{most_value}
+use Rattle.sysv_sem.specs.Set.{Set}
+use Rattle.ipc_state.specs.Held.{Room, HasSetPlace}
 use Rattle.ipc_state.specs.Lends.{HasPutObject}
 use Rattle.ipc_state.specs.Tables.{HeldObjects}
 use Rattle.ipc_state.proofs.CallerLemmas.{put-keys}
-use Rattle.ipc_state.specs.State.{State}
-use Rattle.ipc_state.specs.Finish.{Attempt, Halt, Fails, refuse, stop, ◌orelse◌, ◌orstop◌, ◌>>◌, ◌>>=◌}
-use Rattle.sysv_calls.specs.Calls.{read, write, except, has, waits_or, is_too_long, message_at}
-use Rattle.sysv_calls.specs.Calls.{gone, reached, accessible, owned, removed, sendable, receivable}
+use Rattle.ipc_state.specs.State.{State, set_of}
+use Rattle.ipc_state.specs.Finish.{Attempt, Halt, Fails, refuse, stop, if_some, ◌orelse◌, ◌orstop◌, ◌>>◌, ◌>>=◌}
+use Rattle.sysv_calls.specs.Access.{read, write, has, gone, is_exclusive, may_make, reached, accessible, owned, removed, sought}
+use Rattle.sysv_calls.specs.Msg.{except, waits_or, is_too_long, message_at, sendable, receivable}
+use Rattle.sysv_calls.specs.Needs.{Has, Nothing, SetPlace, set_place}
+use Rattle.sysv_calls.specs.Sem.{are_values, count_of, semaphore, settable}
 use Rattle.sysv_calls.specs.Seen.{seen}
 
 module _ {X : Type 0} where
@@ -42,6 +56,19 @@ module _ {X : Type 0} where
       by_attempt : (a : Attempt (Entry X)) → (a >>= (λ e. Ok (without_entry s id))) ≡ Ok left → without_entry s id ≡ left
       by_attempt (Ok e) is = cc
       by_attempt (Err e) is = cc
+
+  -- where a get finds nothing, no object has the key
+  pub sought-none : (s : Keyed X) (key : ℤ) (flags : ℕ) → sought s key flags ≡ Ok None → keyed s key ≡ None
+  sought-none s key flags is = by_key (keyed s key) is
+    where
+      by_found : (b : Bool) (id : ℕ) → (refuse EEXIST b >> Ok (Some id)) ≡ Ok None → Some id ≡ None
+      by_found true id is = cc
+      by_found false id is = cc
+
+      by_key : (o : Option ℕ) → if_some o (λ id. refuse EEXIST (is_exclusive flags) >> Ok (Some id)) (refuse ENOENT (not (may_make key flags)) >> Ok None) ≡ Ok None
+          → o ≡ None
+      by_key None is = refl
+      by_key (Some id) is = by_found (is_exclusive flags) id is
 
 -- ---- what it says that a call went on
 
@@ -107,6 +134,48 @@ receives s cred again id flags size mtype found is =
     let same : (b.value, c.value) ≡ found = cc in
     subst (Receives s id) same (record { there = there; inside = inside })
 
+-- what holds of a semaphore that was found
+pub record IsFound (s : State) (id num : ℕ) (found : Entry Set × Semaphore) : Type 0 where
+  pub there : set_of s id ≡ Some found.0
+  pub at : slice_get found.0.object.semaphores num ≡ Some found.1
+
+pub semaphore-there : (s : State) (cred : Cred) (id num access : ℕ) (found : Entry Set × Semaphore) → semaphore s cred id num access ≡ Ok found → IsFound s id num found
+semaphore-there s cred id num access found is =
+    let a = passed (set_of s id orelse EINVAL) _ found is in
+    let b = passed (slice_get a.value.object.semaphores num orelse EINVAL) _ found a.rest in
+    let c = stop-passed (Fails EACCES) (not (may cred a.value.perm access)) _ found b.rest in
+    let last : Ok (a.value, b.value) ≡ Ok found = c.1 in
+    let same : (a.value, b.value) ≡ found = cc in
+    subst (IsFound s id num) same (record {
+      there = orstop-passed (set_of s id) (Fails EINVAL) a.value a.was;
+      at = orstop-passed (slice_get a.value.object.semaphores num) (Fails EINVAL) b.value b.was;
+    })
+
+-- what holds of a set of which all values may be set
+pub record IsSettable (s : State) (id : ℕ) (to : List ℕ) (e : Entry Set) : Type 0 where
+  pub there : set_of s id ≡ Some e
+  pub count : length to ≡ length e.object.semaphores
+  pub values : All (λ v. v ≤ most_value) to
+
+not-false : (b : Bool) → not b ≡ false → b ≡ true
+not-false true h = refl
+not-false false h = cc
+
+pub settable-there : (s : State) (cred : Cred) (id : ℕ) (values : List ℕ) (e : Entry Set) → settable s cred id values ≡ Ok e → IsSettable s id values e
+settable-there s cred id values e is =
+    let a = passed (set_of s id orelse EINVAL) _ e is in
+    let b = stop-passed (Fails EINVAL) (not (length values == length a.value.object.semaphores)) _ e a.rest in
+    let c = stop-passed (Fails EACCES) (not (may cred a.value.perm write)) _ e b.1 in
+    let d = stop-passed (Fails ERANGE) (not (are_values values)) _ e c.1 in
+    let last : Ok a.value ≡ Ok e = d.1 in
+    let same : a.value ≡ e = cc in
+    subst (IsSettable s id values) same (record {
+      there = orstop-passed (set_of s id) (Fails EINVAL) a.value a.was;
+      count = eqb-true _ _ (not-false _ b.0);
+      values = All-weaker (λ v. nat_le v most_value ≡ true) (λ v. v ≤ most_value) (λ v is. leb-true v most_value is) values
+          (AllPass-from_list_all (λ v. nat_le v most_value) values (not-false _ d.0));
+    })
+
 -- what is seen of an attempt tells of it
 pub record Shows {X Y : Type 0} (f : X → Y) (a : Attempt X) (y : Y) : Type 0 where
   pub value : X
@@ -138,3 +207,57 @@ keys-kept {X} o s id same is left new put = by_entry (entry_of s id) refl is
 pub other-seen : {X Y Z : Type 0} (f : X → Y) (g : X → Z) (a : Attempt X) (h : Halt) → Err h ≡ seen f a → Err h ≡ seen g a
 other-seen f g (Ok x) h is = cc
 other-seen f g (Err k) h is = cc
+
+counted-is : (limits : Limits) (k n : ℕ) → count_of limits (pos k) ≡ Some n → n ≡ k
+counted-is limits k n is = by_test (nat_le k limits.semmsl) is
+  where
+    by_test : (b : Bool) → (if b then Some k else None) ≡ Some n → n ≡ k
+    by_test true is = cc
+    by_test false is = cc
+
+pub counted-few : (limits : Limits) (k n : ℕ) → count_of limits (pos k) ≡ Some n → k ≤ limits.semmsl
+counted-few limits k n is = by_test (nat_le k limits.semmsl) refl is
+  where
+    by_test : (b : Bool) → nat_le k limits.semmsl ≡ b → (if b then Some k else None) ≡ Some n → k ≤ limits.semmsl
+    by_test true few is = leb-true k limits.semmsl few
+    by_test false few is = cc
+
+pub count-few : (limits : Limits) (nsems : ℤ) (n : ℕ) → count_of limits nsems ≡ Some n → n ≤ limits.semmsl
+count-few limits (pos k) n is = subst (λ (m : ℕ). m ≤ limits.semmsl) (sym (counted-is limits k n is)) (counted-few limits k n is)
+count-few limits (negsuc k) n is = cc
+
+-- each value of a semaphore takes two bytes
+pub values-length : (xs : List Semaphore) → length (record_bytes (map (λ (x : Semaphore). U16 x.value) xs)) ≡ 2 * length xs
+values-length xs =
+    length-flat_map field_bytes (map (λ (x : Semaphore). U16 x.value) xs)
+    ∙ sum-two xs
+  where
+    sum-two : (ys : List Semaphore) → sum_by (λ f. length (field_bytes f)) (map (λ (x : Semaphore). U16 x.value) ys) ≡ 2 * length ys
+    sum-two [] = omega arith
+    sum-two (y ∷ ys) =
+        let rest : List Field = map (λ (x : Semaphore). U16 x.value) ys in
+        omega (arith, sum_by-cons (λ f. length (field_bytes f)) (U16 y.value) rest, sum-two ys)
+
+-- ---- places
+
+pub not-above : (n most : ℕ) → n ≤ most → nat_lt most n ≡ false
+not-above n most h = grind (arith, nat_tests)
+
+pub not-none : (n : ℕ) → 0 < n → (n == 0) ≡ false
+not-none n h = grind (arith, nat_tests)
+
+-- a set of as many semaphores as one may have has a place, if one was reserved
+pub has-set_place : (limits : Limits) (s : State) (room : Room) (key nsems : ℤ) (n : ℕ) → limits.semmsl ≤ 64 → count_of limits nsems ≡ Some n → 0 < n
+    → Has s room (set_place key nsems) → HasSetPlace s room key n
+has-set_place limits s room key (pos zero) n most is some has =
+    let none : n ≡ 0 = counted-is limits zero n is in absurd (omega (arith, none, some))
+has-set_place limits s room key (pos (suc k)) n most is some has =
+    let same : n ≡ suc k = counted-is limits (suc k) n is in
+    let few : suc k ≤ limits.semmsl = counted-few limits (suc k) n is in
+    let inside : nat_lt k 64 ≡ true = below k 64 (omega (arith, few, most)) in
+    subst (λ (m : ℕ). HasSetPlace s room key m) (sym same)
+    (subst (λ (b : Bool). Has s room (if b then SetPlace key (suc k) else Nothing)) inside has)
+  where
+    below : (a b : ℕ) → a < b → nat_lt a b ≡ true
+    below a b h = grind (arith, nat_tests)
+has-set_place limits s room key (negsuc k) n most is some has = cc

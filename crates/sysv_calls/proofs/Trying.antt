@@ -19,10 +19,11 @@ use Rattle.ipc_state.specs.Sound.{HasSoundParts}
 use Rattle.ipc_state.specs.State.{State, cred_of, queue_of, with_queue}
 use Rattle.ipc_state.specs.Waiting.{parked_kind}
 use Rattle.ipc_state.proofs.CallerLemmas.{queue-sound}
-use Rattle.sysv_calls.specs.Calls.{attempt, call_of, message_at, receivable, sendable}
+use Rattle.sysv_calls.specs.Calls.{attempt, call_of}
+use Rattle.sysv_calls.specs.Msg.{message_at, receivable, sendable}
 use Rattle.sysv_calls.specs.Seen.{attempted, place_in, plain_halt}
 use Rattle.sysv_calls.specs.declared.msg.Halt.{Halt as Stops}
-use Rattle.sysv_calls.proofs.CallerLemmas.{is_blocked, waits-as-tested}
+use Rattle.sysv_calls.proofs.CallerLemmas.{is_blocked, by-waiting, waits-as-tested}
 use Rattle.sysv_calls.proofs.Reaching.{Shows, Sends, Receives, shows, sends, receives, stays-stopped}
 
 -- a queue that is not full has places
@@ -40,14 +41,11 @@ has_places q n most few places is =
 -- stopped by its tests, a call ends so
 stopped : (limits : Limits) (s : State) (pid : ℕ) (again : Bool) (call : PlainCall) (h : Halt) → place_in limits s (cred_of s pid) again call ≡ Err h
     → call_of limits s pid again call ≡ Err h
-stopped limits s pid again (requests.Msgsnd id flags mtype text) h is =
-    stays-stopped (λ (e : Entry Queue). 0) _ (sendable limits s (cred_of s pid) again id flags mtype text) h is
-stopped limits s pid again (requests.Msgrcv id flags size mtype) h is =
-    stays-stopped (λ (found : Entry Queue × ℕ). found.1) _ (receivable s (cred_of s pid) again id flags size mtype) h is
-stopped limits s pid again (requests.Msgget key flags) h is = cc
-stopped limits s pid again (requests.MsgctlStat id) h is = cc
-stopped limits s pid again (requests.MsgctlSet id uid gid mode qbytes) h is = cc
-stopped limits s pid again (requests.MsgctlRmid id) h is = cc
+stopped limits s pid again call h =
+    by-waiting (λ c. place_in limits s (cred_of s pid) again c ≡ Err h → call_of limits s pid again c ≡ Err h)
+    (λ id flags mtype text is. stays-stopped (λ (e : Entry Queue). 0) _ (sendable limits s (cred_of s pid) again id flags mtype text) h is)
+    (λ id flags size mtype is. stays-stopped (λ (found : Entry Queue × ℕ). found.1) _ (receivable s (cred_of s pid) again id flags size mtype) h is)
+    (λ c other is. let both = sym (other.untested limits s (cred_of s pid) again) ∙ is in cc) call
 
 -- the tests of a call of this kind answered so
 pub record Tested (limits : Limits) (s : State) (pid : ℕ) (again : Bool) (kind : PlainKind) (r : Result ℕ Stops) : Type 0 where

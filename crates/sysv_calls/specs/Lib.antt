@@ -1,4 +1,7 @@
 pub mod Records
+pub mod Access
+pub mod Msg
+pub mod Sem
 pub mod Calls
 pub mod Needs
 pub mod Spare

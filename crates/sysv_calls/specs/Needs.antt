@@ -1,13 +1,13 @@
 -- What a request may need of memory. It is taken before the call is tried, so that nothing that is answered takes any:
 -- neither the call itself, nor one that waited.
-use Rattle.std.specs.Prelude.{◌≡◌, ◌≢◌, ℤ, ℕ, Bool, true, false, if◌then◌else◌, Option, None, Some}
+use Rattle.std.specs.Prelude.{◌≡◌, ◌≢◌, ℤ, pos, ℕ, suc, nat_lt, Bool, true, false, if◌then◌else◌, Option, None, Some}
 use Rattle.ipc_keys.specs.Directory.{is_vacant}
 use Rattle.ipc_wire.specs.Request.{PlainKind, PlainRequest, Calls}
 use Rattle.ipc_wire.specs.Request as requests
 use Rattle.std.specs.FinMap.{FinMap}
 use Rattle.std.specs.Ordering.{int_cmp}
 use Rattle.ipc_state.specs.Directory.{HasNoSpareKey}
-use Rattle.ipc_state.specs.Held.{Room, HasQueuePlace}
+use Rattle.ipc_state.specs.Held.{Room, HasNoSpareKeys, HasQueuePlace, HasSetPlace}
 use Rattle.ipc_state.specs.State.{State}
 use Rattle.ipc_state.specs.Waiting.{may_wait}
 use Rattle.sysv_calls.specs.declared.memory.Needs.{Needs as Wants}
@@ -17,13 +17,21 @@ pub data Needs : Type 0 where
   Nothing : Needs
   -- room for one queue more, and for its key
   Place : (key : ℤ) → Needs
+  -- room for one set more of so many semaphores, and for its key
+  SetPlace : (key : ℤ) → (nsems : ℕ) → Needs
   -- a text in memory of its own
   Text : Needs
+
+-- a set of so many semaphores, if one may have as many under any limits: from 1 to 64
+abbrev pub set_place : ℤ → ℤ → Needs
+set_place key (pos (suc n)) = if nat_lt n 64 then SetPlace key (suc n) else Nothing
+set_place key _ = Nothing
 
 -- the table: a request that it does not name needs nothing
 abbrev pub needs : PlainKind → Needs
 needs (Calls (requests.Msgget key flags)) = Place key
 needs (Calls (requests.Msgsnd id flags mtype text)) = Text
+needs (Calls (requests.Semget key nsems flags)) = set_place key nsems
 needs _ = Nothing
 
 abbrev pub is_something : Needs → Bool
@@ -32,6 +40,7 @@ is_something _ = true
 
 abbrev pub is_place : Needs → Bool
 is_place (Place key) = true
+is_place (SetPlace key nsems) = true
 is_place _ = false
 
 -- whether a request may need memory
@@ -45,6 +54,7 @@ kept_of request = if may_wait request.kind then Some request else None
 -- what is needed is there; of a text it is what was kept
 abbrev pub Has : State → Room → Needs → Type 0
 Has s room (Place key) = HasQueuePlace s room key
+Has s room (SetPlace key nsems) = HasSetPlace s room key nsems
 Has s room _ = Unit {0}
 
 -- what a request needs is there
@@ -52,13 +62,19 @@ pub record IsReserved (s : State) (places : Room) (request : PlainRequest) (kept
   pub call : kept ≡ kept_of request
   pub room : Has s places (needs request.kind)
 
--- no key but that of the call has room that no queue has
-abbrev pub HasSpareKeyOf : FinMap int_cmp ℕ → Needs → Type 0
-HasSpareKeyOf keys (Place key) = (other : ℤ) → other ≢ key → is_vacant keys other ≡ false
-HasSpareKeyOf keys _ = HasNoSpareKey keys
+-- no key but this one has room that no object has
+abbrev pub HasNoSpareKeyBut : ℤ → FinMap int_cmp ℕ → Type 0
+HasNoSpareKeyBut key keys = (other : ℤ) → other ≢ key → is_vacant keys other ≡ false
+
+-- no key but that of the call, in the directory of its kind
+abbrev pub HasSpareKeysOf : Room → Needs → Type 0
+HasSpareKeysOf room (Place key) = HasNoSpareKeyBut key room.keys × HasNoSpareKey room.set_keys
+HasSpareKeysOf room (SetPlace key nsems) = HasNoSpareKey room.keys × HasNoSpareKeyBut key room.set_keys
+HasSpareKeysOf room _ = HasNoSpareKeys room
 
 -- the same of a program's value
 abbrev pub plain_needs : Wants → Needs
 plain_needs wants.Nothing = Nothing
 plain_needs (wants.Place key) = Place key
+plain_needs (wants.SetPlace key nsems) = SetPlace key nsems
 plain_needs wants.Text = Text

@@ -3,6 +3,7 @@ use Rattle.std.specs.Prelude.{List, [], ◌∷◌, length}
 use Rattle.ipc_base.specs.declared.field.Field.{Field}
 use Rattle.ipc_base.specs.declared.field.Field.TheVariants.{I32, U32, U64}
 use Rattle.sysv_msg.specs.Queue.{Queue, byte_count}
+use Rattle.sysv_sem.specs.Set.{Set}
 use Rattle.ipc_state.specs.declared.keyed.Entry.{Entry}
 
 -- key, owner, creator, mode
@@ -16,3 +17,7 @@ abbrev pub queue_fields : Queue → List Field
 queue_fields q =
     U64 q.stime ∷ U64 q.rtime ∷ U64 q.ctime ∷ U32 q.lspid ∷ U32 q.lrpid ∷ U32 q.qbytes ∷ U32 (length q.messages)
     ∷ U32 (byte_count q.messages) ∷ []
+
+-- times of the last list of operations and of the last change; how many semaphores there are
+abbrev pub set_fields : Set → List Field
+set_fields s = U64 s.otime ∷ U64 s.ctime ∷ U32 (length s.semaphores) ∷ []

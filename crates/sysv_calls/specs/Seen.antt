@@ -1,15 +1,16 @@
 -- What the program's functions answer, as values of the definitions.
-use Rattle.std.specs.Prelude.{◌≡◌, ℕ, Bool, Result, Ok, Err}
+use Rattle.std.specs.Prelude.{◌≡◌, ℕ, Bool, Option, option_map, Result, Ok, Err}
 use Rattle.std.specs.Borrow.{Bor}
 use Rattle.ipc_base.specs.declared.errno.Errno.{Errno}
 use Rattle.ipc_base.specs.declared.identity.Cred.{Cred}
+use Rattle.ipc_base.specs.declared.identity.Id.{Id}
 use Rattle.ipc_base.specs.declared.limits.Limits.{Limits}
 use Rattle.ipc_wire.specs.Request.{PlainCall, PlainRequest}
 use Rattle.ipc_wire.specs.Request as requests
 use Rattle.ipc_state.specs.Finish.{Attempt, Halt, Fails, Blocks, Tried, Finishes, Waits, finish_of}
 use Rattle.ipc_state.specs.Held.{Held}
 use Rattle.ipc_state.specs.State.{State}
-use Rattle.sysv_calls.specs.Calls.{sendable, receivable}
+use Rattle.sysv_calls.specs.Msg.{sendable, receivable}
 use Rattle.sysv_calls.specs.declared.msg.Halt.{Halt as Stops}
 use Rattle.sysv_calls.specs.declared.msg.Halt.TheVariants as stops
 use Rattle.sysv_calls.specs.declared.waiting.Tried.{Tried as Comes}
@@ -20,10 +21,20 @@ abbrev pub attempt_of : {X : Type 0} → Result (Bor X) Errno → Attempt X
 attempt_of (Ok x) = Ok x.now
 attempt_of (Err e) = Err (Fails e)
 
+-- what a get found
+abbrev pub sought_of : Result (Option Id) Errno → Attempt (Option ℕ)
+sought_of (Ok found) = Ok (option_map (λ id. id.0) found)
+sought_of (Err e) = Err (Fails e)
+
 -- what is left, where it is done
 abbrev pub unit_of : {X Y : Type 0} → X → Result Y Errno → Attempt X
 unit_of left (Ok done) = Ok left
 unit_of left (Err e) = Err (Fails e)
+
+-- a value, or why there is none
+abbrev pub result_of : {X : Type 0} → Result X Errno → Attempt X
+result_of (Ok x) = Ok x
+result_of (Err e) = Err (Fails e)
 
 -- why a call does not go on
 abbrev pub plain_halt : Stops → Halt

@@ -1,15 +1,20 @@
-//! What is alike for the objects of every kind: who may use them, and their removal. See sysvipc(7).
+//! What is alike for the objects of every kind: which of them a get finds, who may use them, their records, and their
+//! removal. See sysvipc(7).
 
-ghost use Rattle.std.specs.Prelude.{◌≡◌, OnErr};
-ghost use Rattle.ipc_state.specs.Directory.{HasNoSpareKey};
+ghost use Rattle.std.specs.Prelude.{◌≡◌, ◌+◌, ◌≤◌, ◌++◌, [], vec_len, vec_capacity, OnErr};
+ghost use Rattle.ipc_base.specs.Numbers.{record_bytes};
+ghost use Rattle.ipc_state.specs.Directory.{ArePositive, HasNoSpareKey};
 ghost use Rattle.ipc_state.specs.Keyed.{AreNamed};
-ghost use Rattle.sysv_calls.specs.Calls as defined;
-ghost use Rattle.sysv_calls.specs.Seen.{attempt_of, unit_of};
+ghost use Rattle.sysv_calls.specs.Access as defined;
+ghost use Rattle.sysv_calls.specs.Records.{perm_fields};
+ghost use Rattle.sysv_calls.specs.Seen.{attempt_of, sought_of, unit_of};
 
 use bitflags::Flags;
-use ipc_base::{Cred, Errno, GetFlags, Id};
+use ipc_base::{Cred, Errno, Field, GetFlags, Id};
 use ipc_perm::{Access, may, owns};
 use ipc_state::{Entry, IPC_PRIVATE, Keyed};
+use ipc_wire::push_fields;
+use std::mem;
 
 /// What an identifier has, for a caller that may use it so; `again` for a call that waited.
 pub(crate) fn accessible<T>(
@@ -50,15 +55,32 @@ pub(crate) fn owned<T>(objects: &Keyed<T>, cred: Cred, id: Id) -> Result<&Entry<
     Ok(entry)
 }
 
+/// The object that a get finds by its key; none, if it may make one.
+pub(crate) fn seek<T>(objects: &Keyed<T>, key: i32, flags: GetFlags) -> Result<Option<Id>, Errno>
+    requires { ArePositive objects.now.objects.entries }
+    ensures { sought_of result ≡ defined.sought objects.now.objects key flags.0 }
+{
+    let Some(id) = objects.of_key(key) else {
+        if !may_make(key, flags) {
+            return Err(Errno::ENOENT);
+        }
+        return Ok(None);
+    };
+    if is_exclusive(flags) {
+        return Err(Errno::EEXIST);
+    }
+    Ok(Some(id))
+}
+
 /// Whether a get wants a new object alone.
-pub(crate) fn is_exclusive(flags: GetFlags) -> bool
+fn is_exclusive(flags: GetFlags) -> bool
     ensures { result ≡ defined.is_exclusive flags.0 }
 {
     flags.contains(GetFlags::IPC_CREAT) && flags.contains(GetFlags::IPC_EXCL)
 }
 
 /// Whether a get may make an object.
-pub(crate) fn may_make(key: i32, flags: GetFlags) -> bool
+fn may_make(key: i32, flags: GetFlags) -> bool
     ensures { result ≡ defined.may_make key flags.0 }
 {
     key == IPC_PRIVATE || flags.contains(GetFlags::IPC_CREAT)
@@ -74,4 +96,33 @@ pub(crate) fn remove<T: Drop>(objects: &mut Keyed<T>, cred: Cred, id: Id) -> Res
     owned(objects, cred, id)?;
     objects.remove(id);
     Ok(())
+}
+
+/// The spare buffer, for the body of a reply; one without room is left in its place.
+pub(crate) fn take_spare(spare: &mut Vec<u8>) -> Vec<u8>
+    ensures taken { result ≡ spare.old }
+    ensures left { spare.new.items ≡ [] }
+{
+    let alloc = *spare.allocator();
+    mem::replace(spare, Vec::new(alloc))
+}
+
+/// Adds what is alike for the records of every kind to a body that has room for it.
+pub(crate) fn push_perm<T>(body: &mut Vec<u8>, entry: &Entry<T>)
+    requires { vec_len body.old + 24 ≤ vec_capacity body.old }
+    ensures bytes { body.new.items ≡ body.old.items ++ record_bytes (perm_fields entry.now) }
+    ensures room { vec_capacity body.old ≤ vec_capacity body.new }
+{
+    let perm = &entry.perm;
+    push_fields(
+        body,
+        &[
+            Field::I32(entry.key),
+            Field::U32(perm.uid),
+            Field::U32(perm.gid),
+            Field::U32(perm.cuid),
+            Field::U32(perm.cgid),
+            Field::U32(perm.mode),
+        ],
+    );
 }

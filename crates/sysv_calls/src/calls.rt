@@ -3,17 +3,22 @@
 ghost use Rattle.std.specs.Prelude.{◌≡◌, true, false, IfOk, IsOk, OnOk, OnErr};
 ghost use Rattle.ipc_wire.specs.Request.{Calls, plain_call, plain_kind};
 ghost use Rattle.ipc_wire.specs.View.{plain_request};
-ghost use Rattle.ipc_state.specs.Directory.{HasNoSpareKey};
 ghost use Rattle.ipc_state.specs.Finish.{Finishes, finish_of};
+ghost use Rattle.ipc_state.specs.Held.{HasNoSpareKeys};
 ghost use Rattle.ipc_state.specs.Sound.{HasSoundParts};
 ghost use Rattle.ipc_state.specs.State.{is_process};
 ghost use Rattle.sysv_calls.specs.Calls as defined;
 ghost use Rattle.ipc_state.specs.Waiting.{may_wait};
-ghost use Rattle.sysv_calls.specs.Needs.{Has, HasSpareKeyOf, IsReserved, is_place, needs, plain_needs, takes_memory};
+ghost use Rattle.sysv_calls.specs.Needs.{Has, HasSpareKeysOf, IsReserved, is_place, needs, plain_needs};
+ghost use Rattle.sysv_calls.specs.Needs.{takes_memory};
 ghost use Rattle.sysv_calls.specs.Spare.{IsSpare, IsKept};
 
 use crate::memory::{Needs, needed_by};
 use crate::msg::{msgctl_rmid, msgctl_set, msgctl_stat, msgget};
+use crate::sem::{
+    semctl_getall, semctl_getpid, semctl_getval, semctl_rmid, semctl_set, semctl_setall,
+    semctl_setval, semctl_stat, semget,
+};
 use ipc_base::{Errno, Pid};
 use ipc_state::{Parked, State};
 use ipc_wire::{Body, Call, Request};
@@ -35,9 +40,9 @@ pub fn reserve(
     ensures waits { state.new.room.waits ≡ state.old.room.waits }
     ensures ok { IfOk result (λ kept. IsReserved state.new.state state.new.room (plain_request request.now) kept) }
     ensures memory { takes_memory (plain_kind request.now.kind) ≡ false → IsOk result }
-    ensures key { HasNoSpareKey state.old.room.keys
-        → HasSpareKeyOf state.new.room.keys (needs (plain_kind request.now.kind)) }
-    ensures no_key { OnErr result (HasNoSpareKey state.old.room.keys → HasNoSpareKey state.new.room.keys) }
+    ensures key { HasNoSpareKeys state.old.room
+        → HasSpareKeysOf state.new.room (needs (plain_kind request.now.kind)) }
+    ensures no_key { OnErr result (HasNoSpareKeys state.old.room → HasNoSpareKeys state.new.room) }
 {
     reserve_place(state, needed_by(&request.kind))?;
     Parked::new(alloc, request)
@@ -51,14 +56,14 @@ fn reserve_place(state: &mut State, needs: Needs) -> Result<(), AllocError>
     ensures waits { state.new.room.waits ≡ state.old.room.waits }
     ensures ok { OnOk result (Has state.new.state state.new.room (plain_needs needs)) }
     ensures memory { is_place (plain_needs needs) ≡ false → IsOk result }
-    ensures key { HasNoSpareKey state.old.room.keys → HasSpareKeyOf state.new.room.keys (plain_needs needs) }
-    ensures no_key { OnErr result (HasNoSpareKey state.old.room.keys → HasNoSpareKey state.new.room.keys) }
+    ensures key { HasNoSpareKeys state.old.room → HasSpareKeysOf state.new.room (plain_needs needs) }
+    ensures no_key { OnErr result (HasNoSpareKeys state.old.room → HasNoSpareKeys state.new.room) }
 {
     match needs {
-        Needs::Place { key } => state.reserve_queue(key)?,
-        Needs::Text | Needs::Nothing => {}
+        Needs::Place { key } => state.reserve_queue(key),
+        Needs::SetPlace { key, nsems } => state.reserve_set(key, nsems),
+        Needs::Text | Needs::Nothing => Ok(()),
     }
-    Ok(())
 }
 
 /// The attempt of a call by a process, whose memory is reserved and that never waits. It takes none: a body that is no
@@ -74,8 +79,8 @@ pub fn attempt(state: &mut State, pid: Pid, call: &Call<'_>, spare: &mut Vec<u8>
     ensures limits { state.new.limits ≡ state.old.limits }
     ensures waits { state.new.room.waits ≡ state.old.room.waits }
     ensures spare { IsKept state.old.limits spare.new result }
-    ensures no_key { HasSpareKeyOf state.old.room.keys (needs (Calls (plain_call call.now)))
-        → HasNoSpareKey state.new.room.keys }
+    ensures no_key { HasSpareKeysOf state.old.room (needs (Calls (plain_call call.now)))
+        → HasNoSpareKeys state.new.room }
 {
     let cred = state.cred(pid);
     match call {
@@ -89,6 +94,19 @@ pub fn attempt(state: &mut State, pid: Pid, call: &Call<'_>, spare: &mut Vec<u8>
             qbytes,
         } => msgctl_set(state, cred, *id, *uid, *gid, *mode, *qbytes),
         Call::MsgctlRmid { id } => msgctl_rmid(state, cred, *id),
+        Call::Semget { key, nsems, flags } => semget(state, cred, *key, *nsems, *flags),
+        Call::SemctlGetVal { id, num } => semctl_getval(state, cred, *id, *num),
+        Call::SemctlGetPid { id, num } => semctl_getpid(state, cred, *id, *num),
+        Call::SemctlSetVal { id, num, value } => {
+            semctl_setval(state, cred, pid, *id, *num, *value)
+        }
+        Call::SemctlGetAll { id } => semctl_getall(state, cred, *id, spare),
+        Call::SemctlSetAll { id, values } => semctl_setall(state, cred, pid, *id, values),
+        Call::SemctlStat { id } => semctl_stat(state, cred, *id, spare),
+        Call::SemctlSet { id, uid, gid, mode } => {
+            semctl_set(state, cred, *id, *uid, *gid, *mode)
+        }
+        Call::SemctlRmid { id } => semctl_rmid(state, cred, *id),
         Call::Msgsnd { .. } | Call::Msgrcv { .. } => unreachable!(),
     }
 }

@@ -6,7 +6,8 @@ mod access;
 mod calls;
 mod memory;
 mod msg;
+mod sem;
 mod waiting;
 
 pub use calls::{Answer, attempt, reserve};
-pub use waiting::{Tried, has_to_wait, touched, try_parked};
+pub use waiting::{Tried, has_to_wait, is_receive, receives, touched, try_parked};

@@ -1,6 +1,6 @@
 //! The calls on message queues: msgget(2), msgop(2), msgctl(2). None takes memory in its attempt.
 
-ghost use Rattle.std.specs.Prelude.{◌≡◌, ◌≢◌, ℤ, ◌+◌, ◌<◌, ◌≤◌, ◌++◌, Some};
+ghost use Rattle.std.specs.Prelude.{◌≡◌, ◌≢◌, ℤ, ◌+◌, ◌<◌, ◌≤◌, ◌++◌, Some, None};
 ghost use Rattle.std.specs.Prelude.{true, is_some, length, take, vec_len, vec_capacity, OnOk};
 ghost use Rattle.ipc_base.specs.Limits.{ArePassed};
 ghost use Rattle.ipc_base.specs.Numbers.{record_bytes};
@@ -8,27 +8,26 @@ ghost use Rattle.ipc_keys.specs.Directory.{is_vacant};
 ghost use Rattle.ipc_state.specs.Directory.{HasNoSpareKey};
 ghost use Rattle.ipc_state.specs.Finish.{Finishes, ended, finish_of};
 ghost use Rattle.ipc_state.specs.Held.{HasQueuePlace};
-ghost use Rattle.ipc_state.specs.Keyed.{holding};
+ghost use Rattle.ipc_state.specs.Keyed.{holding, keyed};
 ghost use Rattle.ipc_state.specs.Sound.{HasSoundParts, HasNumbers};
 ghost use Rattle.ipc_state.specs.State.{queue_of, with_queue};
 ghost use Rattle.ipc_state.specs.declared.keyed.Entry.{Entry};
 ghost use Rattle.ipc_wire.specs.Reply.{body_of};
 ghost use Rattle.ipc_wire.specs.declared.reply.Body.TheVariants as body;
-ghost use Rattle.sysv_calls.specs.Calls as defined;
-ghost use Rattle.sysv_calls.specs.Needs.{HasSpareKeyOf, Place};
-ghost use Rattle.sysv_calls.specs.Records.{perm_fields, queue_fields};
+ghost use Rattle.sysv_calls.specs.Msg as defined;
+ghost use Rattle.sysv_calls.specs.Needs.{HasNoSpareKeyBut};
+ghost use Rattle.sysv_calls.specs.Records.{queue_fields};
 ghost use Rattle.sysv_calls.specs.Seen.{attempted, plain_halt, seen};
 ghost use Rattle.sysv_calls.specs.Spare.{IsSpare, IsKept};
 ghost use Rattle.sysv_msg.specs.Queue.{Queue, most_messages, plain, sent, taken};
 
-use crate::access::{accessible, is_exclusive, may_make, owned, remove};
+use crate::access::{accessible, owned, push_perm, remove, seek, take_spare};
 use crate::calls::Answer;
 use bitflags::Flags;
 use ipc_base::{Cred, Errno, Field, GetFlags, Id, MsgFlags, Pid};
 use ipc_perm::{Access, Perm};
-use ipc_state::{Entry, LAST_NUMBER, State};
+use ipc_state::{LAST_NUMBER, State};
 use ipc_wire::{Body, push_fields};
-use std::mem;
 use sysv_msg::{Message, MsgQueue};
 
 /// Why a call does not go on.
@@ -47,7 +46,8 @@ pub(crate) fn msgget(state: &mut State, cred: Cred, key: i32, flags: GetFlags) -
         (defined.msgget state.old.limits state.old.state cred key flags.0) }
     ensures limits { state.new.limits ≡ state.old.limits }
     ensures waits { state.new.room.waits ≡ state.old.room.waits }
-    ensures no_key { HasSpareKeyOf state.old.room.keys (Place key) → HasNoSpareKey state.new.room.keys }
+    ensures set_keys { state.new.room.set_keys ≡ state.old.room.set_keys }
+    ensures no_key { HasNoSpareKeyBut key state.old.room.keys → HasNoSpareKey state.new.room.keys }
 {
     let answer = get_queue(state, cred, key, flags);
     state.msg_mut().release(key);
@@ -62,19 +62,30 @@ fn get_queue(state: &mut State, cred: Cred, key: i32, flags: GetFlags) -> Answer
         (defined.msgget state.old.limits state.old.state cred key flags.0) }
     ensures limits { state.new.limits ≡ state.old.limits }
     ensures waits { state.new.room.waits ≡ state.old.room.waits }
+    ensures set_keys { state.new.room.set_keys ≡ state.old.room.set_keys }
     ensures others { (other : ℤ) → other ≢ key
         → is_vacant state.new.room.keys other ≡ is_vacant state.old.room.keys other }
 {
-    if let Some(id) = state.msg().of_key(key) {
-        if is_exclusive(flags) {
-            return Err(Errno::EEXIST);
-        }
-        accessible(state.msg(), cred, false, id, Access::asked_by(flags.0))?;
-        return Ok(Body::Number(id.0));
-    }
-    if !may_make(key, flags) {
-        return Err(Errno::ENOENT);
-    }
+    let Some(id) = seek(state.msg(), key, flags)? else {
+        return make_queue(state, cred, key, flags);
+    };
+    accessible(state.msg(), cred, false, id, Access::asked_by(flags.0))?;
+    Ok(Body::Number(id.0))
+}
+
+/// A new queue.
+fn make_queue(state: &mut State, cred: Cred, key: i32, flags: GetFlags) -> Answer
+    requires sound { HasSoundParts state.old.limits state.old.state }
+    requires unused { keyed state.old.state.msg key ≡ None }
+    requires room { HasQueuePlace state.old.state state.old.room key }
+    ensures finish { Finishes (finish_of state.new.state result) ≡ ended state.old.state
+        (defined.made_queue state.old.limits state.old.state cred key flags.0) }
+    ensures limits { state.new.limits ≡ state.old.limits }
+    ensures waits { state.new.room.waits ≡ state.old.room.waits }
+    ensures set_keys { state.new.room.set_keys ≡ state.old.room.set_keys }
+    ensures others { (other : ℤ) → other ≢ key
+        → is_vacant state.new.room.keys other ≡ is_vacant state.old.room.keys other }
+{
     if state.msg().is_full(state.limits().msgmni) {
         return Err(Errno::ENOSPC);
     }
@@ -124,6 +135,7 @@ pub(crate) fn send(state: &mut State, pid: Pid, id: Id, message: Message)
         ≡ with_queue state.old.state id.0 (holding e (sent e.object (plain message) pid.0 state.old.state.clock)) }
     ensures limits { state.new.limits ≡ state.old.limits }
     ensures keys { state.new.room.keys ≡ state.old.room.keys }
+    ensures set_keys { state.new.room.set_keys ≡ state.old.room.set_keys }
     ensures waits { state.new.room.waits ≡ state.old.room.waits }
 {
     let now = state.clock();
@@ -171,6 +183,7 @@ pub(crate) fn receive(state: &mut State, pid: Pid, id: Id, at: usize, size: u32)
         ≡ body.Message (defined.message_at e.object at).mtype (take size (defined.message_at e.object at).text) }
     ensures limits { state.new.limits ≡ state.old.limits }
     ensures keys { state.new.room.keys ≡ state.old.room.keys }
+    ensures set_keys { state.new.room.set_keys ≡ state.old.room.set_keys }
     ensures waits { state.new.room.waits ≡ state.old.room.waits }
 {
     let now = state.clock();
@@ -199,8 +212,7 @@ pub(crate) fn msgctl_stat(state: &State, cred: Cred, id: Id, spare: &mut Vec<u8>
     ensures spare { IsKept state.now.limits spare.new result }
 {
     let entry = accessible(state.msg(), cred, false, id, Access::READ)?;
-    let alloc = *spare.allocator();
-    let mut body = mem::replace(spare, Vec::new(alloc));
+    let mut body = take_spare(spare);
     push_perm(&mut body, entry);
     push_queue(&mut body, &entry.object);
     Ok(Body::Record(body))
@@ -220,6 +232,7 @@ pub(crate) fn msgctl_set(
         (defined.msgctl_set state.old.limits state.old.state cred id.0 uid gid mode qbytes) }
     ensures limits { state.new.limits ≡ state.old.limits }
     ensures keys { state.new.room.keys ≡ state.old.room.keys }
+    ensures set_keys { state.new.room.set_keys ≡ state.old.room.set_keys }
     ensures waits { state.new.room.waits ≡ state.old.room.waits }
 {
     let perm = owned(state.msg(), cred, id)?.perm;
@@ -240,30 +253,11 @@ pub(crate) fn msgctl_rmid(state: &mut State, cred: Cred, id: Id) -> Answer
         ≡ ended state.old.state (defined.msgctl_rmid state.old.state cred id.0) }
     ensures limits { state.new.limits ≡ state.old.limits }
     ensures keys { HasNoSpareKey state.old.room.keys → HasNoSpareKey state.new.room.keys }
+    ensures set_keys { state.new.room.set_keys ≡ state.old.room.set_keys }
     ensures waits { state.new.room.waits ≡ state.old.room.waits }
 {
     remove(state.msg_mut(), cred, id)?;
     Ok(Body::Empty)
-}
-
-/// Adds what is alike for the records of every kind to a body that has room for it.
-fn push_perm<T>(body: &mut Vec<u8>, entry: &Entry<T>)
-    requires { vec_len body.old + 24 ≤ vec_capacity body.old }
-    ensures bytes { body.new.items ≡ body.old.items ++ record_bytes (perm_fields entry.now) }
-    ensures room { vec_capacity body.old ≤ vec_capacity body.new }
-{
-    let perm = &entry.perm;
-    push_fields(
-        body,
-        &[
-            Field::I32(entry.key),
-            Field::U32(perm.uid),
-            Field::U32(perm.gid),
-            Field::U32(perm.cuid),
-            Field::U32(perm.cgid),
-            Field::U32(perm.mode),
-        ],
-    );
 }
 
 /// Adds the numbers of a queue to a body that has room for them.

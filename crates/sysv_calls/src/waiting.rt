@@ -34,6 +34,7 @@ pub fn try_parked(state: &mut State, pid: Pid, again: bool, call: Parked) -> Tri
     ensures kept { IsKeptIn state.old call state.new result }
     ensures limits { state.new.limits ≡ state.old.limits }
     ensures keys { state.new.room.keys ≡ state.old.room.keys }
+    ensures set_keys { state.new.room.set_keys ≡ state.old.room.set_keys }
     ensures waits { state.new.room.waits ≡ state.old.room.waits }
 {
     let cred = state.cred(pid);
@@ -86,6 +87,26 @@ fn ready(state: &State, cred: Cred, again: bool, call: &ParkedCall) -> Result<us
     }
 }
 
+/// Whether a call is a receive from a queue: one takes a message away, so that no other receive goes on by it.
+pub fn receives(call: &Call<'_>) -> bool
+    ensures { result ≡ defined.is_receive (Calls (plain_call call.now)) }
+{
+    match call {
+        Call::Msgrcv { .. } => true,
+        _ => false,
+    }
+}
+
+/// The same of a call that waits.
+pub fn is_receive(call: &Parked) -> bool
+    ensures { result ≡ defined.is_receive call.now.kind }
+{
+    match call.call() {
+        ParkedCall::Msgrcv { .. } => true,
+        ParkedCall::Msgsnd { .. } => false,
+    }
+}
+
 /// The object that a call may change, so that those that wait on it may go on.
 pub fn touched(call: &Call<'_>) -> Option<Awaited>
     ensures { result ≡ defined.touched (plain_call call.now) }
@@ -95,6 +116,16 @@ pub fn touched(call: &Call<'_>) -> Option<Awaited>
         | Call::Msgrcv { id, .. }
         | Call::MsgctlSet { id, .. }
         | Call::MsgctlRmid { id } => Some(Awaited::Queue(*id)),
-        Call::Msgget { .. } | Call::MsgctlStat { .. } => None,
+        Call::Msgget { .. }
+        | Call::MsgctlStat { .. }
+        | Call::Semget { .. }
+        | Call::SemctlGetVal { .. }
+        | Call::SemctlGetPid { .. }
+        | Call::SemctlSetVal { .. }
+        | Call::SemctlGetAll { .. }
+        | Call::SemctlSetAll { .. }
+        | Call::SemctlStat { .. }
+        | Call::SemctlSet { .. }
+        | Call::SemctlRmid { .. } => None,
     }
 }

@@ -1,6 +1,6 @@
 //! Laws of the definitions alone. A call of one does nothing; its contract is the law.
 
-ghost use Rattle.std.specs.Prelude.{◌≡◌, ◌<◌, ◌≤◌, ℕ, ℤ, Bool, true, false, List, length, slice_index_or};
+ghost use Rattle.std.specs.Prelude.{◌≡◌, ◌<◌, ◌≤◌, ℕ, ℤ, Bool, true, false, List, length, remove, slice_index_or};
 ghost use Rattle.sysv_msg.specs.Queue.{PlainMessage, Queue, pick, is_allowed, full, byte_count, sent, taken};
 
 /// The picked message is one of the list, it is allowed, and none before it is; if none is picked, none
@@ -34,4 +34,11 @@ pub fn taken_still_fits()
     ensures { (q : Queue) (at pid moment bytes : ℕ) → at < length q.messages
         → full q bytes ≡ false
         → full (taken q at pid moment) bytes ≡ false }
+{}
+
+/// If a receive picks nothing, it picks nothing after another receive either.
+pub fn receive_leaves_nothing_to_pick()
+    ensures { (messages : List PlainMessage) (type : ℤ) (except : Bool) (at : ℕ)
+        → pick messages type except ≡ None
+        → pick (remove messages at) type except ≡ None }
 {}

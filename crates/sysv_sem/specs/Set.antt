@@ -57,6 +57,10 @@ abbrev pub with_values : Set → List ℕ → Pid → ℕ → Set
 with_values s values pid moment =
     record s { semaphores = map (λ v. record { value = v; pid = pid }) values; ctime = moment }
 
+-- the set after IPC_SET at this moment
+abbrev pub changed : Set → ℕ → Set
+changed s moment = record s { ctime = moment }
+
 -- the set after the exit of this process, which had this adjustment there; a value stays within its range, and no time
 -- is noted
 abbrev pub after_exit : Set → ℕ → ℤ → Pid → Set

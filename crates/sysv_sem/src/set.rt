@@ -60,7 +60,7 @@ impl Model for SemSet {
 }
 
 impl SemSet {
-    ghost use Rattle.sysv_sem.specs.Set.{new_set, carried, with_value, with_values, after_exit, stat_of};
+    ghost use Rattle.sysv_sem.specs.Set.{new_set, carried, with_value, with_values, changed, after_exit, stat_of};
     ghost use Rattle.sysv_sem.specs.Set.{values_of, pids_of, empty_set, with_semaphore};
 
     /// A set of so many semaphores, each of value 0. Refused for want of memory.
@@ -137,6 +137,13 @@ impl SemSet {
         ensures { self.new ≡ with_values self.old values.now pid now.0 }
     {
         write_all(&mut self.semaphores, values, pid);
+        self.ctime = now;
+    }
+
+    /// Notes when the set was changed. See IPC_SET of semctl(2).
+    pub fn set(&mut self, now: Moment)
+        ensures { self.new ≡ changed self.old now.0 }
+    {
         self.ctime = now;
     }
 

@@ -9,7 +9,11 @@ use Rattle.ipc_state.proofs.CallerLemmas.{IsGood}
 use Rattle.ipc_engine.specs.Step.{after, replied, settle, told, joins}
 use Rattle.ipc_engine.specs.View.{plain_outcome}
 use Rattle.ipc_state.proofs.CallerLemmas.{room-waiting}
-use Rattle.ipc_engine.proofs.Buffers.{waits-kept}
+use Rattle.ipc_base.specs.declared.limits.Limits.{Limits}
+use Rattle.ipc_state.specs.State.{State}
+use Rattle.ipc_engine.specs.Settling.{ReceivesWait}
+use Rattle.ipc_engine.proofs.Buffers.{finish-state, waits-kept}
+use Rattle.ipc_engine.proofs.Going.{receives-after}
 use Rattle.ipc_engine.proofs.Resumes.{good-of, good-here}
 use Rattle.ipc_engine.proofs.Soundness.{linked}
 use Rattle.ipc_engine.proofs.asking.try_once.Goals as goal
@@ -21,6 +25,15 @@ finish-requires-clause-good c =
     good-here s.limits c.try_parked.new.state.limits s.state c.touched.result f c.try_parked.ensures.limits c.requires.sound
     (subst (λ (o : Option Awaited). IsGood s.limits s.state o f) (sym c.touched.ensures)
     (good-of s.limits s.state c.args.pid.0 false (plain_call c.args.call.now) f (c.in-Finishes.ensures.finish (plain_call c.args.call.now) c.requires.call)))
+
+pub finish-requires-clause-receives : goal.finish-requires-clause-receives
+finish-requires-clause-receives c received =
+    let s = c.args.state.now in
+    let f = finish_of c.try_parked.new.state.state c.in-Finishes.answer in
+    let wait = receives-after s.limits s.state c.args.pid.0 f c.requires.sound (plain_call c.args.call.now)
+    (sym (c.in-Finishes.ensures.finish (plain_call c.args.call.now) c.requires.call)) (sym c.receives.ensures ∙ received) in
+    subst (λ (l : Limits). ReceivesWait l c.try_parked.new.state.state) (sym c.try_parked.ensures.limits)
+    (subst (λ (t : State). ReceivesWait s.limits t) (finish-state c.try_parked.new.state.state c.in-Finishes.answer) wait)
 
 pub returns-in-Finishes-clause-state : goal.returns-in-Finishes-clause-state
 returns-in-Finishes-clause-state c =

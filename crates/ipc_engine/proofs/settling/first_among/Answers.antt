@@ -4,6 +4,7 @@ use Rattle.std.proofs.lemmas.List.{take_all}
 use Rattle.std.proofs.lemmas.List.Elements.{All-more}
 use Rattle.ipc_state.specs.State.{is_process}
 use Rattle.ipc_state.specs.Waiting.{PlainWaiting, IsSoundWaiting}
+use Rattle.sysv_calls.specs.Calls.{is_receive}
 use Rattle.ipc_engine.specs.Step.{can_go_on}
 use Rattle.ipc_engine.proofs.Lists.{found-at, nothing-found}
 use Rattle.ipc_engine.proofs.settling.first_among.Goals as goal
@@ -21,6 +22,11 @@ pub can_go-requires-clause-other : goal.can_go-requires-clause-other
 can_go-requires-clause-other c =
     subst (λ (w : PlainWaiting). Some c.args.on ≢ Some w.on → can_go_on c.args.state.now.limits c.args.state.now.state w ≡ false) (sym c.waiting-item.is)
     (c.requires.others c.loop-waiting.waiting-index c.waiting-item.result c.loop-waiting-test.true)
+
+pub can_go-requires-clause-receive : goal.can_go-requires-clause-receive
+can_go-requires-clause-receive c after =
+    subst (λ (w : PlainWaiting). is_receive w.call.kind ≡ true → can_go_on c.args.state.now.limits c.args.state.now.state w ≡ false) (sym c.waiting-item.is)
+    (c.requires.receives after c.loop-waiting.waiting-index c.waiting-item.result c.loop-waiting-test.true)
 
 pub returns-then-can_go : goal.returns-then-can_go
 returns-then-can_go c =

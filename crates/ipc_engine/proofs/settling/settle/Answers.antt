@@ -30,6 +30,7 @@ loop-gone-init c =
       parts = c.requires.parts;
       linked = c.requires.linked;
       others = subst (λ (o : Option Awaited). OthersWait s.limits s.state o) c.in-Some.is c.requires.others;
+      receives = c.requires.receives;
       room = c.requires.room;
       limits = λ i. s.limits;
       waits = λ i. s.room.waits;
@@ -69,6 +70,7 @@ loop-gone-preserved c =
       parts = subst (λ (x : Limits). HasSoundParts x c.resume.new.state.state) (sym same) on.parts;
       linked = on.linked;
       others = subst (λ (x : Limits). OthersWait x c.resume.new.state.state (Some c.in-Some.on)) (sym same) on.others;
+      receives = λ again. cc;
       room = omega (
         arith,
         on.room,

@@ -1,7 +1,7 @@
-use Rattle.std.proofs.Common.{◌≡◌, ◌+◌, ◌-◌, ◌≤◌, ◌++◌, Some, length, map, vec_capacity}
+use Rattle.std.proofs.Common.{◌≡◌, ◌+◌, ◌-◌, ◌≤◌, ◌++◌, true, Some, length, map, vec_capacity}
 use Rattle.ipc_state.specs.Sound.{HasSoundParts}
 use Rattle.ipc_engine.specs.Buffer.{room_in}
-use Rattle.ipc_engine.specs.Settling.{AreLinked, OthersWait}
+use Rattle.ipc_engine.specs.Settling.{AreLinked, OthersWait, ReceivesWait}
 use Rattle.ipc_engine.specs.Step.{settle as settled, settle_within}
 use Rattle.ipc_engine.specs.View.{plain_outcome}
 use Rattle.ipc_engine.proofs.settling.settle.Given as goal
@@ -14,6 +14,7 @@ invariant-loop-gone l =
       parts : HasSoundParts l.state.limits l.state.state;
       linked : AreLinked l.state.state;
       others : OthersWait l.state.limits l.state.state (Some l.on);
+      receives : l.received ≡ true → ReceivesWait l.state.limits l.state.state;
       room : length l.outcomes.items + length l.state.state.wait ≤ vec_capacity l.outcomes;
       limits : l.state.limits ≡ l.fn.state.limits;
       waits : l.state.room.waits ≡ l.fn.state.room.waits;

@@ -26,6 +26,38 @@ returns-in-MsgctlSet-clause-fields c = rw c.in-MsgctlSet.is c.spelled-in-MsgctlS
 pub returns-in-MsgctlRmid-clause-fields : goal.returns-in-MsgctlRmid-clause-fields
 returns-in-MsgctlRmid-clause-fields c = rw c.in-MsgctlRmid.is c.spelled-in-MsgctlRmid.ensures.fields
 
+pub returns-in-Semget-clause-fields : goal.returns-in-Semget-clause-fields
+returns-in-Semget-clause-fields c =
+    let fits_key : FitsSigned w32 c.in-Semget.key = search rules in
+    let fits_nsems : FitsSigned w32 c.in-Semget.nsems = search rules in
+    rw c.in-Semget.is (rw (to_z-of_z w32 c.in-Semget.key fits_key, to_z-of_z w32 c.in-Semget.nsems fits_nsems) at c.spelled-in-Semget.ensures.fields)
+
+pub returns-in-SemctlGetVal-clause-fields : goal.returns-in-SemctlGetVal-clause-fields
+returns-in-SemctlGetVal-clause-fields c = rw c.in-SemctlGetVal.is c.spelled-in-SemctlGetVal.ensures.fields
+
+pub returns-in-SemctlGetPid-clause-fields : goal.returns-in-SemctlGetPid-clause-fields
+returns-in-SemctlGetPid-clause-fields c = rw c.in-SemctlGetPid.is c.spelled-in-SemctlGetPid.ensures.fields
+
+pub returns-in-SemctlSetVal-clause-fields : goal.returns-in-SemctlSetVal-clause-fields
+returns-in-SemctlSetVal-clause-fields c =
+    let fits_value : FitsSigned w32 c.in-SemctlSetVal.value = search rules in
+    rw c.in-SemctlSetVal.is (rw (to_z-of_z w32 c.in-SemctlSetVal.value fits_value) at c.spelled-in-SemctlSetVal.ensures.fields)
+
+pub returns-in-SemctlGetAll-clause-fields : goal.returns-in-SemctlGetAll-clause-fields
+returns-in-SemctlGetAll-clause-fields c = rw c.in-SemctlGetAll.is c.spelled-in-SemctlGetAll.ensures.fields
+
+pub returns-in-SemctlSetAll-clause-fields : goal.returns-in-SemctlSetAll-clause-fields
+returns-in-SemctlSetAll-clause-fields c = rw c.in-SemctlSetAll.is (rw c.bytes.ensures.bytes at c.spelled-in-SemctlSetAll.ensures.fields)
+
+pub returns-in-SemctlStat-clause-fields : goal.returns-in-SemctlStat-clause-fields
+returns-in-SemctlStat-clause-fields c = rw c.in-SemctlStat.is c.spelled-in-SemctlStat.ensures.fields
+
+pub returns-in-SemctlSet-clause-fields : goal.returns-in-SemctlSet-clause-fields
+returns-in-SemctlSet-clause-fields c = rw c.in-SemctlSet.is c.spelled-in-SemctlSet.ensures.fields
+
+pub returns-in-SemctlRmid-clause-fields : goal.returns-in-SemctlRmid-clause-fields
+returns-in-SemctlRmid-clause-fields c = rw c.in-SemctlRmid.is c.spelled-in-SemctlRmid.ensures.fields
+
 pub returns-in-Msgget-clause-numbers : goal.returns-in-Msgget-clause-numbers
 returns-in-Msgget-clause-numbers c = rw c.in-Msgget.is (search rules)
 
@@ -43,3 +75,30 @@ returns-in-MsgctlSet-clause-numbers c = rw c.in-MsgctlSet.is (search rules)
 
 pub returns-in-MsgctlRmid-clause-numbers : goal.returns-in-MsgctlRmid-clause-numbers
 returns-in-MsgctlRmid-clause-numbers c = rw c.in-MsgctlRmid.is (search rules)
+
+pub returns-in-Semget-clause-numbers : goal.returns-in-Semget-clause-numbers
+returns-in-Semget-clause-numbers c = rw c.in-Semget.is (search rules)
+
+pub returns-in-SemctlGetVal-clause-numbers : goal.returns-in-SemctlGetVal-clause-numbers
+returns-in-SemctlGetVal-clause-numbers c = rw c.in-SemctlGetVal.is (search rules)
+
+pub returns-in-SemctlGetPid-clause-numbers : goal.returns-in-SemctlGetPid-clause-numbers
+returns-in-SemctlGetPid-clause-numbers c = rw c.in-SemctlGetPid.is (search rules)
+
+pub returns-in-SemctlSetVal-clause-numbers : goal.returns-in-SemctlSetVal-clause-numbers
+returns-in-SemctlSetVal-clause-numbers c = rw c.in-SemctlSetVal.is (search rules)
+
+pub returns-in-SemctlGetAll-clause-numbers : goal.returns-in-SemctlGetAll-clause-numbers
+returns-in-SemctlGetAll-clause-numbers c = rw c.in-SemctlGetAll.is (search rules)
+
+pub returns-in-SemctlSetAll-clause-numbers : goal.returns-in-SemctlSetAll-clause-numbers
+returns-in-SemctlSetAll-clause-numbers c = rw c.in-SemctlSetAll.is (search rules)
+
+pub returns-in-SemctlStat-clause-numbers : goal.returns-in-SemctlStat-clause-numbers
+returns-in-SemctlStat-clause-numbers c = rw c.in-SemctlStat.is (search rules)
+
+pub returns-in-SemctlSet-clause-numbers : goal.returns-in-SemctlSet-clause-numbers
+returns-in-SemctlSet-clause-numbers c = rw c.in-SemctlSet.is (search rules)
+
+pub returns-in-SemctlRmid-clause-numbers : goal.returns-in-SemctlRmid-clause-numbers
+returns-in-SemctlRmid-clause-numbers c = rw c.in-SemctlRmid.is (search rules)

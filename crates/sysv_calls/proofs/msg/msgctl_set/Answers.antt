@@ -14,7 +14,7 @@ use Rattle.ipc_state.specs.Keyed.{Keyed, holding, permitting}
 use Rattle.ipc_state.specs.Numbered.{entry_of, with_entry}
 use Rattle.ipc_state.proofs.CallerLemmas.{is-lent, lent-object, put-perm, put-object, put-keys}
 use Rattle.ipc_state.specs.Tables.{HeldObjects}
-use Rattle.sysv_calls.specs.Calls.{owned}
+use Rattle.sysv_calls.specs.Access.{owned}
 use Rattle.sysv_calls.specs.Seen.{attempt_of}
 use Rattle.sysv_calls.proofs.Reaching.{reached-there, told}
 use Rattle.sysv_calls.proofs.msg.msgctl_set.Goals.{After-get_mut}

@@ -4,7 +4,7 @@ use Rattle.ipc_perm.specs.Perm.{may}
 use Rattle.sysv_msg.specs.Queue.{Queue}
 use Rattle.ipc_state.specs.Keyed.{Keyed}
 use Rattle.ipc_state.proofs.CallerLemmas.{queue-numbers, queue-sound}
-use Rattle.sysv_calls.specs.Calls.{read, accessible}
+use Rattle.sysv_calls.specs.Access.{read, accessible}
 use Rattle.sysv_calls.specs.Seen.{attempt_of}
 use Rattle.sysv_calls.proofs.Reaching.{reached-there, told}
 use Rattle.sysv_calls.proofs.msg.msgctl_stat.Goals as goal

@@ -6,7 +6,8 @@ use Rattle.sysv_msg.specs.Queue.{Queue, PlainMessage, pick}
 use Rattle.ipc_state.specs.Finish.{Halt}
 use Rattle.ipc_state.specs.Keyed.{Keyed}
 use Rattle.ipc_state.specs.Numbered.{last_number}
-use Rattle.sysv_calls.specs.Calls.{read, except, has, accessible, is_too_long, message_at}
+use Rattle.sysv_calls.specs.Access.{read, has, accessible}
+use Rattle.sysv_calls.specs.Msg.{except, is_too_long, message_at}
 use Rattle.sysv_calls.specs.Seen.{attempt_of}
 use Rattle.sysv_calls.proofs.Reaching.{told}
 use Rattle.sysv_calls.proofs.msg.ready_to_receive.Goals.{After-select}

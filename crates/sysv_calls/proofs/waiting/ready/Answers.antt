@@ -5,7 +5,7 @@ use Rattle.ipc_wire.specs.Request as requests
 use Rattle.sysv_msg.specs.Queue.{Queue}
 use Rattle.ipc_state.specs.declared.keyed.Entry.{Entry}
 use Rattle.ipc_state.specs.Waiting.{parked_kind}
-use Rattle.sysv_calls.specs.Calls.{sendable}
+use Rattle.sysv_calls.specs.Msg.{sendable}
 use Rattle.sysv_calls.specs.Seen.{place_in, plain_halt}
 use Rattle.sysv_calls.proofs.Reaching.{other-seen}
 use Rattle.sysv_calls.proofs.waiting.ready.Goals as goal

@@ -7,7 +7,7 @@ use Rattle.ipc_wire.specs.Request.{PlainRequest}
 use Rattle.ipc_wire.specs.View.{plain_request}
 use Rattle.ipc_state.specs.Held.{Room}
 use Rattle.ipc_state.specs.State.{State, exit, is_waiting}
-use Rattle.sysv_calls.specs.Needs.{Has, IsReserved, Needs, Nothing, Place, Text, needs}
+use Rattle.sysv_calls.specs.Needs.{Has, IsReserved, Needs, Nothing, Place, SetPlace, Text, needs}
 use Rattle.ipc_engine.specs.declared.event.Outcome.{Outcome}
 use Rattle.ipc_engine.specs.Buffer.{HasBuffer}
 use Rattle.ipc_engine.specs.Engine.{Machine}
@@ -39,6 +39,7 @@ reserved-due s places request kept moment h = record { call = h.call; room = by_
     by_needs : (n : Needs) → Has s places n → Has (due moment s).state places n
     by_needs Nothing has = has
     by_needs (Place key) has = record { queue = has.queue; fresh = has.fresh; vacant = has.vacant }
+    by_needs (SetPlace key nsems) has = record { set = has.set; fresh = has.fresh; vacant = has.vacant }
     by_needs Text has = has
 
 -- nobody goes on by an exit

@@ -1,23 +1,13 @@
-use Rattle.std.proofs.Common.{◌≡◌, ◌∙◌, ℕ, length, map, sym, ap, subst, arith}
-use Rattle.std.specs.Prelude.{sum_by, sum}
-use Rattle.std.specs.Bool.{Decides}
-use Rattle.std.proofs.lemmas.List.Sums.{sum-map}
-use Rattle.std.proofs.lemmas.Simd.{map-map}
-use Rattle.sysv_sem.specs.Set.{Set}
-use Rattle.ipc_state.specs.declared.keyed.Entry.{Entry}
+use Rattle.std.proofs.Common.{ap, arith, subst}
 use Rattle.ipc_state.specs.Held.{Held}
-use Rattle.ipc_state.specs.Sound.{AreSoundSets, semaphore_count}
-use Rattle.ipc_state.specs.Tables.{item_row}
+use Rattle.ipc_state.specs.Keyed.{AreKeyed}
+use Rattle.ipc_state.specs.Sound.{IsSoundSet}
 use Rattle.ipc_state.proofs.state.State.are_sets_sound.Goals as goal
 
 pub returns-then-are_sound : goal.returns-then-are_sound
 returns-then-are_sound c =
-    let items = c.items.result.now in
-    let size : ℕ × Entry Set → ℕ = λ e. length e.1.object.semaphores in
-    let count : sum_by (λ e. size (item_row e)) items ≡ semaphore_count c.self.inside.sem.objects =
-    sym (sum-map (λ e. size (item_row e)) items) ∙ ap sum (sym (map-map size item_row items)) ∙ sum-map size (map item_row items)
-    ∙ ap (sum_by size) c.items.ensures in
-    subst (λ (m : Held). Decides c.are_few.result (AreSoundSets m.limits m.state.sem)) c.self.view_is (
-      λ yes. record { keyed = c.are_sound.ensures.0 c.if-are_sound.true; count = omega (arith, count, c.are_few.ensures.0 yes) },
-      λ sound. c.are_few.ensures.1 (omega (arith, count, sound.count)),
+    let keyed = subst (λ (m : Held). AreKeyed m.limits.semmni (IsSoundSet m.limits) m.state.sem) c.self.view_is (c.are_sound.ensures.0 c.if-are_sound.true) in
+    let most = ap (λ (m : Held). m.limits.semmns) c.self.view_is in (
+      λ yes. record { keyed = keyed; count = omega (arith, most, c.have_at_most.ensures.0 yes) },
+      λ sound. c.have_at_most.ensures.1 (omega (arith, most, sound.count)),
     )

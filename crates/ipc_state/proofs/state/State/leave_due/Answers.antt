@@ -1,7 +1,5 @@
-use Rattle.std.proofs.Common.{◌≡◌, ◌∷◌, Some, ap, ◌∙◌, sym, subst, List, Option}
-use Rattle.std.specs.Prelude.{IfSome}
+use Rattle.std.proofs.Common.{◌≡◌, ◌∷◌, Some, ap, ◌∙◌, sym, List}
 use Rattle.ipc_wait.specs.Waits.{calls_due}
-use Rattle.ipc_state.specs.State.{due_calls}
 use Rattle.ipc_state.specs.Waiting.{PlainWaiting}
 use Rattle.ipc_state.proofs.state.State.leave_due.Goals as goal
 

@@ -1,6 +1,3 @@
-use Rattle.std.proofs.Common.{ap, ◌∙◌}
-use Rattle.ipc_state.specs.Held.{Held}
-use Rattle.ipc_state.specs.State.{at_moment, is_waiting, without_due}
 use Rattle.ipc_state.proofs.state.State.still_waits.Goals as goal
 
 pub returns : goal.returns

@@ -1,0 +1,80 @@
+-- Semaphore sets stay sound as they come and change, each by itself and together.
+use Rattle.std.proofs.Common.{◌≡◌, ℕ, ◌+◌, ◌<◌, ◌≤◌, Bool, true, false, cond, List, [], ◌∷◌, length, Some, refl, ap, arith}
+use Rattle.std.specs.Prelude.{All, sum_by, nat_eq}
+use Rattle.std.proofs.lemmas.List.{length-map, length-replicate, length-set}
+use Rattle.std.proofs.lemmas.List.Elements.{All-map, All-replicate, All-set}
+use Rattle.std.proofs.lemmas.List.Sums.{sum_by-cons, sum_by-append}
+use Rattle.ipc_base.specs.Table.{value_at, with_value as put_at, without}
+use Rattle.ipc_base.specs.declared.identity.Pid.{Pid}
+use Rattle.ipc_base.specs.declared.limits.Limits.{Limits}
+use Rattle.sysv_sem.specs.declared.set.Semaphore.{Semaphore}
+use Rattle.sysv_sem.specs.Operation.{most_value}
+use Rattle.sysv_sem.specs.Set.{Set, new_set, with_value, with_values, changed}
+use Rattle.ipc_state.specs.declared.keyed.Entry.{Entry}
+use Rattle.ipc_state.specs.Keyed.{Keyed}
+use Rattle.ipc_state.specs.Numbered.{entry_of, with_entry, with_new, without_entry}
+use Rattle.ipc_state.specs.Sound.{IsSoundSet, semaphore_count}
+
+-- a value in its range
+abbrev IsValue : Semaphore → Type 0
+IsValue x = x.value ≤ most_value
+
+module _ (limits : Limits) where
+  pub new_set-sound : (nsems moment : ℕ) → 0 < nsems → nsems ≤ limits.semmsl → IsSoundSet limits (new_set nsems moment)
+  new_set-sound nsems moment some few =
+      let len = length-replicate nsems (let x : Semaphore = record { value = 0; pid = record { 0 = 0 } } in x) in
+      record { some = omega (arith, len, some); few = omega (arith, len, few); values = All-replicate IsValue nsems _ (omega arith) }
+
+  pub with_value-sound : (s : Set) (num value : ℕ) (pid : Pid) (moment : ℕ) → value ≤ most_value → IsSoundSet limits s
+      → IsSoundSet limits (with_value s num value pid moment)
+  with_value-sound s num value pid moment fits h =
+      let x : Semaphore = record { value = value; pid = pid } in
+      let len = length-set s.semaphores num x in
+      record { some = omega (arith, len, h.some); few = omega (arith, len, h.few); values = All-set IsValue s.semaphores num x fits h.values }
+
+  pub with_values-sound : (s : Set) (values : List ℕ) (pid : Pid) (moment : ℕ) → length values ≡ length s.semaphores
+      → All (λ v. v ≤ most_value) values → IsSoundSet limits s → IsSoundSet limits (with_values s values pid moment)
+  with_values-sound s values pid moment count fit h =
+      let of : ℕ → Semaphore = λ v. record { value = v; pid = pid } in
+      let len = length-map values of in
+      record { some = omega (arith, len, count, h.some); few = omega (arith, len, count, h.few); values = All-map IsValue of values fit }
+
+  pub changed_set-sound : (s : Set) (moment : ℕ) → IsSoundSet limits s → IsSoundSet limits (changed s moment)
+  changed_set-sound s moment h = record { some = h.some; few = h.few; values = h.values }
+
+-- ---- all together
+
+abbrev size : ℕ × Entry Set → ℕ
+size e = length e.1.object.semaphores
+
+pub count-new : (o : Keyed Set) (e : Entry Set) → semaphore_count (with_new o e) ≡ semaphore_count o + length e.object.semaphores
+count-new o e = omega (arith, sum_by-append size o.entries ((o.next, e) ∷ []), sum_by-cons size (o.next, e) [])
+
+-- a set in the place of another that has as many
+same-count : (es : List (ℕ × Entry Set)) (id : ℕ) (e f : Entry Set) → value_at nat_eq es id ≡ Some e
+    → length f.object.semaphores ≡ length e.object.semaphores → sum_by size (put_at nat_eq es id f) ≡ sum_by size es
+same-count [] id e f there same = refl
+same-count (g ∷ es) id e f there same = by_test (nat_eq g.0 id) there (λ later. same-count es id e f later same)
+  where
+    by_test : (b : Bool) → cond b (Some g.1) (value_at nat_eq es id) ≡ Some e
+        → (value_at nat_eq es id ≡ Some e → sum_by size (put_at nat_eq es id f) ≡ sum_by size es)
+        → sum_by size (cond b ((g.0, f) ∷ es) (g ∷ put_at nat_eq es id f)) ≡ sum_by size (g ∷ es)
+    by_test true is later =
+        let here : g.1 ≡ e = cc in
+        omega (arith, sum_by-cons size (g.0, f) es, sum_by-cons size g es, same, ap (λ (h : Entry Set). length h.object.semaphores) here)
+    by_test false is later = omega (arith, sum_by-cons size g (put_at nat_eq es id f), sum_by-cons size g es, later is)
+
+pub count-with : (o : Keyed Set) (id : ℕ) (e f : Entry Set) → entry_of o id ≡ Some e → length f.object.semaphores ≡ length e.object.semaphores
+    → semaphore_count (with_entry o id f) ≡ semaphore_count o
+count-with o id e f there same = same-count o.entries id e f there same
+
+no-more : (es : List (ℕ × Entry Set)) (id : ℕ) → sum_by size (without nat_eq es id) ≤ sum_by size es
+no-more [] id = omega arith
+no-more (g ∷ es) id = by_test (nat_eq g.0 id) (no-more es id)
+  where
+    by_test : (b : Bool) → sum_by size (without nat_eq es id) ≤ sum_by size es → sum_by size (cond b es (g ∷ without nat_eq es id)) ≤ sum_by size (g ∷ es)
+    by_test true rest = omega (arith, sum_by-cons size g es)
+    by_test false rest = omega (arith, sum_by-cons size g es, sum_by-cons size g (without nat_eq es id), rest)
+
+pub count-without : (o : Keyed Set) (id : ℕ) → semaphore_count (without_entry o id) ≤ semaphore_count o
+count-without o id = no-more o.entries id

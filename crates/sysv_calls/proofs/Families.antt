@@ -1,0 +1,37 @@
+-- The calls that may wait, each by itself, and all others together.
+use Rattle.std.proofs.Common.{◌≡◌, ℕ, ℤ, Bool, false, List, None, refl}
+use Rattle.std.specs.Prelude.{Ok}
+use Rattle.ipc_base.specs.declared.identity.Cred.{Cred}
+use Rattle.ipc_base.specs.declared.limits.Limits.{Limits}
+use Rattle.ipc_wire.specs.Request.{PlainCall, Calls}
+use Rattle.ipc_wire.specs.Request as requests
+use Rattle.ipc_state.specs.State.{State}
+use Rattle.ipc_state.specs.Waiting.{awaited_by}
+use Rattle.sysv_calls.specs.Calls.{is_receive}
+use Rattle.sysv_calls.specs.Seen.{place_in}
+
+-- a call that never waits: it waits on nothing, has no tests to pass first, and is no receive
+pub record IsOther (call : PlainCall) : Type 0 where
+  pub never : awaited_by (Calls call) ≡ None
+  pub no_receive : is_receive (Calls call) ≡ false
+  pub untested : (limits : Limits) (s : State) (cred : Cred) (again : Bool) → place_in limits s cred again call ≡ Ok 0
+
+-- what holds of the calls that may wait, and of all others, holds of every call
+pub by-waiting : (P : PlainCall → Type 0) → ((id flags : ℕ) (mtype : ℤ) (text : List ℕ) → P (requests.Msgsnd id flags mtype text))
+    → ((id flags size : ℕ) (mtype : ℤ) → P (requests.Msgrcv id flags size mtype)) → ((call : PlainCall) → IsOther call → P call)
+    → (call : PlainCall) → P call
+by-waiting P sends receives others (requests.Msgsnd id flags mtype text) = sends id flags mtype text
+by-waiting P sends receives others (requests.Msgrcv id flags size mtype) = receives id flags size mtype
+by-waiting P sends receives others (requests.Msgget key flags) = others _ (record { never = refl; no_receive = refl; untested = λ limits s cred again. refl })
+by-waiting P sends receives others (requests.MsgctlStat id) = others _ (record { never = refl; no_receive = refl; untested = λ limits s cred again. refl })
+by-waiting P sends receives others (requests.MsgctlSet id uid gid mode qbytes) = others _ (record { never = refl; no_receive = refl; untested = λ limits s cred again. refl })
+by-waiting P sends receives others (requests.MsgctlRmid id) = others _ (record { never = refl; no_receive = refl; untested = λ limits s cred again. refl })
+by-waiting P sends receives others (requests.Semget key nsems flags) = others _ (record { never = refl; no_receive = refl; untested = λ limits s cred again. refl })
+by-waiting P sends receives others (requests.SemctlGetVal id num) = others _ (record { never = refl; no_receive = refl; untested = λ limits s cred again. refl })
+by-waiting P sends receives others (requests.SemctlGetPid id num) = others _ (record { never = refl; no_receive = refl; untested = λ limits s cred again. refl })
+by-waiting P sends receives others (requests.SemctlSetVal id num value) = others _ (record { never = refl; no_receive = refl; untested = λ limits s cred again. refl })
+by-waiting P sends receives others (requests.SemctlGetAll id) = others _ (record { never = refl; no_receive = refl; untested = λ limits s cred again. refl })
+by-waiting P sends receives others (requests.SemctlSetAll id values) = others _ (record { never = refl; no_receive = refl; untested = λ limits s cred again. refl })
+by-waiting P sends receives others (requests.SemctlStat id) = others _ (record { never = refl; no_receive = refl; untested = λ limits s cred again. refl })
+by-waiting P sends receives others (requests.SemctlSet id uid gid mode) = others _ (record { never = refl; no_receive = refl; untested = λ limits s cred again. refl })
+by-waiting P sends receives others (requests.SemctlRmid id) = others _ (record { never = refl; no_receive = refl; untested = λ limits s cred again. refl })
