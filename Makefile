@@ -23,7 +23,8 @@ help:
 	@echo "make serves the program as a server: clients by the dozen, crashes under load, what ends a connection, and what"
 	@echo "            docs/OPERATIONS.md says; the first sessions; examples/serve.sh, in which a message outlives a"
 	@echo "            crash; examples/users.sh, two users of a queue; examples/worker.sh, two who wait for jobs; clients that"
-	@echo "            wait by the dozen; and its calls of the system, watched, and each refused in turn. Two minutes, once built"
+	@echo "            wait by the dozen; semaphore sets; and its calls of the system, watched, and each refused in turn. Two"
+	@echo "            minutes, once built"
 	@echo "make memory the engine's tests and the program, with each allocation refused in turn"
 	@echo "make bench  processor time of runs, lines and ticks on both devices, peak memory, what a commit writes, and"
 	@echo "            commits a second on a file beside the same writes and syncs done bare; it ends with an error while"
@@ -78,6 +79,7 @@ SERVES = python3 tests/serve.py crates/ipcd/out/ipcd && python3 tests/operations
 	python3 tests/session.py crates/ipcd/out/ipcd && sh examples/serve.sh crates/ipcd/out/ipcd && \
 	sh examples/users.sh crates/ipcd/out/ipcd && sh examples/worker.sh crates/ipcd/out/ipcd && \
 	python3 tests/waiting.py crates/ipcd/out/ipcd && python3 tests/waiting_load.py crates/ipcd/out/ipcd && \
+	python3 tests/semaphores.py crates/ipcd/out/ipcd && \
 	python3 tests/calls.py crates/ipcd/out/ipcd && python3 tests/costs.py crates/ipcd/out/ipcd
 
 serves: program

@@ -35,6 +35,14 @@ A signal handler or another thread may interrupt the call that waits, by `interr
 exception that broke a wait off, as KeyboardInterrupt does, the call still waits: `interrupt` ends it,
 and `receive` gives its reply, which may be a message that came first.
 
+Semaphore sets have semget(2), and a method for each command of semctl(2). semop(2) is not there yet.
+A set of two semaphores is made, and given values; `semctl_getall` answers [1, 5] then.
+
+    gates = connection.semget(1234, 2, IPC_CREAT | 0o600)
+    connection.semctl_setall(gates, [1, 0])
+    connection.semctl_setval(gates, 1, 5)
+    connection.semctl_getall(gates)
+
 A client that need not wait for each reply sends some requests ahead, and then receives the replies,
 which come in the same order if no call waits.
 
@@ -56,6 +64,7 @@ import select
 import socket
 import struct
 import time
+from collections.abc import Sequence
 from typing import NamedTuple
 
 IPC_PRIVATE = 0
@@ -101,6 +110,42 @@ def msgctl_rmid_request(msqid: int) -> bytes:
     return struct.pack(">BI", 0x0F, msqid)
 
 
+def semget_request(key: int, nsems: int, semflg: int) -> bytes:
+    return struct.pack(">BiiI", 0x14, key, nsems, semflg)
+
+
+def semctl_getval_request(semid: int, semnum: int) -> bytes:
+    return struct.pack(">BII", 0x16, semid, semnum)
+
+
+def semctl_getpid_request(semid: int, semnum: int) -> bytes:
+    return struct.pack(">BII", 0x17, semid, semnum)
+
+
+def semctl_setval_request(semid: int, semnum: int, value: int) -> bytes:
+    return struct.pack(">BIIi", 0x1A, semid, semnum, value)
+
+
+def semctl_getall_request(semid: int) -> bytes:
+    return struct.pack(">BI", 0x1B, semid)
+
+
+def semctl_setall_request(semid: int, values: Sequence[int]) -> bytes:
+    return struct.pack(f">BI{len(values)}H", 0x1C, semid, *values)
+
+
+def semctl_stat_request(semid: int) -> bytes:
+    return struct.pack(">BI", 0x1D, semid)
+
+
+def semctl_set_request(semid: int, uid: int, gid: int, mode: int) -> bytes:
+    return struct.pack(">BIIII", 0x1E, semid, uid, gid, mode)
+
+
+def semctl_rmid_request(semid: int) -> bytes:
+    return struct.pack(">BI", 0x1F, semid)
+
+
 class QueueStat(NamedTuple):
     """What IPC_STAT tells of a queue, see msgctl(2). Times are in milliseconds, and 0 is never."""
 
@@ -118,6 +163,20 @@ class QueueStat(NamedTuple):
     qbytes: int
     qnum: int
     cbytes: int
+
+
+class SemStat(NamedTuple):
+    """What IPC_STAT tells of a semaphore set, see semctl(2). Times are in milliseconds, and 0 is never."""
+
+    key: int
+    uid: int
+    gid: int
+    cuid: int
+    cgid: int
+    mode: int
+    otime: int
+    ctime: int
+    nsems: int
 
 
 class Connection:
@@ -186,6 +245,43 @@ class Connection:
     def msgctl_rmid(self, msqid: int) -> None:
         """Removes a queue with its messages, IPC_RMID of msgctl(2)."""
         self.call(msgctl_rmid_request(msqid))
+
+    def semget(self, key: int, nsems: int, semflg: int) -> int:
+        """The identifier of the semaphore set with this key, see semget(2)."""
+        return _number(self.call(semget_request(key, nsems, semflg)))
+
+    def semctl_getval(self, semid: int, semnum: int) -> int:
+        """The value of a semaphore, GETVAL of semctl(2)."""
+        return _number(self.call(semctl_getval_request(semid, semnum)))
+
+    def semctl_getpid(self, semid: int, semnum: int) -> int:
+        """The process that last set a semaphore, and 0 if none has, GETPID of semctl(2)."""
+        return _number(self.call(semctl_getpid_request(semid, semnum)))
+
+    def semctl_setval(self, semid: int, semnum: int, value: int) -> None:
+        """Gives a semaphore a value, from 0 to 32767, SETVAL of semctl(2)."""
+        self.call(semctl_setval_request(semid, semnum, value))
+
+    def semctl_getall(self, semid: int) -> list[int]:
+        """The values of all semaphores of a set, GETALL of semctl(2)."""
+        body = self.call(semctl_getall_request(semid))
+        return [value for (value,) in struct.iter_unpack(">H", body)]
+
+    def semctl_setall(self, semid: int, values: Sequence[int]) -> None:
+        """Gives each semaphore of a set its value, SETALL of semctl(2). There are as many as it has semaphores."""
+        self.call(semctl_setall_request(semid, values))
+
+    def semctl_stat(self, semid: int) -> SemStat:
+        """What there is to know of a semaphore set, IPC_STAT of semctl(2)."""
+        return SemStat(*struct.unpack(">iIIIIIQQI", self.call(semctl_stat_request(semid))))
+
+    def semctl_set(self, semid: int, uid: int, gid: int, mode: int) -> None:
+        """Gives a semaphore set another owner and mode, IPC_SET of semctl(2)."""
+        self.call(semctl_set_request(semid, uid, gid, mode))
+
+    def semctl_rmid(self, semid: int) -> None:
+        """Removes a semaphore set, IPC_RMID of semctl(2)."""
+        self.call(semctl_rmid_request(semid))
 
     def call(self, request: bytes, timeout: float | None = None) -> bytes:
         """Sends a request, and answers the body of its reply. All earlier replies were received. After

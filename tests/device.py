@@ -62,6 +62,7 @@ from device_layout import (  # noqa: E402
     Device,
     Limits,
     Queue,
+    Set,
     Waiting,
     area,
     area_of,
@@ -80,6 +81,12 @@ from device_layout import (  # noqa: E402
     processes,
     request,
     root,
+    semctl_getall,
+    semctl_rmid,
+    semctl_set,
+    semctl_setall,
+    semctl_setval,
+    semget,
     state,
     superblock,
     tick,
@@ -114,8 +121,10 @@ from device_runs import (  # noqa: E402
     numbered,
     opens,
     received,
+    recorded,
     refuses,
     row,
+    row_of_set,
     runs,
     sector,
     sends,
@@ -266,17 +275,44 @@ def keeps_owners() -> None:
 
 
 def no_more_pids() -> None:
-    device = holding(state(clock(0, LAST_NUMBER, LAST_NUMBER), processes(), {}))
-    script = ["0 open 1", sends(0, 1, hello(1), msgget(2, 0), msgget(3, 0))]
+    last = state(clock(0, LAST_NUMBER, LAST_NUMBER, LAST_NUMBER), processes(), {})
+    frames = [msgget(2, 0), msgget(3, 0), semget(5, 0, 1), semget(6, 0, 1)]
+    script = ["0 open 1", sends(0, 1, hello(1), *frames)]
     script += ["0 open 2", sends(0, 2, hello(4))]
-    printed = [numbered(1, 1, LAST_NUMBER), numbered(1, 2, LAST_NUMBER)]
-    printed += [errored(1, 3, 28), errored(2, 4, 23)]
-    asked = [request(0, LAST_NUMBER, msgget(serial, 0)) for serial in (2, 3)]
-    first = batch(tick(0), connect(0, 1, 1000, 100), *asked)
+    printed = [numbered(1, 1, LAST_NUMBER), numbered(1, 2, LAST_NUMBER), errored(1, 3, 28)]
+    printed += [numbered(1, 5, LAST_NUMBER), errored(1, 6, 28), errored(2, 4, 23)]
+    first = batch(tick(0), connect(0, 1, 1000, 100), *(request(0, LAST_NUMBER, frame) for frame in frames))
     second = batch(tick(0), connect(0, 4, 1000, 100))
-    wanted = holding(state(clock(0, LAST_NUMBER, LAST_NUMBER), processes(), {}))
-    wanted.journal(1, batch(RESTART), first, second)
-    runs(device, script, printed, wanted, "the last pid and identifier")
+    wanted = holding(last).journal(1, batch(RESTART), first, second)
+    runs(holding(last), script, printed, wanted, "the last pid and identifiers")
+
+
+def sets() -> None:
+    """Semaphore sets that were written here, and a journal that leads on from them; a script, and a save of both. Of
+    the set that is removed nothing is saved, and its identifier is not given again."""
+    mine, other = Set(-2, ((3, 11), (0, 0)), (7, 8), (2000, 10), 0o777, (4, 5)), Set(0, ((32767, 9),), mode=0o222)
+    objects = state(clock(50, 21, 1, 6), processes((20, 2000, 200)), {}, {2: mine, 5: other})
+    asked = [request(60, 20, semctl_setval(1, 2, 1, 9)), request(61, 20, semctl_setall(2, 5, 1))]
+    # A third set, and the removal of one that is another user's: both are refused.
+    asked += [request(62, 20, semget(3, 77, 1)), request(63, 20, semctl_rmid(4, 5))]
+    device = Device().save(7, 0, objects).journal(7, batch(*asked))
+    mine = mine._replace(semaphores=((3, 11), (9, 20)), times=(4, 60))
+    other = other._replace(semaphores=((1, 20),), times=(0, 61))
+    opens(device.image, row_of_set(2, mine) + row_of_set(5, other), "sets that were written by hand")
+
+    frames = [semctl_rmid(2, 5), semget(3, 77, 4), semctl_setall(4, 6, 1, 2, 3, 32767)]
+    frames += [semctl_set(5, 2, 7, 2**32 - 1, 0o1604), semctl_getall(6, 2)]
+    script = ["100 open 1", sends(100, 1, hello(1, 0, 0), *frames), "save"]
+    printed = [numbered(1, 1, 21), errored(1, 2, 0), numbered(1, 3, 6), errored(1, 4, 0), errored(1, 5, 0)]
+    printed.append(recorded(1, 6, b"\0\3\0\x09"))
+    line = batch(tick(100), connect(100, 1, 0, 0), *(request(100, 21, frame) for frame in frames))
+    mine = mine._replace(owner=(7, 2**32 - 1), mode=0o604, times=(4, 100))
+    four = Set(77, ((1, 21), (2, 21), (3, 21), (32767, 21)), (0, 0), (0, 0), times=(0, 100))
+    objects = state(clock(100, 22, 1, 7), processes((21, 0, 0)), {}, {2: mine, 6: four})
+    wanted = device.copy().put(BODY + 1, 0, batch(RESTART)).put(BODY + 2, 0, line)
+    wanted.put(JOURNAL, 0, header(7, 3)).save(8, 1, objects)
+    runs(device, script, printed, wanted, "a script on sets that were written by hand")
+    opens(wanted.image, row_of_set(2, mine) + row_of_set(6, four), "what it has saved")
 
 
 # ---- what the program writes
@@ -548,7 +584,7 @@ def checks() -> Generator[Check, None, None]:
     yield largest
     yield as_many_calls_as_may_be
     yield from formats()
-    yield from (shows, keeps_owners, no_more_pids, events, long_text, save, save_of_nothing)
+    yield from (shows, keeps_owners, no_more_pids, sets, events, long_text, save, save_of_nothing)
     yield partial(last_commit, 512, True)
     yield partial(last_commit, 513, False)
     yield many_ticks

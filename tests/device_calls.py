@@ -23,6 +23,8 @@ from device_layout import (
     msgrcv,
     msgsnd,
     processes,
+    semctl_setall,
+    semget,
     state,
     waits,
 )
@@ -117,6 +119,8 @@ def unsound_calls() -> Iterator[tuple[str, Objects]]:
         "a call with a deadline": Waiting(1, TAKING.frame, 9),
         "a call with the last deadline": Waiting(1, TAKING.frame, 2**64 - 2),
         "a msgget that waits": Waiting(1, msgget(8, 1000)),
+        "a semget that waits": Waiting(1, semget(8, 1000, 1)),
+        "a SETALL that waits": Waiting(1, semctl_setall(8, 1, 1, 2)),
         "a HELLO that waits": Waiting(1, hello(8)),
         "an INTERRUPT that waits": Waiting(1, interrupt(8)),
         "a call with serial 0": Waiting(1, msgrcv(0, 1, 64, 7, 0)),

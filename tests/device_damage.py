@@ -40,6 +40,11 @@ from device_layout import (
     record,
     request,
     root,
+    semctl_rmid,
+    semctl_set,
+    semctl_setall,
+    semctl_setval,
+    semget,
     state,
     superblock,
     tick,
@@ -573,6 +578,12 @@ def requests() -> Iterator[Check]:
         "msgget": msgget(9, 1000, 100),
         "a send of no bytes": msgsnd(9, 1, 1, b""),
         "a receive": msgrcv(9, 1),
+        "semget": semget(9, 1000, 1, 0o600),
+        "SETVAL": semctl_setval(9, 1, 0, 1),
+        "SETALL": semctl_setall(9, 1, 1, 2),
+        "SETALL of no value": semctl_setall(9, 1),
+        "IPC_SET of a set": semctl_set(9, 1, 0, 0, 0),
+        "IPC_RMID of a set": semctl_rmid(9, 1),
     }
     for name, frame in frames.items():
         count = 1 if name == "a send of no bytes" else 0

@@ -158,6 +158,30 @@ def msgrcv(
     return struct.pack(">IBIIIq", serial, 0x0C, queue, flags, size, mtype)
 
 
+def semget(serial: int, key: int, nsems: int, flags: int = 0x380) -> bytes:
+    return struct.pack(">IBiiI", serial, 0x14, key, nsems, flags)
+
+
+def semctl_setval(serial: int, semid: int, number: int, value: int) -> bytes:
+    return struct.pack(">IBIIi", serial, 0x1A, semid, number, value)
+
+
+def semctl_getall(serial: int, semid: int) -> bytes:
+    return struct.pack(">IBI", serial, 0x1B, semid)
+
+
+def semctl_setall(serial: int, semid: int, *values: int) -> bytes:
+    return struct.pack(f">IBI{len(values)}H", serial, 0x1C, semid, *values)
+
+
+def semctl_set(serial: int, semid: int, uid: int, gid: int, mode: int) -> bytes:
+    return struct.pack(">IBIIII", serial, 0x1E, semid, uid, gid, mode)
+
+
+def semctl_rmid(serial: int, semid: int) -> bytes:
+    return struct.pack(">IBI", serial, 0x1F, semid)
+
+
 # ---- objects of a state
 
 
@@ -475,8 +499,12 @@ def is_request(frame: bytes) -> bool:
     fields = len(frame) - 5
     sizes = {0x01: (8, 8), 0x02: (0, 0), 0x0A: (8, 8), 0x0B: (16, 8443), 0x0C: (20, 20)}
     sizes |= {0x0D: (4, 4), 0x0E: (20, 20), 0x0F: (4, 4)}
+    sizes |= {0x14: (12, 12), 0x16: (8, 8), 0x17: (8, 8), 0x1A: (12, 12), 0x1B: (4, 4), 0x1C: (4, 8443)}
+    sizes |= {0x1D: (4, 4), 0x1E: (16, 16), 0x1F: (4, 4)}
     least, most = sizes.get(frame[4], (1, 0))
-    return least <= fields <= most
+    # A SETALL has whole values.
+    is_whole = frame[4] != 0x1C or fields % 2 == 0
+    return least <= fields <= most and is_whole
 
 
 def is_record(kind: int, moment: int, rest: bytes) -> bool:

@@ -154,6 +154,11 @@ def errored(connection: int, serial: int, error: int) -> str:
     return f"{connection} 00000006{serial:08x}{error:04x}"
 
 
+def recorded(connection: int, serial: int, body: bytes) -> str:
+    """A reply with these bytes as its body."""
+    return f"{connection} {6 + len(body):08x}{serial:08x}0000{body.hex()}"
+
+
 def received(connection: int, serial: int, mtype: int, text: bytes) -> str:
     return f"{connection} {14 + len(text):08x}{serial:08x}0000{mtype:016x}{text.hex()}"
 

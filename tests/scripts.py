@@ -126,6 +126,16 @@ WAITING = Call("00000019000000060c0000000100000000000000400000000000000000", "")
 INTERRUPT = Call("000000050000000702", "1 00000006000000060004\n1 00000006000000070000\n")
 ALREADY = Call("00000009000000080d00000001", "1 00000006000000080072\n")
 QUIET = Call("000000050000000902", "1 00000006000000090000\n")
+# A set of key 1234 with two semaphores; the values 3 and 32767 for them, which are read back; one value too few for
+# them, which is EINVAL, 22; the value of the second, and who has set it.
+SEMGET = Call("000000110000000214000004d20000000200000380", "1 0000000a00000002000000000001\n")
+SETALL = Call("0000000d000000031c0000000100037fff", "1 00000006000000030000\n")
+GETALL = Call("00000009000000041b00000001", "1 0000000a00000004000000037fff\n")
+SETALL_FEW = Call("0000000b000000051c000000010003", "1 00000006000000050016\n")
+GETVAL = Call("0000000d00000006160000000100000001", "1 0000000a00000006000000007fff\n")
+GETPID = Call("0000000d00000007170000000100000001", "1 0000000a00000007000000000001\n")
+# Three bytes for values, which are no whole values.
+SETALL_HALF = Call("0000000c000000081c00000001000102", "1 00000006000000080047\n1 end\n")
 # A length of 0, one of 8449, which is one above the greatest, and an unknown opcode under serial 9.
 SHORT = Call("00000000", EPROTO)
 LONG = Call("00002101", EPROTO)
@@ -136,6 +146,8 @@ STREAMS = {
     "a first queue": [HELLO, GET, SEND, RECEIVE, RECEIVE_AGAIN],
     "a call that waits": [HELLO, GET, WAITING, ALREADY, INTERRUPT, QUIET],
     "a fault while a call waits": [HELLO, GET, WAITING, SHORT],
+    "a set": [HELLO, SEMGET, SETALL, GETALL, SETALL_FEW, GETVAL, GETPID],
+    "half a value for a set": [HELLO, SEMGET, SETALL_HALF],
     "a length of 0 before HELLO": [SHORT],
     "a length of 0": [HELLO, SHORT],
     "a length above the greatest before HELLO": [LONG],
@@ -266,6 +278,27 @@ def msgctl_set(serial: int, qbytes: int) -> str:
     return frame(struct.pack(">IBIIIII", serial, 0x0E, 1, 1000, 100, 0o600, qbytes))
 
 
+def semget(serial: int, key: int, nsems: int) -> str:
+    """A set of so many semaphores, made if there is none of this key."""
+    return frame(struct.pack(">IBiiI", serial, 0x14, key, nsems, 0o1600))
+
+
+def semctl_setall(serial: int, semid: int, values: list[int]) -> str:
+    return frame(struct.pack(f">IBI{len(values)}H", serial, 0x1C, semid, *values))
+
+
+def semctl_getall(serial: int, semid: int) -> str:
+    return frame(struct.pack(">IBI", serial, 0x1B, semid))
+
+
+def semctl_set(serial: int, semid: int, uid: int, gid: int, mode: int) -> str:
+    return frame(struct.pack(">IBIIII", serial, 0x1E, semid, uid, gid, mode))
+
+
+def semctl_rmid(serial: int, semid: int) -> str:
+    return frame(struct.pack(">IBI", serial, 0x1F, semid))
+
+
 def replied(serial: int, error: int, body: bytes = b"", conn: int = 1) -> str:
     return f"{conn} {frame(struct.pack('>IH', serial, error) + body)}\n"
 
@@ -285,6 +318,46 @@ def long_messages() -> Iterator[Run]:
     script = sends(HELLO.sent, GET.sent, msgsnd(3, text))
     output = HELLO.answer + GET.answer + replied(3, 22)
     yield Run("a text of 8193 bytes", script, output, ("replay",))
+
+
+def numbered(serial: int, number: int) -> str:
+    return replied(serial, 0, struct.pack(">I", number))
+
+
+def as_many_semaphores_as_there_may_be() -> Run:
+    """A set has 64 semaphores at most, and all sets 512: 8 such sets. One semaphore more is ENOSPC, 28, until a set is
+    removed; then there may be 64 more, in sets of any sizes. A set of 65 is EINVAL, 22, before all else."""
+    asked = [semget(serial, serial, 64) for serial in range(1, 9)]
+    output = HELLO.answer + "".join(numbered(serial, serial) for serial in range(1, 9))
+    asked += [semget(9, 9, 1), semget(10, 0, 1), semget(11, 9, 65), semget(12, 8, 65), semget(13, 8, 64)]
+    output += replied(9, 28) + replied(10, 28) + replied(11, 22) + replied(12, 22) + numbered(13, 8)
+    asked += [semctl_rmid(14, 3), semget(15, 9, 1), semget(16, 10, 64), semget(17, 10, 63), semget(18, 11, 1)]
+    output += replied(14, 0) + numbered(15, 9) + replied(16, 28) + numbered(17, 10) + replied(18, 28)
+    asked += [semctl_rmid(19, 9), semget(20, 11, 2), semget(21, 11, 1), semget(22, 3, 0)]
+    output += replied(19, 0) + replied(20, 28) + numbered(21, 11) + replied(22, 22)
+    return Run("512 semaphores", sends(HELLO.sent, *asked), output, ("replay",))
+
+
+def as_many_sets_as_there_may_be() -> Run:
+    """32 sets of one semaphore, and none more: ENOSPC, 28."""
+    asked = [semget(serial, 0, 1) for serial in range(1, 34)]
+    output = "".join(numbered(serial, serial) for serial in range(1, 33)) + replied(33, 28)
+    asked += [semctl_rmid(34, 32), semget(35, 0, 64), semget(36, 0, 1)]
+    output += replied(34, 0) + numbered(35, 33) + replied(36, 28)
+    return Run("32 sets", sends(HELLO.sent, *asked), HELLO.answer + output, ("replay",))
+
+
+def a_set_of_64() -> Run:
+    """Values that go through both bytes, all of them over a save and a stop. One of them is above 32767: ERANGE, 34."""
+    values = [number * 520 + 7 for number in range(64)]
+    body = struct.pack(">64H", *values)
+    wrong = [*values[:-1], 32768]
+    asked = [semget(2, -5, 64), semctl_setall(3, 1, values), semctl_setall(4, 1, wrong), semctl_getall(5, 1)]
+    output = HELLO.answer + numbered(2, 1) + replied(3, 0) + replied(4, 34) + replied(5, 0, body)
+    script = sends(HELLO.sent, *asked) + "save\nstop\n"
+    script += sends(HELLO.sent, semctl_getall(6, 1), semctl_setall(7, 1, values[1:]))
+    output += welcome(2) + replied(6, 0, body) + replied(7, 22)
+    return Run("a set of 64", script, output, ("replay",))
 
 
 def more_connections_than_processes() -> Run:
@@ -383,6 +456,29 @@ def a_listing() -> None:
         check(read == LISTING.encode()[:100], f"{cut.name}: {read!r} is written")
 
 
+SETS_LISTED = """\
+msg          1        1234 0600       1000        100          0          0
+sem          1        1234 0600       1000        100          2
+sem          3          -2 0046       2000 4294967295          1
+"""
+
+
+def sets_in_a_listing() -> None:
+    """After the queues, by rising identifier. The next run goes on with the identifiers."""
+    new_device("sets")
+    asked = [semget(3, 1234, 2), semget(4, 7, 4), semctl_rmid(5, 2), semget(6, -2, 1)]
+    asked.append(semctl_set(7, 3, 2000, 4294967295, 0o7046))
+    output = numbered(3, 1) + numbered(4, 2) + replied(5, 0) + numbered(6, 3) + replied(7, 0)
+    script = sends(HELLO.sent, GET.sent, *asked)
+    Run("two sets", script, HELLO.answer + GET.answer + output, ("run", "sets")).passes()
+    Run("a listing of sets", "", SETS_LISTED, ("dump", "sets")).passes()
+    script = sends(HELLO.sent, semctl_rmid(2, 3), semget(3, 7, 1))
+    Run("a set more", script, welcome(2) + replied(2, 0) + numbered(3, 4), ("run", "sets")).passes()
+    first, second, _ = SETS_LISTED.splitlines(keepends=True)
+    third = "sem          4           7 0600       1000        100          1\n"
+    Run("another listing of sets", "", first + second + third, ("dump", "sets")).passes()
+
+
 def a_full_journal() -> None:
     """A journal has 256 sectors, and each of these lines but `open` takes one at least."""
     script, output = "", ""
@@ -465,8 +561,9 @@ def main() -> None:
     # The longest come first.
     others = [as_many_sends_as_may_wait(), as_many_receives_as_may_wait(), a_long_script()]
     others += [more_connections_than_processes(), *long_messages(), *faults()]
+    others += [as_many_semaphores_as_there_may_be(), as_many_sets_as_there_may_be(), a_set_of_64()]
     others += [marked(*stream) for stream in STREAMS.items()] + [a_number_used_again()]
-    devices: list[Callable[[], None]] = [streams_that_fail, a_full_journal]
+    devices: list[Callable[[], None]] = [streams_that_fail, a_full_journal, sets_in_a_listing]
     devices.append(a_full_journal_while_a_call_waits)
     devices += [partial(a_message_lasts, *ending) for ending in ENDINGS]
     jobs = [run.passes for run in others] + devices

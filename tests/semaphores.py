@@ -1,0 +1,255 @@
+"""Semaphore sets, on the built program as a server: each call by examples/client.py, and what is kept of a set.
+
+    python3 tests/semaphores.py PROGRAM [SEED]
+
+What is expected was reckoned from docs/PROTOCOL.md, and never taken from the program. The seed, which is printed if the
+server is killed at a wrong moment, says when it is killed. It takes some seconds.
+"""
+
+from __future__ import annotations
+
+import errno
+import os
+import random
+import signal
+import sys
+import threading
+import time
+from collections.abc import Callable
+
+sys.dont_write_bytecode = True
+
+from server import (  # noqa: E402
+    SEED,
+    Client,
+    Server,
+    Worker,
+    check,
+    frame,
+    in_a_folder,
+    printed,
+    process,
+    reply,
+    run_tests,
+    serving,
+)
+from client import IPC_CREAT, IPC_EXCL, IPC_PRIVATE, SemStat, semctl_setall_request  # noqa: E402
+
+MODE = 0o600
+
+
+def is_refused(call: Callable[[], object], wanted: int) -> None:
+    try:
+        found = call()
+    except OSError as refusal:
+        check(refusal.errno == wanted, f"{refusal}, and not {errno.errorcode[wanted]}")
+        return
+    check(False, f"{found} is answered, and not {errno.errorcode[wanted]}")
+
+
+def has(client: Client, semid: int, values: list[int], pids: list[int]) -> None:
+    """The set has these values, one by one and all together, and these processes have set them."""
+    found = client.semctl_getall(semid)
+    check(found == values, f"set {semid} has {found}, and not {values}")
+    found = [client.semctl_getval(semid, number) for number in range(len(values))]
+    check(found == values, f"the semaphores of set {semid} have {found}, and not {values}")
+    found = [client.semctl_getpid(semid, number) for number in range(len(pids))]
+    check(found == pids, f"{found} have set them, and not {pids}")
+
+
+def as_user(uid: int, gid: int) -> Client:
+    client = Client()
+    client.hello(uid, gid)
+    return client
+
+
+# ---- each call
+
+
+def each_call() -> None:
+    """The times are those of the system's clock, of the turn in which a call came."""
+    printed("format", "device", "--small")
+    with serving(limits="small"), process() as client, process() as other:
+        begun = int(time.time() * 1000)
+        semid = client.semget(-7, 3, IPC_CREAT | 0o640)
+        has(client, semid, [0, 0, 0], [0, 0, 0])
+        made = client.semctl_stat(semid)
+        check(made == SemStat(-7, 1000, 100, 1000, 100, 0o640, 0, made.ctime, 3), f"{made} is a new set")
+        check(begun - 1000 <= made.ctime <= time.time() * 1000, f"it was made at {made.ctime}")
+        time.sleep(0.2)
+        client.semctl_setall(semid, [32767, 0, 5])
+        other.semctl_setval(semid, 1, 9)
+        has(client, semid, [32767, 9, 5], [1, 2, 1])
+        time.sleep(0.2)
+        client.semctl_set(semid, 2000, 200, 0o1606)
+        stat = client.semctl_stat(semid)
+        check(stat == SemStat(-7, 2000, 200, 1000, 100, 0o606, 0, stat.ctime, 3), f"{stat} is told after IPC_SET")
+        check(made.ctime + 300 <= stat.ctime <= time.time() * 1000, f"it was changed at {stat.ctime}")
+        for asked, flags in ((0, 0), (3, 0o600), (1, IPC_CREAT), (3, IPC_EXCL)):
+            check(other.semget(-7, asked, flags) == semid, "the key names another set")
+        client.semctl_rmid(semid)
+        is_refused(lambda: client.semctl_stat(semid), errno.EINVAL)
+        check(client.semget(-7, 1, IPC_CREAT | MODE) == semid + 1, "an identifier comes again")
+
+
+def refusals() -> None:
+    """Of all that may be wrong the first that is tested is answered, and nothing changes."""
+    printed("format", "device", "--small")
+    with serving(limits="small"), process() as client, as_user(2000, 200) as other:
+        semid = client.semget(7, 2, IPC_CREAT | MODE)
+        client.semctl_setall(semid, [1, 2])
+        before = client.semctl_stat(semid)
+        rows: list[tuple[int, Callable[[], object]]] = [
+            (errno.EINVAL, lambda: client.semget(7, -1, IPC_CREAT | IPC_EXCL)),
+            (errno.EINVAL, lambda: client.semget(8, 5, 0)),
+            (errno.EEXIST, lambda: other.semget(7, 3, IPC_CREAT | IPC_EXCL)),
+            (errno.EINVAL, lambda: other.semget(7, 3, 0o600)),
+            (errno.EACCES, lambda: other.semget(7, 2, 0o600)),
+            (errno.ENOENT, lambda: client.semget(8, 0, 0)),
+            (errno.EINVAL, lambda: client.semget(IPC_PRIVATE, 0, MODE)),
+            (errno.EINVAL, lambda: other.semctl_getval(semid, 2)),
+            (errno.EACCES, lambda: other.semctl_getval(semid, 1)),
+            (errno.EACCES, lambda: other.semctl_getpid(semid, 1)),
+            (errno.EINVAL, lambda: other.semctl_setval(semid, 2, -1)),
+            (errno.EACCES, lambda: other.semctl_setval(semid, 1, -1)),
+            (errno.ERANGE, lambda: client.semctl_setval(semid, 1, 32768)),
+            (errno.EINVAL, lambda: other.semctl_setall(semid, [32768])),
+            (errno.EACCES, lambda: other.semctl_setall(semid, [32768, 0])),
+            (errno.ERANGE, lambda: client.semctl_setall(semid, [0, 32768])),
+            (errno.EACCES, lambda: other.semctl_getall(semid)),
+            (errno.EACCES, lambda: other.semctl_stat(semid)),
+            (errno.EPERM, lambda: other.semctl_set(semid, 2000, 200, 0o666)),
+            (errno.EPERM, lambda: other.semctl_rmid(semid)),
+            (errno.EINVAL, lambda: client.semctl_getall(semid + 1)),
+            (errno.EINVAL, lambda: client.semctl_rmid(0)),
+        ]
+        for wanted, call in rows:
+            is_refused(call, wanted)
+        has(client, semid, [1, 2], [1, 1])
+        check(client.semctl_stat(semid) == before, "a call that is refused has changed the set")
+        with as_user(0, 0) as root:
+            root.semctl_setval(semid, 0, 9)
+            check(root.semget(7, 2, 0o777) == semid, "root is refused")
+        client.semget(IPC_PRIVATE, 4, MODE)
+        is_refused(lambda: client.semget(IPC_PRIVATE, 1, MODE), errno.ENOSPC)
+
+
+def half_a_value() -> None:
+    """EPROTO is the last frame, and no value is set."""
+    with serving(limits="small"), process() as client:
+        semid = client.semget(7, 0, 0)
+        wanted = client.semctl_getall(semid)
+        with process() as other:
+            other.send_bytes(frame(9, semctl_setall_request(semid, [5, 6]) + b"\0"))
+            other.is_answered(reply(9, errno.EPROTO))
+            other.is_ended()
+        check(client.semctl_getall(semid) == wanted, "half a value has an effect")
+
+
+# ---- many clients
+
+
+class Setter(Worker):
+    """Has a semaphore of a set of its own, whose value it counts up."""
+
+    def work(self) -> None:
+        with Client() as client:
+            pid = client.hello(1000, 100)
+            for value in range(1, 51):
+                client.semctl_setval(self.queue, self.number, value)
+                check(client.semctl_getval(self.queue, self.number) == value, "another value is there")
+                check(client.semctl_getpid(self.queue, self.number) == pid, "another process has set it")
+
+
+def many_at_once() -> None:
+    """Each of forty clients sees its own value, whatever the others set."""
+    printed("format", "device")
+    with serving(), process() as client:
+        semid = client.semget(1, 40, IPC_CREAT | MODE)
+        workers = [Setter(number, semid) for number in range(40)]
+        for worker in workers:
+            worker.start()
+        for worker in workers:
+            worker.finish()
+        check(client.semctl_getall(semid) == 40 * [50], "a value is lost")
+        pids = {client.semctl_getpid(semid, number) for number in range(40)}
+        check(len(pids) == 40 and 0 not in pids, f"{pids} have set the values")
+
+
+# ---- a server that goes away
+
+LISTED = """\
+sem          1           1 0600       1000        100         64
+sem          3           0 0640       1000        100          2
+"""
+
+
+def kept() -> None:
+    """Values, owners and times are there after a kill, and identifiers go on."""
+    printed("format", "device")
+    server = Server()
+    try:
+        with process() as client:
+            first, gone = client.semget(1, 64, IPC_CREAT | MODE), client.semget(2, 1, IPC_CREAT | MODE)
+            private = client.semget(IPC_PRIVATE, 2, 0o640)
+            client.semctl_rmid(gone)
+            client.semctl_setall(first, [*range(64)])
+            client.semctl_setval(private, 1, 32767)
+            before = [client.semctl_stat(semid) for semid in (first, private)]
+            server.stop(signal.SIGKILL)
+    finally:
+        server.process.kill()
+    check(printed("dump", "device") == LISTED, "other sets are kept")
+    with serving(), process() as client:
+        check(client.semget(1, 64, 0) == first, "the key names another set")
+        has(client, first, [*range(64)], 64 * [1])
+        has(client, private, [0, 32767], [0, 1])
+        check([client.semctl_stat(semid) for semid in (first, private)] == before, "another record is kept")
+        is_refused(lambda: client.semctl_getall(gone), errno.EINVAL)
+        check(client.semget(2, 1, IPC_CREAT | MODE) == private + 1, "an identifier comes again")
+
+
+def whole_or_not_at_all() -> None:
+    """The server is killed while a client sets all 64 values to 1, then to 2, and so on, 20 requests ahead. What was
+    answered last is there, or a later one, and never a part of one."""
+    rng = random.Random(SEED)
+    printed("format", "device")
+    last = 0
+    for turn in range(10):
+        server = Server()
+        killer = threading.Timer(rng.uniform(0.05, 0.3), server.process.kill)
+        client = process()
+        semid = client.semget(1, 64, IPC_CREAT | MODE)
+        found = client.semctl_getall(semid)
+        check(len(set(found)) == 1, f"seed {SEED}, turn {turn}: parts of two calls are there: {found}")
+        # Values begin anew after 32767.
+        ahead = (found[0] - last) % 32768
+        check(ahead <= 20, f"seed {SEED}, turn {turn}: {found[0]} is kept, and {last} was answered")
+        last += ahead
+        killer.start()
+        try:
+            sent = last
+            while True:
+                while sent < last + 20:
+                    sent += 1
+                    client.send(semctl_setall_request(semid, 64 * [sent % 32768]))
+                check(client.receive()[1] == 0, "a SETALL is refused")
+                last += 1
+        except (ConnectionResetError, BrokenPipeError):
+            pass
+        client.close()
+        killer.join()
+        server.process.wait()
+        os.remove("socket")
+
+
+TESTS = [each_call, refusals, half_a_value, many_at_once, kept, whole_or_not_at_all]
+
+
+def main() -> None:
+    with in_a_folder(120):
+        run_tests("semaphores", TESTS)
+
+
+if __name__ == "__main__":
+    main()
