@@ -1,47 +1,77 @@
--- What is undone when processes exit (semop(2)): of each process and each semaphore, by its set and its number
--- there, an adjustment, which is added to the value at the exit. A row that is reserved has the adjustment 0, as a
--- key without a row has.
-use Rattle.std.specs.Prelude.{ℕ, ℤ, pos, negsuc, int_le, ◌==◌, Bool, not, ◌&&◌, if◌then◌else◌, is_some, refl}
-use Rattle.std.specs.Coded.{Coded, code_by, coded×, coded_ℕ}
+-- What is undone when a process exits (semop(2)): at each semaphore, by its set and its number there, an adjustment,
+-- which is added to the value at the exit. Only adjustments that are not 0 are kept; if there is none, it is 0. So two
+-- processes with the same adjustments have equal ones, whatever memory they have.
+use Rattle.std.specs.Prelude.{◌≡◌, ◌≢◌, ℕ, ℤ, pos, negsuc, int_le, ◌-ℤ◌, ◌==◌, Bool, true, not, ◌&&◌}
+use Rattle.std.specs.Prelude.{All, if◌then◌else◌, refl}
+use Rattle.std.specs.Coded.{Coded, code_by, coded×, coded_ℕ, coded_ℤ}
 use Rattle.std.specs.Option.{unwrap_or}
-use Rattle.std.specs.Ordering.{nat_cmp, ordering_then}
+use Rattle.std.specs.Ordering.{is_lt, nat_cmp, int_eq, ordering_then}
 use Rattle.std.specs.declared.cmp.Ordering.{Ordering}
 use Rattle.std.specs.FinMap as fin
 use Rattle.sem_undo.specs.declared.undo.UndoRow.{UndoRow}
 
--- the process, the set and the number of the semaphore
+-- the set and the number of the semaphore
 abbrev pub Key : Type 0
-Key = ℕ × ℕ × ℕ
+Key = ℕ × ℕ
 
--- what a row is of
+-- what a row is of, and the row as an entry
 abbrev pub key_of : UndoRow → Key
-key_of r = (r.pid.0, r.set.0, r.num)
+key_of r = (r.set.0, r.num)
 
--- a key is stored as a pair and a pair in it
-abbrev pub key_code : Coded Key
-key_code =
-    code_by (ℕ × (ℕ × ℕ)) (coded× coded_ℕ (coded× coded_ℕ coded_ℕ))
-    (λ k. (k.0, (k.1, k.2))) (λ p. (p.0, p.1.0, p.1.1)) (λ _. refl)
+abbrev pub entry_of : UndoRow → Key × ℤ
+entry_of r = (key_of r, r.adjustment)
 
--- by rising process, then by rising set, then by rising number
+-- by rising set, then by rising number
 abbrev pub key_cmp : Key → Key → Ordering
-key_cmp x y = ordering_then (ordering_then (nat_cmp x.0 y.0) (nat_cmp x.1 y.1)) (nat_cmp x.2 y.2)
+key_cmp x y = ordering_then (nat_cmp x.0 y.0) (nat_cmp x.1 y.1)
+
+-- the adjustments that are not 0
+abbrev pub Undo : Type 0
+Undo = fin.FinMap key_cmp ℤ
+
+-- the adjustment there, 0 if there is none
+abbrev pub adjustment : Undo → Key → ℤ
+adjustment undo k = unwrap_or (fin.get undo k) (pos 0)
+
+-- with another adjustment there: 0 is the same as none
+abbrev pub with_adjustment : Undo → Key → ℤ → Undo
+with_adjustment undo k a = if int_eq a (pos 0) then fin.remove undo k else fin.insert undo k a
+
+-- after an operation with SEM_UNDO: what it added to the value is subtracted
+abbrev pub subtracted : Undo → Key → ℤ → Undo
+subtracted undo k sem_op = with_adjustment undo k (adjustment undo k -ℤ sem_op)
+
+-- without the one at a semaphore
+abbrev pub without_semaphore : ℕ → ℕ → Undo → Undo
+without_semaphore set num undo = fin.remove undo (set, num)
+
+-- without those at the semaphores of a set
+abbrev pub without_set : ℕ → Undo → Undo
+without_set set undo = fin.retain_keys undo (λ k. not (k.0 == set))
 
 -- whether an adjustment may be so much (negsuc n is -(n + 1))
 abbrev pub is_adjustment : ℤ → Bool
 is_adjustment a = int_le (negsuc 32766) a && int_le a (pos 32767)
 
--- the adjustment there, 0 if there is no row
-abbrev pub adjustment : fin.FinMap key_cmp ℤ → Key → ℤ
-adjustment undo k = unwrap_or (fin.get undo k) (pos 0)
+-- what is kept: an adjustment, and not 0
+abbrev pub IsKept : ℤ → Type 0
+IsKept a = (a ≢ pos 0) × (is_adjustment a ≡ true)
 
-abbrev pub has_row : fin.FinMap key_cmp ℤ → Key → Bool
-has_row undo k = is_some (fin.get undo k)
+-- each that is there is one
+abbrev pub IsSoundUndo : Undo → Type 0
+IsSoundUndo undo = All (λ e. IsKept e.1) (fin.entries undo)
 
--- an adjustment after those at a semaphore are made 0
-abbrev pub cleared : ℕ → ℕ → Key × ℤ → ℤ
-cleared set num row = if row.0.1 == set && row.0.2 == num then pos 0 else row.1
+-- whether a row may be added after all others: it is kept, and its key is above theirs
+abbrev pub MayFollow : Undo → UndoRow → Type 0
+MayFollow undo row = IsKept row.adjustment × All (λ e. is_lt (key_cmp e.0 (key_of row)) ≡ true) (fin.entries undo)
 
--- whether a key is of another set
-abbrev pub is_of_other : ℕ → Key → Bool
-is_of_other set k = not (k.1 == set)
+-- the adjustments, and for how many more there is room
+pub record Kept : Type 0 where
+  pub undo : Undo
+  pub room : ℕ
+
+-- they are stored as the pair of the parts
+abbrev pub kept_code : Coded Kept
+kept_code =
+    code_by (fin.FinMap key_cmp ℤ × ℕ) (coded× (fin.code {R = key_cmp} (coded× coded_ℕ coded_ℕ) coded_ℤ) coded_ℕ)
+    (λ t. (t.undo, t.room)) (λ p. record { undo = p.0; room = p.1 }) (λ _. refl)

@@ -1,14 +1,16 @@
-use Rattle.std.proofs.Common.{rules, ap, ◌∙◌}
-use Rattle.std.specs.Option.{option_map}
-use Rattle.std.specs.Map.{lookup}
-use Rattle.std.specs.Ordering.{is_eq}
-use Rattle.sem_undo.specs.Undo.{cleared, key_cmp}
-use Rattle.sem_undo.proofs.Rows.{map-RetainsPairs, get-rows, lookup-old, lookup-map}
+use Rattle.std.proofs.Common.{sym, ap, subst, ◌∙◌}
+use Rattle.std.specs.FinMap.{from_sorted}
+use Rattle.sem_undo.specs.Undo.{Key, key_cmp, without_semaphore}
+use Rattle.sem_undo.specs.Rows.{entries_of, AreRows}
+use Rattle.sem_undo.proofs.Tables.{where-rows, without-undo}
 use Rattle.sem_undo.proofs.undo.SemUndo.clear.Goals as goal
 
-pub returns : goal.returns
-returns c k =
-    let value = cleared c.args.set.0 c.args.num in
-    let kept = map-RetainsPairs _ value _ (λ k v b w g call. search rules) _ _ c.retain.ensures.filtered in
-    get-rows _ k ∙ ap (lookup (λ x. is_eq (key_cmp k x))) kept ∙ lookup-map value k c.self.inside.rows.entries
-    ∙ ap (option_map (λ v. value (k, v))) (lookup-old c.self.inside.rows.entries _ k c.self.view_is)
+pub invariant_of-self : goal.invariant_of-self
+invariant_of-self c = subst AreRows (sym c.remove_row.ensures.rows) (where-rows _ _ c.self.invariant)
+
+pub returns-clause-undo : goal.returns-clause-undo
+returns-clause-undo c =
+    let key : Key = (c.args.set.0, c.args.num) in
+    ap (λ es. from_sorted {R = key_cmp} es) c.remove_row.ensures.rows
+    ∙ without-undo key (entries_of c.self.inside.rows.items) c.self.invariant
+    ∙ ap (λ t. without_semaphore c.args.set.0 c.args.num t.undo) c.self.view_is

@@ -1,13 +1,23 @@
-use Rattle.std.proofs.Common.{rules, cond, None, ap, ◌∙◌}
-use Rattle.std.specs.Map.{lookup}
-use Rattle.std.specs.Ordering.{is_eq}
-use Rattle.sem_undo.specs.Undo.{is_of_other, key_cmp}
-use Rattle.sem_undo.proofs.Rows.{filter-RetainsPairs, get-rows, lookup-old, lookup-filter}
+use Rattle.std.proofs.Common.{◌≡◌, not, ◌==◌, rules, sym, ap, subst, ◌∙◌}
+use Rattle.std.specs.FinMap.{from_sorted}
+use Rattle.std.specs.FinMap.Entries.{where_key}
+use Rattle.std.proofs.lemmas.Fn.{filter_same}
+use Rattle.sem_undo.specs.declared.undo.UndoRow.{UndoRow}
+use Rattle.sem_undo.specs.Undo.{Key, key_cmp, entry_of, without_set}
+use Rattle.sem_undo.specs.Rows.{entries_of, AreRows}
+use Rattle.sem_undo.proofs.Sorted.{filter-entries}
+use Rattle.sem_undo.proofs.Tables.{where-rows, where-undo}
 use Rattle.sem_undo.proofs.undo.SemUndo.drop_set.Goals as goal
 
-pub returns : goal.returns
-returns c k =
-    let keeps = is_of_other c.args.set.0 in
-    let kept = filter-RetainsPairs _ keeps _ (λ k v b w g call. search rules) _ _ c.retain.ensures.filtered in
-    get-rows _ k ∙ ap (lookup (λ x. is_eq (key_cmp k x))) kept ∙ lookup-filter keeps k c.self.inside.rows.entries
-    ∙ ap (λ r. cond (keeps k) r None) (lookup-old c.self.inside.rows.entries _ k c.self.view_is)
+left : (c : goal.After-retain) → entries_of c.retain.new.self.items ≡ where_key key_cmp (λ k. not (k.0 == c.args.set.0)) (entries_of c.self.inside.rows.items)
+left c =
+    ap entries_of (filter_same _ (λ (r : UndoRow). not (r.set.0 == c.args.set.0)) _ (λ x b f' k. search rules) _ _ c.retain.ensures.filtered)
+    ∙ filter-entries key_cmp entry_of (λ (k : Key). not (k.0 == c.args.set.0)) c.self.inside.rows.items
+
+pub invariant_of-self : goal.invariant_of-self
+invariant_of-self c = subst AreRows (sym (left c)) (where-rows (λ k. not (k.0 == c.args.set.0)) _ c.self.invariant)
+
+pub returns-clause-undo : goal.returns-clause-undo
+returns-clause-undo c =
+    ap (λ es. from_sorted {R = key_cmp} es) (left c) ∙ where-undo (λ k. not (k.0 == c.args.set.0)) (entries_of c.self.inside.rows.items) c.self.invariant
+    ∙ ap (λ t. without_set c.args.set.0 t.undo) c.self.view_is

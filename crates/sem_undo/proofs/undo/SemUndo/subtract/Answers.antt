@@ -1,21 +1,52 @@
-use Rattle.std.proofs.Common.{pos, FitsSigned, rules, is_some, ap, ◌∙◌}
-use Rattle.std.specs.Option.{unwrap_or}
+use Rattle.std.proofs.Common.{◌≡◌, ◌-ℤ◌, to_z, of_z, FitsSigned, rules, arith, sym, ap, subst, ◌∙◌}
 use Rattle.std.specs.Int.{w16}
-use Rattle.sem_undo.proofs.Rows.{lookup-old, changed, row-kept, written, on_ok, subtracted}
+use Rattle.std.specs.FinMap.{from_sorted, get, put, get-from_sorted}
+use Rattle.sem_undo.specs.Undo.{Key, key_cmp, adjustment, with_adjustment, IsKept}
+use Rattle.sem_undo.specs.Rows.{entries_of, AreRows}
+use Rattle.sem_undo.proofs.Tables.{where-rows, put-rows, removed-undo, put-undo, inner, difference}
 use Rattle.sem_undo.proofs.undo.SemUndo.subtract.Goals as goal
 
-pub unwrap-requires : goal.unwrap-requires
-unwrap-requires c =
-    written _ _ c.insert-old.ensures.absent (ap is_some (lookup-old c.self.inside.rows.entries _ _ c.self.view_is) ∙ c.requires.row)
+pub invariant_of-self : goal.invariant_of-self
+invariant_of-self c = subst AreRows (sym c.remove_row.ensures.rows) (where-rows _ _ c.self.invariant)
 
-pub returns-clause-at : goal.returns-clause-at
-returns-clause-at c =
+pub returns-then-adjustment-eq0-clause-undo : goal.returns-then-adjustment-eq0-clause-undo
+returns-then-adjustment-eq0-clause-undo c =
+    let key : Key = (c.args.set.0, c.args.num) in
+    let a = adjustment c.args.self.now.undo key -ℤ c.args.sem_op in
     let fit : FitsSigned w16 c.get.result = search rules in
-    let change = changed _ _ _ _ _ c.self.view_is (on_ok _ _ c.unwrap.ensures c.insert-old.ensures.updates).0 in
-    ap (λ r. unwrap_or r (pos 0)) change.at ∙ subtracted c.get.result _ c.args.sem_op c.get.ensures fit c.ranges.sem_op c.requires.range
+    let same = difference c.get.result _ c.args.sem_op c.get.ensures.adjustment fit c.ranges.sem_op c.requires.range in
+    ap (λ es. from_sorted {R = key_cmp} es) c.remove_row.ensures.rows
+    ∙ removed-undo key a (entries_of c.self.inside.rows.items) c.self.invariant (sym same ∙ ap (to_z w16) c.if-adjustment-eq0.true)
+    ∙ ap (λ t. with_adjustment t.undo key a) c.self.view_is
 
-pub returns-clause-others : goal.returns-clause-others
-returns-clause-others c = (changed _ _ _ _ _ c.self.view_is (on_ok _ _ c.unwrap.ensures c.insert-old.ensures.updates).0).others
+pub put_row-requires-clause-room : goal.put_row-requires-clause-room
+put_row-requires-clause-room c none =
+    let key : Key = (c.args.set.0, c.args.num) in
+    let some = c.requires.room (ap (λ t. get t.undo key) (sym c.self.view_is)
+    ∙ get-from_sorted key_cmp (entries_of c.self.inside.rows.items) key c.self.invariant.rising ∙ none) in
+    omega (arith, some, ap (λ t. t.room) c.self.view_is)
 
-pub returns-clause-rows : goal.returns-clause-rows
-returns-clause-rows c = row-kept (changed _ _ _ _ _ c.self.view_is (on_ok _ _ c.unwrap.ensures c.insert-old.ensures.updates).0) c.requires.row
+put-es : (c : goal.After-put_row) → entries_of c.put_row.new.rows.items ≡ put key_cmp (c.args.set.0, c.args.num)
+    (adjustment c.args.self.now.undo (c.args.set.0, c.args.num) -ℤ c.args.sem_op) (entries_of c.self.inside.rows.items)
+put-es c =
+    let key : Key = (c.args.set.0, c.args.num) in
+    let fit : FitsSigned w16 c.get.result = search rules in
+    c.put_row.ensures.rows ∙ ap (λ z. put key_cmp key z (entries_of c.self.inside.rows.items))
+    (difference c.get.result _ c.args.sem_op c.get.ensures.adjustment fit c.ranges.sem_op c.requires.range)
+
+kept : (c : goal.After-put_row) → IsKept (adjustment c.args.self.now.undo (c.args.set.0, c.args.num) -ℤ c.args.sem_op)
+kept c =
+    let fit : FitsSigned w16 c.get.result = search rules in (
+      λ e. c.if-adjustment-eq0.false (ap (of_z w16) (inner c.get.result _ c.args.sem_op c.get.ensures.adjustment fit c.ranges.sem_op ∙ e)),
+      c.requires.range,
+    )
+
+pub invariant_of-self-2 : goal.invariant_of-self-2
+invariant_of-self-2 c = subst AreRows (sym (put-es c)) (put-rows _ _ _ (kept c) c.self.invariant)
+
+pub returns-clause-undo : goal.returns-clause-undo
+returns-clause-undo c =
+    let key : Key = (c.args.set.0, c.args.num) in
+    let a = adjustment c.args.self.now.undo key -ℤ c.args.sem_op in
+    ap (λ xs. from_sorted {R = key_cmp} xs) (put-es c) ∙ put-undo key a (entries_of c.self.inside.rows.items) c.self.invariant (kept c).0
+    ∙ ap (λ t. with_adjustment t.undo key a) c.self.view_is
