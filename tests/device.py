@@ -130,6 +130,7 @@ from device_runs import (  # noqa: E402
     sends,
     stops_at,
 )
+from device_undo import undo  # noqa: E402
 
 # ---- the writer
 
@@ -599,6 +600,7 @@ def checks() -> Generator[Check, None, None]:
     yield from turned()
     yield from no_states()
     yield from calls()
+    yield from undo()
     yield from long_objects()
     yield from record_cuts()
     yield from other_records()

@@ -207,6 +207,19 @@ def waits(*calls: Waiting) -> bytes:
     return struct.pack(">I", len(calls)) + b"".join(parts)
 
 
+class Adjustment(NamedTuple):
+    """What is added to the value of a semaphore when its process exits."""
+
+    pid: int
+    semid: int
+    number: int
+    amount: int
+
+
+def adjustments(*them: Adjustment) -> bytes:
+    return struct.pack(">I", len(them)) + b"".join(struct.pack(">IIHh", *one) for one in them)
+
+
 class Queue(NamedTuple):
     key: int
     messages: tuple[tuple[int, bytes], ...] = ()
@@ -276,8 +289,9 @@ def state(
     queues: dict[int, Queue],
     sets: dict[int, Set] | None = None,
     calls: bytes = NONE,
+    undo: bytes = NONE,
 ) -> list[tuple[int, bytes]]:
-    parts = [(0, the_clock), (1, the_processes), (2, calls), (3, NONE)]
+    parts = [(0, the_clock), (1, the_processes), (2, calls), (3, undo)]
     parts += [(QUEUE_KIND + number, queue.data()) for number, queue in queues.items()]
     return parts + [(SET_KIND + number, one.data()) for number, one in (sets or {}).items()]
 
@@ -460,6 +474,17 @@ def read_set(data: bytes, limits: Limits) -> tuple[int, int]:
     return key, count
 
 
+def read_adjustments(data: bytes, pids: set[int], counts: dict[int, int]) -> None:
+    """They rise by pid, set and number; each is of a process, at a semaphore that is there, and not 0."""
+    (count,) = struct.unpack(">I", data[:4].ljust(4, b"\0"))
+    demand(len(data) == 4 + 12 * count, ROOT)
+    before = (0, 0, -1)
+    for pid, semid, number, amount in struct.iter_unpack(">IIHh", data[4:]):
+        demand(before < (pid, semid, number) and amount not in (0, -32768), ROOT)
+        demand(pid in pids and number < counts.get(semid, 0), ROOT)
+        before = (pid, semid, number)
+
+
 def are_sound(
     calls: dict[int, bytes], creds: dict[int, Cred], queues: dict[int, Queue], limits: Limits
 ) -> bool:
@@ -475,7 +500,6 @@ def read_state(objects: list[tuple[int, bytes]], limits: Limits) -> tuple[int, s
     next_pid, next_queue, next_set = read_clock(objects[0][1])
     creds = read_processes(objects[1][1], limits, next_pid)
     calls = read_waits(objects[2][1], limits)
-    demand(objects[3][1] == NONE, ROOT)
     queues = [one for one in objects[4:] if one[0] < SET_KIND]
     sets = objects[4 + len(queues) :]
     demand(len(queues) <= limits.msgmni and len(sets) <= limits.semmni, ROOT)
@@ -487,6 +511,8 @@ def read_state(objects: list[tuple[int, bytes]], limits: Limits) -> tuple[int, s
     demand(all(0 < number - SET_KIND < next_set for number, _ in sets), ROOT)
     found = [read_set(data, limits) for _, data in sets]
     demand(sum(count for _, count in found) <= limits.semmns, ROOT)
+    counts = {number - SET_KIND: count for (number, _), (_, count) in zip(sets, found)}
+    read_adjustments(objects[3][1], set(creds), counts)
     keys = [key for key, _ in found if key]
     demand(len(keys) == len(set(keys)), ROOT)
     return next_pid, set(creds)

@@ -64,7 +64,9 @@ pub struct Engine {
 
 impl Model for Engine {
     ghost use Rattle.std.specs.Prelude.{◌≤◌, map, vec_capacity};
+    ghost use Rattle.std.specs.Coded.{codes};
     ghost use Rattle.ipc_base.specs.Limits.{ArePassed};
+    ghost use Rattle.sem_undo.specs.Undo.{undo_code};
     ghost use Rattle.ipc_engine.specs.Buffer.{HasBuffer};
     ghost use Rattle.ipc_engine.specs.Engine.{Machine};
     ghost use Rattle.ipc_engine.specs.Sound.{IsSound};
@@ -72,6 +74,8 @@ impl Model for Engine {
     ghost use Rattle.ipc_engine.specs.View.{plain_outcome};
 
     ghost Value = { Machine };
+
+    ghost coded = { Prim.hlevel (codes, undo_code) };
 
     ghost view = { λ e. record {
       limits = e.state.limits;

@@ -2,7 +2,9 @@
 
 ghost use Rattle.std.specs.Prelude.{◌≡◌, ◌≢◌, ◌+◌, ◌<◌, ◌≤◌, ℕ, true, false};
 ghost use Rattle.std.specs.Prelude.{List, [], ◌∷◌, ◌++◌, length, map, max};
-ghost use Rattle.std.specs.Prelude.{Option, None, Some, All};
+ghost use Rattle.std.specs.Prelude.{Option, None, Some, All, is_some, nat_eq};
+ghost use Rattle.std.specs.List.{fold};
+ghost use Rattle.ipc_base.specs.Table.{keys_of, value_at};
 ghost use Rattle.ipc_base.specs.declared.errno.Errno.{Errno};
 ghost use Rattle.ipc_base.specs.declared.errno.Errno.TheVariants.{EALREADY};
 ghost use Rattle.ipc_base.specs.declared.limits.Limits.{Limits};
@@ -10,7 +12,7 @@ ghost use Rattle.ipc_base.specs.declared.identity.Cred.{Cred};
 ghost use Rattle.ipc_wire.specs.Request.{PlainCall, PlainRequest, Calls, Interrupt as Interrupts};
 ghost use Rattle.ipc_state.specs.declared.parked.Awaited.{Awaited};
 ghost use Rattle.ipc_state.specs.Finish.{Finishes, Waits, refused};
-ghost use Rattle.ipc_state.specs.State.{State, start, is_process, is_waiting, restart, with_waiting};
+ghost use Rattle.ipc_state.specs.State.{State, start, is_process, is_waiting, restart, undone, with_waiting};
 ghost use Rattle.ipc_state.specs.Waiting.{PlainWaiting, awaited_by, expiry};
 ghost use Rattle.ipc_wait.specs.Waits.{calls_due, calls_left, is_due};
 ghost use Rattle.sysv_calls.specs.Calls.{attempt};
@@ -215,12 +217,27 @@ pub fn restart_leaves_no_process()
         → is_process (step limits s Restart).state pid ≡ false }
 {}
 
-/// A restart leaves the objects and the numbers of those to come as they are.
+/// After its exit a process has no adjustments.
+pub fn exit_leaves_no_adjustment()
+    ensures { (limits : Limits) (s : State) (pid moment : ℕ) → IsSound limits s
+        → is_process s pid ≡ true
+        → is_some (value_at nat_eq (step limits s (Exit pid moment)).state.undo pid) ≡ false }
+{}
+
+/// After a restart there are no adjustments: they were added to the semaphores, by rising pid, set and number.
+pub fn restart_adds_adjustments()
+    ensures none { (limits : Limits) (s : State) → (step limits s Restart).state.undo ≡ [] }
+    ensures added { (limits : Limits) (s : State) → (step limits s Restart).state.sem ≡ fold undone s.sem s.undo }
+{}
+
+/// A restart leaves the queues, the identifiers of the sets and the numbers of those to come as they are.
 pub fn restart_keeps_objects()
     ensures next_pid { (limits : Limits) (s : State)
         → (step limits s Restart).state.processes.next ≡ s.processes.next }
     ensures queues { (limits : Limits) (s : State) → (step limits s Restart).state.msg ≡ s.msg }
-    ensures sets { (limits : Limits) (s : State) → (step limits s Restart).state.sem ≡ s.sem }
+    ensures sets { (limits : Limits) (s : State)
+        → keys_of (step limits s Restart).state.sem.entries ≡ keys_of s.sem.entries }
+    ensures next_set { (limits : Limits) (s : State) → (step limits s Restart).state.sem.next ≡ s.sem.next }
 {}
 
 /// A restart twice is a restart once.

@@ -20,7 +20,8 @@ use ipc_wait::Waiting;
 use sysv_calls::{Tried, has_to_wait, is_receive, try_parked};
 
 /// Calls that wait on the object that has changed go on: the first that can, and after it all are looked at again. If
-/// nothing has changed, none can; if a receive has changed it (`received`), no receive is the first. It takes no memory.
+/// nothing has changed, none can; if a receive has changed it (`received`), no receive is the first. It takes no
+/// memory.
 pub(crate) fn settle(
     state: &mut State,
     outcomes: &mut Vec<Outcome>,

@@ -39,9 +39,13 @@ pub struct Hub<D: SectorDisk> {
 }
 
 impl<D: SectorDisk> Model for Hub<D> {
+    ghost use Rattle.std.specs.Coded.{codes};
+    ghost use Rattle.sem_undo.specs.Undo.{undo_code};
     ghost use Rattle.ipc_hub.specs.View.{StoredHub};
 
     ghost Value = { StoredHub D };
+
+    ghost coded = { Prim.hlevel (codes, undo_code) };
 
     ghost use Rattle.ipc_hub.specs.Relations.Rows.{stored_view, table_of};
     ghost use Rattle.ipc_hub.specs.Relations.Invariant.{StoredInvariant};

@@ -3,6 +3,7 @@ mod Bounds
 mod Numbers
 mod Reading
 mod RestoredParts
+mod Attaching
 mod Entries
 mod ReadLists
 mod ReadKinds
@@ -12,5 +13,6 @@ pub mod CallerLemmas
 mod Windows
 mod SavedObjects
 mod Marks
+mod AdjustmentLists
 mod WaitingCalls
 pub mod Shapes

@@ -1,15 +1,17 @@
--- Lists of things in saved objects: one of them by its place, and how many bytes the first ones have.
-use Rattle.std.proofs.Common.{◌≡◌, ℕ, zero, suc, ◌+◌, ◌<◌, ◌≤◌, List, [], ◌∷◌, ◌++◌}
+-- Lists of things in saved objects: one of them by its place, and how many bytes or adjustments the first ones have.
+use Rattle.std.proofs.Common.{◌≡◌, ℕ, zero, suc, ◌+◌, ◌*◌, ◌<◌, ◌≤◌, List, [], ◌∷◌, ◌++◌}
 use Rattle.std.proofs.Common.{length, map, take, drop, get_or, Some, refl, ap, sym, subst, ◌∙◌, arith}
 use Rattle.std.specs.Prelude.{All, option_map}
 use Rattle.std.proofs.lemmas.List.{append-nil, length-append, flat_map_more, take_more, take-append-drop}
+use Rattle.std.proofs.lemmas.List.Concat.{flat_map-cons}
 use Rattle.std.proofs.lemmas.List.Elements.{All-get_or}
 use Rattle.std.proofs.lemmas.Grind.{flat_map-append}
 use Rattle.std.proofs.lemmas.Option.{get_or_from_slice_get, slice_get_within, slice_get_read, slice_get-map, slice_get-get_or}
+use Rattle.std.proofs.Math.Nat.{mul-zero, mul-suc}
 use Rattle.std.specs.List.{flat_map, slice_get}
 use Rattle.ipc_base.specs.declared.objects.Mark.{Mark}
 use Rattle.ipc_base.specs.Objects.{PlainObjects}
-use Rattle.ipc_image.specs.SavedParts.{first_bytes, MarkAt, Stands}
+use Rattle.ipc_image.specs.SavedParts.{MarkAt, Stands}
 
 -- one of them as a value of the definitions
 pub row-at : {A X : Type 0} (row : A → X) (ys : List A) (i : ℕ) (a : A) → i < length ys → a ≡ get_or ys i a
@@ -54,18 +56,27 @@ module _ {X : Type 0} (object : X → ℕ × List ℕ) (IsMark : X → Mark → 
       let r = past xs more at j o IsOfIt (omega (arith, is)) h in
       record { object = r.object; marks = r.marks }
 
-module _ {X : Type 0} (bytes_of : X → List ℕ) (xs : List X) (k : ℕ) where
+module _ {X Y : Type 0} (bytes_of : X → List Y) (xs : List X) (k : ℕ) where
   -- one more
-  pub first-next : (x : X) → slice_get xs k ≡ Some x → length (first_bytes bytes_of (k + 1) xs) ≡ length (first_bytes bytes_of k xs) + length (bytes_of x)
+  pub first-next : (x : X) → slice_get xs k ≡ Some x
+      → length (flat_map bytes_of (take (k + 1) xs)) ≡ length (flat_map bytes_of (take k xs)) + length (bytes_of x)
   first-next x is =
-      let next : first_bytes bytes_of (k + 1) xs ≡ first_bytes bytes_of k xs ++ bytes_of x =
+      let next : flat_map bytes_of (take (k + 1) xs) ≡ flat_map bytes_of (take k xs) ++ bytes_of x =
       ap (flat_map bytes_of) (take_more xs k x (slice_get_within xs k x is) ∙ ap (λ y. take k xs ++ y ∷ []) (get_or_from_slice_get xs k x x is))
       ∙ sym (flat_map_more bytes_of [] (take k xs) x) in
-      ap length next ∙ length-append (first_bytes bytes_of k xs) (bytes_of x)
+      ap length next ∙ length-append (flat_map bytes_of (take k xs)) (bytes_of x)
 
   -- no more than all
-  pub first-fit : length (first_bytes bytes_of k xs) ≤ length (flat_map bytes_of xs)
+  pub first-fit : length (flat_map bytes_of (take k xs)) ≤ length (flat_map bytes_of xs)
   first-fit =
-      let others : List ℕ = flat_map bytes_of (drop k xs) in
+      let others : List Y = flat_map bytes_of (drop k xs) in
       let all = ap length (sym (flat_map-append bytes_of (take k xs) (drop k xs)) ∙ ap (flat_map bytes_of) (take-append-drop k xs)) in
-      omega (arith, all, length-append (first_bytes bytes_of k xs) others)
+      omega (arith, all, length-append (flat_map bytes_of (take k xs)) others)
+
+-- a list of things that have as many each
+pub length-each : {X : Type 0} (bytes_of : X → List ℕ) (n : ℕ) → ((x : X) → length (bytes_of x) ≡ n) → (xs : List X)
+    → length (flat_map bytes_of xs) ≡ n * length xs
+length-each bytes_of n each [] = sym (mul-zero n)
+length-each bytes_of n each (x ∷ xs) =
+    ap length (flat_map-cons bytes_of x xs) ∙ length-append (bytes_of x) (flat_map bytes_of xs)
+    ∙ omega (arith, each x, length-each bytes_of n each xs, mul-suc n (length xs))

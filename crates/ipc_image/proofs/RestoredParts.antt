@@ -12,6 +12,7 @@ emptied s =
       clock = s.clock;
       processes = record { next = s.processes.next; entries = [] };
       wait = [];
+      undo = [];
       msg = record { next = s.msg.next; entries = [] };
       sem = record { next = s.sem.next; entries = [] };
     }
@@ -25,6 +26,7 @@ clock_one s t fit also same =
       clock = get_or ns 0 0;
       processes = record { next = get_or ns 1 0; entries = [] };
       wait = [];
+      undo = [];
       msg = record { next = get_or ns 2 0; entries = [] };
       sem = record { next = get_or ns 3 0; entries = [] };
     } in

@@ -6,7 +6,7 @@ use Rattle.std.proofs.lemmas.List.Concat.{flat_map-cons}
 use Rattle.std.proofs.lemmas.List.Elements.{All-append, All-cons, All-map, All-nil, All-weaker}
 use Rattle.std.proofs.lemmas.List.Sums.{sum_by-append, sum_by-cons, sum_by-le, sum_by_from}
 use Rattle.std.proofs.lemmas.Nat.{mul-le}
-use Rattle.std.proofs.Math.Nat.{mul-zero, mul-suc}
+use Rattle.std.proofs.Math.Nat.{mul_assoc}
 use Rattle.std.specs.List.{flat_map, slice_get}
 use Rattle.ipc_state.specs.declared.processes.Process.{Process}
 use Rattle.ipc_base.specs.declared.limits.Limits.{Limits}
@@ -21,7 +21,7 @@ use Rattle.ipc_state.specs.declared.keyed.Entry.{Entry}
 use Rattle.ipc_state.specs.Sound.{IsSoundQueue, IsSoundSet, HasNumbers}
 use Rattle.sysv_sem.specs.Set.{Set, stat_of as set_stat}
 use Rattle.sysv_sem.specs.declared.set.SemStat.{SemStat}
-use Rattle.ipc_state.proofs.CallerLemmas.{All-seen, queue-numbers}
+use Rattle.ipc_state.proofs.CallerLemmas.{All-seen, queue-numbers, few-adjustments}
 use Rattle.ipc_engine.specs.Sound.{IsSound}
 use Rattle.ipc_state.specs.State.{State, start}
 use Rattle.ipc_state.specs.Waiting.{PlainWaiting}
@@ -29,25 +29,20 @@ use Rattle.ipc_state.specs.Tables.{item_row}
 use Rattle.ipc_base.specs.Numbers.{fields_bytes}
 use Rattle.ipc_image.specs.Saved.{counted_bytes, queue_sizes, queue_numbers, set_sizes, set_numbers}
 use Rattle.ipc_image.specs.Saved.{clock_sizes, clock_numbers, count_bytes, process_bytes, processes_bytes, message_bytes}
-use Rattle.ipc_image.specs.Saved.{waiting_bytes, waits_bytes}
+use Rattle.ipc_image.specs.Saved.{waiting_bytes, waits_bytes, Adjustment, adjustment_bytes, adjustments_in, adjustments_bytes}
+use Rattle.sem_undo.specs.Undo.{Undo}
 use Rattle.ipc_image.specs.Kind.{object_in}
 use Rattle.ipc_image.specs.Saved.{queue_bytes, queue_object, semaphore_bytes, set_bytes, set_object, saved, HasAllPlaces}
 use Rattle.ipc_state.specs.declared.state.Numbers.{Numbers}
 use Rattle.ipc_image.specs.SavedParts.{IsMarkAfter, IsFound, Stands, seen_state}
-use Rattle.ipc_image.proofs.Marks.{each-at}
+use Rattle.ipc_image.proofs.Marks.{each-at, length-each}
 use Rattle.ipc_image.proofs.WaitingCalls.{length-waits}
+use Rattle.ipc_image.proofs.Attaching.{rising-distinct}
+use Rattle.ipc_image.proofs.AdjustmentLists.{few-in}
 use Rattle.ipc_base.specs.declared.objects.Mark.{Mark}
 use Rattle.ipc_image.specs.Sizes.{sectors, process_sectors, area_of}
 
 -- ---- how many bytes each has
-
--- a list of things that have as many each
-length-each : {X : Type 0} (bytes_of : X → List ℕ) (n : ℕ) → ((x : X) → length (bytes_of x) ≡ n) → (xs : List X)
-    → length (flat_map bytes_of xs) ≡ n * length xs
-length-each bytes_of n each [] = sym (mul-zero n)
-length-each bytes_of n each (x ∷ xs) =
-    ap length (flat_map-cons bytes_of x xs) ∙ length-append (bytes_of x) (flat_map bytes_of xs)
-    ∙ omega (arith, each x, length-each bytes_of n each xs, mul-suc n (length xs))
 
 pub length-processes : (processes : List (ℕ × Process)) → length (flat_map process_bytes processes) ≡ 16 * length processes
 length-processes processes = length-each process_bytes 16 (λ p. refl) processes
@@ -57,6 +52,11 @@ processes-long processes = omega (arith, length-append (count_bytes (length proc
 
 pub waits-long : (ws : List PlainWaiting) → length (waits_bytes ws) ≡ 4 + length (flat_map waiting_bytes ws)
 waits-long ws = length-append (count_bytes (length ws)) (flat_map waiting_bytes ws)
+
+pub adjustments-long : (undo : List (ℕ × Undo)) → length (adjustments_bytes undo) ≡ 4 + 12 * length (adjustments_in undo)
+adjustments-long undo =
+    let xs : List Adjustment = adjustments_in undo in
+    omega (arith, length-append (count_bytes (length xs)) (flat_map adjustment_bytes xs), length-each adjustment_bytes 12 (λ x. refl) xs)
 
 pub length-messages : (messages : List PlainMessage) → length (flat_map message_bytes messages) ≡ 12 * length messages + byte_count messages
 length-messages [] = refl
@@ -108,7 +108,7 @@ module _ (s : State) where
   unfolding saved
   saved-waits = refl
 
-  pub saved-adjustments : slice_get (saved s) 3 ≡ Some (3, count_bytes 0)
+  pub saved-adjustments : slice_get (saved s) 3 ≡ Some (3, adjustments_bytes s.undo)
   unfolding saved
   saved-adjustments = refl
 
@@ -132,39 +132,41 @@ module _ (s : State) where
 
   -- what holds of the four, of each queue and of each set holds of all
   each-saved : (P : ℕ × List ℕ → Type 0) → P (0, fields_bytes clock_sizes (clock_numbers s)) → P (1, processes_bytes s.processes.entries)
-      → P (2, waits_bytes s.wait) → P (3, count_bytes 0) → All (λ e. P (queue_object e)) s.msg.entries → All (λ e. P (set_object e)) s.sem.entries
-      → All P (saved s)
+      → P (2, waits_bytes s.wait) → P (3, adjustments_bytes s.undo) → All (λ e. P (queue_object e)) s.msg.entries
+      → All (λ e. P (set_object e)) s.sem.entries → All P (saved s)
   unfolding saved
   each-saved P clock processes waiting adjustments each others =
-      let two : List (ℕ × List ℕ) = (2, waits_bytes s.wait) ∷ (3, count_bytes 0) ∷ things s in
+      let two : List (ℕ × List ℕ) = (2, waits_bytes s.wait) ∷ (3, adjustments_bytes s.undo) ∷ things s in
       All-cons P _ ((1, processes_bytes s.processes.entries) ∷ two) clock
       (All-cons P _ two processes
-      (All-cons P _ ((3, count_bytes 0) ∷ things s) waiting
+      (All-cons P _ ((3, adjustments_bytes s.undo) ∷ things s) waiting
       (All-cons P _ (things s) adjustments
       (All-append P (map queue_object s.msg.entries) (map set_object s.sem.entries) (All-map P queue_object s.msg.entries each)
       (All-map P set_object s.sem.entries others)))))
 
 -- the state that tables are, and how many objects it has
-module _ (n : Numbers) (ps : List (Item Process)) (ws : List PlainWaiting) (qs : List (Item (Entry Queue))) (xs : List (Item (Entry Set))) where
+module _ (n : Numbers) (ps : List (Item Process)) (ws : List PlainWaiting) (us : List (Item Undo)) (qs : List (Item (Entry Queue)))
+    (xs : List (Item (Entry Set))) where
   pub seen-is : (s : State) → n.clock.0 ≡ s.clock → n.next_pid ≡ s.processes.next → n.next_queue ≡ s.msg.next → n.next_set ≡ s.sem.next
-      → map item_row ps ≡ s.processes.entries → ws ≡ s.wait → map item_row qs ≡ s.msg.entries → map item_row xs ≡ s.sem.entries
-      → seen_state n ps ws qs xs ≡ s
-  seen-is s clock pid queue set processes waits queues sets =
+      → map item_row ps ≡ s.processes.entries → ws ≡ s.wait → map item_row us ≡ s.undo → map item_row qs ≡ s.msg.entries
+      → map item_row xs ≡ s.sem.entries → seen_state n ps ws us qs xs ≡ s
+  seen-is s clock pid queue set processes waits undo queues sets =
       λ i. record {
         clock = clock i;
         processes = record { next = pid i; entries = processes i };
         wait = waits i;
+        undo = undo i;
         msg = record { next = queue i; entries = queues i };
         sem = record { next = set i; entries = sets i };
       }
 
-  pub seen_count : length (saved (seen_state n ps ws qs xs)) ≡ 4 + (length qs + length xs)
-  seen_count = omega (arith, saved-count (seen_state n ps ws qs xs), length-map qs item_row, length-map xs item_row)
+  pub seen_count : length (saved (seen_state n ps ws us qs xs)) ≡ 4 + (length qs + length xs)
+  seen_count = omega (arith, saved-count (seen_state n ps ws us qs xs), length-map qs item_row, length-map xs item_row)
 
   -- the bytes of the waiting calls can be counted
-  pub waits-counted : AreObjects (saved (seen_state n ps ws qs xs)) → 4 + length (flat_map waiting_bytes (map (λ w. w) ws)) < 2 ^ 64
+  pub waits-counted : AreObjects (saved (seen_state n ps ws us qs xs)) → 4 + length (flat_map waiting_bytes (map (λ w. w) ws)) < 2 ^ 64
   waits-counted are =
-      let s : State = seen_state n ps ws qs xs in
+      let s : State = seen_state n ps ws us qs xs in
       let short = each-at (λ (p : ℕ × List ℕ). length p.1 < 2 ^ 64) (saved s) 2 _ are.lengths (saved-waits s) in
       omega (arith, short, waits-long ws, ap (λ (l : List PlainWaiting). length (flat_map waiting_bytes l)) (map-id ws))
 
@@ -225,6 +227,23 @@ module _ (limits : Limits) (s : State) (passed : ArePassed limits) (sound : IsSo
   waits-short : length (waits_bytes s.wait) ≤ 4 + limits.processes * 8464
   waits-short = omega (arith, waits-long s.wait, length-waits s.wait sound.parts.wait.each, sound.parts.wait.few)
 
+  -- each process has no more adjustments than there may be semaphores
+  undo-few : length (adjustments_in s.undo) ≤ limits.processes * limits.semmns
+  undo-few =
+      let connected = length-map s.processes.entries (λ e. e.0) in
+      let few : length s.undo ≤ limits.processes =
+      omega (arith, length-map s.undo (λ e. e.0), ap length sound.parts.undo.pids, connected, sound.parts.processes.count) in
+      omega (
+        arith,
+        few-in limits.semmns s.undo (few-adjustments limits s sound.parts),
+        mul-le (length s.undo) limits.semmns limits.processes limits.semmns few (omega arith),
+      )
+
+  pub undo-counted : length (adjustments_in s.undo) < 2 ^ 32
+  undo-counted =
+      let b = passed-bounds limits passed in
+      omega (arith, undo-few, mul-le limits.processes limits.semmns 64 512 b.processes.1 b.semmns)
+
   numbers-rise : IsRising 0 (keys_of (saved s)) (2 ^ 64)
   unfolding saved
   numbers-rise =
@@ -247,13 +266,14 @@ module _ (limits : Limits) (s : State) (passed : ArePassed limits) (sound : IsSo
       let IsShort : ℕ × Entry Set → Type 0 = λ e. length (set_bytes e.1) ≤ 44 + 6 * limits.semmsl in
       record {
         numbers = numbers-rise;
-        some = each-saved s Some-bytes (omega arith) (omega (arith, processes-long s.processes.entries)) (omega (arith, waits-long s.wait)) (omega arith)
+        some = each-saved s Some-bytes (omega arith) (omega (arith, processes-long s.processes.entries)) (omega (arith, waits-long s.wait))
+            (omega (arith, adjustments-long s.undo))
             (All-weaker (λ (e : ℕ × Entry Queue). length (queue_bytes e.1) ≤ 64 + 13 * limits.msgmnb) (λ e. Some-bytes (queue_object e))
             (λ e short. omega (arith, queue-long e.1)) s.msg.entries queues-short)
             (All-weaker IsShort (λ e. Some-bytes (set_object e)) (λ e short. omega (arith, set-long e.1)) s.sem.entries sets-short);
         lengths = each-saved s Few-bytes (omega arith)
             (omega (arith, processes-long s.processes.entries, sound.parts.processes.count, b.processes.1))
-            (omega (arith, waits-short, b.processes.1)) (omega arith)
+            (omega (arith, waits-short, b.processes.1)) (omega (arith, adjustments-long s.undo, undo-counted))
             (All-weaker (λ (e : ℕ × Entry Queue). length (queue_bytes e.1) ≤ 64 + 13 * limits.msgmnb) (λ e. Few-bytes (queue_object e))
             (λ e short. omega (arith, short, b.msgmnb.1)) s.msg.entries queues-short)
             (All-weaker IsShort (λ e. Few-bytes (set_object e)) (λ e short. omega (arith, short, b.semmsl)) s.sem.entries sets-short);
@@ -272,13 +292,18 @@ module _ (limits : Limits) (s : State) (passed : ArePassed limits) (sound : IsSo
       sound.parts.sem.keyed.numbered.count in
       let processes : 16 * length s.processes.entries ≤ limits.processes * (16 + 16 * limits.descriptors) =
       omega (arith, mul-le (length s.processes.entries) 16 limits.processes (16 + 16 * limits.descriptors) sound.parts.processes.count (omega arith)) in
-      let first : ℕ = sectors 32 + sectors (length (processes_bytes s.processes.entries)) + sectors (length (waits_bytes s.wait)) + sectors 4 in
+      let first : ℕ = sectors 32 + sectors (length (processes_bytes s.processes.entries)) + sectors (length (waits_bytes s.wait))
+      + sectors (length (adjustments_bytes s.undo)) in
+      let undo : 12 * length (adjustments_in s.undo) ≤ 12 * limits.processes * limits.semmns =
+      omega (arith, undo-few, mul_assoc 12 limits.processes limits.semmns) in
       omega (
         arith,
         sum_by_from of first (things s),
         sum_by-append of (map queue_object s.msg.entries) (map set_object s.sem.entries),
         processes-long s.processes.entries,
         waits-short,
+        adjustments-long s.undo,
+        undo,
       )
 
   pub saved-fit : Fit (area_of limits) (saved s)
@@ -294,6 +319,10 @@ start-places = record {
   wait_count = omega arith;
   waits = All-nil _;
   pids = tt;
+  adjustment_count = omega arith;
+  adjustments = All-nil _;
+  undo_pids = refl;
+  distinct = rising-distinct 1 [] 1 (omega arith);
   queues = All-nil _;
   sets = All-nil _;
 }

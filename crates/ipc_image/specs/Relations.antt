@@ -1,3 +1,4 @@
 -- What joins the readers of saved objects to the definitions. A reader of the definitions alone needs none of it.
 pub mod Restored
 pub mod WaitingCalls
+pub mod Adjustments

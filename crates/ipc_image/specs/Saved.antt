@@ -1,16 +1,19 @@
 -- The state as objects, each of them some bytes under a number: what a checkpoint keeps. There are four that every
 -- state has, one for each queue, and one for each semaphore set. Kinds that are still to come have their place: their
--- next number is 1, and no process has a descriptor, and no semaphore is adjusted. Of a call that waits the object on
+-- next number is 1, and no process has a descriptor. Of a call that waits the object on
 -- which it waits is not kept: its request says it.
 use Rattle.std.specs.Prelude.{◌≡◌, ◌*◌, ◌-◌, ◌<◌, ◌≤◌, ◌^◌, ℕ, ℤ, List, [], ◌∷◌, ◌++◌}
-use Rattle.std.specs.Prelude.{length, map, All, FitsSigned, Option, Some, None, IfSome}
-use Rattle.std.specs.Int.{w32, w64, cast_unsigned}
-use Rattle.std.specs.List.{flat_map}
+use Rattle.std.specs.Prelude.{length, map, All, FitsSigned, Option, Some, None, IfSome, nat_eq}
+use Rattle.std.specs.FinMap as fin
+use Rattle.std.specs.Int.{w16, w32, w64, cast_unsigned}
+use Rattle.std.specs.List.{flat_map, IsDistinct}
 use Rattle.ipc_base.specs.declared.identity.Moment.{Moment}
 use Rattle.ipc_base.specs.declared.limits.Limits.{Limits}
 use Rattle.ipc_base.specs.Objects.{PlainObjects}
+use Rattle.ipc_base.specs.Table.{keys_of}
 use Rattle.ipc_wait.specs.Waits.{HaveDistinctPids}
 use Rattle.ipc_wire.specs.Spelling.{HasFrame, request_bytes}
+use Rattle.sem_undo.specs.Undo.{Key, Undo, IsKept}
 use Rattle.sysv_msg.specs.Queue.{Queue, PlainMessage}
 use Rattle.sysv_sem.specs.Operation.{most_value}
 use Rattle.sysv_sem.specs.declared.set.Semaphore.{Semaphore}
@@ -85,6 +88,33 @@ waiting_bytes = bytes_in waiting_shape waiting_tree
 -- how many calls wait, and each of them, in the order in which they came
 abbrev pub waits_bytes : List PlainWaiting → List ℕ
 waits_bytes calls = counted_bytes waiting_bytes calls
+
+-- an adjustment of a process: its pid, and the set, the number and the adjustment
+abbrev pub Adjustment : Type 0
+Adjustment = ℕ × (Key × ℤ)
+
+abbrev pub adjustment_sizes : List Size
+adjustment_sizes = Four ∷ Four ∷ Two ∷ Two ∷ []
+
+abbrev pub adjustment_shape : Shape
+adjustment_shape = Fields adjustment_sizes
+
+abbrev pub adjustment_numbers : Adjustment → List ℕ
+adjustment_numbers x = x.0 ∷ x.1.0.0 ∷ x.1.0.1 ∷ cast_unsigned w16 x.1.1 ∷ []
+
+abbrev pub adjustment_bytes : Adjustment → List ℕ
+adjustment_bytes = bytes_in adjustment_shape adjustment_numbers
+
+-- those of one process, and those of all, by pid, set and number
+abbrev pub adjustments_of : ℕ × Undo → List Adjustment
+adjustments_of p = map (λ a. (p.0, a)) (fin.entries p.1)
+
+abbrev pub adjustments_in : List (ℕ × Undo) → List Adjustment
+adjustments_in undo = flat_map adjustments_of undo
+
+-- how many adjustments there are, and each of them
+abbrev pub adjustments_bytes : List (ℕ × Undo) → List ℕ
+adjustments_bytes undo = counted_bytes adjustment_bytes (adjustments_in undo)
 
 -- ---- objects with a key
 
@@ -176,12 +206,17 @@ set_object = object_in (2 * 2 ^ 32) set_bytes
 unfoldable pub saved : State → PlainObjects
 saved s =
     (0, fields_bytes clock_sizes (clock_numbers s)) ∷ (1, processes_bytes s.processes.entries)
-    ∷ (2, waits_bytes s.wait) ∷ (3, count_bytes 0) ∷ map queue_object s.msg.entries ++ map set_object s.sem.entries
+    ∷ (2, waits_bytes s.wait) ∷ (3, adjustments_bytes s.undo)
+    ∷ map queue_object s.msg.entries ++ map set_object s.sem.entries
 
 -- ---- each number has its place
 
 abbrev pub FitsProcess : ℕ × Process → Type 0
 FitsProcess p = IsTree process_shape (process_numbers p)
+
+-- an adjustment, and not 0
+abbrev pub FitsAdjustment : Adjustment → Type 0
+FitsAdjustment x = IsKept x.1.1 × IsTree adjustment_shape (adjustment_numbers x)
 
 -- its request has a frame and waits on that object, and its deadline, if it has one, is not the number of none
 pub record FitsWaiting (w : PlainWaiting) : Type 0 where
@@ -220,6 +255,11 @@ pub record HasAllPlaces (s : State) : Type 0 where
   pub waits : All FitsWaiting s.wait
   -- no process has two calls that wait
   pub pids : HaveDistinctPids s.wait
+  pub adjustment_count : length (adjustments_in s.undo) < 2 ^ 32
+  pub adjustments : All FitsAdjustment (adjustments_in s.undo)
+  -- each process has adjustments, if only none, and nobody else has; no two have the same pid
+  pub undo_pids : keys_of s.undo ≡ keys_of s.processes.entries
+  pub distinct : IsDistinct nat_eq (keys_of s.undo)
   pub queues : All (FitsIn FitsQueue) s.msg.entries
   pub sets : All (FitsIn FitsSet) s.sem.entries
 

@@ -1,16 +1,20 @@
 -- What is known of numbers once they are read, marks, and what a tree is of.
 use Rattle.std.specs.Prelude.{◌≡◌, ℕ, zero, suc, ◌-◌, ◌<◌, ◌≤◌, ◌^◌, ◌↔◌, List, [], ◌∷◌, ◌++◌, length}
 use Rattle.std.specs.Prelude.{ℤ, take, drop, Option, Some, None, slice_get, slice_index, map, unwrap_or}
-use Rattle.std.specs.Prelude.{◌==◌, if◌then◌else◌}
-use Rattle.std.specs.List.{flat_map}
-use Rattle.std.specs.Int.{w64, cast_signed}
+use Rattle.std.specs.Prelude.{nat_eq, ◌==◌, if◌then◌else◌}
+use Rattle.std.specs.List.{flat_map, fold}
+use Rattle.std.specs.FinMap as fin
+use Rattle.std.specs.Int.{w16, w64, cast_signed}
 use Rattle.ipc_base.specs.declared.identity.Moment.{Moment}
 use Rattle.ipc_base.specs.declared.limits.Limits.{Limits}
 use Rattle.ipc_base.specs.declared.objects.Mark.{Mark}
 use Rattle.ipc_base.specs.Objects.{PlainObjects}
+use Rattle.ipc_base.specs.Table.{value_at, with_value}
 use Rattle.ipc_wire.specs.Request.{PlainRequest, Interrupt}
 use Rattle.ipc_wire.specs.Stream.{PlainFrame, frame_of}
 use Rattle.ipc_wire.specs.Stream.PlainFrame.{Whole}
+use Rattle.sem_undo.specs.Undo.{Undo, entry_of as row_entry}
+use Rattle.sem_undo.specs.declared.undo.UndoRow.{UndoRow}
 use Rattle.sysv_msg.specs.Queue.{Queue, PlainMessage}
 use Rattle.sysv_sem.specs.declared.set.Semaphore.{Semaphore}
 use Rattle.sysv_sem.specs.Set.{Set}
@@ -27,7 +31,7 @@ use Rattle.ipc_state.specs.Waiting.{PlainWaiting, awaited_by}
 use Rattle.ipc_image.specs.declared.state_objects.Thing.{Thing}
 use Rattle.ipc_image.specs.declared.state_objects.Thing.TheVariants as thing
 use Rattle.ipc_image.specs.Kind.{FitsIn}
-use Rattle.ipc_image.specs.Saved.{process_bytes, waiting_bytes, message_bytes, queue_object, FitsQueue}
+use Rattle.ipc_image.specs.Saved.{Adjustment, process_bytes, waiting_bytes, message_bytes, queue_object, FitsQueue}
 use Rattle.ipc_image.specs.Saved.{semaphore_bytes, set_object, FitsSet, saved}
 
 -- ---- what was added
@@ -51,6 +55,14 @@ put_queues s xs = (record s.0 { msg = record { next = s.0.msg.next; entries = xs
 
 abbrev pub put_sets : State × Limits → List (ℕ × Entry Set) → State × Limits
 put_sets s xs = (record s.0 { sem = record { next = s.0.sem.next; entries = xs } }, s.1)
+
+-- with an adjustment of a process, if the process is there; with all of these
+abbrev pub attached : List (ℕ × Undo) → Adjustment → List (ℕ × Undo)
+attached undo x =
+    with_value nat_eq undo x.0 (fin.insert (unwrap_or (value_at nat_eq undo x.0) fin.empty) x.1.0 x.1.1)
+
+abbrev pub all_attached : List (ℕ × Undo) → List Adjustment → List (ℕ × Undo)
+all_attached undo xs = fold attached undo xs
 
 -- ---- marks
 
@@ -118,6 +130,13 @@ pub record IsFound (s : State) (i : ℕ) (o : ℕ × List ℕ) (IsOfIt : Mark �
 abbrev pub process_of : List ℕ → ℕ × Process
 process_of ns = (slice_index ns 0, record { cred = record { uid = slice_index ns 1; gid = slice_index ns 2 } })
 
+-- the adjustment of a process that a row is
+abbrev pub of_process : ℕ → UndoRow → Adjustment
+of_process pid row = (pid, row_entry row)
+
+abbrev pub adjustment_of : List ℕ → Adjustment
+adjustment_of ns = (slice_index ns 0, ((slice_index ns 1, slice_index ns 2), cast_signed w16 (slice_index ns 3)))
+
 -- the request of which this is the frame; where it is none's, any one
 abbrev pub request_in : PlainFrame → PlainRequest
 request_in (Whole used request) = request
@@ -182,13 +201,14 @@ abbrev pub set_from : List ℕ → List Semaphore → Set
 set_from ns semaphores = record { semaphores = semaphores; otime = slice_index ns 0; ctime = slice_index ns 1 }
 
 -- the state that has these tables
-abbrev pub seen_state : Numbers → List (Item Process) → List PlainWaiting → List (Item (Entry Queue))
+abbrev pub seen_state : Numbers → List (Item Process) → List PlainWaiting → List (Item Undo) → List (Item (Entry Queue))
     → List (Item (Entry Set)) → State
-seen_state n processes waits queues sets =
+seen_state n processes waits undo queues sets =
     record {
       clock = n.clock.0;
       processes = record { next = n.next_pid; entries = map item_row processes };
       wait = waits;
+      undo = map item_row undo;
       msg = record { next = n.next_queue; entries = map item_row queues };
       sem = record { next = n.next_set; entries = map item_row sets };
     }

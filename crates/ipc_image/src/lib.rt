@@ -2,6 +2,8 @@
 //! the state as objects.
 #![tactic(auto)]
 
+mod adjustment_list;
+mod adjustments;
 mod clock;
 mod entry;
 mod fault;

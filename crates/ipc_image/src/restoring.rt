@@ -1,11 +1,14 @@
 //! The machine whose state some objects are.
 
-ghost use Rattle.std.specs.Prelude.{◌≡◌, ◌≢◌, [], ℕ, List, Err, IfOk, OnOk, IsTrue, ◌↔◌, Some, IfSome};
-ghost use Rattle.std.specs.Prelude.{IfNone, slice_get};
+ghost use Rattle.std.specs.Prelude.{◌≡◌, ◌≢◌, [], ℕ, List, Err, IfOk, OnOk, Some, IfSome};
+ghost use Rattle.std.specs.Prelude.{IfNone, slice_get, nat_eq};
+ghost use Rattle.std.specs.List.{IsDistinct};
 ghost use Rattle.ipc_base.specs.Limits.{ArePassed};
+ghost use Rattle.ipc_base.specs.Table.{keys_of};
 ghost use Rattle.ipc_state.specs.State.{State as PlainState, start};
-ghost use Rattle.ipc_image.specs.Saved.{count_bytes, saved, HasAllPlaces, StandForState};
+ghost use Rattle.ipc_image.specs.Saved.{saved, HasAllPlaces, StandForState};
 
+use crate::adjustments::restore_adjustments;
 use crate::clock::read_clock;
 use crate::kind::restore_kind;
 use crate::saved::read_counted;
@@ -31,17 +34,12 @@ fn object_numbered(objects: &ObjectMap, i: u32) -> Option<&[u8]>
     Some(objects.object(i))
 }
 
-// A count of none, and nothing after it.
-fn is_none_counted(bytes: &[u8]) -> bool
-    ensures { IsTrue result ↔ (bytes.now ≡ count_bytes 0) }
-{
-    bytes == [0; 4].as_slice()
-}
-
-// All parts, in their order.
+// All parts, in their order. Two processes that were read may have the same pid: the state is not sound then.
 fn restore(state: &mut State, alloc: Global, objects: &ObjectMap) -> Result<(), StateFault>
     requires { state.old.state ≡ start }
-    ensures ok { OnOk result (HasAllPlaces state.new.state × (objects.now ≡ saved state.new.state)) }
+    ensures ok { OnOk result ((IsDistinct nat_eq (keys_of state.new.state.undo) → HasAllPlaces state.new.state)
+        × (objects.now ≡ saved state.new.state)) }
+    ensures once { OnOk result ((s : PlainState) → HasAllPlaces s → objects.now ≡ saved s → s ≡ state.new.state) }
     ensures damaged { result ≡ Err StateFault.Unsound → (s : PlainState)
         → HasAllPlaces s → objects.now ≢ saved s }
     ensures limits { OnOk result (state.new.limits ≡ state.old.limits) }
@@ -58,15 +56,13 @@ fn restore(state: &mut State, alloc: Global, objects: &ObjectMap) -> Result<(), 
     let Some(adjustments) = object_numbered(objects, 3) else {
         return Err(StateFault::Unsound);
     };
-    if !is_none_counted(adjustments) {
-        return Err(StateFault::Unsound);
-    }
     let Some(numbers) = read_clock(clock) else {
         return Err(StateFault::Unsound);
     };
     state.restore_numbers(numbers);
     read_counted::<Item<Process>>(state, processes)?;
     restore_waits(state, alloc, calls)?;
+    restore_adjustments(state, alloc, adjustments)?;
     let next = restore_kind::<MsgQueue>(state, alloc, objects, ALWAYS)?;
     let next = restore_kind::<SemSet>(state, alloc, objects, next)?;
     if next < objects.count() {

@@ -10,9 +10,9 @@ ghost use Rattle.ipc_image.specs.SavedParts.{IsFound, IsMarkOf, IsMarkOfThing, F
 ghost use Rattle.ipc_image.specs.Sizes.{area_of};
 ghost use Rattle.ipc_image.specs.Window.{passed};
 
+use crate::adjustment_list::{adjustments_len, put_adjustments};
 use crate::clock::put_clock;
 use crate::entry::{entry_len, put_entry};
-use crate::fields::put_count;
 use crate::kind::Kind;
 use crate::restoring::ALWAYS;
 use crate::saved::{START, list_len, put_counted};
@@ -22,6 +22,7 @@ use ipc_base::{Mark, Moment, Objects};
 use ipc_engine::Engine;
 use ipc_state::{Awaited, Entry, Item, Numbers, Parked, Process};
 use ipc_wait::Waiting;
+use sem_undo::SemUndo;
 use std::marker::Model;
 use sysv_msg::MsgQueue;
 use sysv_sem::SemSet;
@@ -33,6 +34,7 @@ pub struct StateObjects<'a> {
     numbers: Numbers,
     processes: &'a [Item<Process>],
     waits: &'a [Waiting<Awaited, Parked>],
+    undo: &'a [Item<SemUndo>],
     queues: &'a [Item<Entry<MsgQueue>>],
     sets: &'a [Item<Entry<SemSet>>],
 }
@@ -45,18 +47,22 @@ pub(crate) enum Thing<'a> {
 }
 
 impl<'a> Model for StateObjects<'a> {
+    ghost use Rattle.std.specs.Coded.{codes};
     ghost use Rattle.ipc_base.specs.Objects.{AreObjects};
+    ghost use Rattle.sem_undo.specs.Undo.{undo_code};
     ghost use Rattle.ipc_state.specs.State.{State as PlainState};
     ghost use Rattle.ipc_image.specs.Saved.{saved, HasAllPlaces};
     ghost use Rattle.ipc_image.specs.SavedParts.{seen_state};
 
     ghost Value = { PlainState };
 
-    ghost view = { λ o. seen_state o.numbers o.processes.now o.waits.now o.queues.now o.sets.now };
+    ghost coded = { Prim.hlevel (codes, undo_code) };
+
+    ghost view = { λ o. seen_state o.numbers o.processes.now o.waits.now o.undo.now o.queues.now o.sets.now };
 
     ghost invariant = { λ o.
-        HasAllPlaces (seen_state o.numbers o.processes.now o.waits.now o.queues.now o.sets.now)
-        × AreObjects (saved (seen_state o.numbers o.processes.now o.waits.now o.queues.now o.sets.now)) };
+        HasAllPlaces (seen_state o.numbers o.processes.now o.waits.now o.undo.now o.queues.now o.sets.now)
+        × AreObjects (saved (seen_state o.numbers o.processes.now o.waits.now o.undo.now o.queues.now o.sets.now)) };
 }
 
 /// The state of the machine as objects. It takes no memory. They stand for that state, and fit where
@@ -77,6 +83,7 @@ pub fn objects_of<'a>(engine: &'a Engine) -> StateObjects<'a>
         },
         processes: state.processes(),
         waits: state.waits(),
+        undo: state.adjustments(),
         queues: state.queues(),
         sets: state.sets(),
     }
@@ -96,6 +103,7 @@ pub fn start_objects() -> StateObjects<'static>
         },
         processes: &[],
         waits: &[],
+        undo: &[],
         queues: &[],
         sets: &[],
     }
@@ -132,7 +140,7 @@ impl<'a> Objects for StateObjects<'a> {
             0 => 32,
             1 => 4 + 16 * self.processes.len() as u64,
             2 => 4 + list_len(self.waits),
-            3 => 4,
+            3 => adjustments_len(self.undo),
             _ => thing_len(&thing_at(self, i)),
         }
     }
@@ -199,7 +207,7 @@ fn put_object(window: &mut Window, objects: &StateObjects<'_>, i: u32, mark: &mu
         0 => put_clock(window, objects.numbers),
         1 => put_counted(window, objects.processes, mark),
         2 => put_counted(window, objects.waits, mark),
-        3 => put_count(window, 0),
+        3 => put_adjustments(window, objects.undo),
         _ => put_thing(window, &thing_at(objects, i), mark),
     }
 }

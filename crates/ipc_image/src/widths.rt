@@ -3,19 +3,22 @@
 //! Messages are not read: a queue says of them what is needed; nor are the requests of calls that wait, which have
 //! frames.
 
-ghost use Rattle.std.specs.Prelude.{All, ⊤};
+ghost use Rattle.std.specs.Prelude.{◌<◌, ◌^◌, All, ⊤};
 ghost use Rattle.ipc_base.specs.Limits.{ArePassed};
 ghost use Rattle.ipc_base.specs.Numbers.{FitFields};
+ghost use Rattle.sem_undo.specs.Undo.{IsKept};
 ghost use Rattle.ipc_state.specs.Tables.{item_row};
 ghost use Rattle.ipc_state.specs.Waiting.{IsSoundWaiting};
 ghost use Rattle.ipc_engine.specs.Sound.{IsSound};
 ghost use Rattle.ipc_image.specs.Kind.{FitsIn};
-ghost use Rattle.ipc_image.specs.Saved.{clock_sizes, clock_numbers, FitsEntry, FitsProcess, FitsWaiting, HasAllPlaces};
+ghost use Rattle.ipc_image.specs.Saved.{clock_sizes, clock_numbers, adjustments_of, HasAllPlaces};
+ghost use Rattle.ipc_image.specs.Saved.{FitsAdjustment, FitsEntry, FitsProcess, FitsWaiting};
 
 use crate::entry::read_head;
 use crate::kind::Kind;
 use ipc_state::{Awaited, Entry, Item, Parked, Process, State};
 use ipc_wait::Waiting;
+use sem_undo::{SemUndo, UndoRow};
 
 /// What has numbers.
 pub(crate) trait Wide {
@@ -53,6 +56,28 @@ impl Wide for Waiting<Awaited, Parked> {
     }
 }
 
+impl Wide for UndoRow {
+    ghost IsSmall = { λ r. IsKept r.adjustment };
+
+    ghost IsWide = { λ r. IsKept r.adjustment × (r.set.0 < 2 ^ 32) × (r.num < 2 ^ 16) };
+
+    fn read(&self) {
+        let _set = self.set.0;
+        let _num = self.num;
+    }
+}
+
+impl Wide for Item<SemUndo> {
+    ghost IsSmall = { λ u. ⊤ };
+
+    ghost IsWide = { λ u. All FitsAdjustment (adjustments_of (item_row u)) };
+
+    fn read(&self) {
+        let _pid = self.number;
+        read_each(self.value.rows());
+    }
+}
+
 impl<T: Kind> Wide for Item<Entry<T>> {
     ghost IsSmall = { λ e. T.IsSmall e.value.object };
 
@@ -85,6 +110,7 @@ pub(crate) fn read_state(state: &State)
     read_clock(state);
     read_each(state.processes());
     read_each(state.waits());
+    read_each(state.adjustments());
     read_each(state.queues());
     read_each(state.sets());
 }

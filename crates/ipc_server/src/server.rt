@@ -53,9 +53,13 @@ pub struct Server<D: SectorDisk> {
 }
 
 impl<D: SectorDisk> Model for Server<D> {
+    ghost use Rattle.std.specs.Coded.{codes};
+    ghost use Rattle.sem_undo.specs.Undo.{undo_code};
     ghost use Rattle.ipc_server.specs.View.{ServerView};
 
     ghost Value = { ServerView D };
+
+    ghost coded = { Prim.hlevel (codes, undo_code) };
 
     ghost use Rattle.ipc_server.specs.Rows.{clients_of, IsServing};
 

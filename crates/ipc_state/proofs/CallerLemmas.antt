@@ -3,15 +3,17 @@
 use Rattle.std.proofs.Common.{◌≡◌, ◌≢◌, ℕ, ℤ, ◌+◌, ◌<◌, ◌≤◌, Bool, true, false, Option, Some, None, refl, arith, sym, ap, subst, ◌∙◌, List}
 use Rattle.std.proofs.Common.{[], ◌∷◌, ◌++◌, not, length, length-append}
 use Rattle.std.proofs.lemmas.Nat.{and_le_r}
-use Rattle.std.specs.Prelude.{Ok, Err, option_map, All}
+use Rattle.std.specs.Prelude.{Ok, Err, option_map, All, nat_eq}
 use Rattle.std.proofs.lemmas.List.Elements.{All-nil, All-filter, All-push}
 use Rattle.std.proofs.lemmas.List.{length-replicate}
 use Rattle.std.proofs.lemmas.List.Filters.{length-filter_both}
 use Rattle.sysv_sem.specs.declared.set.Semaphore.{Semaphore}
 use Rattle.std.specs.Borrow.{MutBor}
 use Rattle.std.specs.Option.{option_copied_mut, IsSome}
-use Rattle.ipc_base.specs.Table.{keys_of}
-use Rattle.ipc_base.proofs.CallerLemmas.{nobody, own, rising-bounds}
+use Rattle.ipc_base.specs.Table.{keys_of, EachValue}
+use Rattle.std.specs.FinMap as fin
+use Rattle.sem_undo.specs.Undo.{Key, Undo, cleared}
+use Rattle.ipc_base.proofs.CallerLemmas.{nobody, own, rising-bounds, each-without, keys_of-with_value}
 use Rattle.ipc_state.specs.Directory.{ArePositive}
 use Rattle.ipc_state.proofs.Directories.{named-positive}
 use Rattle.ipc_state.specs.Lends.{HasPutObject}
@@ -24,19 +26,18 @@ use Rattle.ipc_base.specs.declared.limits.Limits.{Limits}
 use Rattle.ipc_wait.specs.Waits.{is_of, is_due, call_of, without}
 use Rattle.ipc_wait.proofs.CallerLemmas.{without-distinct, left-distinct, due-or-left, HaveDistinctPids-enter}
 use Rattle.sysv_msg.specs.Queue.{Queue, new_queue}
-use Rattle.sysv_sem.specs.Set.{Set, new_set}
+use Rattle.sysv_sem.specs.Set.{Set, new_set, after_exit}
 use Rattle.ipc_wire.specs.Reply.{PlainBody}
 use Rattle.ipc_wire.specs.Request.{PlainRequest, Interrupt}
 use Rattle.ipc_state.specs.declared.keyed.Entry.{Entry}
 use Rattle.ipc_perm.specs.declared.perm.Perm.{Perm}
 use Rattle.ipc_perm.specs.Perm.{perm_of, owned_by}
-use Rattle.ipc_state.specs.Numbered.{Numbered, entry_of, with_entry, without_entry, is_full, AreNumbered}
+use Rattle.ipc_state.specs.Numbered.{entry_of, with_entry, without_entry, is_full}
 use Rattle.ipc_state.specs.Keyed.{Keyed, holding, permitting, keyed, AreKeyed, AreNamed}
-use Rattle.ipc_state.specs.declared.processes.Process.{Process}
 use Rattle.ipc_state.specs.State.{State, start, at_moment, has_all_processes, is_process, with_process, exit, restart}
 use Rattle.ipc_state.specs.State.{is_waiting, with_waiting, without_due, without_waiting, queue_of, with_queue, with_new_queue}
-use Rattle.ipc_state.specs.State.{set_of, with_set, with_new_set}
-use Rattle.ipc_state.specs.Sound.{HasSoundParts, IsSoundQueue, IsSoundSet, AreSoundSets, semaphore_count, FitsBody}
+use Rattle.ipc_state.specs.State.{set_of, with_set, with_new_set, adjusted, undone, undo_of, without_adjustments}
+use Rattle.ipc_state.specs.Sound.{HasSoundParts, IsSoundQueue, IsSoundSet, AreSoundSets, AreAt, AreAdjustments, semaphore_count, FitsBody}
 use Rattle.ipc_state.specs.Waiting.{PlainWaiting, AreSoundWaits, IsSoundWaiting}
 use Rattle.ipc_state.specs.Finish.{Finish, IfFinishes, Attempt, Halt, Fails, Blocks, Done, ended, done, answer, refuse, stop, ◌orstop◌, ◌>>◌, ◌>>=◌, if_some}
 use Rattle.ipc_state.specs.Touching.{is_there, IsAsBefore}
@@ -44,9 +45,12 @@ use Rattle.ipc_state.specs.declared.parked.Awaited.{Awaited}
 use Rattle.ipc_state.specs.declared.parked.Awaited.TheVariants as awaited
 use Rattle.ipc_state.proofs.Numbering.{none_yet-numbered, with_new-numbered, without_entry-numbered, cleared-numbered}
 use Rattle.ipc_state.proofs.Counting.{few-waiting}
+use Rattle.ipc_state.proofs.Few.{few-each, each-fewer}
 use Rattle.ipc_state.proofs.Keying as keying
 use Rattle.ipc_state.proofs.SoundQueues as queues
 use Rattle.ipc_state.proofs.SoundSets as sets
+use Rattle.ipc_state.proofs.Adjusting.{HasAll, moved, has-new, has-with, has-adjusted, adjusted-by, exit-length, undone-keeps, all-undone-keeps}
+use Rattle.ipc_state.proofs.Adjusting.{each-moved, each-cleared, each-dropped, none-at, without-same, push-same, each-pushed, seen-keys}
 pub use Rattle.ipc_state.proofs.Keying.{All-seen}
 pub use Rattle.ipc_state.proofs.Numbering.{neither}
 pub use Rattle.ipc_state.proofs.SoundQueues.{queue-numbers, sent-sound, taken-sound, changed-sound}
@@ -61,20 +65,27 @@ owned_by-mode perm uid gid mode = omega (arith, and_le_r mode 511)
 
 module _ (limits : Limits) where
   -- a state with another part that is sound is sound
-  pub set-processes : (s : State) (processes : Numbered Process) → HasSoundParts limits s → AreNumbered limits.processes processes
-      → HasSoundParts limits (record s { processes = processes })
-  set-processes s processes h good = record { processes = good; wait = h.wait; msg = h.msg; sem = h.sem }
+  pub set-undo : (s : State) (undo : List (ℕ × Undo)) → HasSoundParts limits s → AreAdjustments (keys_of s.processes.entries) s.sem undo
+      → HasSoundParts limits (record s { undo = undo })
+  set-undo s undo h good = record { processes = h.processes; wait = h.wait; undo = good; msg = h.msg; sem = h.sem }
 
   pub set-wait : (s : State) (calls : List PlainWaiting) → HasSoundParts limits s → AreSoundWaits limits calls
       → HasSoundParts limits (record s { wait = calls })
-  set-wait s calls h good = record { processes = h.processes; wait = good; msg = h.msg; sem = h.sem }
+  set-wait s calls h good = record { processes = h.processes; wait = good; undo = h.undo; msg = h.msg; sem = h.sem }
 
   pub set-msg : (s : State) (msg : Keyed Queue) → HasSoundParts limits s → AreKeyed limits.msgmni (IsSoundQueue limits) msg
       → HasSoundParts limits (record s { msg = msg })
-  set-msg s msg h good = record { processes = h.processes; wait = h.wait; msg = good; sem = h.sem }
+  set-msg s msg h good = record { processes = h.processes; wait = h.wait; undo = h.undo; msg = good; sem = h.sem }
 
-  pub set-sem : (s : State) (sem : Keyed Set) → HasSoundParts limits s → AreSoundSets limits sem → HasSoundParts limits (record s { sem = sem })
-  set-sem s sem h good = record { processes = h.processes; wait = h.wait; msg = h.msg; sem = good }
+  pub set-sem : (s : State) (sem : Keyed Set) → HasSoundParts limits s → HasAll s.sem sem → AreSoundSets limits sem → HasSoundParts limits (record s { sem = sem })
+  set-sem s sem h all good =
+      record {
+        processes = h.processes;
+        wait = h.wait;
+        undo = moved (keys_of s.processes.entries) s.sem sem s.undo all h.undo;
+        msg = h.msg;
+        sem = good;
+      }
 
   none-waits : AreSoundWaits limits []
   none-waits = record { pids = tt; few = omega arith; each = All-nil IsSoundWaiting }
@@ -118,12 +129,13 @@ module _ (limits : Limits) where
       record {
         processes = none_yet-numbered limits.processes;
         wait = none-waits;
+        undo = record { pids = refl; each = tt };
         msg = keying.none_yet-keyed limits.msgmni (IsSoundQueue limits);
         sem = record { keyed = keying.none_yet-keyed limits.semmni (IsSoundSet limits); count = omega arith };
       }
 
   pub begin-sound : (s : State) (moment : ℕ) → HasSoundParts limits s → HasSoundParts limits (at_moment s moment)
-  begin-sound s moment h = record { processes = h.processes; wait = h.wait; msg = h.msg; sem = h.sem }
+  begin-sound s moment h = record { processes = h.processes; wait = h.wait; undo = h.undo; msg = h.msg; sem = h.sem }
 
   pub without_due-sound : (s : State) → HasSoundParts limits s → HasSoundParts limits (without_due s)
   without_due-sound s h =
@@ -134,18 +146,78 @@ module _ (limits : Limits) where
         each = All-filter (λ (w : PlainWaiting). not (is_due now w)) IsSoundWaiting s.wait h.wait.each;
       })
 
+  -- one adjustment keeps the sets sound
+  adjusted-sound : (pid : ℕ) (o : Keyed Set) (a : Key × ℤ) → AreSoundSets limits o → AreSoundSets limits (adjusted pid o a)
+  adjusted-sound pid o a h =
+      adjusted-by (AreSoundSets limits) pid o a
+      (λ e is. let x : Set = after_exit e.object a.0.1 a.1 (record { 0 = pid }) in
+      let good = sets.after_exit-sound limits e.object a.0.1 a.1 (record { 0 = pid }) (keying.entry-sound limits.semmni (IsSoundSet limits) o a.0.0 e is h.keyed) in
+      let mode = keying.entry-mode limits.semmni (IsSoundSet limits) o a.0.0 e is h.keyed in
+      record {
+        keyed = keying.with_entry-keyed limits.semmni (IsSoundSet limits) o a.0.0 e (holding e x) is refl mode good h.keyed;
+        count = omega (arith, sets.count-with o a.0.0 e (holding e x) is (exit-length e.object a.0.1 a.1 (record { 0 = pid })), h.count);
+      }) h
+
+  pub undone-sound : (o : Keyed Set) (p : ℕ × Undo) → AreSoundSets limits o → AreSoundSets limits (undone o p)
+  undone-sound o p h = undone-keeps (AreSoundSets limits) adjusted-sound o p h
+
   pub exit-sound : (s : State) (pid : ℕ) → HasSoundParts limits s → HasSoundParts limits (exit s pid)
   exit-sound s pid h =
-      without_waiting-sound (record s { processes = without_entry s.processes pid }) pid
-      (set-processes s _ h (without_entry-numbered limits.processes s.processes pid h.processes))
+      let p : ℕ × Undo = (pid, undo_of s pid) in
+      let all : HasAll s.sem (undone s.sem p) = undone-keeps (HasAll s.sem) (has-adjusted s.sem) s.sem p (λ k is. is) in
+      record {
+        processes = without_entry-numbered limits.processes s.processes pid h.processes;
+        wait = without-waits (record { 0 = pid }) s.wait h.wait;
+        undo = record {
+          pids = without-same s.undo s.processes.entries pid h.undo.pids;
+          each = each-moved s.sem (undone s.sem p) all _ (each-without (AreAt s.sem) s.undo pid h.undo.each);
+        };
+        msg = h.msg;
+        sem = undone-sound s.sem p h.sem;
+      }
 
   pub restart-sound : (s : State) → HasSoundParts limits s → HasSoundParts limits (restart s)
   restart-sound s h =
-      set-wait (record s { processes = record { next = s.processes.next; entries = [] } }) _
-      (set-processes s _ h (cleared-numbered limits.processes s.processes h.processes)) none-waits
+      record {
+        processes = cleared-numbered limits.processes s.processes h.processes;
+        wait = none-waits;
+        undo = record { pids = refl; each = tt };
+        msg = h.msg;
+        sem = all-undone-keeps (AreSoundSets limits) adjusted-sound s.sem s.undo h.sem;
+      }
 
   pub with_process-sound : (s : State) (cred : Cred) → has_all_processes limits s ≡ false → HasSoundParts limits s → HasSoundParts limits (with_process s cred)
-  with_process-sound s cred room h = set-processes s _ h (with_new-numbered limits.processes s.processes (record { cred = cred }) room h.processes)
+  with_process-sound s cred room h =
+      record {
+        processes = with_new-numbered limits.processes s.processes (record { cred = cred }) room h.processes;
+        wait = h.wait;
+        undo = record {
+          pids = push-same s.undo s.processes.entries s.processes.next fin.empty (record { cred = cred }) h.undo.pids;
+          each = each-pushed (AreAt s.sem) s.undo s.processes.next fin.empty h.undo.each (none-at s.sem);
+        };
+        msg = h.msg;
+        sem = h.sem;
+      }
+
+  -- the identifiers of the sets stay, and the next one
+  pub restart-sets : (s : State) → (keys_of (restart s).sem.entries ≡ keys_of s.sem.entries) × ((restart s).sem.next ≡ s.sem.next)
+  restart-sets s =
+      all-undone-keeps (λ (o : Keyed Set). (keys_of o.entries ≡ keys_of s.sem.entries) × (o.next ≡ s.sem.next))
+      (λ pid o a h. adjusted-by (λ (t : Keyed Set). (keys_of t.entries ≡ keys_of s.sem.entries) × (t.next ≡ s.sem.next)) pid o a
+      (λ e is. (keys_of-with_value nat_eq o.entries a.0.0 (holding e (after_exit e.object a.0.1 a.1 (record { 0 = pid }))) ∙ h.0, h.1)) h)
+      s.sem s.undo (refl, refl)
+
+  -- no process has more adjustments than there may be semaphores
+  pub few-adjustments : (s : State) → HasSoundParts limits s → EachValue (λ (u : Undo). fin.len u ≤ limits.semmns) s.undo
+  few-adjustments s h = each-fewer limits.semmns (semaphore_count s.sem) h.sem.count s.undo (few-each s.sem s.undo h.undo.each)
+
+  -- no process has an adjustment any more at a semaphore, or at a set
+  pub without_adjustments-sound : (s : State) (set : ℕ) (num : Option ℕ) → HasSoundParts limits s → HasSoundParts limits (without_adjustments set num s)
+  without_adjustments-sound s set num h =
+      set-undo s _ h (record {
+        pids = seen-keys (cleared set num) s.undo ∙ h.undo.pids;
+        each = each-cleared s.sem set num s.undo h.undo.each;
+      })
 
   pub with_new_queue-sound : (s : State) (key : ℤ) (perm : Perm) → keyed s.msg key ≡ None → is_full limits.msgmni s.msg ≡ false
       → perm.mode < 512 → HasSoundParts limits s → HasSoundParts limits (with_new_queue limits s key perm)
@@ -179,7 +251,7 @@ module _ (limits : Limits) where
   with_new_set-sound s key perm nsems unused room mode some few all h =
       let e : Entry Set = record { key = key; perm = perm; object = new_set nsems s.clock } in
       let len = length-replicate nsems (let x : Semaphore = record { value = 0; pid = record { 0 = 0 } } in x) in
-      set-sem s _ h (record {
+      set-sem s _ h (has-new s.sem e) (record {
         keyed = keying.with_new-keyed limits.semmni (IsSoundSet limits) s.sem e unused room mode (sets.new_set-sound limits nsems s.clock some few) h.sem.keyed;
         count = omega (arith, sets.count-new s.sem e, len, all);
       })
@@ -189,7 +261,7 @@ module _ (limits : Limits) where
       → length x.semaphores ≡ length e.object.semaphores → HasSoundParts limits s → HasSoundParts limits (with_set s id (holding (permitting e perm) x))
   permitted_set-sound s id e perm x is mode good same h =
       let f : Entry Set = holding (permitting e perm) x in
-      set-sem s _ h (record {
+      set-sem s _ h (λ k was. has-with s.sem id e f is same k ∙ was) (record {
         keyed = keying.with_entry-keyed limits.semmni (IsSoundSet limits) s.sem id e f is refl mode good h.sem.keyed;
         count = omega (arith, sets.count-with s.sem id e f is same, h.sem.count);
       })
@@ -199,12 +271,20 @@ module _ (limits : Limits) where
   with_set-sound s id e x is good same h =
       permitted_set-sound s id e e.perm x is (keying.entry-mode limits.semmni (IsSoundSet limits) s.sem id e is h.sem.keyed) good same h
 
-  pub without_set-sound : (s : State) (id : ℕ) → HasSoundParts limits s → HasSoundParts limits (record s { sem = without_entry s.sem id })
+  -- a set goes, and the adjustments at it
+  pub without_set-sound : (s : State) (id : ℕ) → HasSoundParts limits s
+      → HasSoundParts limits (without_adjustments id None (record s { sem = without_entry s.sem id }))
   without_set-sound s id h =
-      set-sem s _ h (record {
-        keyed = keying.without_entry-keyed limits.semmni (IsSoundSet limits) s.sem id h.sem.keyed;
-        count = omega (arith, sets.count-without s.sem id, h.sem.count);
-      })
+      record {
+        processes = h.processes;
+        wait = h.wait;
+        undo = record { pids = seen-keys (cleared id None) s.undo ∙ h.undo.pids; each = each-dropped s.sem id s.undo h.undo.each };
+        msg = h.msg;
+        sem = record {
+          keyed = keying.without_entry-keyed limits.semmni (IsSoundSet limits) s.sem id h.sem.keyed;
+          count = omega (arith, sets.count-without s.sem id, h.sem.count);
+        };
+      }
 
   pub set-sound : (s : State) (id : ℕ) (e : Entry Set) → set_of s id ≡ Some e → HasSoundParts limits s → IsSoundSet limits e.object
   set-sound s id e is h = keying.entry-sound limits.semmni (IsSoundSet limits) s.sem id e is h.sem.keyed

@@ -6,3 +6,6 @@ mod Keying
 mod SoundQueues
 mod SoundSets
 mod Directories
+mod Adjusting
+mod Clearing
+mod Few

@@ -1,6 +1,7 @@
 -- Semaphore sets stay sound as they come and change, each by itself and together.
-use Rattle.std.proofs.Common.{◌≡◌, ℕ, ◌+◌, ◌<◌, ◌≤◌, Bool, true, false, cond, List, [], ◌∷◌, length, Some, refl, ap, arith}
-use Rattle.std.specs.Prelude.{All, sum_by, nat_eq}
+use Rattle.std.proofs.Common.{◌≡◌, ℕ, ℤ, ◌+◌, ◌<◌, ◌≤◌, Bool, true, false, cond, List, [], ◌∷◌, length, Some, refl, ap, arith}
+use Rattle.std.specs.Prelude.{All, sum_by, nat_eq, min, slice_index}
+use Rattle.std.proofs.Math.Nat.{min-le_right}
 use Rattle.std.proofs.lemmas.List.{length-map, length-replicate, length-set}
 use Rattle.std.proofs.lemmas.List.Elements.{All-map, All-replicate, All-set}
 use Rattle.std.proofs.lemmas.List.Sums.{sum_by-cons, sum_by-append}
@@ -8,8 +9,8 @@ use Rattle.ipc_base.specs.Table.{value_at, with_value as put_at, without}
 use Rattle.ipc_base.specs.declared.identity.Pid.{Pid}
 use Rattle.ipc_base.specs.declared.limits.Limits.{Limits}
 use Rattle.sysv_sem.specs.declared.set.Semaphore.{Semaphore}
-use Rattle.sysv_sem.specs.Operation.{most_value}
-use Rattle.sysv_sem.specs.Set.{Set, new_set, with_value, with_values, changed}
+use Rattle.sysv_sem.specs.Operation.{most_value, value_after}
+use Rattle.sysv_sem.specs.Set.{Set, new_set, with_value, with_values, changed, after_exit, values_of}
 use Rattle.ipc_state.specs.declared.keyed.Entry.{Entry}
 use Rattle.ipc_state.specs.Keyed.{Keyed}
 use Rattle.ipc_state.specs.Numbered.{entry_of, with_entry, with_new, without_entry}
@@ -38,6 +39,13 @@ module _ (limits : Limits) where
       let of : ℕ → Semaphore = λ v. record { value = v; pid = pid } in
       let len = length-map values of in
       record { some = omega (arith, len, count, h.some); few = omega (arith, len, count, h.few); values = All-map IsValue of values fit }
+
+  pub after_exit-sound : (s : Set) (num : ℕ) (a : ℤ) (pid : Pid) → IsSoundSet limits s → IsSoundSet limits (after_exit s num a pid)
+  after_exit-sound s num a pid h =
+      let x : Semaphore = record { value = min (value_after (slice_index (values_of s) num) a) most_value; pid = pid } in
+      let len = length-set s.semaphores num x in
+      let fits : x.value ≤ most_value = omega (arith, min-le_right (value_after (slice_index (values_of s) num) a) most_value) in
+      record { some = omega (arith, len, h.some); few = omega (arith, len, h.few); values = All-set IsValue s.semaphores num x fits h.values }
 
   pub changed_set-sound : (s : Set) (moment : ℕ) → IsSoundSet limits s → IsSoundSet limits (changed s moment)
   changed_set-sound s moment h = record { some = h.some; few = h.few; values = h.values }

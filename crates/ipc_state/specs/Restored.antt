@@ -1,12 +1,16 @@
 -- The state with a part more that was read. A state is rebuilt part by part, and is sound only as a whole.
-use Rattle.std.specs.Prelude.{ℕ, List}
+use Rattle.std.specs.Prelude.{ℕ, List, nat_eq}
+use Rattle.std.specs.FinMap as fin
+use Rattle.ipc_base.specs.Table.{with_value, seen_as}
+use Rattle.sem_undo.specs.Undo.{key_of}
+use Rattle.sem_undo.specs.declared.undo.UndoRow.{UndoRow}
 use Rattle.sysv_msg.specs.Queue.{Queue}
 use Rattle.sysv_sem.specs.Set.{Set}
 use Rattle.ipc_state.specs.declared.keyed.Entry.{Entry}
 use Rattle.ipc_state.specs.declared.processes.Process.{Process}
 use Rattle.ipc_state.specs.declared.state.Numbers.{Numbers}
 use Rattle.ipc_state.specs.Numbered.{with_last}
-use Rattle.ipc_state.specs.State.{State}
+use Rattle.ipc_state.specs.State.{State, undo_of}
 use Rattle.ipc_state.specs.Waiting.{PlainWaiting}
 
 -- with this clock and these next numbers
@@ -22,6 +26,15 @@ with_numbers s n =
 -- with a process at the end
 abbrev pub with_last_process : State → ℕ → Process → State
 with_last_process s pid p = record s { processes = with_last s.processes pid p }
+
+-- each process has adjustments, which are none
+abbrev pub with_no_adjustments : State → State
+with_no_adjustments s = record s { undo = seen_as (λ p. fin.empty) s.processes.entries }
+
+-- with an adjustment of a process, if it is there
+abbrev pub with_adjustment : State → ℕ → UndoRow → State
+with_adjustment s pid row =
+    record s { undo = with_value nat_eq s.undo pid (fin.insert (undo_of s pid) (key_of row) row.adjustment) }
 
 -- with these calls waiting
 abbrev pub with_waits : State → List PlainWaiting → State

@@ -1,17 +1,21 @@
 -- The state of the server between two events (sysvipc(7)): what it knows of processes and objects. All of it
 -- lasts; nothing in it tells how it is kept.
 use Rattle.std.specs.Prelude.{ℕ, ℤ, Bool, max, List, Option, [], ◌∷◌, ◌++◌, option_map}
-use Rattle.std.specs.Prelude.{is_some, unwrap_or}
+use Rattle.std.specs.Prelude.{is_some, unwrap_or, nat_eq}
+use Rattle.std.specs.List.{fold}
+use Rattle.std.specs.FinMap as fin
 use Rattle.ipc_base.specs.declared.identity.Cred.{Cred}
 use Rattle.ipc_base.specs.declared.limits.Limits.{Limits}
+use Rattle.ipc_base.specs.Table.{value_at, seen_as, without as without_value}
 use Rattle.ipc_wait.specs.Waits.{call_of, calls_due, calls_left, without}
 use Rattle.sysv_msg.specs.Queue.{Queue, new_queue}
-use Rattle.sysv_sem.specs.Set.{Set, new_set}
+use Rattle.sem_undo.specs.Undo.{Key, Undo, cleared}
+use Rattle.sysv_sem.specs.Set.{Set, new_set, after_exit}
 use Rattle.ipc_state.specs.declared.keyed.Entry.{Entry}
 use Rattle.ipc_perm.specs.declared.perm.Perm.{Perm}
 use Rattle.ipc_state.specs.declared.processes.Process.{Process}
 use Rattle.ipc_state.specs.Numbered.{Numbered, none_yet, entry_of, is_full, with_entry, with_new, without_entry}
-use Rattle.ipc_state.specs.Keyed.{Keyed}
+use Rattle.ipc_state.specs.Keyed.{Keyed, holding}
 use Rattle.ipc_state.specs.Waiting.{PlainWaiting}
 
 pub record State : Type 0 where
@@ -21,6 +25,8 @@ pub record State : Type 0 where
   pub processes : Numbered Process
   -- the calls that wait, in the order in which they came
   pub wait : List PlainWaiting
+  -- the adjustments of each process, by pid
+  pub undo : List (ℕ × Undo)
   -- the message queues
   pub msg : Keyed Queue
   -- the semaphore sets
@@ -28,7 +34,7 @@ pub record State : Type 0 where
 
 -- nothing has happened yet
 abbrev pub start : State
-start = record { clock = 0; processes = none_yet; wait = []; msg = none_yet; sem = none_yet }
+start = record { clock = 0; processes = none_yet; wait = []; undo = []; msg = none_yet; sem = none_yet }
 
 -- the state as the moment comes
 abbrev pub at_moment : State → ℕ → State
@@ -56,6 +62,26 @@ due_calls s = calls_due (record { 0 = s.clock }) s.wait
 abbrev pub without_due : State → State
 without_due s = record s { wait = calls_left (record { 0 = s.clock }) s.wait }
 
+-- ---- adjustments
+
+-- those of a process, none where no process has the number
+abbrev pub undo_of : State → ℕ → Undo
+undo_of s pid = unwrap_or (value_at nat_eq s.undo pid) fin.empty
+
+-- the sets after an adjustment of a process that exits was added; one of a set that is not there is dropped
+abbrev pub adjusted : ℕ → Keyed Set → Key × ℤ → Keyed Set
+adjusted pid sets a =
+    unwrap_or (option_map (λ e. with_entry sets a.0.0 (holding e (after_exit e.object a.0.1 a.1 (record { 0 = pid }))))
+    (entry_of sets a.0.0)) sets
+
+-- all of a process, by rising set and number
+abbrev pub undone : Keyed Set → ℕ × Undo → Keyed Set
+undone sets p = fold (adjusted p.0) sets (fin.entries p.1)
+
+-- no process has an adjustment any more at the semaphore of this number of a set, or at any of the set
+abbrev pub without_adjustments : ℕ → Option ℕ → State → State
+without_adjustments set num s = record s { undo = seen_as (cleared set num) s.undo }
+
 -- ---- processes
 
 -- whether a process has this number
@@ -72,16 +98,31 @@ has_all_processes limits s = is_full limits.processes s.processes
 
 -- a process comes, under the next number
 abbrev pub with_process : State → Cred → State
-with_process s cred = record s { processes = with_new s.processes (record { cred = cred }) }
+with_process s cred =
+    record s {
+      processes = with_new s.processes (record { cred = cred });
+      undo = s.undo ++ (s.processes.next, fin.empty) ∷ [];
+    }
 
--- the process leaves, and so does the call of it that waits
+-- the process leaves, its adjustments are added, and its call that waits goes
 abbrev pub exit : State → ℕ → State
-exit s pid = without_waiting (record s { processes = without_entry s.processes pid }) pid
+exit s pid =
+    without_waiting (record s {
+      processes = without_entry s.processes pid;
+      undo = without_value nat_eq s.undo pid;
+      sem = undone s.sem (pid, undo_of s pid);
+    }) pid
 
--- The server has stopped and begun anew: no process is left, and no call waits. The clock, the next numbers and all
--- objects stay.
+-- The server has stopped and begun anew: no call waits, the adjustments of all processes are added, and no process is
+-- left. The clock, the next numbers and all else of the objects stay.
 abbrev pub restart : State → State
-restart s = record s { processes = record { next = s.processes.next; entries = [] }; wait = [] }
+restart s =
+    record s {
+      processes = record { next = s.processes.next; entries = [] };
+      wait = [];
+      undo = [];
+      sem = fold undone s.sem s.undo;
+    }
 
 -- ---- message queues
 

@@ -2,6 +2,7 @@
 //! sysvipc(7).
 #![tactic(auto)]
 
+mod adjustments;
 mod keyed;
 mod keys;
 mod numbered;

@@ -45,7 +45,7 @@ pub struct Item<T> {
 #[derive(Drop)]
 pub(crate) struct Numbered<T> {
     next: u32,
-    items: Vec<Item<T>>,
+    pub(crate) items: Vec<Item<T>>,
 }
 
 /// Identifiers and pids end here.

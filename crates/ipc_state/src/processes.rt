@@ -15,6 +15,7 @@ ghost use Rattle.ipc_state.specs.Tables.{item_row};
 use crate::numbered::Item;
 use crate::state::State;
 use ipc_base::{Cred, Pid};
+use sem_undo::SemUndo;
 use std::alloc::AllocError;
 
 /// What a connected process has: its user and group.
@@ -70,7 +71,12 @@ impl State {
         ensures succeeds { self.old.room.process ≡ true → IsOk result }
         ensures err { OnErr result (self.new ≡ self.old) }
     {
-        self.processes.reserve()
+        self.processes.reserve()?;
+        self.undo.reserve()?;
+        if self.fresh_undo.is_none() {
+            self.fresh_undo = Some(SemUndo::new(self.alloc)?);
+        }
+        Ok(())
     }
 
     /// Adds a process under the next number, which it gives. It takes no memory.
@@ -82,28 +88,36 @@ impl State {
         ensures limits { self.new.limits ≡ self.old.limits }
         ensures waits { self.new.room.waits ≡ self.old.room.waits }
     {
-        Pid(self.processes.add(Process { cred }))
+        let pid = self.processes.add(Process { cred });
+        let mut undo = self.fresh_undo.take().unwrap();
+        undo.clear_all();
+        self.undo.push(pid, undo);
+        Pid(pid)
     }
 
-    /// Takes a process out, if it is there, and its call that waits.
+    /// Takes a process out, if it is there, and its call that waits; its adjustments are added.
     pub fn remove_process(&mut self, pid: Pid)
         ensures state { self.new.state ≡ exit self.old.state pid.0 }
         ensures limits { self.new.limits ≡ self.old.limits }
         ensures waits { self.new.room.waits ≡ self.old.room.waits }
         ensures keys { self.new.room.keys ≡ self.old.room.keys }
     {
+        self.add_adjustments_of(pid);
+        self.undo.remove(pid.0);
         self.processes.remove(pid.0);
         let _waiting = self.wait.leave(pid);
     }
 
-    /// The server has stopped and begun anew: no process is left, no call waits, and all else stays. It takes no
-    /// memory.
+    /// The server has stopped and begun anew: no process is left, no call waits, and the adjustments are added.
+    /// It takes no memory.
     pub fn restart(&mut self)
         ensures state { self.new.state ≡ restart self.old.state }
         ensures limits { self.new.limits ≡ self.old.limits }
         ensures waits { self.new.room.waits ≡ self.old.room.waits }
         ensures keys { self.new.room.keys ≡ self.old.room.keys }
     {
+        self.add_all_adjustments();
+        self.undo.clear();
         self.processes.clear();
         self.wait.clear();
     }

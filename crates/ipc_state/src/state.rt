@@ -12,6 +12,7 @@ use crate::parked::{Awaited, Parked};
 use crate::processes::Process;
 use ipc_base::{Limits, Moment};
 use ipc_wait::WaitList;
+use sem_undo::SemUndo;
 use std::alloc::Global;
 use std::marker::Model;
 use sysv_msg::MsgQueue;
@@ -26,6 +27,10 @@ pub struct State {
     pub(crate) clock: Moment,
     pub(crate) processes: Numbered<Process>,
     pub(crate) wait: WaitList<Awaited, Parked>,
+    /// The adjustments of each process.
+    pub(crate) undo: Numbered<SemUndo>,
+    /// Those of a process that comes, so that this takes no memory.
+    pub(crate) fresh_undo: Option<SemUndo>,
     pub(crate) msg: Keyed<MsgQueue>,
     /// A queue that is ready to be added, so that this takes no memory.
     pub(crate) fresh: Option<MsgQueue>,
@@ -37,14 +42,15 @@ pub struct State {
 impl Model for State {
     ghost use Rattle.ipc_base.specs.Limits.{ArePassed};
     ghost use Rattle.std.specs.Coded.{codes};
-    ghost use Rattle.std.specs.Prelude.{is_some};
+    ghost use Rattle.std.specs.Prelude.{◌&&◌, is_some};
     ghost use Rattle.ipc_keys.specs.contracts.keys.KeyDir as directory;
+    ghost use Rattle.sem_undo.specs.Undo.{undo_code};
     ghost use Rattle.ipc_state.specs.Held.{Held};
     ghost use Rattle.ipc_state.specs.Tables.{numbered_of, has_place};
 
     ghost Value = { Held };
 
-    ghost coded = { Prim.hlevel (codes, directory.the_row.coded) };
+    ghost coded = { Prim.hlevel (codes, directory.the_row.coded, undo_code) };
 
     ghost view = { λ s. record {
       limits = s.limits;
@@ -52,11 +58,12 @@ impl Model for State {
         clock = s.clock.0;
         processes = numbered_of s.processes;
         wait = s.wait.calls;
+        undo = (numbered_of s.undo).entries;
         msg = s.msg.objects;
         sem = s.sem.objects;
       };
       room = record {
-        process = has_place s.processes;
+        process = has_place s.processes && (has_place s.undo && is_some s.fresh_undo);
         queue = s.msg.place;
         keys = s.msg.keys;
         fresh = is_some s.fresh;
@@ -92,6 +99,8 @@ impl State {
             clock: Moment(0),
             processes: Numbered::new(alloc),
             wait: WaitList::new(alloc),
+            undo: Numbered::new(alloc),
+            fresh_undo: None,
             msg: Keyed::new(alloc),
             fresh: None,
             sem: Keyed::new(alloc),
@@ -138,6 +147,7 @@ impl State {
     {
         self.processes.are_numbered(self.limits.processes)
             && self.are_waits_sound()
+            && self.are_adjustments_sound()
             && self.are_queues_sound()
             && self.are_sets_sound()
     }

@@ -44,11 +44,15 @@ pub struct Store<D: SectorDisk> {
 }
 
 impl<D: SectorDisk> Model for Store<D> {
+    ghost use Rattle.std.specs.Coded.{codes};
+    ghost use Rattle.sem_undo.specs.Undo.{undo_code};
     ghost use Rattle.std.specs.Prelude.{◌+◌, ◌<◌, ◌^◌};
     ghost use Rattle.ipc_store.specs.View.{StoreView, store_view};
     ghost use Rattle.ipc_store.specs.Relations.Matches.{AreOnDisk, MatchesIfHonest};
 
     ghost Value = { StoreView D };
+
+    ghost coded = { Prim.hlevel (codes, undo_code) };
 
     ghost view = { λ s. store_view s.disk s.engine s.checkpoint s.journal s.batch s.confirmed s.stopped };
 

@@ -1,22 +1,23 @@
 -- Entries that rise, as finite maps; and what that says of rows.
 use Rattle.std.proofs.Common.{◌≡◌, ◌≢◌, ℕ, ℤ, pos, negsuc, to_z, of_z, ◌-ℤ◌, ◌+ℤ◌, Option, FitsSigned, Bool, true, false, not}
 use Rattle.std.proofs.Common.{cond, List, [], Some, None, refl, sym, ap, subst, ◌∙◌, arith}
-use Rattle.std.specs.Prelude.{All, ◌==◌}
+use Rattle.std.specs.Prelude.{All, ◌==◌, length}
 use Rattle.std.specs.Option.{unwrap_or}
-use Rattle.std.proofs.lemmas.List.Elements.{All-filter}
+use Rattle.std.proofs.lemmas.List.{length-map}
+use Rattle.std.proofs.lemmas.List.Elements.{All-filter, All-nil}
 use Rattle.std.specs.Cmp.{IsTotalOrder, nat_cmp_total, then_total, on_total, tied_itself, eq_by_cmp_equiv}
 use Rattle.std.specs.Ordering.{is_eq, eq_by_cmp, nat_cmp, int_eq}
 use Rattle.std.specs.declared.cmp.Ordering.TheVariants.{Less, Equal, Greater}
 use Rattle.std.specs.FinMap as fin
 use Rattle.std.specs.FinMap.{IsAntisymmetric, put, nat_cmp-IsAntisymmetric, same_map, same_entries_map, entries-insert}
-use Rattle.std.specs.FinMap.{entries-from_sorted, get-from_sorted, get-retain_keys, get-remove, get-insert, get-empty}
+use Rattle.std.specs.FinMap.{entries-from_sorted, len-entries, get-from_sorted, get-retain_keys, get-remove, get-insert, get-empty}
 use Rattle.std.specs.FinMap.Entries.{where_key, find-where_key, is_sorted-where_key, is_sorted-put}
 use Rattle.std.specs.Int.{w16}
 use Rattle.std.proofs.lemmas.Int.{ints, to_z-of_z}
 use Rattle.std.proofs.lemmas.Map.Lookups.{exact_pairs}
 use Rattle.std.proofs.lemmas.Bool.Decides.{nat_tests}
 use Rattle.sem_undo.specs.declared.undo.UndoRow.{UndoRow}
-use Rattle.sem_undo.specs.Undo.{Key, Undo, adjustment, subtracted, key_cmp, IsKept, IsSoundUndo, is_adjustment, with_adjustment}
+use Rattle.sem_undo.specs.Undo.{Key, Undo, adjustment, subtracted, key_cmp, IsKept, IsSoundUndo, is_adjustment, with_adjustment, entry_of}
 use Rattle.sem_undo.specs.Rows.{entries_of, AreRows}
 use Rattle.sem_undo.proofs.Sorted.{All-put}
 
@@ -34,6 +35,9 @@ undo_of es = fin.from_sorted {R = key_cmp} es
 pub sound : (es : List (Key × ℤ)) → AreRows es → IsSoundUndo (fin.from_sorted {R = key_cmp} es)
 sound es are = subst (λ (xs : List (Key × ℤ)). All (λ e. IsKept e.1) xs) (sym (entries-from_sorted key_cmp es are.rising)) are.kept
 
+pub no-rows : AreRows (entries_of [])
+no-rows = record { rising = tt; kept = All-nil (λ (e : Key × ℤ). IsKept e.1) }
+
 pub where-rows : (p : Key → Bool) (es : List (Key × ℤ)) → AreRows es → AreRows (where_key key_cmp p es)
 where-rows p es are = record {
   rising = is_sorted-where_key key_cmp p es are.rising;
@@ -46,7 +50,7 @@ put-rows k a es is are = record {
   kept = All-put key_cmp key_total IsKept k a es is are.kept;
 }
 
-retained : (u : Undo) (p : Key → Bool) (k : Key) → fin.get (fin.retain_keys u p) k ≡ cond (p k) (fin.get u k) None
+pub retained : (u : Undo) (p : Key → Bool) (k : Key) → fin.get (fin.retain_keys u p) k ≡ cond (p k) (fin.get u k) None
 retained u p k = get-retain_keys u p k (λ x e. ap p (sym (key_apart k x e)))
 
 pub where-undo : (p : Key → Bool) (es : List (Key × ℤ)) → AreRows es → undo_of (where_key key_cmp p es) ≡ fin.retain_keys (undo_of es) p
@@ -67,7 +71,7 @@ without-undo k es are =
     retained (undo_of es) (λ x. not (eq_by_cmp key_cmp k x)) q ∙ turned (eq_by_cmp key_cmp k q) (fin.get (undo_of es) q) None
     ∙ ap (λ b. cond b None (fin.get (undo_of es) q)) ((eq_by_cmp_equiv key_total).symm k q) ∙ sym (get-remove key_total (undo_of es) k q))
 
-insert-undo : (k : Key) (a : ℤ) (es : List (Key × ℤ)) → AreRows es → undo_of (put key_cmp k a es) ≡ fin.insert (undo_of es) k a
+pub insert-undo : (k : Key) (a : ℤ) (es : List (Key × ℤ)) → AreRows es → undo_of (put key_cmp k a es) ≡ fin.insert (undo_of es) k a
 insert-undo k a es are =
     same_entries_map _ _ (entries-from_sorted key_cmp (put key_cmp k a es) (is_sorted-put key_cmp key_total k a es are.rising)
     ∙ sym (entries-insert key_total (undo_of es) k a ∙ ap (put key_cmp k a) (entries-from_sorted key_cmp es are.rising)))
@@ -100,6 +104,11 @@ put-undo k a es are ne =
     insert-undo k a es are ∙ sym (ap (λ b. cond b (fin.remove (undo_of es) k) (fin.insert (undo_of es) k a)) (zero_not a ne))
 
 -- ---- an operation
+
+-- there are as many as there are rows
+pub count-rows : (rows : List UndoRow) → AreRows (entries_of rows) → fin.len (undo_of (entries_of rows)) ≡ length rows
+count-rows rows are =
+    len-entries (undo_of (entries_of rows)) ∙ ap (λ (es : List (Key × ℤ)). length es) (entries-from_sorted key_cmp (entries_of rows) are.rising) ∙ length-map rows entry_of
 
 fits : (a : ℤ) → is_adjustment a ≡ true → FitsSigned w16 a
 fits a h = grind (arith, ints)
@@ -138,7 +147,7 @@ get-with u k a q =
       | false ↦ get-insert key_total u k a q
     ]
 
-key_other : (q k : Key) → q ≢ k → eq_by_cmp key_cmp q k ≡ false
+pub key_other : (q k : Key) → q ≢ k → eq_by_cmp key_cmp q k ≡ false
 key_other q k ne =
     elim (key_cmp q k) as (λ r. key_cmp q k ≡ r → is_eq r ≡ false) [
       | Less ↦ λ e. refl

@@ -2,10 +2,10 @@
 -- which is added to the value at the exit. Only adjustments that are not 0 are kept; if there is none, it is 0. So two
 -- processes with the same adjustments have equal ones, whatever memory they have.
 use Rattle.std.specs.Prelude.{◌≡◌, ◌≢◌, ℕ, ℤ, pos, negsuc, int_le, ◌-ℤ◌, ◌==◌, Bool, true, not, ◌&&◌}
-use Rattle.std.specs.Prelude.{All, if◌then◌else◌, refl}
-use Rattle.std.specs.Coded.{Coded, code_by, coded×, coded_ℕ, coded_ℤ}
+use Rattle.std.specs.Prelude.{Option, Some, None, All, if◌then◌else◌}
+use Rattle.std.specs.Coded.{Coded, coded×, coded_ℕ, coded_ℤ}
 use Rattle.std.specs.Option.{unwrap_or}
-use Rattle.std.specs.Ordering.{is_lt, nat_cmp, int_eq, ordering_then}
+use Rattle.std.specs.Ordering.{nat_cmp, int_eq, ordering_then}
 use Rattle.std.specs.declared.cmp.Ordering.{Ordering}
 use Rattle.std.specs.FinMap as fin
 use Rattle.sem_undo.specs.declared.undo.UndoRow.{UndoRow}
@@ -49,6 +49,11 @@ without_semaphore set num undo = fin.remove undo (set, num)
 abbrev pub without_set : ℕ → Undo → Undo
 without_set set undo = fin.retain_keys undo (λ k. not (k.0 == set))
 
+-- without the one at the semaphore of this number of a set, or those at all of the set
+abbrev pub cleared : ℕ → Option ℕ → Undo → Undo
+cleared set None undo = without_set set undo
+cleared set (Some num) undo = without_semaphore set num undo
+
 -- whether an adjustment may be so much (negsuc n is -(n + 1))
 abbrev pub is_adjustment : ℤ → Bool
 is_adjustment a = int_le (negsuc 32766) a && int_le a (pos 32767)
@@ -61,17 +66,10 @@ IsKept a = (a ≢ pos 0) × (is_adjustment a ≡ true)
 abbrev pub IsSoundUndo : Undo → Type 0
 IsSoundUndo undo = All (λ e. IsKept e.1) (fin.entries undo)
 
--- whether a row may be added after all others: it is kept, and its key is above theirs
-abbrev pub MayFollow : Undo → UndoRow → Type 0
-MayFollow undo row = IsKept row.adjustment × All (λ e. is_lt (key_cmp e.0 (key_of row)) ≡ true) (fin.entries undo)
+-- for so many there is room: under any limits there are no more semaphores
+abbrev pub most_rows : ℕ
+most_rows = 512
 
--- the adjustments, and for how many more there is room
-pub record Kept : Type 0 where
-  pub undo : Undo
-  pub room : ℕ
-
--- they are stored as the pair of the parts
-abbrev pub kept_code : Coded Kept
-kept_code =
-    code_by (fin.FinMap key_cmp ℤ × ℕ) (coded× (fin.code {R = key_cmp} (coded× coded_ℕ coded_ℕ) coded_ℤ) coded_ℕ)
-    (λ t. (t.undo, t.room)) (λ p. record { undo = p.0; room = p.1 }) (λ _. refl)
+-- as what they are stored
+abbrev pub undo_code : Coded Undo
+undo_code = fin.code {R = key_cmp} (coded× coded_ℕ coded_ℕ) coded_ℤ

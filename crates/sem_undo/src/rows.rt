@@ -4,9 +4,9 @@ ghost use Rattle.std.specs.Prelude.{◌≡◌, ◌≤◌, ◌<◌, ◌+◌, ◌�
 ghost use Rattle.std.specs.Prelude.{None, length, vec_len, vec_capacity};
 ghost use Rattle.std.specs.List.Sorted.{IsPartitionPoint};
 ghost use Rattle.std.specs.Ordering.{is_lt, eq_by_cmp};
-ghost use Rattle.std.specs.FinMap.{find, put, is_sorted, from_sorted};
+ghost use Rattle.std.specs.FinMap.{find, put, is_sorted};
 ghost use Rattle.std.specs.FinMap.Entries.{where_key};
-ghost use Rattle.sem_undo.specs.Undo.{key_cmp, key_of, entry_of, MayFollow};
+ghost use Rattle.sem_undo.specs.Undo.{key_cmp, key_of, entry_of, IsKept};
 ghost use Rattle.sem_undo.specs.Rows.{entries_of, IsAt, IsGap};
 
 use crate::undo::UndoRow;
@@ -58,18 +58,11 @@ pub(crate) fn remove_row(rows: &mut Vec<UndoRow>, key: (u32, u16))
     }
 }
 
-/// Whether a row may be added after all others: its adjustment is one and not 0, and its key is above theirs.
-pub(crate) fn may_follow(rows: &[UndoRow], row: UndoRow) -> bool
-    requires { T (is_sorted key_cmp (entries_of rows.now)) }
-    ensures { IsTrue result ↔ MayFollow (from_sorted {R = key_cmp} (entries_of rows.now)) row }
+/// Whether the adjustment of a row is one, and not 0.
+pub(crate) fn is_kept(row: UndoRow) -> bool
+    ensures { IsTrue result ↔ IsKept row.adjustment }
 {
-    if row.adjustment == 0 || row.adjustment == i16::MIN {
-        return false;
-    }
-    match rows.last() {
-        Some(last) => is_before(last, (row.set.0, row.num)),
-        None => true,
-    }
+    row.adjustment != 0 && row.adjustment != i16::MIN
 }
 
 // How many of the rows have a smaller key.

@@ -1,12 +1,12 @@
 //! The adjustments of one process.
 
-ghost use Rattle.std.specs.Prelude.{◌≡◌, ◌≤◌, ◌<◌, ◌+◌, ◌↔◌, ◌++◌, ◌∷◌, [], ◌-ℤ◌, true, false};
-ghost use Rattle.std.specs.Prelude.{IsTrue, None, map, IsOk, OnOk, OnErr, IfOk};
+ghost use Rattle.std.specs.Prelude.{◌≡◌, ◌<◌, ◌-ℤ◌};
+ghost use Rattle.std.specs.Prelude.{None, true, map, OnOk, OnErr, IfOk};
 ghost use Rattle.std.specs.FinMap as fin;
-ghost use Rattle.sem_undo.specs.Undo.{entry_of, adjustment, subtracted, is_adjustment};
-ghost use Rattle.sem_undo.specs.Undo.{without_semaphore, without_set, IsSoundUndo, MayFollow};
+ghost use Rattle.sem_undo.specs.Undo.{key_of, entry_of, adjustment, subtracted, is_adjustment, most_rows};
+ghost use Rattle.sem_undo.specs.Undo.{without_semaphore, without_set, cleared, IsSoundUndo, IsKept};
 
-use crate::rows::{find_row, may_follow, put_row, remove_row};
+use crate::rows::{find_row, is_kept, put_row, remove_row};
 use ipc_base::Id;
 use std::alloc::{AllocError, Global};
 use std::marker::Model;
@@ -20,45 +20,45 @@ pub struct UndoRow {
     pub adjustment: i16,
 }
 
-/// The adjustments of a process that are not 0, from -32767 to 32767, and for how many more there is room.
+/// For so many adjustments a process has room: under any limits there are no more semaphores.
+const MOST_ROWS: usize = 512;
+
+/// The adjustments of a process that are not 0, from -32767 to 32767. There is room for one at each semaphore that there
+/// may be, from `new` on, which alone may be refused but for `restore`.
 #[derive(Drop)]
 pub struct SemUndo {
     rows: Vec<UndoRow>,
 }
 
 impl Model for SemUndo {
-    ghost use Rattle.std.specs.Prelude.{◌-◌, vec_len, vec_capacity};
+    ghost use Rattle.std.specs.Prelude.{◌≤◌, vec_capacity};
     ghost use Rattle.std.specs.FinMap.{from_sorted};
-    ghost use Rattle.sem_undo.specs.Undo.{Kept, kept_code, key_cmp};
+    ghost use Rattle.sem_undo.specs.Undo.{Undo, undo_code, key_cmp, most_rows};
     ghost use Rattle.sem_undo.specs.Rows.{entries_of, AreRows};
 
-    ghost Value = { Kept };
+    ghost Value = { Undo };
 
-    ghost coded = { kept_code };
+    ghost coded = { undo_code };
 
-    ghost view = { λ u. record {
-      undo = from_sorted {R = key_cmp} (entries_of u.rows.items);
-      room = vec_capacity u.rows - vec_len u.rows;
-    } };
+    ghost view = { λ u. from_sorted {R = key_cmp} (entries_of u.rows.items) };
 
-    ghost invariant = { λ u. AreRows (entries_of u.rows.items) };
+    ghost invariant = { λ u. AreRows (entries_of u.rows.items) × (most_rows ≤ vec_capacity u.rows) };
 }
 
 impl SemUndo {
-    /// No adjustments and no room. It takes no memory.
-    pub fn new(alloc: Global) -> SemUndo
-        ensures undo { result.undo ≡ fin.empty }
-        ensures room { result.room ≡ 0 }
+    /// No adjustments. Refused for want of memory.
+    pub fn new(alloc: Global) -> Result<SemUndo, AllocError>
+        ensures { IfOk result (λ undo. undo ≡ fin.empty) }
     {
-        SemUndo {
-            rows: Vec::new(alloc),
-        }
+        Ok(SemUndo {
+            rows: Vec::with_capacity(alloc, MOST_ROWS)?,
+        })
     }
 
     /// The adjustment at a semaphore, 0 if there is none.
     pub fn get(&self, set: Id, num: u16) -> i16
-        ensures adjustment { result ≡ adjustment self.now.undo (set.0, num) }
-        ensures sound { IsSoundUndo self.now.undo }
+        ensures adjustment { result ≡ adjustment self.now (set.0, num) }
+        ensures sound { IsSoundUndo self.now }
     {
         match find_row(&self.rows, (set.0, num)) {
             Ok(place) => self.rows[place].adjustment,
@@ -66,25 +66,12 @@ impl SemUndo {
         }
     }
 
-    /// Makes room for so many more adjustments. Refused for want of memory, and then all is as before; never
-    /// refused if the room is there.
-    pub fn reserve_rows(&mut self, count: usize) -> Result<(), AllocError>
-        ensures undo { self.new.undo ≡ self.old.undo }
-        ensures ok { OnOk result (count ≤ self.new.room) }
-        ensures room { self.old.room ≤ self.new.room }
-        ensures err { OnErr result (self.new ≡ self.old) }
-        ensures succeeds { count ≤ self.old.room → IsOk result }
-    {
-        self.rows.reserve(count)
-    }
-
-    /// Subtracts what an operation with SEM_UNDO has added to the value. It takes no memory: there is an
-    /// adjustment at the semaphore, or room for one.
+    /// Subtracts what an operation with SEM_UNDO has added to the value. It takes no memory: there are
+    /// not as many adjustments yet as there may be, or there is one at the semaphore.
     pub fn subtract(&mut self, set: Id, num: u16, sem_op: i16)
-        requires room { fin.get self.old.undo (set.0, num) ≡ None → 0 < self.old.room }
-        requires range { is_adjustment (adjustment self.old.undo (set.0, num) -ℤ sem_op) ≡ true }
-        ensures undo { self.new.undo ≡ subtracted self.old.undo (set.0, num) sem_op }
-        ensures room { self.old.room ≤ self.new.room + 1 }
+        requires few { fin.get self.old (set.0, num) ≡ None → fin.len self.old < most_rows }
+        requires range { is_adjustment (adjustment self.old (set.0, num) -ℤ sem_op) ≡ true }
+        ensures { self.new ≡ subtracted self.old (set.0, num) sem_op }
     {
         let adjustment = self.get(set, num) - sem_op;
         if adjustment == 0 {
@@ -103,51 +90,56 @@ impl SemUndo {
 
     /// Makes the adjustment at a semaphore 0, as SETVAL of semctl(2) does.
     pub fn clear(&mut self, set: Id, num: u16)
-        ensures undo { self.new.undo ≡ without_semaphore set.0 num self.old.undo }
-        ensures room { self.old.room ≤ self.new.room }
+        ensures { self.new ≡ without_semaphore set.0 num self.old }
     {
         remove_row(&mut self.rows, (set.0, num));
     }
 
     /// Removes the adjustments at the semaphores of a set.
     pub fn drop_set(&mut self, set: Id)
-        ensures undo { self.new.undo ≡ without_set set.0 self.old.undo }
-        ensures room { self.old.room ≤ self.new.room }
+        ensures { self.new ≡ without_set set.0 self.old }
     {
         self.rows.retain(|row| row.set != set);
     }
 
+    /// Removes the adjustment at the semaphore of this number of a set, or those at all of the set.
+    pub fn clear_at(&mut self, set: Id, num: Option<u16>)
+        ensures { self.new ≡ cleared set.0 num self.old }
+    {
+        match num {
+            Some(num) => self.clear(set, num),
+            None => self.drop_set(set),
+        }
+    }
+
     /// The adjustments, by rising set and number: the exit adds them to the values.
     pub fn rows(&self) -> &[UndoRow]
-        ensures rows { map entry_of result.now ≡ fin.entries self.now.undo }
-        ensures sound { IsSoundUndo self.now.undo }
+        ensures rows { map entry_of result.now ≡ fin.entries self.now }
+        ensures sound { IsSoundUndo self.now }
     {
         &self.rows
     }
 
     /// Removes all adjustments.
     pub fn clear_all(&mut self)
-        ensures undo { self.new.undo ≡ fin.empty }
-        ensures room { self.old.room ≤ self.new.room }
+        ensures { self.new ≡ fin.empty }
     {
         self.rows.clear();
     }
 
-    /// Adds an adjustment that was read after all others, and tells whether it did: it is added if it is one, not 0,
-    /// and rises. Refused for want of memory, and then all is as before.
-    pub fn restore(&mut self, row: UndoRow) -> Result<bool, AllocError>
-        ensures tells { IfOk result (λ added. IsTrue added ↔ MayFollow self.old.undo row) }
-        ensures added { IfOk result (λ added. IsTrue added
-            → fin.entries self.new.undo ≡ fin.entries self.old.undo ++ entry_of row ∷ []) }
-        ensures not_added { IfOk result (λ added. added ≡ false → self.new ≡ self.old) }
-        ensures room { self.old.room ≤ self.new.room + 1 }
+    /// Adds an adjustment that was read, in the place of the one that is there; what is none is dropped. Refused for
+    /// want of memory, all is as before.
+    pub fn restore(&mut self, row: UndoRow) -> Result<(), AllocError>
+        ensures added { OnOk result (IsKept row.adjustment
+            → self.new ≡ fin.insert self.old (key_of row) row.adjustment) }
+        ensures dropped { OnOk result (¬ IsKept row.adjustment → self.new ≡ self.old) }
         ensures err { OnErr result (self.new ≡ self.old) }
     {
-        if !may_follow(&self.rows, row) {
-            return Ok(false);
+        if !is_kept(row) {
+            return Ok(());
         }
         self.rows.reserve(1)?;
-        self.rows.push_reserved(row);
-        Ok(true)
+        put_row(&mut self.rows, row);
+        Ok(())
     }
 }

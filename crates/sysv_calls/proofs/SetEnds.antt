@@ -17,6 +17,7 @@ use Rattle.ipc_perm.specs.Perm.{perm_of, owned_by, asked_by, may, owns}
 use Rattle.ipc_wire.specs.Pairs.{numbers_in}
 use Rattle.ipc_wire.specs.Reply.{PlainBody}
 use Rattle.ipc_wire.specs.declared.reply.Body.TheVariants.{Empty, Number, Record}
+use Rattle.sem_undo.specs.Undo.{Undo}
 use Rattle.sysv_sem.specs.declared.set.Semaphore.{Semaphore}
 use Rattle.sysv_sem.specs.Operation.{most_value}
 use Rattle.sysv_sem.specs.Set.{Set, values_of, with_value, with_values, changed}
@@ -27,11 +28,11 @@ use Rattle.ipc_state.specs.Keyed.{Keyed, keyed}
 use Rattle.ipc_state.specs.Numbered.{is_full}
 use Rattle.ipc_state.specs.Finish.{Attempt, Done}
 use Rattle.ipc_state.specs.Sound.{HasSoundParts, FitsBody, semaphore_count}
-use Rattle.ipc_state.specs.State.{State, set_of}
+use Rattle.ipc_state.specs.State.{State, set_of, without_adjustments}
 use Rattle.ipc_state.specs.Touching.{IsAsBefore}
 use Rattle.ipc_state.proofs.CallerLemmas.{IsGood, Ends, after-refuse, after-attempt, after-orstop, by-if_some, answered}
 use Rattle.ipc_state.proofs.CallerLemmas as ends
-use Rattle.ipc_state.proofs.CallerLemmas.{perm_of-mode, owned_by-mode, with_new_set-sound, permitted_set-sound, with_set-sound, without_set-sound}
+use Rattle.ipc_state.proofs.CallerLemmas.{perm_of-mode, owned_by-mode, with_new_set-sound, permitted_set-sound, with_set-sound, without_set-sound, without_adjustments-sound}
 use Rattle.ipc_state.proofs.CallerLemmas.{set-sound, with_value-sound, with_values-sound, changed_set-sound}
 use Rattle.sysv_calls.specs.Access.{read, write, accessible, owned, removed, sought}
 use Rattle.sysv_calls.specs.Records.{perm_fields, set_fields}
@@ -44,14 +45,15 @@ abbrev EndsWell : Limits → State → Attempt Done → Type 0
 EndsWell limits s call = Ends limits s None call
 
 module _ (limits : Limits) (s : State) where
-  -- other sets change no object on which others wait
-  good-sets : (sem : Keyed Set) → (HasSoundParts limits s → HasSoundParts limits (record s { sem = sem })) → (body : PlainBody)
-      → (HasSoundParts limits s → FitsBody limits body) → EndsWell limits s (Ok (record { state = record s { sem = sem }; body = body }))
-  good-sets sem sound body fits =
-      answered (record s { sem = sem }) body
+  -- other sets and other adjustments change no object on which others wait
+  good-sets : (sem : Keyed Set) (undo : List (ℕ × Undo)) → (HasSoundParts limits s → HasSoundParts limits (record s { sem = sem; undo = undo }))
+      → (body : PlainBody) → (HasSoundParts limits s → FitsBody limits body)
+      → EndsWell limits s (Ok (record { state = record s { sem = sem; undo = undo }; body = body }))
+  good-sets sem undo sound body fits =
+      answered (record s { sem = sem; undo = undo }) body
       (record { state = sound; body = fits; kept = refl; clock = refl; wait = refl; others = λ on apart there. same on })
     where
-      same : (on : Awaited) → IsAsBefore on s (record s { sem = sem })
+      same : (on : Awaited) → IsAsBefore on s (record s { sem = sem; undo = undo })
       same (awaited.Queue n) = refl
 
   value-fits : (value : ℤ) (v : ℕ) → value_of value ≡ Some v → v ≤ most_value
@@ -69,7 +71,7 @@ module _ (limits : Limits) (s : State) where
   made-ends cred key flags n unused few =
       after-refuse EINVAL {b = n == 0} (λ some. after-refuse ENOSPC {b = is_full limits.semmni s.sem} (λ room.
       after-refuse ENOSPC {b = nat_lt limits.semmns (semaphore_count s.sem + n)} (λ all.
-      good-sets _ (with_new_set-sound limits s key (perm_of cred flags) n unused room (perm_of-mode cred flags) (some-of n some) few
+      good-sets _ s.undo (with_new_set-sound limits s key (perm_of cred flags) n unused room (perm_of-mode cred flags) (some-of n some) few
       (ltb-false limits.semmns (semaphore_count s.sem + n) all)) (Number s.sem.next) (λ _. omega arith))))
 
   pub semget-ends : (cred : Cred) (key nsems : ℤ) (flags : ℕ) → EndsWell limits s (semget limits s cred key nsems flags)
@@ -95,8 +97,8 @@ module _ (limits : Limits) (s : State) where
       let p : Pid = record { 0 = pid } in
       let x : Semaphore = record { value = v; pid = p } in
       let there = (semaphore-there s cred id num write found was).there in
-      good-sets _ (λ h. with_set-sound limits s id e (with_value e.object num v p s.clock) there
-      (with_value-sound limits e.object num v p s.clock (value-fits value v is) (set-sound limits s id e there h)) (length-set e.object.semaphores num x) h)
+      good-sets _ _ (λ h. without_adjustments-sound limits _ id (Some num) (with_set-sound limits s id e (with_value e.object num v p s.clock) there
+      (with_value-sound limits e.object num v p s.clock (value-fits value v is) (set-sound limits s id e there h)) (length-set e.object.semaphores num x) h))
       Empty (λ _. omega arith)))
 
   pub semctl_getall-ends : (cred : Cred) (id : ℕ) → EndsWell limits s (semctl_getall s cred id)
@@ -111,9 +113,9 @@ module _ (limits : Limits) (s : State) where
       let values = numbers_in bytes in
       let p : Pid = record { 0 = pid } in
       let ok = settable-there s cred id values e is in
-      good-sets _ (λ h. with_set-sound limits s id e (with_values e.object values p s.clock) ok.there
+      good-sets _ _ (λ h. without_adjustments-sound limits _ id None (with_set-sound limits s id e (with_values e.object values p s.clock) ok.there
       (with_values-sound limits e.object values p s.clock ok.count ok.values (set-sound limits s id e ok.there h))
-      (length-map values (λ v. let x : Semaphore = record { value = v; pid = p } in x) ∙ ok.count) h) Empty (λ _. omega arith))
+      (length-map values (λ v. let x : Semaphore = record { value = v; pid = p } in x) ∙ ok.count) h)) Empty (λ _. omega arith))
 
   pub semctl_stat-ends : (cred : Cred) (id : ℕ) → EndsWell limits s (semctl_stat s cred id)
   semctl_stat-ends cred id =
@@ -124,11 +126,11 @@ module _ (limits : Limits) (s : State) where
       after-attempt {a = owned s.sem cred id} (λ e was.
       let perm : Perm = owned_by e.perm uid gid mode in
       let is = reached-there false id EPERM (λ perm. not (owns cred perm)) s.sem e was in
-      good-sets _ (λ h. permitted_set-sound limits s id e perm (changed e.object s.clock) is (owned_by-mode e.perm uid gid mode)
+      good-sets _ s.undo (λ h. permitted_set-sound limits s id e perm (changed e.object s.clock) is (owned_by-mode e.perm uid gid mode)
       (changed_set-sound limits e.object s.clock (set-sound limits s id e is h)) refl h) Empty (λ _. omega arith))
 
   pub semctl_rmid-ends : (cred : Cred) (id : ℕ) → EndsWell limits s (semctl_rmid s cred id)
   semctl_rmid-ends cred id =
       after-attempt {a = removed s.sem cred id} (λ sets is.
-      good-sets sets (λ h. subst (λ (m : Keyed Set). HasSoundParts limits (record s { sem = m })) (removed-is s.sem cred id sets is) (without_set-sound limits s id h))
+      good-sets sets _ (λ h. subst (λ (m : Keyed Set). HasSoundParts limits (without_adjustments id None (record s { sem = m }))) (removed-is s.sem cred id sets is) (without_set-sound limits s id h))
       Empty (λ _. omega arith))

@@ -1,5 +1,5 @@
--- What is alike for the System V objects of every kind (sysvipc(7)): the flags of their calls, which object a get finds,
--- who may use an object, its record and its removal. Refusals stand in the order in which they are tested.
+-- What is alike for the System V objects of every kind (sysvipc(7)): the flags of their calls, which object a get
+-- finds, who may use an object, its record and its removal. Refusals stand in the order in which they are tested.
 use Rattle.std.specs.Prelude.{ℕ, ℤ, pos, Bool, not, ◌&&◌, ◌||◌, List, ◌++◌, ◌==◌}
 use Rattle.std.specs.Prelude.{if◌then◌else◌, Ok, false, Option, Some, None}
 use Rattle.std.specs.Ordering.{int_eq}

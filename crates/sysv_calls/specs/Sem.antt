@@ -18,7 +18,7 @@ use Rattle.ipc_state.specs.declared.keyed.Entry.{Entry}
 use Rattle.ipc_state.specs.Numbered.{is_full}
 use Rattle.ipc_state.specs.Keyed.{holding, permitting}
 use Rattle.ipc_state.specs.Sound.{semaphore_count}
-use Rattle.ipc_state.specs.State.{State, set_of, with_set, with_new_set}
+use Rattle.ipc_state.specs.State.{State, set_of, with_set, with_new_set, without_adjustments}
 use Rattle.ipc_state.specs.Finish.{Attempt, Done, answer, refuse, if_some, ◌orelse◌, ◌>>◌, ◌>>=◌}
 use Rattle.sysv_calls.specs.Access.{read, write, accessible, owned, sought, listed, removed}
 use Rattle.sysv_calls.specs.Records.{set_fields}
@@ -78,12 +78,13 @@ semctl_getpid s cred id num = do
   found ← semaphore s cred id num read
   answer s (Number found.1.pid.0)
 
--- SETVAL of semctl(2)
+-- SETVAL of semctl(2); no process has an adjustment there any more
 abbrev pub semctl_setval : State → Cred → ℕ → ℕ → ℕ → ℤ → Attempt Done
 semctl_setval s cred pid id num value = do
   found ← semaphore s cred id num write
   v ← value_of value orelse ERANGE
-  answer (with_set s id (holding found.0 (with_value found.0.object num v (record { 0 = pid }) s.clock))) Empty
+  let set = holding found.0 (with_value found.0.object num v (record { 0 = pid }) s.clock)
+  answer (without_adjustments id (Some num) (with_set s id set)) Empty
 
 -- GETALL of semctl(2): each value in two bytes
 abbrev pub semctl_getall : State → Cred → ℕ → Attempt Done
@@ -104,11 +105,12 @@ settable s cred id values = do
   refuse ERANGE (not (are_values values))
   Ok e
 
--- SETALL of semctl(2): the values stand in two bytes each
+-- SETALL of semctl(2): the values stand in two bytes each; no process has an adjustment at the set any more
 abbrev pub semctl_setall : State → Cred → ℕ → ℕ → List ℕ → Attempt Done
 semctl_setall s cred pid id bytes = do
   e ← settable s cred id (numbers_in bytes)
-  answer (with_set s id (holding e (with_values e.object (numbers_in bytes) (record { 0 = pid }) s.clock))) Empty
+  let set = holding e (with_values e.object (numbers_in bytes) (record { 0 = pid }) s.clock)
+  answer (without_adjustments id None (with_set s id set)) Empty
 
 -- IPC_STAT of semctl(2)
 abbrev pub semctl_stat : State → Cred → ℕ → Attempt Done
@@ -120,8 +122,8 @@ semctl_set s cred id uid gid mode = do
   e ← owned s.sem cred id
   answer (with_set s id (holding (permitting e (owned_by e.perm uid gid mode)) (changed e.object s.clock))) Empty
 
--- IPC_RMID of semctl(2)
+-- IPC_RMID of semctl(2); the adjustments at the set go with it
 abbrev pub semctl_rmid : State → Cred → ℕ → Attempt Done
 semctl_rmid s cred id = do
   sets ← removed s.sem cred id
-  answer (record s { sem = sets }) Empty
+  answer (without_adjustments id None (record s { sem = sets })) Empty

@@ -155,7 +155,7 @@ pub(crate) fn semctl_getpid(state: &State, cred: Cred, id: Id, num: u32) -> Answ
     Ok(Body::Number(semaphore.pid.0))
 }
 
-/// SETVAL of semctl(2).
+/// SETVAL of semctl(2). No process has an adjustment there any more.
 pub(crate) fn semctl_setval(
     state: &mut State,
     cred: Cred,
@@ -178,7 +178,9 @@ pub(crate) fn semctl_setval(
     };
     let now = state.clock();
     let set = state.sem_mut().get_mut(id).unwrap();
-    set.set_value(num as u16, value, pid, now);
+    let num = num as u16;
+    set.set_value(num, value, pid, now);
+    state.clear_adjustments(id, Some(num));
     Ok(Body::Empty)
 }
 
@@ -220,7 +222,7 @@ fn push_values(body: &mut Vec<u8>, semaphores: &[Semaphore])
 /// The most semaphores of a set, under any limits.
 const MOST_SEMAPHORES: usize = 64;
 
-/// SETALL of semctl(2).
+/// SETALL of semctl(2). No process has an adjustment at the set any more.
 pub(crate) fn semctl_setall(
     state: &mut State,
     cred: Cred,
@@ -242,6 +244,7 @@ pub(crate) fn semctl_setall(
     let now = state.clock();
     let set = state.sem_mut().get_mut(id).unwrap();
     set.set_all(&all[..values.len()], pid, now);
+    state.clear_adjustments(id, None);
     Ok(Body::Empty)
 }
 
@@ -345,7 +348,7 @@ pub(crate) fn semctl_set(
     Ok(Body::Empty)
 }
 
-/// IPC_RMID of semctl(2).
+/// IPC_RMID of semctl(2). The adjustments at the set go with it.
 pub(crate) fn semctl_rmid(state: &mut State, cred: Cred, id: Id) -> Answer
     requires { HasSoundParts state.old.limits state.old.state }
     ensures finish { Finishes (finish_of state.new.state result)
@@ -356,5 +359,6 @@ pub(crate) fn semctl_rmid(state: &mut State, cred: Cred, id: Id) -> Answer
     ensures set_keys { HasNoSpareKey state.old.room.set_keys → HasNoSpareKey state.new.room.set_keys }
 {
     remove(state.sem_mut(), cred, id)?;
+    state.clear_adjustments(id, None);
     Ok(Body::Empty)
 }

@@ -7,6 +7,7 @@ use ipc_perm::Perm;
 use ipc_state::{Awaited, Entry, Numbers, Parked, Process, State};
 use ipc_wait::{WaitList, Waiting};
 use ipc_wire::{Call, Request, RequestKind};
+use sem_undo::UndoRow;
 use std::alloc::{AllocError, Global};
 use std::process::Abort;
 use std::test::Fail;
@@ -49,6 +50,8 @@ enum Part {
     Process(u32),
     Queue(u32, i32, Perm, QueueNumbers, &'static [Sent]),
     Set(u32, i32, Perm, &'static [Changed]),
+    /// An adjustment of a process: the set, the number there, and how much.
+    Adjustment(u32, u32, u16, i16),
 }
 
 fn queue_with(alloc: Global, numbers: QueueNumbers, sent: &[Sent]) -> Result<MsgQueue, AllocError> {
@@ -91,6 +94,7 @@ fn add(alloc: Global, state: &mut State, part: Part) -> Result<(), AllocError> {
             let object = set_with(alloc, changed)?;
             state.restore_set(Id(id), Entry { key, perm, object })
         }
+        Part::Adjustment(..) => Ok(()),
     }
 }
 
@@ -99,7 +103,24 @@ fn state_of(alloc: Global, parts: &[Part]) -> Result<State, AllocError> {
     for part in parts {
         add(alloc, &mut state, *part)?;
     }
+    state.restore_no_adjustments()?;
+    for part in parts {
+        adjust(&mut state, *part)?;
+    }
     Ok(state)
+}
+
+/// An adjustment is added after all else.
+fn adjust(state: &mut State, part: Part) -> Result<(), AllocError> {
+    let Part::Adjustment(pid, set, num, adjustment) = part else {
+        return Ok(());
+    };
+    let row = UndoRow {
+        set: Id(set),
+        num,
+        adjustment,
+    };
+    state.restore_adjustment(Pid(pid), row)
 }
 
 fn begin(alloc: Global, parts: &[Part]) -> Result<Engine, StateFault> {
@@ -224,7 +245,19 @@ const LARGE: QueueNumbers = QueueNumbers {
 
 /// States that are not sound. The limits are 4 processes, 2 queues, 64 bytes a message and 128 a queue, 2 semaphore
 /// sets, and 4 semaphores a set.
-const NOT_SOUND: [&[Part]; 27] = [
+const NOT_SOUND: [&[Part]; 29] = [
+    &[
+        Part::Next(4, 1),
+        Part::Process(3),
+        Part::Set(1, 5, PERM, &[(0, 0)]),
+        Part::Adjustment(3, 1, 1, 1),
+    ],
+    &[
+        Part::Next(4, 1),
+        Part::Process(3),
+        Part::Set(1, 5, PERM, &[(0, 0)]),
+        Part::Adjustment(3, 2, 0, 1),
+    ],
     &[Part::Next(1, 1), Part::Set(1, 5, PERM, &[])],
     &[Part::Next(1, 1), Part::Set(1, 5, PERM, &[(0, 0); 5])],
     &[Part::Next(1, 1), Part::Set(0, 5, PERM, &[(0, 0)])],
@@ -313,7 +346,15 @@ fn refuses_states_that_are_not_sound(rt: HostRuntime) {
 
 /// Sound states at the edge of what they may be: the last numbers, private keys twice, as many processes as the limit
 /// says, a queue with as many bytes, and sets with as many semaphores.
-const AT_THE_EDGE: [&[Part]; 5] = [
+const AT_THE_EDGE: [&[Part]; 6] = [
+    &[
+        Part::Next(4, 1),
+        Part::Process(2),
+        Part::Process(3),
+        Part::Set(1, 5, PERM, &[(0, 0), (0, 0)]),
+        Part::Adjustment(2, 1, 1, 32767),
+        Part::Adjustment(3, 1, 1, -32767),
+    ],
     &[
         Part::Next(1, 1),
         Part::Set(1, 0, PERM, &[(32767, 1); 4]),

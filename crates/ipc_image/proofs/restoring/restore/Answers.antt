@@ -1,16 +1,19 @@
 -- The parts of a state, and the state that they make.
-use Rattle.std.proofs.Common.{◌≡◌, ◌∙◌, ◌++◌, ◌^◌, ◌*◌, [], length, drop, map, sym, ap, arith}
+use Rattle.std.proofs.Common.{◌≡◌, ◌∙◌, ◌++◌, ◌^◌, ◌*◌, ℕ, List, [], length, drop, map, sym, ap, arith}
 use Rattle.std.specs.Prelude.{Err}
 use Rattle.std.proofs.lemmas.List.{append-nil, length-drop, drop_all}
 use Rattle.ipc_base.specs.declared.limits.Limits.{Limits}
 use Rattle.ipc_base.specs.Numbers.{fields_bytes}
 use Rattle.ipc_base.specs.Objects.{PlainObjects}
+use Rattle.ipc_base.specs.Table.{keys_of}
+use Rattle.sem_undo.specs.Undo.{Undo}
+use Rattle.ipc_state.specs.declared.processes.Process.{Process}
 use Rattle.ipc_state.specs.Restored.{with_numbers}
 use Rattle.ipc_state.specs.State.{State, start}
 use Rattle.ipc_image.specs.Kind.{IsOther}
-use Rattle.ipc_image.specs.Saved.{clock_sizes, clock_numbers, count_bytes, processes_bytes, waits_bytes, queue_object, set_bytes, set_object}
+use Rattle.ipc_image.specs.Saved.{clock_sizes, clock_numbers, processes_bytes, waits_bytes, adjustments_bytes, queue_object, set_bytes, set_object}
 use Rattle.ipc_image.proofs.ReadKinds.{later-kind}
-use Rattle.ipc_image.proofs.WholeState.{parts_of, same_object, all-added, all_restored}
+use Rattle.ipc_image.proofs.WholeState.{parts_of, same_object, processes_added, processes_one, all-added, AreAdjustmentsRead, all_restored, restored_once}
 use Rattle.ipc_image.proofs.restoring.restore.Goals as goal
 
 pub returns-in_default-clause-damaged : goal.returns-in_default-clause-damaged
@@ -27,15 +30,7 @@ returns-in_default-object_numbered-2-clause-damaged c is s all are =
 
 pub returns-in_default-object_numbered-3-clause-damaged : goal.returns-in_default-object_numbered-3-clause-damaged
 returns-in_default-object_numbered-3-clause-damaged c is s all are =
-    c.in_default-object_numbered-3.ensures.none (count_bytes 0) (parts_of s c.args.objects.now are).adjustments
-
-pub returns-then-not-is_none_counted-clause-damaged : goal.returns-then-not-is_none_counted-clause-damaged
-returns-then-not-is_none_counted-clause-damaged c is s all are =
-    let none = same_object c.args.objects.now 3 c.in-Some-object_numbered-3.adjustments.now (count_bytes 0) c.in-Some-object_numbered-3.ensures.some
-    (parts_of s c.args.objects.now are).adjustments in
-    let yes = c.is_none_counted.ensures.1 none in
-    let no = c.if-not-is_none_counted.true in
-    absurd cc
+    c.in_default-object_numbered-3.ensures.none (adjustments_bytes s.undo) (parts_of s c.args.objects.now are).adjustments
 
 pub returns-in_default-read_clock-clause-damaged : goal.returns-in_default-read_clock-clause-damaged
 returns-in_default-read_clock-clause-damaged c is s all are =
@@ -56,6 +51,24 @@ returns-in_err-restore_waits-clause-damaged c is s all are =
     let same = same_object c.args.objects.now 2 c.in-Some-object_numbered-2.calls.now (waits_bytes s.wait)
     c.in-Some-object_numbered-2.ensures.some (parts_of s c.args.objects.now are).calls in
     c.in_err-restore_waits.ensures.damaged (ap (λ e. Err e) (sym why.1)) s.wait all.wait_count all.waits all.pids same
+
+pub returns-in_err-restore_adjustments-clause-damaged : goal.returns-in_err-restore_adjustments-clause-damaged
+returns-in_err-restore_adjustments-clause-damaged c is s all are =
+    let objects = c.args.objects.now in
+    let why = rw is at c.from_residual-in_err-restore_adjustments.ensures in
+    let parts = parts_of s objects are in
+    let ps = c.in_ok-read_counted.ensures.ok in
+    let ws = c.in_ok-restore_waits.ensures.ok in
+    let n = c.in-Some-read_clock.numbers in
+    let from : (c.restore_numbers.new.self.state, c.restore_numbers.new.self.limits) ≡ (with_numbers start n, c.restore_numbers.new.self.limits) =
+    ap (λ (s : State). let r : State × Limits = (s, c.restore_numbers.new.self.limits) in r)
+    (c.restore_numbers.ensures.state ∙ ap (λ (s : State). with_numbers s n) c.requires) in
+    let added = processes_added n c.restore_numbers.new.self.limits _ _ _ ps.0 ws.0 from ps.4 ws.5 in
+    let same = processes_one s.processes.entries ps.0 all.count ps.1 all.processes ps.2
+    (same_object objects 1 _ _ parts.processes c.in-Some-object_numbered.ensures.some ∙ ps.3) in
+    c.in_err-restore_adjustments.ensures.damaged (ap (λ e. Err e) (sym why.1)) s.undo all.adjustment_count all.adjustments
+    (all.undo_pids ∙ ap (λ (l : List (ℕ × Process)). keys_of l) (same ∙ sym added)) all.distinct
+    (same_object objects 3 c.in-Some-object_numbered-3.adjustments.now (adjustments_bytes s.undo) c.in-Some-object_numbered-3.ensures.some parts.adjustments)
 
 -- the sets follow the queues, and are all that is left then
 sets_of : (s : State) → map set_object s.sem.entries ≡ map set_object s.sem.entries ++ []
@@ -89,24 +102,50 @@ returns-clause-ok c =
     let n = c.in-Some-read_clock.numbers in
     let ps = c.in_ok-read_counted.ensures.ok in
     let ws = c.in_ok-restore_waits.ensures.ok in
+    let us = c.in_ok-restore_adjustments.ensures.ok in
+    let undo : List (ℕ × Undo) = c.restore_adjustments.new.state.state.undo in
     let es = c.in_ok-next.ensures.ok in
     let fs = c.in_ok-next-2.ensures.ok in
     let from : (c.restore_numbers.new.self.state, c.restore_numbers.new.self.limits) ≡ (with_numbers start n, c.restore_numbers.new.self.limits) =
     ap (λ (s : State). let r : State × Limits = (s, c.restore_numbers.new.self.limits) in r)
     (c.restore_numbers.ensures.state ∙ ap (λ (s : State). with_numbers s n) c.requires) in
-    let is = all-added n c.restore_numbers.new.self.limits _ _ _ _ (c.restore_kind-2.new.state.state, c.restore_kind-2.new.state.limits) ps.0 ws.0 es.0 fs.0
-    from ps.4 (λ i. (ws.5 i, c.in_ok-restore_waits.ensures.limits i)) es.3 fs.3 in
+    let added = processes_added n c.restore_numbers.new.self.limits _ _ _ ps.0 ws.0 from ps.4 ws.5 in
+    let is = all-added n c.restore_numbers.new.self.limits _ _ _ _ _ (c.restore_kind-2.new.state.state, c.restore_kind-2.new.state.limits)
+    ps.0 ws.0 undo es.0 fs.0 from ps.4 (λ i. (ws.5 i, c.in_ok-restore_waits.ensures.limits i))
+    (λ i. (c.in_ok-restore_adjustments.ensures.others i, c.in_ok-restore_adjustments.ensures.limits i)) es.3 fs.3 in
     let past : drop c.in_ok-next-2.next objects ≡ [] = drop_all c.in_ok-next-2.next objects (omega (arith, c.if-next-count.false, c.count.ensures.count)) in
     let sets : drop c.in_ok-next.next objects ≡ map set_object fs.0 =
     fs.2 ∙ ap (λ (l : PlainObjects). map set_object fs.0 ++ l) past ∙ append-nil (map set_object fs.0) in
-    all_restored objects n ps.0 ws.0 es.0 fs.0 _ c.in-Some.clock.now c.in-Some-object_numbered.processes.now
+    let read : AreAdjustmentsRead ps.0 undo c.in-Some-object_numbered-3.adjustments.now = record {
+      count = us.0;
+      fit = us.1;
+      bytes = us.2;
+      pids = us.3 ∙ ap (λ (l : List (ℕ × Process)). keys_of l) added;
+    } in
+    all_restored objects n ps.0 ws.0 undo es.0 fs.0 _ c.in-Some.clock.now c.in-Some-object_numbered.processes.now
     c.in-Some-object_numbered-2.calls.now c.in-Some-object_numbered-3.adjustments.now c.in-Some.ensures.some c.in-Some-object_numbered.ensures.some
-    c.in-Some-object_numbered-2.ensures.some c.in-Some-object_numbered-3.ensures.some (c.is_none_counted.ensures.0 c.if-not-is_none_counted.false)
+    c.in-Some-object_numbered-2.ensures.some c.in-Some-object_numbered-3.ensures.some read
     c.in-Some-read_clock.ensures.some ps.1 ps.2 ps.3 ws.1 ws.2 ws.3 ws.4 es.1 fs.1
     (es.2 ∙ ap (λ (l : PlainObjects). map queue_object es.0 ++ l) sets) (ap (λ (r : State × Limits). r.0) is)
+
+pub returns-clause-once : goal.returns-clause-once
+returns-clause-once c s all are =
+    let ps = c.in_ok-read_counted.ensures.ok in
+    let ws = c.in_ok-restore_waits.ensures.ok in
+    let n = c.in-Some-read_clock.numbers in
+    let from : (c.restore_numbers.new.self.state, c.restore_numbers.new.self.limits) ≡ (with_numbers start n, c.restore_numbers.new.self.limits) =
+    ap (λ (s : State). let r : State × Limits = (s, c.restore_numbers.new.self.limits) in r)
+    (c.restore_numbers.ensures.state ∙ ap (λ (s : State). with_numbers s n) c.requires) in
+    let added = processes_added n c.restore_numbers.new.self.limits _ _ _ ps.0 ws.0 from ps.4 ws.5 in
+    let undo : c.restore_kind-2.new.state.state.undo ≡ c.restore_adjustments.new.state.state.undo =
+    ap (λ (r : State × Limits). r.0.undo) c.in_ok-next-2.ensures.ok.3 ∙ ap (λ (r : State × Limits). r.0.undo) c.in_ok-next.ensures.ok.3 in
+    restored_once s c.restore_kind-2.new.state.state c.args.objects.now ps.0 c.in-Some-object_numbered.processes.now all are (returns-clause-ok c)
+    c.in-Some-object_numbered.ensures.some ps.1 ps.2 ps.3
+    (ap (λ (us : List (ℕ × Undo)). keys_of us) undo ∙ c.in_ok-restore_adjustments.ensures.ok.3
+    ∙ ap (λ (l : List (ℕ × Process)). keys_of l) added)
 
 pub returns-clause-limits : goal.returns-clause-limits
 returns-clause-limits c =
     let limits : State × Limits → Limits = λ r. r.1 in
-    ap limits c.in_ok-next-2.ensures.ok.3 ∙ ap limits c.in_ok-next.ensures.ok.3 ∙ c.in_ok-restore_waits.ensures.limits
-    ∙ ap limits c.in_ok-read_counted.ensures.ok.4 ∙ c.restore_numbers.ensures.limits
+    ap limits c.in_ok-next-2.ensures.ok.3 ∙ ap limits c.in_ok-next.ensures.ok.3 ∙ c.in_ok-restore_adjustments.ensures.limits
+    ∙ c.in_ok-restore_waits.ensures.limits ∙ ap limits c.in_ok-read_counted.ensures.ok.4 ∙ c.restore_numbers.ensures.limits

@@ -6,7 +6,7 @@ use Rattle.ipc_state.specs.Tables.{item_row}
 use Rattle.ipc_state.specs.Waiting.{PlainWaiting}
 use Rattle.ipc_image.specs.SavedParts.{IsMarkIn}
 use Rattle.ipc_base.specs.Numbers.{fields_bytes}
-use Rattle.ipc_image.specs.Saved.{clock_sizes, clock_numbers, process_bytes, processes_bytes, waits_bytes}
+use Rattle.ipc_image.specs.Saved.{clock_sizes, clock_numbers, process_bytes, processes_bytes, waits_bytes, adjustments_bytes}
 use Rattle.ipc_image.specs.Window.{Shown, passed}
 use Rattle.ipc_image.proofs.SavedObjects.{saved-clock, saved-processes, saved-waits, saved-adjustments, waits-counted, length-processes}
 use Rattle.ipc_image.proofs.state_objects.put_object.Goals as goal
@@ -39,7 +39,7 @@ returns-in-1-clause-passed c =
 
 pub put_counted-requires-in-2-clause-short : goal.put_counted-requires-in-2-clause-short
 put_counted-requires-in-2-clause-short c =
-    let o = c.objects.inside in omega (arith, waits-counted o.numbers _ o.waits.now _ _ c.objects.invariant.1)
+    let o = c.objects.inside in omega (arith, waits-counted o.numbers _ o.waits.now _ _ _ c.objects.invariant.1)
 
 pub returns-in-2-clause-passed : goal.returns-in-2-clause-passed
 returns-in-2-clause-passed c =
@@ -51,7 +51,9 @@ returns-in-2-clause-passed c =
 
 pub returns-in-3-clause-passed : goal.returns-in-3-clause-passed
 returns-in-3-clause-passed c =
-    rw c.in-3.is (ap (option_map (after c.args.window.now)) (saved-adjustments c.args.objects.now) ∙ ap Some (sym c.put_count.ensures))
+    rw c.in-3.is
+    (ap (option_map (after c.args.window.now)) (saved-adjustments c.args.objects.now)
+    ∙ ap Some (ap (λ (t : State). passed (adjustments_bytes t.undo) c.args.window.now) (sym c.objects.view_is) ∙ sym c.put_adjustments.ensures))
 
 pub returns-in_default-clause-passed : goal.returns-in_default-clause-passed
 returns-in_default-clause-passed c = ap (option_map (after c.args.window.now)) c.thing_at.ensures.object ∙ ap Some (sym c.put_thing.ensures.passed)

@@ -1,28 +1,37 @@
-use Rattle.std.proofs.Common.{sym, subst, arith}
-use Rattle.std.specs.Prelude.{All}
+use Rattle.std.proofs.Common.{◌≡◌, ℕ, sym, subst, arith}
+use Rattle.std.specs.Prelude.{All, nat_eq}
+use Rattle.std.specs.List.{IsDistinct}
 use Rattle.std.proofs.lemmas.List.Elements.{All-map}
 use Rattle.ipc_base.proofs.CallerLemmas.{passed-bounds}
+use Rattle.ipc_base.specs.Table.{keys_of}
+use Rattle.sem_undo.specs.Undo.{Undo}
+use Rattle.ipc_state.specs.State.{State}
 use Rattle.ipc_state.specs.Tables.{item_row}
 use Rattle.ipc_state.specs.Waiting.{IsSoundWaiting}
 use Rattle.ipc_image.specs.Kind.{FitsIn}
-use Rattle.ipc_image.specs.Saved.{FitsProcess, FitsWaiting, FitsQueue, FitsSet}
-use Rattle.ipc_image.proofs.SavedObjects.{rows-numbers, sets-numbers}
+use Rattle.ipc_image.specs.Saved.{adjustments_of, FitsAdjustment, FitsProcess, FitsWaiting, FitsQueue, FitsSet}
+use Rattle.ipc_image.proofs.AdjustmentLists.{each-fit}
+use Rattle.ipc_image.proofs.Attaching.{rising-distinct}
+use Rattle.ipc_image.proofs.SavedObjects.{rows-numbers, sets-numbers, undo-counted}
 use Rattle.ipc_image.proofs.widths.read_state.Goals as goal
 
 pub read_each-requires-2 : goal.read_each-requires-2
 read_each-requires-2 c = subst (All IsSoundWaiting) (sym c.waits.ensures) c.requires.sound.parts.wait.each
 
-pub read_each-requires-3 : goal.read_each-requires-3
-read_each-requires-3 c =
-    rows-numbers c.args.state.now.limits c.args.state.now.state c.requires.passed c.requires.sound c.queues.result.now c.queues.ensures
-
 pub read_each-requires-4 : goal.read_each-requires-4
 read_each-requires-4 c =
+    rows-numbers c.args.state.now.limits c.args.state.now.state c.requires.passed c.requires.sound c.queues.result.now c.queues.ensures
+
+pub read_each-requires-5 : goal.read_each-requires-5
+read_each-requires-5 c =
     sets-numbers c.args.state.now.limits c.args.state.now.state c.requires.passed c.requires.sound c.sets.result.now c.sets.ensures
 
 pub returns : goal.returns
 returns c =
     let b = passed-bounds c.args.state.now.limits c.requires.passed in
+    let s : State = c.args.state.now.state in
+    let Fit : ℕ × Undo → Type 0 = λ p. All FitsAdjustment (adjustments_of p) in
+    let pids : keys_of s.undo ≡ keys_of s.processes.entries = c.requires.sound.parts.undo.pids in
     record {
       clock = c.read_clock.ensures;
       count = omega (arith, b.processes.1, c.requires.sound.parts.processes.count);
@@ -30,6 +39,12 @@ returns c =
       wait_count = omega (arith, b.processes.1, c.requires.sound.parts.wait.few);
       waits = subst (All FitsWaiting) c.waits.ensures c.read_each-2.ensures;
       pids = c.requires.sound.parts.wait.pids;
-      queues = subst (All (FitsIn FitsQueue)) c.queues.ensures (All-map (FitsIn FitsQueue) item_row c.queues.result.now c.read_each-3.ensures);
-      sets = subst (All (FitsIn FitsSet)) c.sets.ensures (All-map (FitsIn FitsSet) item_row c.sets.result.now c.read_each-4.ensures);
+      adjustment_count = undo-counted c.args.state.now.limits c.args.state.now.state c.requires.passed c.requires.sound;
+      adjustments = each-fit c.args.state.now.state.undo (subst (All Fit) c.adjustments.ensures
+          (All-map Fit item_row c.adjustments.result.now c.read_each-3.ensures));
+      undo_pids = pids;
+      distinct = subst (IsDistinct nat_eq) (sym pids) (rising-distinct 1 (keys_of s.processes.entries) s.processes.next
+          c.requires.sound.parts.processes.numbers);
+      queues = subst (All (FitsIn FitsQueue)) c.queues.ensures (All-map (FitsIn FitsQueue) item_row c.queues.result.now c.read_each-4.ensures);
+      sets = subst (All (FitsIn FitsSet)) c.sets.ensures (All-map (FitsIn FitsSet) item_row c.sets.result.now c.read_each-5.ensures);
     }

@@ -1,4 +1,4 @@
-use Rattle.std.proofs.Common.{◌≡◌, ◌∙◌, ℕ, List, take, refl, ap, sym, arith}
+use Rattle.std.proofs.Common.{◌≡◌, ◌∙◌, None, ℕ, List, take, refl, ap, sym, arith}
 use Rattle.std.specs.Prelude.{is_some}
 use Rattle.ipc_base.proofs.CallerLemmas.{passed-bounds}
 use Rattle.ipc_wire.specs.Pairs.{bytes_of, numbers_in}
@@ -6,7 +6,9 @@ use Rattle.ipc_wire.specs.declared.reply.Body.TheVariants.{Empty}
 use Rattle.sysv_sem.specs.Set.{Set, with_values}
 use Rattle.ipc_state.specs.declared.keyed.Entry.{Entry}
 use Rattle.ipc_state.specs.Finish.{Finishes, done}
+use Rattle.ipc_state.specs.Held.{Held}
 use Rattle.ipc_state.specs.Keyed.{Keyed, holding}
+use Rattle.ipc_state.specs.State.{without_adjustments}
 use Rattle.ipc_state.specs.Numbered.{with_entry}
 use Rattle.ipc_state.proofs.CallerLemmas.{lent-object, put-object, set-sound}
 use Rattle.sysv_calls.specs.Seen.{result_of}
@@ -47,7 +49,8 @@ returns-clause-finish c =
     let all : take c.len.result c.put_values.new.all ≡ values = ap (λ (n : ℕ). take n c.put_values.new.all) c.len.ensures ∙ c.put_values.ensures in
     let sets : left ≡ with_values e.object values c.args.pid old.state.clock =
     c.set_all.ensures ∙ (λ i. with_values (object i) (all i) c.args.pid (c.clock-now.ensures i)) in
-    ap (λ (m : Keyed Set). Finishes (done (record old.state { sem = m }) Empty))
+    ap (λ (h : Held). Finishes (done h.state Empty)) c.clear_adjustments.ensures
+    ∙ ap (λ (m : Keyed Set). Finishes (done (without_adjustments id (None) (record old.state { sem = m })) Empty))
     (puts ∙ ap (λ (x : Set). with_entry old.state.sem id (holding e x)) sets)
     ∙ rw (shown g).was refl
 
@@ -55,5 +58,6 @@ pub returns-clause-set_keys : goal.returns-clause-set_keys
 returns-clause-set_keys c =
     let g = (goal.at.returns-clause-set_keys c).In_ok-ready_to_set in
     let left = c.set_all.new.self in
-    keys-kept c.sem_mut.result.now c.args.state.now.state.sem c.args.id.0 c.sem_mut.ensures.sets (ap is_some (found g).there) left
+    ap (λ (h : Held). h.room.set_keys) c.clear_adjustments.ensures
+    ∙ keys-kept c.sem_mut.result.now c.args.state.now.state.sem c.args.id.0 c.sem_mut.ensures.sets (ap is_some (found g).there) left
     (c.get_mut.follows.lender left) (c.get_mut.follows.holds left) ∙ c.sem_mut.ensures.keys

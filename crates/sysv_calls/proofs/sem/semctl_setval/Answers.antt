@@ -8,7 +8,9 @@ use Rattle.ipc_wire.specs.declared.reply.Body.TheVariants.{Empty}
 use Rattle.sysv_sem.specs.declared.set.Semaphore.{Semaphore}
 use Rattle.sysv_sem.specs.Set.{Set, with_value}
 use Rattle.ipc_state.specs.Finish.{Finishes, done}
+use Rattle.ipc_state.specs.Held.{Held}
 use Rattle.ipc_state.specs.Keyed.{Keyed, holding}
+use Rattle.ipc_state.specs.State.{without_adjustments}
 use Rattle.ipc_state.specs.Numbered.{with_entry}
 use Rattle.ipc_state.specs.declared.keyed.Entry.{Entry}
 use Rattle.ipc_state.proofs.CallerLemmas.{lent-object, put-object, set-sound}
@@ -57,7 +59,8 @@ returns-clause-finish c =
     (c.get_mut.follows.holds left) in
     let sets : left ≡ with_value e.object num c.in-Some.value c.args.pid old.state.clock =
     c.set_value.ensures ∙ (λ i. with_value (object i) num c.in-Some.value c.args.pid (c.clock-now.ensures i)) in
-    ap (λ (m : Keyed Set). Finishes (done (record old.state { sem = m }) Empty))
+    ap (λ (h : Held). Finishes (done h.state Empty)) c.clear_adjustments.ensures
+    ∙ ap (λ (m : Keyed Set). Finishes (done (without_adjustments id (Some num) (record old.state { sem = m })) Empty))
     (puts ∙ ap (λ (x : Set). with_entry old.state.sem id (holding e x)) sets)
     ∙ rw (shown g).was (rw value refl)
 
@@ -65,5 +68,6 @@ pub returns-clause-set_keys : goal.returns-clause-set_keys
 returns-clause-set_keys c =
     let g = (goal.at.returns-clause-set_keys c).After-unwrap-set in
     let left = c.set_value.new.self in
-    keys-kept c.sem_mut.result.now c.args.state.now.state.sem c.args.id.0 c.sem_mut.ensures.sets (ap is_some (found g).there) left
+    ap (λ (h : Held). h.room.set_keys) c.clear_adjustments.ensures
+    ∙ keys-kept c.sem_mut.result.now c.args.state.now.state.sem c.args.id.0 c.sem_mut.ensures.sets (ap is_some (found g).there) left
     (c.get_mut.follows.lender left) (c.get_mut.follows.holds left) ∙ c.sem_mut.ensures.keys

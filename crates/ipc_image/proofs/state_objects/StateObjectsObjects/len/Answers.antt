@@ -5,7 +5,7 @@ use Rattle.std.proofs.lemmas.List.{length-map, map-id}
 use Rattle.ipc_state.specs.State.{State}
 use Rattle.ipc_state.specs.Tables.{item_row}
 use Rattle.ipc_state.specs.Waiting.{PlainWaiting}
-use Rattle.ipc_image.specs.Saved.{waiting_bytes, waits_bytes}
+use Rattle.ipc_image.specs.Saved.{waiting_bytes, waits_bytes, adjustments_bytes}
 use Rattle.ipc_image.proofs.SavedObjects.{saved-clock, saved-processes, saved-waits, saved-adjustments, processes-long, waits-long, waits-counted}
 use Rattle.ipc_image.proofs.state_objects.StateObjectsObjects.len.Goals as goal
 
@@ -28,11 +28,11 @@ returns-in-1 c =
     )))
 
 pub list_len-requires-clause-short : goal.list_len-requires-clause-short
-list_len-requires-clause-short c = let o = c.self.inside in omega (arith, waits-counted o.numbers _ o.waits.now _ _ c.self.invariant.1)
+list_len-requires-clause-short c = let o = c.self.inside in omega (arith, waits-counted o.numbers _ o.waits.now _ _ _ c.self.invariant.1)
 
 pub overflow_add-result-in-2 : goal.overflow_add-result-in-2
 overflow_add-result-in-2 c =
-    let o = c.self.inside in omega (arith, waits-counted o.numbers _ o.waits.now _ _ c.self.invariant.1, c.list_len.ensures)
+    let o = c.self.inside in omega (arith, waits-counted o.numbers _ o.waits.now _ _ _ c.self.invariant.1, c.list_len.ensures)
 
 pub returns-in-2 : goal.returns-in-2
 returns-in-2 c =
@@ -48,4 +48,7 @@ returns-in-2 c =
     )))
 
 pub returns-in-3 : goal.returns-in-3
-returns-in-3 c = rw c.in-3.is (ap (option_map long) (saved-adjustments c.args.self.now))
+returns-in-3 c =
+    rw c.in-3.is
+    (ap (option_map long) (saved-adjustments c.args.self.now)
+    ∙ ap Some (omega (arith, c.adjustments_len.ensures, ap (λ (t : State). length (adjustments_bytes t.undo)) c.self.view_is)))

@@ -16,21 +16,21 @@ returns-in-Ok-clause-adjustment c =
     let fit : FitsSigned w16 c.index.result.now.adjustment = search rules in
     let at = subst (λ ys. IsAt key_cmp entry_of key ys c.in-Ok.place) c.deref.ensures.value c.in-Ok.ensures.at in
     to_z-of_z w16 _ fit ∙ ap (λ r. r.adjustment) c.index.ensures
-    ∙ sym (ap (λ r. unwrap_or r (pos 0)) (get-from_sorted key_cmp (entries_of rows) key c.self.invariant.rising
+    ∙ sym (ap (λ r. unwrap_or r (pos 0)) (get-from_sorted key_cmp (entries_of rows) key c.self.invariant.0.rising
     ∙ found key_cmp key_total entry_of key rows c.in-Ok.place at c.index.result.now))
-    ∙ ap (λ t. adjustment t.undo key) c.self.view_is
+    ∙ ap (λ t. adjustment t key) c.self.view_is
 
 pub returns-in-Ok-clause-sound : goal.returns-in-Ok-clause-sound
-returns-in-Ok-clause-sound c = subst (λ t. IsSoundUndo t.undo) c.self.view_is (sound (entries_of c.self.inside.rows.items) c.self.invariant)
+returns-in-Ok-clause-sound c = subst (λ t. IsSoundUndo t) c.self.view_is (sound (entries_of c.self.inside.rows.items) c.self.invariant.0)
 
 pub returns-in-Err-clause-adjustment : goal.returns-in-Err-clause-adjustment
 returns-in-Err-clause-adjustment c =
     let rows = c.self.inside.rows.items in
     let key : Key = (c.args.set.0, c.args.num) in
     let gap = subst (λ ys. IsGap key_cmp entry_of key ys c.in-Err.field-0) c.deref.ensures.value c.in-Err.ensures.gap in
-    sym (ap (λ r. unwrap_or r (pos 0)) (get-from_sorted key_cmp (entries_of rows) key c.self.invariant.rising
+    sym (ap (λ r. unwrap_or r (pos 0)) (get-from_sorted key_cmp (entries_of rows) key c.self.invariant.0.rising
     ∙ missing key_cmp key_total entry_of key rows c.in-Err.field-0 gap))
-    ∙ ap (λ t. adjustment t.undo key) c.self.view_is
+    ∙ ap (λ t. adjustment t key) c.self.view_is
 
 pub returns-in-Err-clause-sound : goal.returns-in-Err-clause-sound
-returns-in-Err-clause-sound c = subst (λ t. IsSoundUndo t.undo) c.self.view_is (sound (entries_of c.self.inside.rows.items) c.self.invariant)
+returns-in-Err-clause-sound c = subst (λ t. IsSoundUndo t) c.self.view_is (sound (entries_of c.self.inside.rows.items) c.self.invariant.0)

@@ -1,0 +1,69 @@
+use Rattle.std.proofs.Common.{◌≡◌, ℕ, List, Some, None, sym, ap, ◌∙◌}
+use Rattle.std.specs.Prelude.{nat_eq, is_some, ◌&&◌, Bool}
+use Rattle.std.specs.FinMap as fin
+use Rattle.std.proofs.lemmas.Result.{on_err_weaker}
+use Rattle.ipc_base.specs.Table.{value_at, with_value}
+use Rattle.ipc_base.proofs.CallerLemmas.{own}
+use Rattle.sem_undo.specs.Undo.{Undo, key_of}
+use Rattle.ipc_state.specs.declared.numbered.Numbered.{Numbered as Table}
+use Rattle.ipc_state.specs.Held.{Held}
+use Rattle.ipc_state.specs.Numbered.{Numbered}
+use Rattle.ipc_state.specs.State.{undo_of}
+use Rattle.ipc_state.specs.Tables.{numbered_of, has_place}
+use Rattle.ipc_state.proofs.Places.{with-none}
+use Rattle.ipc_state.proofs.state.State.restore_adjustment.Goals as goal
+
+pub returns-in_default-clause-state : goal.returns-in_default-clause-state
+returns-in_default-clause-state c kept =
+    let old = c.args.self.now.state in
+    let t = c.self.inside in
+    let none : value_at nat_eq (numbered_of t.undo).entries c.args.pid.0 ≡ None = sym (c.in_default.ensures).value in
+    let same : (numbered_of c.get_mut.follows.lender-at-none).entries ≡ (numbered_of t.undo).entries =
+    ap (λ (o : Table Undo). (numbered_of o).entries) c.get_mut.follows.holds-at-none in
+    let with : (x : Undo) → with_value nat_eq old.undo c.args.pid.0 x ≡ old.undo =
+    λ x. with-none old.undo c.args.pid.0 x (ap (λ (m : Held). value_at nat_eq m.state.undo c.args.pid.0) (sym c.self.view_is) ∙ none) in
+    ap (λ (us : List (ℕ × Undo)). record {
+      clock = t.clock.0;
+      processes = numbered_of t.processes;
+      wait = t.wait.calls;
+      undo = us;
+      msg = t.msg.objects;
+      sem = t.sem.objects;
+    }) same
+    ∙ ap (λ (m : Held). m.state) c.self.view_is
+    ∙ ap (λ (us : List (ℕ × Undo)). record old { undo = us }) (sym (with (fin.insert (undo_of old c.args.pid.0) (key_of c.args.row) c.args.row.adjustment)))
+
+pub returns-clause-err : goal.returns-clause-err
+returns-clause-err c =
+    let t = c.self.inside in
+    let pid = c.args.pid.0 in
+    let was : value_at nat_eq (numbered_of t.undo).entries pid ≡ Some c.in-Some.undo.now = sym (c.in-Some.ensures).value in
+    let puts = c.get_mut.follows.holds c.restore.new.self in
+    let viewed : List (ℕ × Undo) → Bool → Held = λ (us : List (ℕ × Undo)) (place : Bool). record {
+      limits = t.limits;
+      state = record {
+        clock = t.clock.0;
+        processes = numbered_of t.processes;
+        wait = t.wait.calls;
+        undo = us;
+        msg = t.msg.objects;
+        sem = t.sem.objects;
+      };
+      room = record {
+        process = has_place t.processes && (place && is_some t.fresh_undo);
+        queue = t.msg.place;
+        keys = t.msg.keys;
+        fresh = is_some t.fresh;
+        waits = t.wait.room;
+        set = t.sem.place;
+        set_keys = t.sem.keys;
+        fresh_set = t.fresh_set;
+      };
+    } in
+    on_err_weaker c.restore.result
+    (λ same.
+    let back : (numbered_of (c.get_mut.follows.lender c.restore.new.self)).entries ≡ (numbered_of t.undo).entries =
+    ap (λ (o : Numbered Undo). o.entries) puts.numbered
+    ∙ ap (λ (x : Undo). with_value nat_eq (numbered_of t.undo).entries pid x) same ∙ own (numbered_of t.undo).entries pid c.in-Some.undo.now was in
+    (λ i. viewed (back i) (puts.place i)) ∙ c.self.view_is)
+    c.restore.ensures.err

@@ -1,0 +1,188 @@
+//! The adjustments of the processes: what an exit adds, and what is cleared. See semop(2).
+
+ghost use Rattle.std.specs.Prelude.{◌≡◌, ◌↔◌, ◌++◌, map, IsTrue, OnOk, OnErr};
+ghost use Rattle.std.specs.FinMap as fin;
+ghost use Rattle.std.specs.List.{fold, list_all};
+ghost use Rattle.ipc_base.specs.Table.{keys_of, seen_as};
+ghost use Rattle.sem_undo.specs.Undo.{key_of, entry_of, cleared, IsKept};
+ghost use Rattle.ipc_state.specs.Restored.{with_adjustment, with_no_adjustments};
+ghost use Rattle.ipc_state.specs.Sound.{has_semaphore, AreAdjustments};
+ghost use Rattle.ipc_state.specs.State.{adjusted, undone, undo_of, without_adjustments};
+ghost use Rattle.ipc_state.specs.Tables.{item_row, numbered_of};
+
+use crate::keyed::Keyed;
+use crate::numbered::{Item, Numbered};
+use crate::processes::Process;
+use crate::state::State;
+use ipc_base::{Id, Pid};
+use sem_undo::{SemUndo, UndoRow};
+use std::alloc::{AllocError, Global};
+use sysv_sem::SemSet;
+
+impl State {
+    /// The adjustments of each process, by pid.
+    pub fn adjustments(&self) -> &[Item<SemUndo>]
+        ensures { map item_row result.now ≡ self.now.state.undo }
+    {
+        self.undo.items()
+    }
+
+    /// Drops the adjustments of all processes at the semaphore of this number of a set, or at all of the set.
+    pub fn clear_adjustments(&mut self, set: Id, num: Option<u16>)
+        ensures { self.new ≡ record self.old { state = without_adjustments set.0 num self.old.state } }
+    {
+        clear_each(&mut self.undo.items, set, num);
+    }
+
+    /// Each process that was read has adjustments, which are none.
+    pub fn restore_no_adjustments(&mut self) -> Result<(), AllocError>
+        ensures state { OnOk result (self.new.state ≡ with_no_adjustments self.old.state) }
+        ensures limits { self.new.limits ≡ self.old.limits }
+    {
+        self.undo.clear();
+        add_none(self.alloc, &mut self.undo, self.processes.items())
+    }
+
+    /// Adds an adjustment that was read to those of its process, if it is one. It is dropped if no process has the
+    /// number. Refused for want of memory, all is as before.
+    pub fn restore_adjustment(&mut self, pid: Pid, row: UndoRow) -> Result<(), AllocError>
+        ensures state { OnOk result (IsKept row.adjustment
+            → self.new.state ≡ with_adjustment self.old.state pid.0 row) }
+        ensures limits { self.new.limits ≡ self.old.limits }
+        ensures err { OnErr result (self.new ≡ self.old) }
+    {
+        let Some(undo) = self.undo.get_mut(pid.0) else {
+            return Ok(());
+        };
+        undo.restore(row)
+    }
+
+    /// The sets after the exit of a process.
+    pub(crate) fn add_adjustments_of(&mut self, pid: Pid)
+        ensures { self.new ≡ record self.old {
+          state = record self.old.state { sem = undone self.old.state.sem (pid.0, undo_of self.old.state pid.0) };
+        } }
+    {
+        if let Some(item) = self.undo.get(pid.0) {
+            add_adjustments(&mut self.sem, pid, item.value.rows());
+        }
+    }
+
+    /// The sets after the exit of all.
+    pub(crate) fn add_all_adjustments(&mut self)
+        ensures { self.new ≡ record self.old {
+          state = record self.old.state { sem = fold undone self.old.state.sem self.old.state.undo };
+        } }
+    {
+        add_each(&mut self.sem, self.undo.items());
+    }
+
+    /// Whether the adjustments are sound.
+    pub(crate) fn are_adjustments_sound(&self) -> bool
+        ensures { IsTrue result ↔ AreAdjustments (keys_of self.now.state.processes.entries)
+            self.now.state.sem self.now.state.undo }
+    {
+        have_same_numbers(self.undo.items(), self.processes.items())
+            && are_at_semaphores(&self.sem, self.undo.items())
+    }
+}
+
+/// Adds no adjustments for each of these processes, at the end.
+fn add_none(
+    alloc: Global,
+    undo: &mut Numbered<SemUndo>,
+    processes: &[Item<Process>],
+) -> Result<(), AllocError>
+    ensures { OnOk result ((numbered_of undo.new).entries ≡ (numbered_of undo.old).entries
+        ++ seen_as (λ p. fin.empty) (map item_row processes.now)) }
+{
+    for process in processes {
+        undo.reserve()?;
+        undo.push(process.number, SemUndo::new(alloc)?);
+    }
+    Ok(())
+}
+
+/// Adds the adjustments of these processes to the sets.
+fn add_each(sets: &mut Keyed<SemSet>, items: &[Item<SemUndo>])
+    ensures { sets.new ≡ record sets.old { objects = fold undone sets.old.objects (map item_row items.now) } }
+{
+    for item in items {
+        add_adjustments(sets, Pid(item.number), item.value.rows());
+    }
+}
+
+/// Adds these adjustments of a process to the sets.
+fn add_adjustments(sets: &mut Keyed<SemSet>, pid: Pid, rows: &[UndoRow])
+    ensures { sets.new ≡ record sets.old { objects = fold (adjusted pid.0) sets.old.objects (map entry_of rows.now) } }
+{
+    for row in rows {
+        add_adjustment(sets, pid, row);
+    }
+}
+
+/// Adds an adjustment of a process to the sets; one of a set that is not there is dropped.
+fn add_adjustment(sets: &mut Keyed<SemSet>, pid: Pid, row: &UndoRow)
+    ensures { sets.new ≡ record sets.old { objects = adjusted pid.0 sets.old.objects (entry_of row.now) } }
+{
+    if let Some(set) = sets.get_mut(row.set) {
+        if (row.num as usize) < set.semaphores().len() {
+            set.adjust(row.num, row.adjustment, pid);
+        }
+    }
+}
+
+/// Clears them of each process.
+fn clear_each(items: &mut [Item<SemUndo>], set: Id, num: Option<u16>)
+    ensures { map item_row items.new ≡ seen_as (cleared set.0 num) (map item_row items.old) }
+{
+    for item in items.iter_mut() {
+        item.value.clear_at(set, num);
+    }
+}
+
+/// Whether two tables have the same numbers.
+fn have_same_numbers<T, U>(items: &[Item<T>], others: &[Item<U>]) -> bool
+    ensures { IsTrue result ↔ (keys_of (map item_row items.now) ≡ keys_of (map item_row others.now)) }
+{
+    if items.len() != others.len() {
+        return false;
+    }
+    for place in 0..items.len() {
+        if items[place].number != others[place].number {
+            return false;
+        }
+    }
+    true
+}
+
+/// Whether each adjustment of these processes is at a semaphore that is there.
+fn are_at_semaphores(sets: &Keyed<SemSet>, items: &[Item<SemUndo>]) -> bool
+    ensures { result ≡ list_all (λ e. list_all (λ a. has_semaphore sets.now.objects a.0) (fin.entries e.value)) items.now }
+{
+    items.iter().all(|item| is_at_semaphores(sets, item))
+}
+
+/// Whether each adjustment of a process is.
+fn is_at_semaphores(sets: &Keyed<SemSet>, item: &Item<SemUndo>) -> bool
+    ensures { result ≡ list_all (λ a. has_semaphore sets.now.objects a.0) (fin.entries item.now.value) }
+{
+    have_semaphores(sets, item.value.rows())
+}
+
+/// Whether there is the semaphore of each adjustment.
+fn have_semaphores(sets: &Keyed<SemSet>, rows: &[UndoRow]) -> bool
+    ensures { result ≡ list_all (λ r. has_semaphore sets.now.objects (key_of r)) rows.now }
+{
+    rows.iter().all(|row| has_semaphore_at(sets, row))
+}
+
+/// Whether there is the semaphore of an adjustment.
+fn has_semaphore_at(sets: &Keyed<SemSet>, row: &UndoRow) -> bool
+    ensures { result ≡ has_semaphore sets.now.objects (key_of row.now) }
+{
+    match sets.get(row.set) {
+        Some(entry) => (row.num as usize) < entry.object.semaphores().len(),
+        None => false,
+    }
+}
