@@ -17,19 +17,19 @@ help:
 	@echo "make edits  the other wrong bodies, of all crates, or of those of 'make edits CRATE=\"ipc_wire ipc_hub\"'. Each"
 	@echo "            takes 15 to 60 seconds of a processor, the first of a crate a proof of the crate"
 	@echo "make imports  that no crate names what is another's own, nor one that carries requests a call"
-	@echo "make runs   the program on scripts, command lines, a terminal and devices, also with each byte of one wrong:"
-	@echo "            what it prints and says, its exit status, and what it leaves in the file; what 'make install'"
-	@echo "            puts where, and the manual page"
+	@echo "make runs   the program on scripts, also random ones beside a model of semaphore sets, command lines, a terminal"
+	@echo "            and devices, also with each byte of one wrong: what it prints and says, its exit status, and what it"
+	@echo "            leaves in the file; what 'make install' puts where, and the manual page"
 	@echo "make serves the program as a server: clients by the dozen, crashes under load, what ends a connection, and what"
 	@echo "            docs/OPERATIONS.md says; the first sessions; examples/serve.sh, in which a message outlives a"
-	@echo "            crash; examples/users.sh, two users of a queue; examples/worker.sh, two who wait for jobs; clients that"
-	@echo "            wait by the dozen; semaphore sets; and its calls of the system, watched, and each refused in turn. Two"
-	@echo "            minutes, once built"
+	@echo "            crash; examples/users.sh, two users of a queue; examples/worker.sh, two who wait for jobs;"
+	@echo "            examples/lock.sh, a lock whose holder is killed; clients that wait by the dozen; semaphore sets; and"
+	@echo "            its calls of the system, watched, and each refused in turn. Two minutes, once built"
 	@echo "make memory the engine's tests and the program, with each allocation refused in turn"
 	@echo "make bench  processor time of runs, lines and ticks on both devices, peak memory, what a commit writes, and"
 	@echo "            commits a second on a file beside the same writes and syncs done bare; it ends with an error while"
 	@echo "            calls that wait on other queues add more to a request than they may"
-	@echo "make bench-serve  sends and receives a second over the socket, beside the same, and their processor time"
+	@echo "make bench-serve  sends and receives, and locks, a second over the socket, beside the same, and their processor time"
 
 run: program
 	@sh examples/device.sh crates/ipcd/out/ipcd
@@ -54,7 +54,7 @@ install:
 # The engine's tests take a step again that was refused for memory, and look for the replies that it would have had.
 MACHINE_TESTS = crates/machine_tests/out/machine_tests_tests
 REFUSE_EACH = sh tests/refuse_each.sh $(MACHINE_TESTS) engine crates/ipcd/out/ipcd \
-	examples/first_queue.script examples/waiting.script
+	examples/first_queue.script examples/waiting.script examples/lock.script
 
 memory: program $(MACHINE_TESTS)
 	@$(REFUSE_EACH)
@@ -70,6 +70,7 @@ imports:
 
 RUNS = sh tests/runs.sh crates/ipcd/out/ipcd && python3 tests/terminal.py crates/ipcd/out/ipcd && \
 	python3 tests/words.py crates/ipcd/out/ipcd && python3 tests/scripts.py crates/ipcd/out/ipcd && \
+	python3 tests/sets.py crates/ipcd/out/ipcd && \
 	python3 tests/install.py crates/ipcd/out/ipcd && python3 tests/device.py crates/ipcd/out/ipcd
 
 runs: program
@@ -78,6 +79,7 @@ runs: program
 SERVES = python3 tests/serve.py crates/ipcd/out/ipcd && python3 tests/operations.py crates/ipcd/out/ipcd && \
 	python3 tests/session.py crates/ipcd/out/ipcd && sh examples/serve.sh crates/ipcd/out/ipcd && \
 	sh examples/users.sh crates/ipcd/out/ipcd && sh examples/worker.sh crates/ipcd/out/ipcd && \
+	sh examples/lock.sh crates/ipcd/out/ipcd && \
 	python3 tests/waiting.py crates/ipcd/out/ipcd && python3 tests/waiting_load.py crates/ipcd/out/ipcd && \
 	python3 tests/semaphores.py crates/ipcd/out/ipcd && \
 	python3 tests/calls.py crates/ipcd/out/ipcd && python3 tests/costs.py crates/ipcd/out/ipcd
@@ -101,6 +103,6 @@ bench: program
 	@sh bench/commits.sh crates/ipcd/out/ipcd
 	@sh bench/replay.sh crates/ipcd/out/ipcd
 
-# Nine turns of eight loads on a server. It needs Python and a C compiler.
+# Nine turns of ten loads on a server. It needs Python and a C compiler.
 bench-serve: program
 	@python3 bench/serve.py crates/ipcd/out/ipcd

@@ -180,6 +180,16 @@ beside() {
 	difference "$3 | $2" 120
 }
 
+# Lines of 16 lists on the standard device, on a set of so many semaphores, beside so many other sets, with so many other
+# processes that have an adjustment at each semaphore.
+lists() {
+	device standard
+	many=4
+	generate first kind=lists count=0 together=16 size="$1" others="$2" adjusting="$3"
+	generate whole kind=lists count=$((16 * 120)) together=16 size="$1" others="$2" adjusting="$3"
+	difference "$1 | $2 | $3" 120
+}
+
 # Lines of 16 requests on the standard device beside 31 other queues: with nobody who waits, with 63 processes that wait on
 # these, and with 63 that wait on the queue for other types. They take turns. Sets `ratio` to what the second is of the
 # first.
@@ -265,6 +275,14 @@ beside calls 31 "sends and receives, no byte"
 beside gets 0 "gets by a key"
 beside gets 31 "gets by a key"
 beside gets 31 "gets by a key, of queues whose keys were chosen alike" 1
+echo
+echo "| a line of 16 lists of two operations on the standard device, on a set of so many semaphores | other sets" \
+	"| other processes with adjustments | microseconds | range |"
+echo "|---|---|---|---|---|"
+lists 1 0 0
+lists 64 0 0
+lists 64 31 0
+lists 64 31 63
 echo
 echo "| a line of 16 requests on the standard device, no byte, processes that wait | microseconds | range |"
 echo "|---|---|---|"

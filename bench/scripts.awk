@@ -7,6 +7,9 @@
 #         which is saved before: to receive from the OTHERS in turn, or with SAME not 0 from the queue, for other types
 # gets    COUNT gets of the queue by its key, TOGETHER of them in a line; with ALIKE not 0 the other keys were chosen so
 #         that they stand where this one does in the table of keys
+# lists   COUNT lists of two operations with SEM_UNDO by one connection, TOGETHER of them in a line, on the last semaphore
+#         of a set of SIZE; OTHERS other sets, if there are any, have the rest of 512 semaphores; ADJUSTING other processes
+#         have an adjustment at each semaphore, which is saved before
 # ticks   COUNT ticks while OPENED connections are open; then the last of these says HELLO
 #
 # A row of the table is a call: its opcode, its fields and what its reply brings. A field is its size in bytes, or
@@ -94,6 +97,68 @@ function let_wait(    number) {
 	print "save" > script
 }
 
+# An operation with SEM_UNDO: the semaphore, and four digits of what is added.
+function operation(semaphore, what) {
+	return spelled(2, semaphore) what "1000"
+}
+
+# The other sets are there, and then the one of SIZE semaphores.
+function make_sets(    other, rest) {
+	open(1)
+	data(1, request(1, "HELLO", "1000 100"))
+	reply(1, 1, "HELLO", 1)
+	rest = 512 - size
+	for (other = 1; other <= others; other++) {
+		length_of[other] = int(rest / (others - other + 1))
+		rest -= length_of[other]
+		data(1, request(2, "semget", 2000 + other " " length_of[other] " " create_0600))
+		reply(1, 2, "semget", other)
+	}
+	length_of[others + 1] = size
+	data(1, request(2, "semget", "1234 " size " " create_0600))
+	reply(1, 2, "semget", others + 1)
+}
+
+# The other processes come, and add one to each semaphore.
+function adjust(    conn, set, semaphore, piece, many, requests) {
+	for (conn = 2; conn <= 1 + adjusting; conn++) {
+		open(conn)
+		data(conn, request(1, "HELLO", "1000 100"))
+		reply(conn, 1, "HELLO", conn)
+		requests = ""
+		for (set = 1; set <= others + 1; set++) {
+			piece = ""
+			many = 0
+			for (semaphore = 0; semaphore < length_of[set]; semaphore++) {
+				piece = piece operation(semaphore, "0001")
+				if (++many == 32 || semaphore == length_of[set] - 1) {
+					requests = requests request(2, "semop", set, endless piece)
+					reply(conn, 2, "semop")
+					piece = ""
+					many = 0
+				}
+			}
+		}
+		data(conn, requests)
+	}
+	print "save" > script
+}
+
+# Connection 1 performs its lists.
+function perform(    number, piece, held) {
+	piece = ""
+	held = 0
+	for (number = 1; number <= count; number++) {
+		piece = piece request(number, "semop", others + 1, endless operation(size - 1, "0001") operation(size - 1, "ffff"))
+		reply(1, number, "semop")
+		if (++held == together || number == count) {
+			data(1, piece)
+			piece = ""
+			held = 0
+		}
+	}
+}
+
 # A text of so many bytes that begins with the number, where it has four.
 function text_of(bytes, number) {
 	while (length(filler) < 2 * bytes)
@@ -127,6 +192,10 @@ BEGIN {
 	row("msgget", "0a", "4 4", "4")
 	row("msgsnd", "0b", "4 4 8 text", "")
 	row("msgrcv", "0c", "4 4 4 8", "8 text")
+	row("semget", "14", "4 4 4", "4")
+	# Its text is the timeout and the operations.
+	row("semop", "15", "4 text", "")
+	endless = "ffffffffffffffff"
 	# IPC_CREAT is 0x200
 	create_0600 = 512 + 6 * 64
 	printf "" > script
@@ -145,6 +214,10 @@ BEGIN {
 	} else if (kind == "gets") {
 		enter(1)
 		get()
+	} else if (kind == "lists") {
+		make_sets()
+		adjust()
+		perform()
 	} else if (kind == "ticks") {
 		for (conn = 1; conn <= opened; conn++)
 			open(conn)

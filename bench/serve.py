@@ -1,5 +1,6 @@
 """Sends and receives of 64-byte messages over the socket, each on the disk before its reply, beside
-as many commits done bare: 512 bytes and a sync, twice for each.
+as many commits done bare: 512 bytes and a sync, twice for each. And locks that outlive their holder:
+each client takes a semaphore and gives it back, with SEM_UNDO.
 
     python3 bench/serve.py PROGRAM [TURNS]
 
@@ -23,9 +24,13 @@ from pathlib import Path
 from statistics import median
 from typing import NamedTuple
 
-# How many clients, and how many requests each has in flight.
-Load = tuple[int, int]
-LOADS: list[Load] = [(1, 1), (1, 16), (8, 1), (8, 16), (32, 1), (32, 16), (60, 1), (60, 16)]
+# How many clients, how many requests each has in flight, and what they do.
+Load = tuple[int, int, str]
+LOADS: list[Load] = [
+    *((clients, ahead, "messages") for clients in (1, 8, 32, 60) for ahead in (1, 16)),
+    (60, 1, "locks"),
+    (60, 16, "locks"),
+]
 
 SECONDS = 1.0
 BARE_SECONDS = 0.5
@@ -77,7 +82,8 @@ def sample(program: str, load: Load, bare: float) -> Sample:
             server.stdout.readline()
             spent = processor_seconds(server.pid)
             writes = file_writes(server.pid)
-            said = run("./serve_load", "socket", *map(str, load), str(SECONDS))
+            clients, ahead, what = load
+            said = run("./serve_load", "socket", str(clients), str(ahead), str(SECONDS), what)
             spent = processor_seconds(server.pid) - spent
             writes = file_writes(server.pid) - writes
         finally:
@@ -101,16 +107,16 @@ def measure(program: str, turns: int) -> list[Turn]:
 
 def print_rows(turns: list[Turn]) -> None:
     print(
-        "| clients | in flight each | replies a second | bare commits a second | ratio | its range "
+        "| | clients | in flight each | replies a second | bare commits a second | ratio | its range "
         "| microseconds of processor a reply | syncs a second |"
     )
-    print("|---|---|---|---|---|---|---|---|")
+    print("|---|---|---|---|---|---|---|---|---|")
     for load in LOADS:
         samples = [turn[load] for turn in turns]
         replies, bare, microseconds, syncs = map(median, zip(*samples))
         ratios = sorted(sample.ratio for sample in samples)
         print(
-            f"| {load[0]} | {load[1]} | {replies:.0f} | {bare:.0f} | {median(ratios):.2f} "
+            f"| {load[2]} | {load[0]} | {load[1]} | {replies:.0f} | {bare:.0f} | {median(ratios):.2f} "
             f"| {ratios[0]:.2f} to {ratios[-1]:.2f} | {microseconds:.1f} | {syncs:.0f} |"
         )
 
@@ -118,7 +124,7 @@ def print_rows(turns: list[Turn]) -> None:
 def bars_are_met(turns: list[Turn]) -> bool:
     """Prints what is wanted of the medians, and what they are."""
     one, ahead, sixty, all_ahead = (
-        [turn[load] for turn in turns] for load in ((1, 1), (1, 16), (60, 1), (60, 16))
+        [turn[*load, "messages"] for turn in turns] for load in ((1, 1), (1, 16), (60, 1), (60, 16))
     )
     gain = [many.replies / single.replies for many, single in zip(ahead, one)]
     spent = median(sample.microseconds for sample in sixty)

@@ -1,8 +1,9 @@
 /* A load on a server: so many clients with so many requests in flight each, for so many seconds. Each client sends
-   messages of 64 bytes and receives them again, in turns, under a type of its own, on one of 30 queues. It tests every
-   byte of every reply, and prints how many replies came, and in how many seconds.
+   messages of 64 bytes and receives them again, in turns, under a type of its own, on one of 30 queues; with `locks` it
+   takes a semaphore of its own of one set and gives it back, in turns, with SEM_UNDO. It tests every byte of every
+   reply, and prints how many replies came, and in how many seconds.
 
-       serve_load SOCKET CLIENTS AHEAD SECONDS */
+       serve_load SOCKET CLIENTS AHEAD SECONDS messages|locks */
 #define _GNU_SOURCE
 #include <endian.h>
 #include <stdint.h>
@@ -22,7 +23,7 @@ struct frame {
 	unsigned char bytes[128];
 };
 
-/* The requests of a client are numbered from 0, and have that number and 1 as their serial. Even ones send. */
+/* The requests of a client are numbered from 0, and have that number and 1 as their serial. Even ones send or take. */
 struct client {
 	int socket;
 	struct frame request[2], reply[2];
@@ -43,6 +44,12 @@ static void put(struct frame *frame, const void *bytes, size_t size)
 {
 	memcpy(frame->bytes + frame->size, bytes, size);
 	frame->size += size;
+}
+
+static void put2(struct frame *frame, uint16_t number)
+{
+	number = htobe16(number);
+	put(frame, &number, 2);
 }
 
 static void put4(struct frame *frame, uint32_t number)
@@ -78,35 +85,68 @@ static void finish(struct frame *frame, uint32_t serial)
 	memcpy(frame->bytes + 4, &serial, 4);
 }
 
-/* Sends a request whose reply has a number as its body, and waits for it. */
-static uint32_t ask(struct client *client, struct frame *frame)
+/* Sends a request, and waits for its reply, whose body has so many bytes. */
+static void ask(struct client *client, struct frame *frame, void *body, size_t size)
 {
 	unsigned char bytes[14];
-	uint32_t number;
 	finish(frame, 1);
 	if (send(client->socket, frame->bytes, frame->size, 0) != (ssize_t)frame->size)
 		die("a request cannot be sent");
-	if (recv(client->socket, bytes, sizeof bytes, MSG_WAITALL) != sizeof bytes || bytes[8] || bytes[9])
-		die("HELLO or msgget is refused");
-	memcpy(&number, bytes + 10, 4);
+	if (recv(client->socket, bytes, 10 + size, MSG_WAITALL) != (ssize_t)(10 + size) || bytes[8] || bytes[9])
+		die("a first request is refused");
+	memcpy(body, bytes + 10, size);
+}
+
+/* The same, and the body is a number. */
+static uint32_t ask_number(struct client *client, struct frame *frame)
+{
+	uint32_t number;
+	ask(client, frame, &number, 4);
 	return be32toh(number);
 }
 
-static void start(struct client *client, const struct sockaddr_un *address, int number)
+/* An operation on a semaphore, with SEM_UNDO and without a limit of time. */
+static struct frame semop(uint32_t set, int number, int what)
+{
+	struct frame frame = request(0x15);
+	put4(&frame, set);
+	put8(&frame, UINT64_MAX);
+	put2(&frame, number);
+	put2(&frame, what);
+	put2(&frame, 0x1000);
+	return frame;
+}
+
+/* Its semaphore is free, and it will take it and give it back. */
+static void start_locks(struct client *client, int number)
+{
+	struct frame semget = request(0x14), setval = request(0x1a);
+	uint32_t set;
+
+	put4(&semget, 1);
+	put4(&semget, MOST_CLIENTS);
+	put4(&semget, 0x380);
+	set = ask_number(client, &semget);
+	put4(&setval, set);
+	put4(&setval, number);
+	put4(&setval, 1);
+	ask(client, &setval, NULL, 0);
+	client->request[0] = semop(set, number, -1);
+	client->request[1] = semop(set, number, 1);
+	client->reply[0] = reply();
+	client->reply[1] = reply();
+}
+
+/* It will send messages to its queue, and receive them. */
+static void start_messages(struct client *client, int number)
 {
 	char text[TEXT];
-	struct frame hello = request(0x01), msgget = request(0x0a);
+	struct frame msgget = request(0x0a);
 	uint32_t queue;
 
-	client->socket = socket(AF_UNIX, SOCK_STREAM, 0);
-	if (connect(client->socket, (const struct sockaddr *)address, sizeof *address) != 0)
-		die("no server is there");
-	put4(&hello, 1000);
-	put4(&hello, 100);
-	ask(client, &hello);
 	put4(&msgget, 1 + number % QUEUES);
 	put4(&msgget, 0x380);
-	queue = ask(client, &msgget);
+	queue = ask_number(client, &msgget);
 
 	memset(text, 'a' + number % 26, TEXT);
 	client->request[0] = request(0x0b);
@@ -123,6 +163,22 @@ static void start(struct client *client, const struct sockaddr_un *address, int 
 	client->reply[1] = reply();
 	put8(&client->reply[1], 1 + number);
 	put(&client->reply[1], text, TEXT);
+}
+
+static void start(struct client *client, const struct sockaddr_un *address, int number, int locks)
+{
+	struct frame hello = request(0x01);
+
+	client->socket = socket(AF_UNIX, SOCK_STREAM, 0);
+	if (connect(client->socket, (const struct sockaddr *)address, sizeof *address) != 0)
+		die("no server is there");
+	put4(&hello, 1000);
+	put4(&hello, 100);
+	ask_number(client, &hello);
+	if (locks)
+		start_locks(client, number);
+	else
+		start_messages(client, number);
 }
 
 /* Sends so many more requests at once. */
@@ -177,21 +233,22 @@ int main(int argc, char **argv)
 {
 	struct sockaddr_un address = { .sun_family = AF_UNIX };
 	struct epoll_event events[MOST_CLIENTS];
-	int many, ahead, poll, i;
+	int many, ahead, locks, poll, i;
 	double begin, seconds;
 	long replies = 0;
 
-	if (argc != 5 || strlen(argv[1]) >= sizeof address.sun_path)
-		die("usage: serve_load SOCKET CLIENTS AHEAD SECONDS");
+	if (argc != 6 || strlen(argv[1]) >= sizeof address.sun_path)
+		die("usage: serve_load SOCKET CLIENTS AHEAD SECONDS messages|locks");
 	strcpy(address.sun_path, argv[1]);
 	many = atoi(argv[2]);
 	ahead = atoi(argv[3]);
+	locks = strcmp(argv[5], "locks") == 0;
 	if (many < 1 || many > MOST_CLIENTS || ahead < 1 || ahead > MOST_AHEAD)
 		die("so many are not possible");
 	poll = epoll_create1(0);
 	for (i = 0; i < many; i++) {
 		struct epoll_event event = { EPOLLIN, { .ptr = &clients[i] } };
-		start(&clients[i], &address, i);
+		start(&clients[i], &address, i, locks);
 		if (epoll_ctl(poll, EPOLL_CTL_ADD, clients[i].socket, &event) != 0)
 			die("a client cannot be waited for");
 	}

@@ -35,13 +35,18 @@ A signal handler or another thread may interrupt the call that waits, by `interr
 exception that broke a wait off, as KeyboardInterrupt does, the call still waits: `interrupt` ends it,
 and `receive` gives its reply, which may be a message that came first.
 
-Semaphore sets have semget(2), and a method for each command of semctl(2). semop(2) is not there yet.
-A set of two semaphores is made, and given values; `semctl_getall` answers [1, 5] then.
+Semaphore sets have semget(2), a method for each command of semctl(2), and semop(2), which performs a
+list of operations whole or not at all, and waits until it can. A set of two semaphores is made, and
+given values; then one is taken off each. `semctl_getall` answers [0, 4] then, and [1, 5] once the
+connection has ended, in whatever way: SEM_UNDO gives back what a process has taken.
 
     gates = connection.semget(1234, 2, IPC_CREAT | 0o600)
-    connection.semctl_setall(gates, [1, 0])
-    connection.semctl_setval(gates, 1, 5)
+    connection.semctl_setall(gates, [1, 5])
+    connection.semop(gates, [(0, -1, SEM_UNDO), (1, -1, SEM_UNDO)])
     connection.semctl_getall(gates)
+
+The server itself ends a list that waits after `timeout` seconds, as semtimedop(2) has it: that is a
+BlockingIOError (EAGAIN).
 
 A client that need not wait for each reply sends some requests ahead, and then receives the replies,
 which come in the same order if no call waits.
@@ -73,6 +78,10 @@ IPC_EXCL = 0o2000
 IPC_NOWAIT = 0o4000
 MSG_NOERROR = 0o10000
 MSG_EXCEPT = 0o20000
+SEM_UNDO = 0o10000
+
+# A number of a semaphore, what is added to its value, or 0 to wait for 0, and maybe flags, as in semop(2).
+Operation = tuple[int, int] | tuple[int, int, int]
 
 
 # Requests: an opcode, and the fields of the call.
@@ -114,12 +123,27 @@ def semget_request(key: int, nsems: int, semflg: int) -> bytes:
     return struct.pack(">BiiI", 0x14, key, nsems, semflg)
 
 
+def semop_request(semid: int, sops: Sequence[Operation], timeout: float | None = None) -> bytes:
+    """The timeout is in seconds; in the request it is in milliseconds, and the greatest number is none."""
+    wait = 2**64 - 1 if timeout is None else round(1000 * timeout)
+    operations = (struct.pack(">HhH", *sop, *(3 - len(sop)) * [0]) for sop in sops)
+    return struct.pack(">BIQ", 0x15, semid, wait) + b"".join(operations)
+
+
 def semctl_getval_request(semid: int, semnum: int) -> bytes:
     return struct.pack(">BII", 0x16, semid, semnum)
 
 
 def semctl_getpid_request(semid: int, semnum: int) -> bytes:
     return struct.pack(">BII", 0x17, semid, semnum)
+
+
+def semctl_getncnt_request(semid: int, semnum: int) -> bytes:
+    return struct.pack(">BII", 0x18, semid, semnum)
+
+
+def semctl_getzcnt_request(semid: int, semnum: int) -> bytes:
+    return struct.pack(">BII", 0x19, semid, semnum)
 
 
 def semctl_setval_request(semid: int, semnum: int, value: int) -> bytes:
@@ -250,13 +274,26 @@ class Connection:
         """The identifier of the semaphore set with this key, see semget(2)."""
         return _number(self.call(semget_request(key, nsems, semflg)))
 
+    def semop(self, semid: int, sops: Sequence[Operation], timeout: float | None = None) -> None:
+        """Performs operations on the semaphores of a set, all of them or none, see semop(2). It waits until
+        it can, and `timeout` seconds at most, if they are given: then it is EAGAIN."""
+        self.call(semop_request(semid, sops, timeout))
+
     def semctl_getval(self, semid: int, semnum: int) -> int:
         """The value of a semaphore, GETVAL of semctl(2)."""
         return _number(self.call(semctl_getval_request(semid, semnum)))
 
     def semctl_getpid(self, semid: int, semnum: int) -> int:
-        """The process that last set a semaphore, and 0 if none has, GETPID of semctl(2)."""
+        """The process that last set a semaphore or named it in a list, and 0 if none has, GETPID of semctl(2)."""
         return _number(self.call(semctl_getpid_request(semid, semnum)))
+
+    def semctl_getncnt(self, semid: int, semnum: int) -> int:
+        """How many calls wait until a semaphore has a higher value, GETNCNT of semctl(2)."""
+        return _number(self.call(semctl_getncnt_request(semid, semnum)))
+
+    def semctl_getzcnt(self, semid: int, semnum: int) -> int:
+        """How many calls wait until the value of a semaphore is 0, GETZCNT of semctl(2)."""
+        return _number(self.call(semctl_getzcnt_request(semid, semnum)))
 
     def semctl_setval(self, semid: int, semnum: int, value: int) -> None:
         """Gives a semaphore a value, from 0 to 32767, SETVAL of semctl(2)."""
@@ -280,7 +317,7 @@ class Connection:
         self.call(semctl_set_request(semid, uid, gid, mode))
 
     def semctl_rmid(self, semid: int) -> None:
-        """Removes a semaphore set, IPC_RMID of semctl(2)."""
+        """Removes a semaphore set, IPC_RMID of semctl(2). Calls that wait for it are EIDRM."""
         self.call(semctl_rmid_request(semid))
 
     def call(self, request: bytes, timeout: float | None = None) -> bytes:

@@ -1,5 +1,6 @@
 # A server for an example, which names the program as its one argument and reads this file first: a folder of its own
-# as the working directory, and `serve`. The client is client.py, which needs Python and finds itself by PYTHONPATH.
+# as the working directory, `serve`, and `until_it_says`. The client is client.py, which needs Python and finds itself by
+# PYTHONPATH.
 ipcd=$(realpath "$1")
 example=$(basename "$0" .sh)
 PYTHONPATH=$(realpath "$(dirname "$0")")
@@ -27,6 +28,19 @@ serve() {
 		tries=$((tries + 1))
 		if [ "$tries" -gt 100 ] || ! kill -0 "$server"; then
 			echo "$example: the server does not start" >&2
+			exit 1
+		fi
+		sleep 0.1
+	done
+}
+
+# Waits until a client of this name has said this, in a file of its name.
+until_it_says() {
+	tries=0
+	until grep -qx "$1 $2" "$1"; do
+		tries=$((tries + 1))
+		if [ "$tries" -gt 100 ]; then
+			echo "$example: '$1 $2' is not said" >&2
 			exit 1
 		fi
 		sleep 0.1

@@ -19,19 +19,6 @@ with Connection('socket') as server:
 	worker=$!
 }
 
-# Waits until a worker has said this.
-until_it_says() {
-	tries=0
-	until grep -qx "$1 $2" "$1"; do
-		tries=$((tries + 1))
-		if [ "$tries" -gt 100 ]; then
-			echo "worker: '$1 $2' is not said" >&2
-			exit 1
-		fi
-		sleep 0.1
-	done
-}
-
 # Sends jobs. Once the server has answered this client's HELLO it has seen who had gone before.
 send() {
 	echo "\$ send $*"

@@ -12,10 +12,15 @@ from device_layout import (
     IPC_NOWAIT,
     MSG_EXCEPT,
     MSG_NOERROR,
+    NO_DEADLINE,
+    SEM_UNDO,
     STANDARD,
+    Adjustment,
     Device,
     Queue,
+    Set,
     Waiting,
+    adjustments,
     clock,
     hello,
     interrupt,
@@ -25,10 +30,11 @@ from device_layout import (
     processes,
     semctl_setall,
     semget,
+    semop,
     state,
     waits,
 )
-from device_runs import Check, opens, refuses, row
+from device_runs import Check, opens, refuses, row, row_of_set
 
 Objects = list[tuple[int, bytes]]
 
@@ -110,13 +116,74 @@ COULD_GO_ON: tuple[tuple[str, Waiting, Queue], ...] = (
 )
 
 
+# Lists of operations on set 1, of two semaphores, by process 1, whose adjustment at the first is 32767: lists that have
+# to wait, and lists that could go on or would be refused, or are too late. The clock is 9.
+GATES = Set(77, ((3, 0), (0, 0)))
+UNDO = adjustments(Adjustment(1, 1, 0, 32767))
+
+
+def a_list(*operations: tuple[int, int, int], deadline: int = NO_DEADLINE, semid: int = 1) -> Waiting:
+    return Waiting(1, semop(8, semid, *operations, timeout=5), deadline)
+
+
+LISTS_WAIT: tuple[tuple[str, Waiting, Set], ...] = (
+    ("an operation that takes too much", a_list((0, -4, 0)), GATES),
+    ("one that waits for 0", a_list((0, 0, 0)), GATES),
+    ("the lowest", a_list((0, -32768, SEM_UNDO)), GATES),
+    ("the second of two", a_list((0, -3, 0), (0, -1, SEM_UNDO)), GATES),
+    ("the last of four", a_list((0, -1, 0), (0, 32765, 0), (0, -32767, 0), (1, -1, 0)), GATES),
+    ("the first, and the next is refused", a_list((1, -1, 0), (0, 32767, 0)), GATES),
+    ("the first, and the next does not wait", a_list((1, -1, 0), (0, -9, IPC_NOWAIT)), GATES),
+    ("flags that mean nothing", a_list((1, -1, 0xE7FF)), GATES),
+    ("with a deadline", a_list((0, -4, 0), deadline=10), GATES),
+    ("with the last deadline", a_list((0, -4, 0), deadline=2**64 - 2), GATES),
+    ("one that waits for 0, with leave to read", a_list((0, 0, 0)), GATES._replace(mode=0o400)),
+    ("one that takes, with leave to write", a_list((0, -4, 0)), GATES._replace(mode=0o200)),
+)
+LISTS_GO_ON: tuple[tuple[str, Waiting, Set], ...] = (
+    ("an operation that can be done", a_list((0, -3, 0)), GATES),
+    ("one that finds 0", a_list((1, 0, 0)), GATES),
+    ("four that can be done", a_list((0, -3, 0), (0, 0, 0), (0, 9, 0), (0, -9, 0)), GATES),
+    ("one that does not wait", a_list((0, -4, IPC_NOWAIT)), GATES),
+    ("the first does not wait", a_list((0, -4, IPC_NOWAIT), (1, -1, 0)), GATES),
+    ("a value above the greatest", a_list((0, 32765, 0), (1, -1, 0)), GATES),
+    ("an adjustment above the greatest", a_list((0, -1, SEM_UNDO), (1, -1, 0)), GATES),
+    ("no operation", a_list(), GATES),
+    ("five operations", a_list(*5 * [(1, -1, 0)]), GATES),
+    ("a semaphore that is not there", a_list((1, -1, 0), (2, -1, 0)), GATES),
+    ("a set that is not there", a_list((1, -1, 0), semid=2), GATES),
+    ("one that waits for 0, without leave to read", a_list((0, 0, 0)), GATES._replace(mode=0o377)),
+    ("one that takes, without leave to write", a_list((0, -4, 0)), GATES._replace(mode=0o577)),
+    ("a later one without leave", a_list((0, -4, 0), (1, 0, 0)), GATES._replace(mode=0o200)),
+    ("a deadline that has come", a_list((0, -4, 0), deadline=9), GATES),
+    ("a deadline of 0", a_list((0, -4, 0), deadline=0), GATES),
+)
+
+
+def with_lists(calls: bytes, one: Set) -> Objects:
+    them = processes(*((pid, 1000, 100) for pid in (1, 2)))
+    return state(clock(9, 3, 1, 2), them, {}, {1: one}, calls, UNDO)
+
+
+def lists() -> Iterator[Check]:
+    """A list alone, and before and after another that has to wait, if that has leave to write."""
+    other = Waiting(2, semop(8, 1, (1, -32767, 0)))
+    for name, one, gates in LISTS_WAIT + LISTS_GO_ON:
+        for them in [(one,), (other, one), (one, other)] if gates.mode == 0o600 else [(one,)]:
+            image = holding(with_lists(waits(*them), gates)).image
+            if (name, one, gates) in LISTS_WAIT:
+                yield partial(opens, image, row_of_set(1, gates), f"{name} waits")
+            else:
+                yield partial(refuses, image, "damaged sector 1", name)
+
+
 def unsound_calls() -> Iterator[tuple[str, Objects]]:
     """Calls that may not wait, each after one that may."""
     for name, one in {
         "two calls of one process": Waiting(2, TAKING.frame),
         "a call of process 0": Waiting(0, TAKING.frame),
         "a call of no process": Waiting(5, TAKING.frame),
-        "a call with a deadline": Waiting(1, TAKING.frame, 9),
+        "a call with a deadline": Waiting(1, TAKING.frame, 10),
         "a call with the last deadline": Waiting(1, TAKING.frame, 2**64 - 2),
         "a msgget that waits": Waiting(1, msgget(8, 1000)),
         "a semget that waits": Waiting(1, semget(8, 1000, 1)),
@@ -210,6 +277,7 @@ def calls() -> Iterator[Check]:
     for name, objects in unsound_calls():
         yield partial(refuses, holding(objects).image, "damaged sector 1", name)
     yield from turned_calls()
+    yield from lists()
 
 
 def as_many_calls_as_may_be() -> None:

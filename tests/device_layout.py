@@ -20,6 +20,7 @@ SET_KIND = 2 * QUEUE_KIND
 NONE = bytes(4)
 NO_DEADLINE = 2**64 - 1
 IPC_NOWAIT, MSG_NOERROR, MSG_EXCEPT = 0x800, 0x1000, 0x2000
+SEM_UNDO = 0x1000
 # A user and a group.
 Cred = tuple[int, int]
 
@@ -162,6 +163,19 @@ def semget(serial: int, key: int, nsems: int, flags: int = 0x380) -> bytes:
     return struct.pack(">IBiiI", serial, 0x14, key, nsems, flags)
 
 
+def semop(serial: int, semid: int, *operations: tuple[int, int, int], timeout: int = NO_DEADLINE) -> bytes:
+    them = b"".join(struct.pack(">HhH", *one) for one in operations)
+    return struct.pack(">IBIQ", serial, 0x15, semid, timeout) + them
+
+
+def semctl_getncnt(serial: int, semid: int, number: int) -> bytes:
+    return struct.pack(">IBII", serial, 0x18, semid, number)
+
+
+def semctl_getzcnt(serial: int, semid: int, number: int) -> bytes:
+    return struct.pack(">IBII", serial, 0x19, semid, number)
+
+
 def semctl_setval(serial: int, semid: int, number: int, value: int) -> bytes:
     return struct.pack(">IBIIi", serial, 0x1A, semid, number, value)
 
@@ -234,15 +248,6 @@ class Queue(NamedTuple):
         """How many bytes of text."""
         return sum(len(text) for _, text in self.messages)
 
-    def gives(self, cred: Cred, bits: int) -> bool:
-        """Whether it gives this permission: 4 to read, 2 to write."""
-        uid, gid = cred
-        if uid in (self.owner[0], self.creator[0]):
-            shift = 6
-        else:
-            shift = 3 if gid in (self.owner[1], self.creator[1]) else 0
-        return uid == 0 or self.mode >> shift & bits == bits
-
     def is_full_for(self, text: bytes) -> bool:
         return max(self.held() + len(text), len(self.messages) + 1) > self.qbytes
 
@@ -281,6 +286,16 @@ class Set(NamedTuple):
             + struct.pack(">QQI", *self.times, len(self.semaphores))
             + b"".join(struct.pack(">HI", *semaphore) for semaphore in self.semaphores)
         )
+
+
+def gives(one: Queue | Set, cred: Cred, bits: int) -> bool:
+    """Whether it gives this permission: 4 to read, 2 to write."""
+    uid, gid = cred
+    if uid in (one.owner[0], one.creator[0]):
+        shift = 6
+    else:
+        shift = 3 if gid in (one.owner[1], one.creator[1]) else 0
+    return uid == 0 or one.mode >> shift & bits == bits
 
 
 def state(
@@ -390,13 +405,13 @@ def read_objects(image: bytes, limits: Limits) -> tuple[int, int, list[tuple[int
     return epoch, which, objects
 
 
-def read_clock(data: bytes) -> tuple[int, int, int]:
-    """The next pid, the next queue and the next semaphore set."""
+def read_clock(data: bytes) -> tuple[int, int, int, int]:
+    """The clock, the next pid, the next queue and the next semaphore set."""
     demand(len(data) == 32, ROOT)
-    _, pid, queue, one_set, *others = struct.unpack(">QIIIIII", data)
+    moment, pid, queue, one_set, *others = struct.unpack(">QIIIIII", data)
     demand(all(0 < number <= LAST_NUMBER + 1 for number in (pid, queue, one_set)), ROOT)
     demand(others == [1, 1, 1], ROOT)
-    return pid, queue, one_set
+    return moment, pid, queue, one_set
 
 
 def read_processes(data: bytes, limits: Limits, next_pid: int) -> dict[int, Cred]:
@@ -413,8 +428,8 @@ def read_processes(data: bytes, limits: Limits, next_pid: int) -> dict[int, Cred
     return them
 
 
-def read_waits(data: bytes, limits: Limits) -> dict[int, bytes]:
-    """The frames of the calls that wait, by pid."""
+def read_waits(data: bytes, limits: Limits, moment: int) -> dict[int, bytes]:
+    """The frames of the calls that wait, by pid. Only a semop has a deadline, which has not come."""
     demand(len(data) >= 4, ROOT)
     (count,) = struct.unpack(">I", data[:4])
     demand(count <= limits.processes, ROOT)
@@ -424,8 +439,9 @@ def read_waits(data: bytes, limits: Limits) -> dict[int, bytes]:
         demand(at + 16 <= len(data), ROOT)
         pid, deadline, length = struct.unpack(">IQI", data[at : at + 16])
         frame = data[at + 16 : at + 16 + length]
-        demand(len(frame) == length and is_request(frame) and frame[4] in (0x0B, 0x0C), ROOT)
-        demand(pid not in them and deadline == NO_DEADLINE, ROOT)
+        demand(len(frame) == length and is_request(frame) and frame[4] in (0x0B, 0x0C, 0x15), ROOT)
+        demand(pid not in them, ROOT)
+        demand(deadline == NO_DEADLINE or (frame[4] == 0x15 and moment < deadline), ROOT)
         them[pid] = frame
         at += 16 + length
     demand(at == len(data), ROOT)
@@ -450,71 +466,99 @@ def read_queue(data: bytes, limits: Limits) -> Queue:
     return queue
 
 
-def has_to_wait(frame: bytes, cred: Cred, queues: dict[int, Queue], limits: Limits) -> bool:
-    """Whether a call of this user and group, tried now, would neither be done nor refused."""
-    opcode, number, flags = struct.unpack(">BII", frame[4:13])
-    queue = queues.get(number)
-    if queue is None or flags & IPC_NOWAIT:
-        return False
-    if opcode == 0x0B:
-        (mtype,), text = struct.unpack(">q", frame[13:21]), frame[21:]
-        is_right = mtype > 0 and len(text) <= limits.msgmax
-        return is_right and queue.gives(cred, 2) and queue.is_full_for(text)
-    size, mtype = struct.unpack(">Iq", frame[13:25])
-    return size <= 2147483647 and queue.gives(cred, 4) and not queue.has_one_for(mtype, flags)
-
-
-def read_set(data: bytes, limits: Limits) -> tuple[int, int]:
-    """Its key, and how many semaphores it has."""
+def read_set(data: bytes, limits: Limits) -> Set:
     demand(len(data) >= 44, ROOT)
-    key, mode, count = struct.unpack(">i16xI16xI", data[:44])
+    key, uid, gid, cuid, cgid, mode, *times, count = struct.unpack(">iIIIIIQQI", data[:44])
     demand(mode < 0o1000 and 0 < count <= limits.semmsl and len(data) == 44 + 6 * count, ROOT)
-    values = [value for value, _ in struct.iter_unpack(">HI", data[44:])]
-    demand(max(values) <= 32767, ROOT)
-    return key, count
+    semaphores = tuple(struct.iter_unpack(">HI", data[44:]))
+    demand(max(value for value, _ in semaphores) <= 32767, ROOT)
+    return Set(key, semaphores, (uid, gid), (cuid, cgid), mode, tuple(times))
 
 
-def read_adjustments(data: bytes, pids: set[int], counts: dict[int, int]) -> None:
+def read_adjustments(data: bytes, pids: set[int], sets: dict[int, Set]) -> dict[tuple[int, int, int], int]:
     """They rise by pid, set and number; each is of a process, at a semaphore that is there, and not 0."""
     (count,) = struct.unpack(">I", data[:4].ljust(4, b"\0"))
     demand(len(data) == 4 + 12 * count, ROOT)
     before = (0, 0, -1)
+    them = {}
     for pid, semid, number, amount in struct.iter_unpack(">IIHh", data[4:]):
         demand(before < (pid, semid, number) and amount not in (0, -32768), ROOT)
-        demand(pid in pids and number < counts.get(semid, 0), ROOT)
+        demand(pid in pids and semid in sets and number < len(sets[semid].semaphores), ROOT)
         before = (pid, semid, number)
+        them[before] = amount
+    return them
 
 
-def are_sound(
-    calls: dict[int, bytes], creds: dict[int, Cred], queues: dict[int, Queue], limits: Limits
-) -> bool:
-    """Each call that waits is of a process, and has to."""
-    return all(
-        pid in creds and has_to_wait(frame, creds[pid], queues, limits) for pid, frame in calls.items()
-    )
+class State(NamedTuple):
+    """What calls that wait are tried on."""
+
+    creds: dict[int, Cred]
+    queues: dict[int, Queue]
+    sets: dict[int, Set]
+    adjustments: dict[tuple[int, int, int], int]
+    limits: Limits
+
+    def has_to_wait(self, pid: int, frame: bytes) -> bool:
+        """Whether a call, tried now, would neither be done nor refused."""
+        if pid not in self.creds:
+            return False
+        return self.stops_list(pid, frame) if frame[4] == 0x15 else self.stops_message(pid, frame)
+
+    def stops_message(self, pid: int, frame: bytes) -> bool:
+        opcode, number, flags = struct.unpack(">BII", frame[4:13])
+        cred, queue = self.creds[pid], self.queues.get(number)
+        if queue is None or flags & IPC_NOWAIT:
+            return False
+        if opcode == 0x0B:
+            (mtype,), text = struct.unpack(">q", frame[13:21]), frame[21:]
+            is_right = mtype > 0 and len(text) <= self.limits.msgmax
+            return is_right and gives(queue, cred, 2) and queue.is_full_for(text)
+        size, mtype = struct.unpack(">Iq", frame[13:25])
+        return size <= 2147483647 and gives(queue, cred, 4) and not queue.has_one_for(mtype, flags)
+
+    def stops_list(self, pid: int, frame: bytes) -> bool:
+        (semid,), operations = struct.unpack(">I", frame[5:9]), list(struct.iter_unpack(">HhH", frame[17:]))
+        one = self.sets.get(semid)
+        if one is None or not 0 < len(operations) <= self.limits.semopm:
+            return False
+        if not all(number < len(one.semaphores) for number, _, _ in operations):
+            return False
+        if not all(gives(one, self.creds[pid], 2 if what else 4) for _, what, _ in operations):
+            return False
+        values = [value for value, _ in one.semaphores]
+        held = [self.adjustments.get((pid, semid, number), 0) for number in range(len(values))]
+        for number, what, flags in operations:
+            is_stopped = values[number] != 0 if what == 0 else values[number] + what < 0
+            if is_stopped:
+                return not flags & IPC_NOWAIT
+            values[number] += what
+            if flags & SEM_UNDO:
+                held[number] -= what
+            if values[number] > 32767 or abs(held[number]) > 32767:
+                return False
+        return False
 
 
 def read_state(objects: list[tuple[int, bytes]], limits: Limits) -> tuple[int, set[int]]:
     """The next pid, and the processes that are connected."""
     demand([number for number, _ in objects[:4]] == [0, 1, 2, 3], ROOT)
-    next_pid, next_queue, next_set = read_clock(objects[0][1])
+    moment, next_pid, next_queue, next_set = read_clock(objects[0][1])
     creds = read_processes(objects[1][1], limits, next_pid)
-    calls = read_waits(objects[2][1], limits)
-    queues = [one for one in objects[4:] if one[0] < SET_KIND]
-    sets = objects[4 + len(queues) :]
-    demand(len(queues) <= limits.msgmni and len(sets) <= limits.semmni, ROOT)
-    demand(all(0 < number - QUEUE_KIND < next_queue for number, _ in queues), ROOT)
-    by_number = {number - QUEUE_KIND: read_queue(data, limits) for number, data in queues}
-    keys = [queue.key for queue in by_number.values() if queue.key]
-    demand(len(keys) == len(set(keys)), ROOT)
-    demand(are_sound(calls, creds, by_number, limits), ROOT)
-    demand(all(0 < number - SET_KIND < next_set for number, _ in sets), ROOT)
-    found = [read_set(data, limits) for _, data in sets]
-    demand(sum(count for _, count in found) <= limits.semmns, ROOT)
-    counts = {number - SET_KIND: count for (number, _), (_, count) in zip(sets, found)}
-    read_adjustments(objects[3][1], set(creds), counts)
-    keys = [key for key, _ in found if key]
-    demand(len(keys) == len(set(keys)), ROOT)
+    calls = read_waits(objects[2][1], limits, moment)
+    of_queues = [one for one in objects[4:] if one[0] < SET_KIND]
+    of_sets = objects[4 + len(of_queues) :]
+    demand(len(of_queues) <= limits.msgmni and len(of_sets) <= limits.semmni, ROOT)
+    demand(all(0 < number - QUEUE_KIND < next_queue for number, _ in of_queues), ROOT)
+    demand(all(0 < number - SET_KIND < next_set for number, _ in of_sets), ROOT)
+    queues = {number - QUEUE_KIND: read_queue(data, limits) for number, data in of_queues}
+    sets = {number - SET_KIND: read_set(data, limits) for number, data in of_sets}
+    for kind in (queues, sets):
+        keys = [one.key for one in kind.values() if one.key]
+        demand(len(keys) == len(set(keys)), ROOT)
+    demand(sum(len(one.semaphores) for one in sets.values()) <= limits.semmns, ROOT)
+    adjustments = read_adjustments(objects[3][1], set(creds), sets)
+    found = State(creds, queues, sets, adjustments, limits)
+    demand(all(found.has_to_wait(pid, frame) for pid, frame in calls.items()), ROOT)
     return next_pid, set(creds)
 
 
@@ -525,12 +569,12 @@ def is_request(frame: bytes) -> bool:
     fields = len(frame) - 5
     sizes = {0x01: (8, 8), 0x02: (0, 0), 0x0A: (8, 8), 0x0B: (16, 8443), 0x0C: (20, 20)}
     sizes |= {0x0D: (4, 4), 0x0E: (20, 20), 0x0F: (4, 4)}
-    sizes |= {0x14: (12, 12), 0x16: (8, 8), 0x17: (8, 8), 0x1A: (12, 12), 0x1B: (4, 4), 0x1C: (4, 8443)}
-    sizes |= {0x1D: (4, 4), 0x1E: (16, 16), 0x1F: (4, 4)}
+    sizes |= {0x14: (12, 12), 0x15: (12, 8443), 0x16: (8, 8), 0x17: (8, 8), 0x18: (8, 8), 0x19: (8, 8)}
+    sizes |= {0x1A: (12, 12), 0x1B: (4, 4), 0x1C: (4, 8443), 0x1D: (4, 4), 0x1E: (16, 16), 0x1F: (4, 4)}
     least, most = sizes.get(frame[4], (1, 0))
-    # A SETALL has whole values.
-    is_whole = frame[4] != 0x1C or fields % 2 == 0
-    return least <= fields <= most and is_whole
+    # A SETALL has whole values, and a semop whole operations.
+    unit = {0x15: 6, 0x1C: 2}.get(frame[4], 1)
+    return least <= fields <= most and (fields - least) % unit == 0
 
 
 def is_record(kind: int, moment: int, rest: bytes) -> bool:

@@ -32,8 +32,19 @@ from server import (  # noqa: E402
     reply,
     run_tests,
     serving,
+    until,
+    until_it_waits,
 )
-from client import IPC_CREAT, IPC_EXCL, IPC_PRIVATE, SemStat, semctl_setall_request  # noqa: E402
+from client import (  # noqa: E402
+    IPC_CREAT,
+    IPC_EXCL,
+    IPC_NOWAIT,
+    IPC_PRIVATE,
+    SEM_UNDO,
+    SemStat,
+    semctl_setall_request,
+    semop_request,
+)
 
 MODE = 0o600
 
@@ -134,6 +145,88 @@ def refusals() -> None:
         is_refused(lambda: client.semget(IPC_PRIVATE, 1, MODE), errno.ENOSPC)
 
 
+def lists() -> None:
+    """A list of operations is performed whole or not at all."""
+    printed("format", "device", "--small")
+    with serving(limits="small"), process() as client, process() as other, as_user(2000, 200) as third:
+        semid = client.semget(7, 3, IPC_CREAT | MODE)
+        begun = int(time.time() * 1000)
+        client.semop(semid, [(0, 5), (1, 0), (0, -2)])
+        has(client, semid, [3, 0, 0], [1, 1, 0])
+        stat = client.semctl_stat(semid)
+        check(begun - 1000 <= stat.otime <= time.time() * 1000, f"the last list was performed at {stat.otime}")
+        rows: list[tuple[int, Client, list[tuple[int, ...]]]] = [
+            (errno.EINVAL, client, []),
+            (errno.E2BIG, client, 5 * [(0, 1)]),
+            (errno.EFBIG, third, [(0, 1), (3, 0)]),
+            (errno.EACCES, third, [(0, 0)]),
+            (errno.EAGAIN, client, [(2, 7), (1, -1, IPC_NOWAIT)]),
+            (errno.EAGAIN, client, [(0, 0, IPC_NOWAIT), (0, 32767)]),
+            (errno.ERANGE, client, [(2, 7), (0, 32765)]),
+            (errno.EAGAIN, client, [(0, -32768, IPC_NOWAIT)]),
+        ]
+        for wanted, caller, operations in rows:
+            is_refused(lambda: caller.semop(semid, operations), wanted)
+        is_refused(lambda: other.semop(semid + 1, [(0, 1)]), errno.EINVAL)
+        has(client, semid, [3, 0, 0], [1, 1, 0])
+        check(client.semctl_stat(semid) == stat, "a list that is refused has changed the set")
+
+
+def lists_that_wait() -> None:
+    """Three lists wait, and one operation lets two of them go on, the later one first."""
+    printed("format", "device", "--small")
+    with serving(limits="small"), process() as client, process() as two, process() as three, process() as four:
+        semid = client.semget(7, 2, IPC_CREAT | MODE)
+        for waiting, operations in (two, [(0, -3)]), (three, [(1, -1)]), (four, [(0, -1), (1, 1)]):
+            until_it_waits(waiting, semop_request(semid, operations))
+        counts = [(client.semctl_getncnt(semid, number), client.semctl_getzcnt(semid, number)) for number in (0, 1)]
+        check(counts == [(2, 0), (1, 0)], f"{counts} wait")
+        client.semop(semid, [(0, 1)])
+        for answered in three, four:
+            check(answered.receive()[1] == 0, "a list does not go on")
+        has(client, semid, [0, 0], [4, 3])
+        check(client.semctl_getncnt(semid, 0) == 1, "the list that still waits is not counted")
+        client.semctl_rmid(semid)
+        check(two.receive()[1] == errno.EIDRM, "a list waits for a set that is removed")
+
+
+def a_time_is_over() -> None:
+    """EAGAIN after the timeout of semtimedop(2), and not before."""
+    printed("format", "device", "--small")
+    with serving(limits="small"), process() as client, process() as other:
+        semid = client.semget(7, 1, IPC_CREAT | MODE)
+        is_refused(lambda: client.semop(semid, [(0, -1)], timeout=0), errno.EAGAIN)
+        begun = time.monotonic()
+        is_refused(lambda: client.semop(semid, [(0, -1)], timeout=0.3), errno.EAGAIN)
+        passed = time.monotonic() - begun
+        check(0.29 <= passed < 5, f"it was over after {passed} seconds")
+        sent = until_it_waits(client, semop_request(semid, [(0, -1)], timeout=10))
+        other.semop(semid, [(0, 1)])
+        check(client.receive()[:2] == (sent, 0), "a list does not go on before its time")
+
+
+def taken_back() -> None:
+    """What a process has taken with SEM_UNDO is given back when its connection ends, in whatever way."""
+    printed("format", "device", "--small")
+    with serving(limits="small"), process() as client:
+        semid = client.semget(7, 2, IPC_CREAT | MODE)
+        client.semctl_setall(semid, [1, 5])
+        with process() as holder:
+            holder.semop(semid, [(0, -1, SEM_UNDO), (1, 3, SEM_UNDO), (1, -2)])
+            has(client, semid, [0, 6], [2, 2])
+        until(lambda: client.semctl_getall(semid) == [1, 3], "nothing is taken back")
+        with process() as holder:
+            holder.semop(semid, [(0, -1, SEM_UNDO)])
+            holder.send_bytes(frame(0, b""))
+            holder.is_answered(reply(0, errno.EPROTO))
+            until(lambda: client.semctl_getall(semid) == [1, 3], "a fault of the stream takes nothing back")
+        with process() as holder:
+            holder.semop(semid, [(0, -1, SEM_UNDO), (1, 1, SEM_UNDO)])
+            client.semctl_setval(semid, 0, 7)
+        until(lambda: client.semctl_getall(semid) == [7, 3], "a value that is set is changed, or another is not")
+        has(client, semid, [7, 3], [1, 4])
+
+
 def half_a_value() -> None:
     """EPROTO is the last frame, and no value is set."""
     with serving(limits="small"), process() as client:
@@ -174,6 +267,41 @@ def many_at_once() -> None:
         check(client.semctl_getall(semid) == 40 * [50], "a value is lost")
         pids = {client.semctl_getpid(semid, number) for number in range(40)}
         check(len(pids) == 40 and 0 not in pids, f"{pids} have set the values")
+
+
+class Holder(Worker):
+    """Takes a lock some times. Each second time it ends its connection in place of giving the lock back."""
+
+    holders = 0
+    turns = 0
+
+    def work(self) -> None:
+        for turn in range(10):
+            with Client() as client:
+                client.hello(1000, 100)
+                client.semop(self.queue, [(0, -1, SEM_UNDO)])
+                Holder.holders += 1
+                check(Holder.holders == 1, "two hold the lock")
+                time.sleep(0.001)
+                Holder.turns += 1
+                Holder.holders -= 1
+                if turn % 2:
+                    client.semop(self.queue, [(0, 1, SEM_UNDO)])
+
+
+def one_at_a_time() -> None:
+    """Twenty clients share a lock. Nobody holds it together with another, and none of them waits for ever."""
+    printed("format", "device")
+    with serving(), process() as client:
+        semid = client.semget(1, 1, IPC_CREAT | MODE)
+        client.semctl_setval(semid, 0, 1)
+        workers = [Holder(number, semid) for number in range(20)]
+        for worker in workers:
+            worker.start()
+        for worker in workers:
+            worker.finish()
+        check(Holder.turns == 200, f"{Holder.turns} have held the lock")
+        until(lambda: client.semctl_getall(semid) == [1], "the lock is not free")
 
 
 # ---- a server that goes away
@@ -243,7 +371,76 @@ def whole_or_not_at_all() -> None:
         os.remove("socket")
 
 
-TESTS = [each_call, refusals, half_a_value, many_at_once, kept, whole_or_not_at_all]
+def taken_back_after_a_kill() -> None:
+    """The server is killed while two hold semaphores and one waits. It gives back what they had, and nobody waits."""
+    printed("format", "device")
+    server = Server()
+    try:
+        with process() as client, process() as second, process() as third:
+            semid = client.semget(1, 3, IPC_CREAT | MODE)
+            client.semctl_setall(semid, [2, 0, 9])
+            client.semop(semid, [(0, -1, SEM_UNDO), (1, 4, SEM_UNDO), (2, -9)])
+            second.semop(semid, [(0, -1, SEM_UNDO), (1, -3, SEM_UNDO)])
+            has(client, semid, [0, 1, 0], [2, 2, 1])
+            until_it_waits(third, semop_request(semid, [(2, 5, SEM_UNDO), (0, -1, SEM_UNDO)]))
+            server.stop(signal.SIGKILL)
+    finally:
+        server.process.kill()
+    with serving(), process() as client:
+        # Of the first 1 is added to 0, and 4 are taken off 1, which has only 1. Of the second 1 and 3 are added.
+        has(client, semid, [2, 3, 0], [2, 2, 1])
+        client.semop(semid, [(0, -2)])
+        has(client, semid, [0, 3, 0], [4, 2, 1])
+
+
+def moved_whole() -> None:
+    """The server is killed while a client moves units from one semaphore to the other, 20 requests ahead. None is lost,
+    and as many are moved as were answered, or some more."""
+    rng = random.Random(SEED)
+    printed("format", "device")
+    with serving(), process() as client:
+        semid = client.semget(1, 2, IPC_CREAT | MODE)
+    for turn in range(10):
+        server = Server()
+        killer = threading.Timer(rng.uniform(0.05, 0.2), server.process.kill)
+        client = process()
+        client.semctl_setall(semid, [32767, 0])
+        killer.start()
+        sent = moved = 0
+        try:
+            while True:
+                while sent < moved + 20:
+                    sent += 1
+                    client.send(semop_request(semid, [(0, -1), (1, 1)]))
+                check(client.receive()[1] == 0, "a list is refused")
+                moved += 1
+        except (ConnectionResetError, BrokenPipeError):
+            pass
+        client.close()
+        killer.join()
+        server.process.wait()
+        os.remove("socket")
+        with serving(), process() as client:
+            found = client.semctl_getall(semid)
+        check(sum(found) == 32767, f"seed {SEED}, turn {turn}: {found} are not all units")
+        check(0 <= found[1] - moved <= 20, f"seed {SEED}, turn {turn}: {found[1]} are moved, and {moved} were answered")
+
+
+TESTS = [
+    each_call,
+    refusals,
+    lists,
+    lists_that_wait,
+    a_time_is_over,
+    taken_back,
+    half_a_value,
+    many_at_once,
+    one_at_a_time,
+    kept,
+    taken_back_after_a_kill,
+    whole_or_not_at_all,
+    moved_whole,
+]
 
 
 def main() -> None:

@@ -19,10 +19,10 @@ use Rattle.ipc_wire.specs.Reply.{reply_bytes}
 use Rattle.ipc_wire.proofs.CallerLemmas.{length-reply_bytes}
 use Rattle.ipc_state.specs.declared.parked.Awaited.{Awaited}
 use Rattle.ipc_state.specs.Finish.{Finish, Tried, Finishes, Waits, IfFinishes, has_to_wait, refused}
-use Rattle.ipc_state.specs.Sound.{FitsBody}
+use Rattle.ipc_state.specs.Sound.{HasSoundParts, FitsBody}
 use Rattle.ipc_state.specs.State.{State, has_all_processes, is_process, is_waiting, exit, with_waiting, without_waiting}
 use Rattle.ipc_state.specs.Waiting.{PlainWaiting, awaited_by, expiry}
-use Rattle.ipc_state.proofs.CallerLemmas.{IsGood}
+use Rattle.ipc_state.proofs.CallerLemmas.{IsGood, exit-sound}
 use Rattle.sysv_calls.specs.Calls.{attempt, touched}
 use Rattle.sysv_calls.proofs.CallerLemmas.{attempt-good, never-waits}
 use Rattle.ipc_engine.specs.Bytes.{IsGreeted, allowed, asked_by, asks, bytes_to, most_owed, owed, replies_to, unanswered}
@@ -32,7 +32,7 @@ use Rattle.ipc_engine.specs.Step.{Step, after, step, due, expired, waiting_on, a
 use Rattle.ipc_engine.specs.View.{reply_of}
 use Rattle.ipc_engine.proofs.Lists.{found-all, found-passes}
 use Rattle.ipc_engine.proofs.Settled.{settle-has}
-use Rattle.ipc_engine.proofs.Soundness.{due-sound, exit-waits, sound-settled}
+use Rattle.ipc_engine.proofs.Soundness.{due-sound}
 use Rattle.ipc_engine.proofs.Weights.{weight_to, weight_to-append, one-weighs, due-owes, held, IsLight}
 use Rattle.ipc_engine.proofs.Weights.{one_each, size_of, one-light, size-light, replies-weigh, bytes-weigh}
 
@@ -204,6 +204,12 @@ module _ (limits : Limits) (weigh : PlainOutcome → ℕ) (most : ℕ) (light : 
         weight_to-append weigh pid (due moment s).outcomes (next (due moment s).state).outcomes,
       )
 
+  -- those that go on after it are owed no more either
+  settled-owes : (t : State) → HasSoundParts limits t → (pid : ℕ) {n : ℕ} → held most t pid ≤ n
+      → weight_to weigh pid (settle limits t).outcomes + held most (settle limits t).state pid ≤ n + 0
+  unfolding settle
+  settled-owes t h pid less = omega (arith, less, (settle-has limits (length t.wait) t h).owes weigh most light pid)
+
   -- it is owed no more then, by so much
   pub step-weighs : (s : State) (e : PlainEvent) (pid : ℕ) → IsSound limits s → 0 < pid
       → weight_to weigh pid (step limits s e).outcomes + held most (step limits s e).state pid ≤ held most s pid + (if asks s e pid then most else 0)
@@ -220,9 +226,8 @@ module _ (limits : Limits) (weigh : PlainOutcome → ℕ) (most : ℕ) (light : 
       let d = (due moment s).state in
       let t = exit d gone in
       then-owes s moment pid 0 (λ u. settle limits (exit u gone)) h
-      (subst (λ (u : Step). weight_to weigh pid u.outcomes + held most u.state pid ≤ held most d pid + 0)
-      (sym (sound-settled limits t (exit-waits limits d gone (due-sound limits s moment h))))
-      (choice (λ (n : ℕ). n ≡ held most t pid → 0 + held most t pid ≤ held most d pid + 0) (pid == gone) 0 (held most d pid)
+      (settled-owes t (exit-sound limits d gone (due-sound limits s moment h).parts) pid
+      (choice (λ (n : ℕ). n ≡ held most t pid → held most t pid ≤ held most d pid) (pid == gone) 0 (held most d pid)
       (λ _ is. omega arith) (λ _ is. omega arith) (sym (left-owes most d t gone pid refl))))
   step-weighs s Restart pid h some = omega arith
 

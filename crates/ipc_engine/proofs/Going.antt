@@ -25,7 +25,7 @@ use Rattle.ipc_state.proofs.CallerLemmas.{IsGood}
 use Rattle.sysv_calls.specs.Calls.{attempt, is_receive, touched}
 use Rattle.sysv_calls.proofs.CallerLemmas.{attempt-good, by-waiting, received-waits, waits-there}
 use Rattle.ipc_engine.specs.Event.{PlainOutcome}
-use Rattle.ipc_engine.specs.Settling.{AreLinked, OthersWait, ReceivesWait}
+use Rattle.ipc_engine.specs.Settling.{AreLinked, OthersWait, ReceivesWait, RestWaits}
 use Rattle.ipc_engine.specs.Sound.{IsSound}
 use Rattle.ipc_engine.specs.Step.{Step, silent, after, resumed, resumed_first, settle_within, settle, can_go_on, tried_again}
 use Rattle.ipc_engine.proofs.Lists.{found-all, found-passes}
@@ -33,6 +33,13 @@ use Rattle.ipc_engine.proofs.Settled.{resumed-has, settle-nothing}
 use Rattle.ipc_engine.proofs.Soundness.{still-waits, credited}
 
 same_object : (a b : Awaited) → (a ≡ b) ⊎ (Some a ≢ Some b)
+same_object (awaited.Queue a) (awaited.Set b) = inr (λ same. cc)
+same_object (awaited.Set a) (awaited.Queue b) = inr (λ same. cc)
+same_object (awaited.Set a) (awaited.Set b) = by_test (test_cases (nat_eq a.0 b.0))
+  where
+    by_test : (nat_eq a.0 b.0 ≡ true) ⊎ (nat_eq a.0 b.0 ≡ false) → (awaited.Set a ≡ awaited.Set b) ⊎ (Some (awaited.Set a) ≢ Some (awaited.Set b))
+    by_test (inl is) = inl (ap (λ (n : ℕ). awaited.Set (record { 0 = n })) (grind (arith, nat_tests)))
+    by_test (inr other) = inr (λ same. absurd (let one : a ≡ b = cc in let is : a.0 ≡ b.0 = ap (λ (k : Id). k.0) one in grind (arith, nat_tests)))
 same_object (awaited.Queue a) (awaited.Queue b) = by_test (test_cases (nat_eq a.0 b.0))
   where
     by_test : (nat_eq a.0 b.0 ≡ true) ⊎ (nat_eq a.0 b.0 ≡ false) → (awaited.Queue a ≡ awaited.Queue b) ⊎ (Some (awaited.Queue a) ≢ Some (awaited.Queue b))
@@ -90,12 +97,13 @@ module _ (limits : Limits) where
         by_kind : (other : ℕ) (kind : PlainKind) → StillWaits other kind
         by_kind other (Calls call) = by-waiting (λ (c : PlainCall). StillWaits other (Calls c)) (λ i fs mt text one. cc)
             (λ i fs sz mt one waits. ap not (received-waits limits s pid false id flags size mtype f is other i fs sz mt (opposite _ waits)))
-            (λ c none one. let both = sym none.no_receive ∙ one in cc) call
+            (λ i timeout operations one. cc) (λ c none one. let both = sym none.no_receive ∙ one in cc) call
         by_kind other (Hello cred) = λ one. cc
         by_kind other Interrupts = λ one. cc
 
     pub receives-after : (call : PlainCall) → attempt limits s pid false call ≡ Finishes f → is_receive (Calls call) ≡ true → ReceivesWait limits f.state
-    receives-after = by-waiting StillReceive (λ id flags mtype text is one. cc) after-receive (λ call none is one. let both = sym none.no_receive ∙ one in cc)
+    receives-after = by-waiting StillReceive (λ id flags mtype text is one. cc) after-receive (λ id timeout operations is one. cc)
+        (λ call none is one. let both = sym none.no_receive ∙ one in cc)
 
   pub linked-after : (s : State) (touches : Option Awaited) (f : Finish) → IsSound limits s → IsGood limits s touches f → AreLinked f.state
   linked-after s touches f h good =
@@ -163,18 +171,24 @@ module _ (limits : Limits) where
   within-nothing s = refl
 
   -- one more has gone on: what is left to be done comes to the same
-  pub record GoesOn (s t : State) (on : Awaited) (n : ℕ) (old new : List PlainOutcome) : Type 0 where
+  pub record GoesOn (s t : State) (among : Option Awaited) (n : ℕ) (old new : List PlainOutcome) : Type 0 where
     pub parts : HasSoundParts limits t
     pub linked : AreLinked t
-    pub others : OthersWait limits t (Some on)
+    pub rest : RestWaits limits t among
     pub room : length new + length t.wait ≤ length old + length s.wait
     pub state : (settle_within limits n t).state ≡ (settle_within limits (suc n) s).state
     pub outcomes : new ++ (settle_within limits n t).outcomes ≡ old ++ (settle_within limits (suc n) s).outcomes
 
-  pub goes-on : (s t : State) (on : Awaited) (n : ℕ) (old new : List PlainOutcome) (w : PlainWaiting) → HasSoundParts limits s → AreLinked s
-      → OthersWait limits s (Some on)
-      → find (can_go_on limits s) s.wait ≡ Some w → t ≡ (resumed limits s w).state → new ≡ old ++ (resumed limits s w).outcomes → GoesOn s t on n old new
-  goes-on s t on n old new w h linked others first is said =
+  -- what waits on objects that have not changed has to wait on
+  rest-resumed : (s : State) (among : Option Awaited) (w : PlainWaiting) → HasSoundParts limits s → RestWaits limits s among
+      → find (can_go_on limits s) s.wait ≡ Some w → RestWaits limits (resumed limits s w).state among
+  rest-resumed s None w h rest first = λ k d i no. absurd (no tt)
+  rest-resumed s (Some on) w h rest first = others-resumed s on h rest w first
+
+  pub goes-on : (s t : State) (among : Option Awaited) (n : ℕ) (old new : List PlainOutcome) (w : PlainWaiting) → HasSoundParts limits s → AreLinked s
+      → RestWaits limits s among
+      → find (can_go_on limits s) s.wait ≡ Some w → t ≡ (resumed limits s w).state → new ≡ old ++ (resumed limits s w).outcomes → GoesOn s t among n old new
+  goes-on s t among n old new w h linked rest-waits first is said =
       let now = resumed limits s w in
       let sound = found-all (can_go_on limits s) IsSoundWaiting s.wait w h.wait.each first in
       let r = resumed-has limits s w sound in
@@ -183,7 +197,7 @@ module _ (limits : Limits) where
       record {
         parts = subst (HasSoundParts limits) (sym is) (r.parts h);
         linked = subst (λ (u : State). AreLinked u) (sym is) (linked-resumed s w sound linked);
-        others = subst (λ (u : State). OthersWait limits u (Some on)) (sym is) (others-resumed s on h others w first);
+        rest = subst (λ (u : State). RestWaits limits u among) (sym is) (rest-resumed s among w h rest-waits first);
         room = omega (
           arith,
           ap length said,

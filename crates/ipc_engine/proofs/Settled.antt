@@ -10,7 +10,9 @@ use Rattle.ipc_base.specs.declared.limits.Limits.{Limits}
 use Rattle.ipc_wait.specs.Waits.{call_of, without, is_of, is_due}
 use Rattle.ipc_wait.proofs.CallerLemmas.{IsIn, found-in, call_of-without_same, call_of-without_other}
 use Rattle.ipc_wire.specs.Request.{PlainCall, PlainKind, Hello, Interrupt as Interrupts, Calls}
+use Rattle.sem_undo.specs.Undo.{Key, adjustment}
 use Rattle.sysv_msg.specs.Queue.{Queue}
+use Rattle.sysv_sem.specs.Set.{Set}
 use Rattle.ipc_state.specs.declared.parked.Awaited.{Awaited}
 use Rattle.ipc_state.specs.declared.parked.Awaited.TheVariants as awaited
 use Rattle.ipc_state.specs.declared.processes.Process.{Process}
@@ -18,7 +20,7 @@ use Rattle.ipc_state.specs.Keyed.{Keyed}
 use Rattle.ipc_state.specs.Numbered.{Numbered, entry_of}
 use Rattle.ipc_state.specs.Finish.{Tried, Finishes, Waits, IfFinishes}
 use Rattle.ipc_state.specs.Sound.{HasSoundParts, FitsBody}
-use Rattle.ipc_state.specs.State.{State, is_process, is_waiting, without_waiting}
+use Rattle.ipc_state.specs.State.{State, is_process, is_waiting, undo_of, without_waiting}
 use Rattle.ipc_state.specs.Touching.{is_there, IsAsBefore}
 use Rattle.ipc_state.specs.Waiting.{PlainWaiting, IsSoundWaiting, awaited_by}
 use Rattle.ipc_state.proofs.CallerLemmas.{IsGood, without_waiting-sound}
@@ -33,18 +35,25 @@ use Rattle.ipc_engine.proofs.Weights.{weight_to, weight_to-append, one-weighs, h
 pub waits-touched : (call : PlainCall) (on : Awaited) → awaited_by (Calls call) ≡ Some on → touched call ≡ Some on
 waits-touched =
     by-waiting (λ call. (on : Awaited) → awaited_by (Calls call) ≡ Some on → touched call ≡ Some on) (λ id flags mtype text on is. is)
-    (λ id flags size mtype on is. is) (λ call other on is. let both = sym is ∙ other.never in cc)
+    (λ id flags size mtype on is. is) (λ id timeout operations on is. is) (λ call other on is. let both = sym is ∙ other.never in cc)
 
 -- who waits tells nothing of the objects
 pub there-with : (on : Awaited) (s : State) (ws : List PlainWaiting) → is_there on s ≡ true → is_there on (record s { wait = ws }) ≡ true
 there-with (awaited.Queue n) s ws there = there
+there-with (awaited.Set n) s ws there = there
 
 pub before-with : (on : Awaited) (s t : State) (ws : List PlainWaiting) → IsAsBefore on (record s { wait = ws }) t → IsAsBefore on s t
 before-with (awaited.Queue n) s t ws before = before
+before-with (awaited.Set n) s t ws before = before
 
--- the same queues
-pub as-before : (on : Awaited) (s t : State) → t.msg ≡ s.msg → IsAsBefore on s t
-as-before (awaited.Queue n) s t same = ap (λ (m : Keyed Queue). entry_of m n.0) same
+-- the adjustments of each process are the same
+abbrev pub HasSameUndo : State → State → Type 0
+HasSameUndo s t = (pid : ℕ) (k : Key) → adjustment (undo_of t pid) k ≡ adjustment (undo_of s pid) k
+
+-- the same queues, sets and adjustments
+pub as-before : (on : Awaited) (s t : State) → t.msg ≡ s.msg → t.sem ≡ s.sem → HasSameUndo s t → IsAsBefore on s t
+as-before (awaited.Queue n) s t same sets undo = ap (λ (m : Keyed Queue). entry_of m n.0) same
+as-before (awaited.Set n) s t same sets undo = (ap (λ (m : Keyed Set). entry_of m n.0) sets, λ pid num. undo pid (n.0, num))
 
 module _ (limits : Limits) where
   abbrev Fits : PlainOutcome → Type 0
@@ -92,7 +101,7 @@ module _ (limits : Limits) where
         wait = refl;
         few = omega arith;
         weight = λ weigh most light h pid. omega arith;
-        others = λ on apart there. as-before on s (without_waiting s w.pid.0) refl;
+        others = λ on apart there. as-before on s (without_waiting s w.pid.0) refl refl (λ pid k. refl);
       }
 
       by_kind : (kind : PlainKind) → awaited_by kind ≡ Some w.on

@@ -2,7 +2,10 @@
 use Rattle.std.proofs.Common.{◌≡◌, ◌≢◌, ℕ, Bool, true, false, not, cond, List, [], ◌∷◌, length}
 use Rattle.std.proofs.Common.{get_or, Option, Some, None, is_some, unwrap_or}
 use Rattle.std.proofs.Common.{refl, sym, ap, subst, ◌∙◌, arith}
-use Rattle.std.specs.Prelude.{All, option_map, ◌==◌}
+use Rattle.std.specs.Prelude.{All, option_map, ◌==◌, nat_eq, ◌++◌}
+use Rattle.std.specs.FinMap as fin
+use Rattle.ipc_base.specs.Table.{value_at}
+use Rattle.sem_undo.specs.Undo.{Key, Undo, adjustment}
 use Rattle.std.proofs.lemmas.Bool.Decides.{nat_tests}
 use Rattle.std.proofs.lemmas.List.Elements.{All-nil, All-cons, All-append, All-filter, All-map, All-push}
 use Rattle.ipc_base.specs.declared.limits.Limits.{Limits}
@@ -17,20 +20,25 @@ use Rattle.ipc_state.specs.declared.processes.Process.{Process}
 use Rattle.ipc_state.specs.Finish.{Finish, Tried, Finishes, Waits, IfFinishes, has_to_wait, refused}
 use Rattle.ipc_state.specs.Numbered.{Numbered, entry_of}
 use Rattle.ipc_state.specs.Sound.{HasSoundParts, FitsBody}
-use Rattle.ipc_state.specs.State.{State, at_moment, cred_of, due_calls, has_all_processes, is_process, is_waiting, exit}
+use Rattle.ipc_state.specs.State.{State, at_moment, cred_of, due_calls, has_all_processes, is_process, is_waiting, exit, undo_of}
 use Rattle.ipc_state.specs.State.{with_process, with_waiting, without_waiting}
 use Rattle.ipc_state.specs.Touching.{IsAsBefore}
-use Rattle.ipc_state.specs.Waiting.{PlainWaiting, IsSoundWaiting, awaited_by, deadline_of, expiry}
+use Rattle.ipc_state.specs.Waiting.{PlainWaiting, IsSoundWaiting, awaited_by, expiry}
 use Rattle.ipc_state.proofs.CallerLemmas.{IsGood, begin-sound, exit-sound, restart-sound, with_process-sound, with_waiting-sound}
-use Rattle.ipc_state.proofs.CallerLemmas.{without_due-sound, without_waiting-sound}
+use Rattle.ipc_state.proofs.CallerLemmas.{deadline-sound, without_due-sound, without_waiting-sound}
 use Rattle.sysv_calls.specs.Calls.{attempt, touched}
 use Rattle.sysv_calls.proofs.CallerLemmas.{attempt-good, waits-alike}
 use Rattle.ipc_engine.specs.Engine.{IsForProcess, HasRequest}
 use Rattle.ipc_engine.specs.Event.{PlainEvent, Connect, Call, Interrupt, Tick, Exit, Restart, PlainOutcome}
+use Rattle.ipc_engine.specs.Settling.{AreLinked}
 use Rattle.ipc_engine.specs.Sound.{IsSound, HasToWait}
 use Rattle.ipc_engine.specs.Step.{Step, silent, step, due, expired, waiting_on, connect, asked, told, joins, interrupt, interrupted, replied, settle, can_go_on}
 use Rattle.ipc_engine.proofs.Lists.{none-left}
-use Rattle.ipc_engine.proofs.Settled.{settle-has, settle-done, settle-nothing, as-before}
+use Rattle.ipc_engine.proofs.Settled.{settle-has, settle-done, settle-nothing, as-before, HasSameUndo}
+
+-- no adjustment
+abbrev none : Undo
+none = fin.empty
 
 module _ (limits : Limits) where
   abbrev Fits : PlainOutcome → Type 0
@@ -62,17 +70,18 @@ module _ (limits : Limits) where
   abbrev IsEarly : State → PlainWaiting → Type 0
   IsEarly s w = is_due (record { 0 = s.clock }) w ≡ false
 
-  -- those that waited do so still if the queues are the same, and their processes, and no deadline has come
-  pub all-wait : (s t : State) (ws : List PlainWaiting) → All IsSoundWaiting ws → t.msg ≡ s.msg → All (IsSame s t) ws → All (IsEarly t) ws
+  -- those that waited do so still if the objects are the same, the adjustments and their processes, and no deadline has come
+  pub all-wait : (s t : State) (ws : List PlainWaiting) → All IsSoundWaiting ws → t.msg ≡ s.msg → t.sem ≡ s.sem → HasSameUndo s t
+      → All (IsSame s t) ws → All (IsEarly t) ws
       → All (HasToWait limits s) ws → All (HasToWait limits t) ws
-  all-wait s t ws sound queues same early waits = λ k d h.
+  all-wait s t ws sound queues sets undo same early waits = λ k d h.
       let w = get_or ws k d in
       let process = same k d h in
       record {
         process = ap is_some process ∙ (waits k d h).process;
         early = early k d h;
         waits = still-waits s t w (sound k d h) (credited s t w.pid.0 process)
-            (as-before w.on s t queues) ∙ (waits k d h).waits;
+            (as-before w.on s t queues sets undo) ∙ (waits k d h).waits;
       }
 
   -- settled, a state is sound whose parts are, and whose waiting calls are of its processes and not due
@@ -109,16 +118,38 @@ module _ (limits : Limits) where
       record {
         parts = without_due-sound limits t (begin-sound limits s moment h.parts);
         waits = all-wait s (due moment s).state left
-            (All-filter (λ (w : PlainWaiting). not (test w)) IsSoundWaiting s.wait h.parts.wait.each) refl (λ k d i. refl) (none-left test s.wait)
+            (All-filter (λ (w : PlainWaiting). not (test w)) IsSoundWaiting s.wait h.parts.wait.each) refl refl (λ pid k. refl)
+            (λ k d i. refl) (none-left test s.wait)
             (All-filter (λ (w : PlainWaiting). not (test w)) (HasToWait limits s) s.wait h.waits);
       }
+
+  -- who comes has no adjustments, and those of the others stay
+  same-undo : (s : State) → (pid : ℕ) (k : Key) → adjustment (unwrap_or (value_at nat_eq (s.undo ++ (s.processes.next, none) ∷ []) pid) none) k
+      ≡ adjustment (undo_of s pid) k
+  same-undo s pid k = ap (λ (u : Undo). adjustment u k) (pushed s.undo)
+    where
+      pushed : (us : List (ℕ × Undo)) → unwrap_or (value_at nat_eq (us ++ (s.processes.next, none) ∷ []) pid) none
+          ≡ unwrap_or (value_at nat_eq us pid) none
+      pushed [] = by_test (nat_eq s.processes.next pid)
+        where
+          by_test : (b : Bool) → unwrap_or (cond b (Some none) None) none ≡ none
+          by_test true = refl
+          by_test false = refl
+      pushed (u ∷ us) = by_test (nat_eq u.0 pid) (pushed us)
+        where
+          by_test : (b : Bool) → unwrap_or (value_at nat_eq (us ++ (s.processes.next, none) ∷ []) pid) none
+              ≡ unwrap_or (value_at nat_eq us pid) none
+              → unwrap_or (cond b (Some u.1) (value_at nat_eq (us ++ (s.processes.next, none) ∷ []) pid)) none
+              ≡ unwrap_or (cond b (Some u.1) (value_at nat_eq us pid)) none
+          by_test true rest = refl
+          by_test false rest = rest
 
   connect-sound : (s : State) (cred : Cred) (serial : ℕ) → IsSound limits s → IsSound limits (connect limits cred serial s).state
   connect-sound s cred serial h =
       choice (λ (t : Step). IsSound limits t.state) (has_all_processes limits s) _ _ (λ _. h)
       (λ room. record {
         parts = with_process-sound limits s cred room h.parts;
-        waits = all-wait s (with_process s cred) s.wait h.parts.wait.each refl
+        waits = all-wait s (with_process s cred) s.wait h.parts.wait.each refl refl (same-undo s)
             (λ k d i.
             let pid = (get_or s.wait k d).pid.0 in
             let below = (rising-found 1 s.processes.entries s.processes.next pid h.parts.processes.numbers (h.waits k d i).process).1 in
@@ -146,21 +177,21 @@ module _ (limits : Limits) where
   early-besides : (s : State) (pid : ℕ) → IsSound limits s → All (IsEarly s) (without (record { 0 = pid }) s.wait)
   early-besides s pid h = All-filter (λ (w : PlainWaiting). not (is_of (record { 0 = pid }) w)) (IsEarly s) s.wait (all-early s h)
 
-  pub exit-waits : (s : State) (pid : ℕ) → IsSound limits s → IsSound limits (exit s pid)
-  exit-waits s pid h =
-      let gone = apart pid s.wait in
-      record {
-        parts = exit-sound limits s pid h.parts;
-        waits = all-wait s (exit s pid) (without (record { 0 = pid }) s.wait) (sound-besides s pid h) refl
-            (λ k d i. value_at-without s.processes.entries pid (get_or (without (record { 0 = pid }) s.wait) k d).pid.0 (gone k d i))
-            (early-besides s pid h) (waits-besides s pid h);
-      }
+  -- after an exit those that wait are of the other processes
+  pub exit-linked : (s : State) (pid : ℕ) → IsSound limits s → AreLinked (exit s pid)
+  exit-linked s pid h = λ k d i.
+      ap is_some (value_at-without s.processes.entries pid (get_or (without (record { 0 = pid }) s.wait) k d).pid.0 (apart pid s.wait k d i))
+      ∙ All-filter (λ (w : PlainWaiting). not (is_of (record { 0 = pid }) w)) (λ (w : PlainWaiting). is_process s w.pid.0 ≡ true) s.wait (linked s h) k d i
+
+  -- and those go on that can
+  pub exit-settled : (s : State) (pid : ℕ) → IsSound limits s → IsSound limits (settle limits (exit s pid)).state
+  exit-settled s pid h = settled-sound (exit s pid) (exit-sound limits s pid h.parts) (exit-linked s pid h) (early-besides s pid h)
 
   pub left-waits : (s : State) (pid : ℕ) → IsSound limits s → IsSound limits (without_waiting s pid)
   left-waits s pid h =
       record {
         parts = without_waiting-sound limits s pid h.parts;
-        waits = all-wait s (without_waiting s pid) (without (record { 0 = pid }) s.wait) (sound-besides s pid h) refl (λ k d i. refl)
+        waits = all-wait s (without_waiting s pid) (without (record { 0 = pid }) s.wait) (sound-besides s pid h) refl refl (λ p k. refl) (λ k d i. refl)
             (early-besides s pid h) (waits-besides s pid h);
       }
 
@@ -181,15 +212,14 @@ module _ (limits : Limits) where
       → HasFrame request → awaited_by request.kind ≡ on → ((call : PlainCall) → request.kind ≡ Calls call
       → has_to_wait (attempt limits s pid false call) ≡ true)
       → IsSound limits (joins s pid request on).state
-  unfolding deadline_of
   joins-sound s pid request None h process free frame is waits = h
   joins-sound s pid request (Some on) h process free frame is waits =
       let w : PlainWaiting = waiting_on s pid request on in
-      let sound : IsSoundWaiting w = record { frame = frame; on = is; deadline = refl } in
+      let sound : IsSoundWaiting w = record { frame = frame; on = is; deadline = deadline-sound s.clock request.kind } in
       choice (λ (t : Step). IsSound limits t.state) (is_due (record { 0 = s.clock }) w) (replied pid request.serial (refused s (expiry request.kind)))
       (silent (with_waiting s w)) (λ _. h)
       (λ early.
-      let before = all-wait s (with_waiting s w) s.wait h.parts.wait.each refl (λ k d i. refl) (all-early s h) h.waits in
+      let before = all-wait s (with_waiting s w) s.wait h.parts.wait.each refl refl (λ p k. refl) (λ k d i. refl) (all-early s h) h.waits in
       record {
         parts = with_waiting-sound limits s w h.parts sound free (linked s h) process;
         waits = All-push (HasToWait limits (with_waiting s w)) s.wait w before
@@ -201,7 +231,8 @@ module _ (limits : Limits) where
           (record { pid = record { 0 = pid }; on = on; deadline = None; call = record { serial = request.serial; kind = kind } }) ≡ false
       by_kind w (Calls call) same =
           let t = with_waiting s w in
-          ap not (waits-alike limits s t pid false true call on (ap awaited_by (sym same) ∙ is) refl (as-before on s t refl) ∙ waits call same)
+          ap not (waits-alike limits s t pid false true call on (ap awaited_by (sym same) ∙ is) refl (as-before on s t refl refl (λ p k. refl))
+          ∙ waits call same)
       by_kind w (Hello cred) same = absurd (let no = ap awaited_by (sym same) ∙ is in cc)
       by_kind w Interrupts same = absurd (let no = ap awaited_by (sym same) ∙ is in cc)
 
@@ -240,8 +271,7 @@ module _ (limits : Limits) where
   step-sound s (Interrupt pid serial moment) h is has = interrupt-sound (due moment s).state pid serial (due-sound s moment h)
   step-sound s (Tick moment) h is has = due-sound s moment h
   step-sound s (Exit pid moment) h is has =
-      let left = exit-waits (due moment s).state pid (due-sound s moment h) in
-      subst (λ (t : Step). IsSound limits t.state) (sym (sound-settled (exit (due moment s).state pid) left)) left
+      exit-settled (due moment s).state pid (due-sound s moment h)
   step-sound s Restart h is has = record { parts = restart-sound limits s h.parts; waits = All-nil _ }
 
   -- ---- the bodies of the replies fit
@@ -267,6 +297,10 @@ module _ (limits : Limits) where
   joins-fits s pid request (Some on) =
       choice (λ (t : Step). All (λ (o : PlainOutcome). FitsBody limits o.body) t.outcomes) (is_due (record { 0 = s.clock }) (waiting_on s pid request on)) _ _
       (λ _. one-fits _ empty-fits) (λ _. All-nil Fits)
+
+  settled-fits : (s : State) → HasSoundParts limits s → All (λ (o : PlainOutcome). FitsBody limits o.body) (settle limits s).outcomes
+  unfolding settle
+  settled-fits s h = (settle-has limits (length s.wait) s h).fits
 
   told-fits : (s : State) (pid : ℕ) (request : PlainRequest) (call : PlainCall) (t : Tried) → IsSound limits s → IfFinishes (IsGood limits s (touched call)) t
       → All (λ (o : PlainOutcome). FitsBody limits o.body) (told limits pid request s t).outcomes
@@ -298,6 +332,5 @@ module _ (limits : Limits) where
   step-fits s (Tick moment) h = due-fits s moment
   step-fits s (Exit pid moment) h =
       All-append Fits (due moment s).outcomes _ (due-fits s moment)
-      (subst (λ (t : Step). All (λ (o : PlainOutcome). FitsBody limits o.body) t.outcomes)
-      (sym (sound-settled (exit (due moment s).state pid) (exit-waits (due moment s).state pid (due-sound s moment h)))) (All-nil Fits))
+      (settled-fits (exit (due moment s).state pid) (exit-sound limits (due moment s).state pid (due-sound s moment h).parts))
   step-fits s Restart h = All-nil Fits

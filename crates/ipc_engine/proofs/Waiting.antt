@@ -1,15 +1,16 @@
 -- The laws of waiting, and what an event leaves of the processes and of the clock.
 use Rattle.std.proofs.Common.{◌≡◌, ℕ, suc, ◌+◌, ◌≤◌, Bool, true, false, not, List, [], ◌∷◌, ◌++◌, length}
-use Rattle.std.proofs.Common.{length-append, map, max, Option, Some, None, refl, sym, ap, subst, ◌∙◌, arith}
+use Rattle.std.proofs.Common.{length-append, map, max, Option, Some, None, refl, ap, subst, ◌∙◌, arith}
 use Rattle.std.specs.Prelude.{All, find, if◌then◌else◌}
 use Rattle.std.proofs.lemmas.List.{length-map}
+use Rattle.std.proofs.lemmas.List.Filters.{length-filter_both}
 use Rattle.std.proofs.lemmas.List.Elements.{All-head, All-tail}
 use Rattle.ipc_base.specs.declared.errno.Errno.{Errno}
 use Rattle.ipc_base.specs.declared.errno.Errno.TheVariants.{EALREADY}
 use Rattle.ipc_base.specs.declared.limits.Limits.{Limits}
 use Rattle.ipc_base.proofs.CallerLemmas.{choice}
 use Rattle.ipc_base.specs.declared.identity.Moment.{Moment}
-use Rattle.ipc_wait.specs.Waits.{call_of, calls_due, calls_left, without, is_due, HaveDistinctPids}
+use Rattle.ipc_wait.specs.Waits.{call_of, calls_due, calls_left, without, is_due, is_of, HaveDistinctPids}
 use Rattle.ipc_wait.proofs.CallerLemmas.{due-or-left, without-here}
 use Rattle.ipc_wire.specs.Request.{PlainCall, PlainKind, PlainRequest, Hello, Interrupt as Interrupts, Calls}
 use Rattle.ipc_wire.specs.declared.reply.Body.TheVariants.{Empty}
@@ -18,7 +19,7 @@ use Rattle.ipc_state.specs.Finish.{Tried, Finishes, Waits, IfFinishes, has_to_wa
 use Rattle.ipc_state.specs.Sound.{HasSoundParts}
 use Rattle.ipc_state.specs.State.{State, due_calls, has_all_processes, is_waiting, exit, without_due, without_waiting, with_waiting}
 use Rattle.ipc_state.specs.Waiting.{PlainWaiting, IsSoundWaiting, awaited_by, expiry}
-use Rattle.ipc_state.proofs.CallerLemmas.{IsGood}
+use Rattle.ipc_state.proofs.CallerLemmas.{IsGood, exit-sound}
 use Rattle.sysv_calls.specs.Calls.{attempt, touched}
 use Rattle.sysv_calls.proofs.CallerLemmas.{attempt-good, waits-alike}
 use Rattle.ipc_engine.specs.Bytes.{IsAnswered}
@@ -28,7 +29,7 @@ use Rattle.ipc_engine.specs.Step.{Step, silent, after, step, due, expired, waiti
 use Rattle.ipc_engine.specs.Step.{replied, connect, settle, settle_within, resumed, resumed_first, tried_again}
 use Rattle.ipc_engine.specs.Step.{answered, can_go_on, most_replies}
 use Rattle.ipc_engine.proofs.Settled.{as-before, settle-has, settle-kept, resumed-has}
-use Rattle.ipc_engine.proofs.Soundness.{due-sound, sound-settled, exit-waits}
+use Rattle.ipc_engine.proofs.Soundness.{due-sound, sound-settled}
 use Rattle.ipc_engine.proofs.Lists.{found-here}
 
 -- ---- the processes and the clock
@@ -126,6 +127,10 @@ module _ (limits : Limits) where
         length-append (due moment s).outcomes (next (due moment s).state).outcomes,
       )
 
+  settled-few : (t : State) → HasSoundParts limits t → {n : ℕ} → length t.wait ≤ n → length (settle limits t).outcomes ≤ n + 1
+  unfolding settle
+  settled-few t h less = omega (arith, less, (settle-has limits (length t.wait) t h).few)
+
   pub step-few : (s : State) (e : PlainEvent) → IsSound limits s → length (step limits s e).outcomes ≤ most_replies limits
   step-few s (Connect cred serial moment) h =
       due-few s moment (connect limits cred serial) h
@@ -137,8 +142,12 @@ module _ (limits : Limits) where
   step-few s (Tick moment) h = omega (arith, due-few s moment silent h (omega arith), length-append (due moment s).outcomes [])
   step-few s (Exit pid moment) h =
       due-few s moment (λ t. settle limits (exit t pid)) h
-      (subst (λ (t : Step). length t.outcomes ≤ length (due moment s).state.wait + 1)
-      (sym (sound-settled limits (exit (due moment s).state pid) (exit-waits limits (due moment s).state pid (due-sound limits s moment h)))) (omega arith))
+      (settled-few (exit (due moment s).state pid) (exit-sound limits (due moment s).state pid (due-sound limits s moment h).parts)
+      (omega (
+        arith,
+        length-filter_both (is_of (record { 0 = pid })) (λ (w : PlainWaiting). not (is_of (record { 0 = pid }) w))
+            (λ w. refl) (due moment s).state.wait,
+      )))
   step-few s Restart h = omega arith
 
   -- ---- who goes on first
@@ -187,7 +196,7 @@ module _ (limits : Limits) where
         by_kind (Calls call) on goes =
             by_tried (attempt limits (without_waiting s w.pid.0) w.pid.0 true call)
             (waits-alike limits s (without_waiting s w.pid.0) w.pid.0 true true call w.on on refl (as-before w.on s
-            (without_waiting s w.pid.0) refl) ∙ opposite _ goes)
+            (without_waiting s w.pid.0) refl refl (λ p k. refl)) ∙ opposite _ goes)
         by_kind (Hello cred) on goes = cc
         by_kind Interrupts on goes = cc
 

@@ -16,6 +16,15 @@ AreLinked s = All (λ (w : PlainWaiting). is_process s w.pid.0 ≡ true) s.wait
 abbrev pub OthersWait : Limits → State → Option Awaited → Type 0
 OthersWait limits s touched = All (λ (w : PlainWaiting). touched ≢ Some w.on → can_go_on limits s w ≡ false) s.wait
 
+-- an object may have changed: this one, or any
+abbrev pub MayBe : Option Awaited → Awaited → Type 0
+MayBe None on = Unit {0}
+MayBe (Some changed) on = Some changed ≡ Some on
+
+-- those that wait on an object that has not changed have to
+abbrev pub RestWaits : Limits → State → Option Awaited → Type 0
+RestWaits limits s among = All (λ (w : PlainWaiting). ¬ MayBe among w.on → can_go_on limits s w ≡ false) s.wait
+
 -- the receives that wait have to
 abbrev pub ReceivesWait : Limits → State → Type 0
 ReceivesWait limits s =

@@ -1,4 +1,4 @@
-//! What a process asks: its calls, one at a time, and INTERRUPT.
+//! What a process asks: its calls, one at a time, and INTERRUPT; and that it leaves.
 
 ghost use Rattle.std.specs.Prelude.{◌≡◌, ◌+◌, ◌<◌, ◌≤◌, ◌++◌, true, false, length, map, max, vec_capacity};
 ghost use Rattle.ipc_base.specs.Limits.{longest_body};
@@ -7,7 +7,7 @@ ghost use Rattle.ipc_wire.specs.Request.{Calls, PlainRequest, plain_call};
 ghost use Rattle.ipc_wire.specs.View.{plain_request};
 ghost use Rattle.ipc_state.proofs.CallerLemmas.{IsGood};
 ghost use Rattle.ipc_state.specs.Finish.{finish_of, refused};
-ghost use Rattle.ipc_state.specs.State.{State as PlainState, is_process, is_waiting};
+ghost use Rattle.ipc_state.specs.State.{State as PlainState, exit, is_process, is_waiting};
 ghost use Rattle.ipc_state.specs.Waiting.{awaited_by, may_wait};
 ghost use Rattle.sysv_calls.specs.Calls.{attempt as attempt_of};
 ghost use Rattle.sysv_calls.specs.Needs.{Has, IsReserved, needs};
@@ -21,7 +21,7 @@ ghost use Rattle.ipc_engine.specs.View.{plain_outcome};
 
 use crate::event::Outcome;
 use crate::replies::{push, reply_to};
-use crate::settling::settle;
+use crate::settling::{settle, settle_all};
 use ipc_base::{Errno, Pid};
 use ipc_state::{Awaited, Parked, State};
 use ipc_wait::Waiting;
@@ -246,6 +246,21 @@ pub(crate) fn interrupt(state: &mut State, outcomes: &mut Vec<Outcome>, pid: Pid
 {
     end_waiting(state, outcomes, pid);
     push(outcomes, reply_to(pid, serial, Ok(Body::Empty)));
+}
+
+/// The process leaves, and then calls go on that wait for what its adjustments have changed. It takes no memory.
+pub(crate) fn leave(state: &mut State, outcomes: &mut Vec<Outcome>, pid: Pid)
+    requires sound { IsSound state.old.limits state.old.state }
+    requires places { length outcomes.old.items + length state.old.state.wait ≤ vec_capacity outcomes.old }
+    ensures state { state.new.state ≡ (settled state.old.limits (exit state.old.state pid.0)).state }
+    ensures outcomes { map plain_outcome outcomes.new.items
+        ≡ map plain_outcome outcomes.old.items ++ (settled state.old.limits (exit state.old.state pid.0)).outcomes }
+    ensures limits { state.new.limits ≡ state.old.limits }
+    ensures waits { state.new.room.waits ≡ state.old.room.waits }
+    ensures capacity { vec_capacity outcomes.old ≤ vec_capacity outcomes.new }
+{
+    state.remove_process(pid);
+    settle_all(state, outcomes);
 }
 
 /// The call of a process that waits, if there is one, ends with EINTR.

@@ -1,6 +1,6 @@
 //! A moment comes: the calls that waited until then leave.
 
-ghost use Rattle.std.specs.Prelude.{◌≡◌, ◌+◌, ◌≤◌, ◌++◌, [], length, map, max, vec_capacity};
+ghost use Rattle.std.specs.Prelude.{◌≡◌, ◌+◌, ◌<◌, ◌≤◌, ◌++◌, [], ◌∷◌, length, map, max, vec_capacity};
 ghost use Rattle.ipc_state.specs.State.{due_calls, without_due};
 ghost use Rattle.ipc_wait.specs.Waits.{HaveDistinctPids};
 ghost use Rattle.ipc_engine.specs.Buffer.{room_in};
@@ -11,7 +11,8 @@ ghost use Rattle.ipc_engine.specs.View.{plain_outcome};
 use crate::event::Outcome;
 use crate::replies::{push, reply_to, take_back};
 use ipc_base::Moment;
-use ipc_state::State;
+use ipc_state::{Awaited, Parked, State};
+use ipc_wait::Waiting;
 
 /// The replies of the last event go, and a moment comes: the clock is the greatest so far, and each call whose deadline
 /// has come leaves and is answered, in order. It takes no memory; if no deadline has come, it takes no longer with more
@@ -51,8 +52,20 @@ fn expire(state: &mut State, outcomes: &mut Vec<Outcome>)
     ensures capacity { vec_capacity outcomes.old ≤ vec_capacity outcomes.new }
 {
     while let Some(waiting) = state.leave_due() {
-        let serial = waiting.call.serial();
-        let errno = waiting.call.expiry();
-        push(outcomes, reply_to(waiting.pid, serial, Err(errno)));
+        end_late(outcomes, waiting);
     }
+}
+
+/// A call that has left since its deadline has come is answered.
+fn end_late(outcomes: &mut Vec<Outcome>, waiting: Waiting<Awaited, Parked>)
+    requires place { length outcomes.old.items < vec_capacity outcomes.old }
+    ensures outcomes { map plain_outcome outcomes.new.items
+        ≡ map plain_outcome outcomes.old.items ++ expired waiting ∷ [] }
+    ensures capacity { vec_capacity outcomes.old ≤ vec_capacity outcomes.new }
+{
+    let errno = waiting.call.expiry();
+    push(
+        outcomes,
+        reply_to(waiting.pid, waiting.call.serial(), Err(errno)),
+    );
 }

@@ -39,7 +39,7 @@ ghost use Rattle.ipc_engine.specs.Listing.{rows_of};
 ghost use Rattle.ipc_engine.specs.Sound.{IsSound};
 ghost use Rattle.ipc_engine.specs.View.{plain_event, plain_outcome, step_of};
 
-use crate::asking::{ask, interrupt};
+use crate::asking::{ask, interrupt, leave};
 use crate::deadlines::begin;
 use crate::event::{Event, Outcome};
 use crate::fault::StateFault;
@@ -268,7 +268,7 @@ impl Engine {
             }
             Event::Exit { pid, moment } => {
                 begin(&mut self.state, &mut self.outcomes, &mut self.spare, moment);
-                self.state.remove_process(pid);
+                leave(&mut self.state, &mut self.outcomes, pid);
             }
             Event::Restart => {
                 take_back(&mut self.outcomes, &mut self.spare);

@@ -7,7 +7,7 @@ ghost use Rattle.ipc_state.specs.State.{is_process};
 ghost use Rattle.ipc_state.specs.Waiting.{IsSoundWaiting, PlainWaiting};
 ghost use Rattle.ipc_engine.specs.Buffer.{room_in};
 ghost use Rattle.sysv_calls.specs.Calls.{is_receive};
-ghost use Rattle.ipc_engine.specs.Settling.{AreLinked, IsFirst, OthersWait, ReceivesWait};
+ghost use Rattle.ipc_engine.specs.Settling.{AreLinked, IsFirst, MayBe, OthersWait, ReceivesWait, RestWaits};
 ghost use Rattle.ipc_engine.specs.Sound.{HasToWait};
 ghost use Rattle.ipc_engine.specs.Step.{can_go_on, resumed, settle as settled};
 ghost use Rattle.ipc_engine.specs.View.{plain_outcome};
@@ -26,7 +26,7 @@ pub(crate) fn settle(
     state: &mut State,
     outcomes: &mut Vec<Outcome>,
     touched: Option<Awaited>,
-    mut received: bool,
+    received: bool,
 )
     requires parts { HasSoundParts state.old.limits state.old.state }
     requires linked { AreLinked state.old.state }
@@ -44,8 +44,48 @@ pub(crate) fn settle(
     let Some(on) = touched else {
         return;
     };
+    settle_among(state, outcomes, Some(on), received);
+}
+
+/// Any object may have changed: calls that wait go on, the first that can, and after it all are looked at again. It
+/// takes no memory.
+pub(crate) fn settle_all(state: &mut State, outcomes: &mut Vec<Outcome>)
+    requires parts { HasSoundParts state.old.limits state.old.state }
+    requires linked { AreLinked state.old.state }
+    requires room { length outcomes.old.items + length state.old.state.wait ≤ vec_capacity outcomes.old }
+    ensures state { state.new.state ≡ (settled state.old.limits state.old.state).state }
+    ensures outcomes { map plain_outcome outcomes.new.items
+        ≡ map plain_outcome outcomes.old.items ++ (settled state.old.limits state.old.state).outcomes }
+    ensures limits { state.new.limits ≡ state.old.limits }
+    ensures waits { state.new.room.waits ≡ state.old.room.waits }
+    ensures capacity { vec_capacity outcomes.old ≤ vec_capacity outcomes.new }
+    ensures buffer { room_in outcomes.old.items ≤ room_in outcomes.new.items }
+{
+    settle_among(state, outcomes, None, false);
+}
+
+/// Calls go on that wait on this object, or on any.
+fn settle_among(
+    state: &mut State,
+    outcomes: &mut Vec<Outcome>,
+    among: Option<Awaited>,
+    mut received: bool,
+)
+    requires parts { HasSoundParts state.old.limits state.old.state }
+    requires linked { AreLinked state.old.state }
+    requires rest { RestWaits state.old.limits state.old.state among }
+    requires receives { received ≡ true → ReceivesWait state.old.limits state.old.state }
+    requires room { length outcomes.old.items + length state.old.state.wait ≤ vec_capacity outcomes.old }
+    ensures state { state.new.state ≡ (settled state.old.limits state.old.state).state }
+    ensures outcomes { map plain_outcome outcomes.new.items
+        ≡ map plain_outcome outcomes.old.items ++ (settled state.old.limits state.old.state).outcomes }
+    ensures limits { state.new.limits ≡ state.old.limits }
+    ensures waits { state.new.room.waits ≡ state.old.room.waits }
+    ensures capacity { vec_capacity outcomes.old ≤ vec_capacity outcomes.new }
+    ensures buffer { room_in outcomes.old.items ≤ room_in outcomes.new.items }
+{
     for gone in 0..state.waits().len() {
-        let Some(pid) = first_to_go(state, on, received) else {
+        let Some(pid) = first_to_go(state, among, received) else {
             return;
         };
         resume(state, outcomes, pid);
@@ -53,61 +93,68 @@ pub(crate) fn settle(
     }
 }
 
-/// The process of the first call that can go on, which waits on this object.
-fn first_to_go(state: &State, on: Awaited, received: bool) -> Option<Pid>
+/// The process of the first call that can go on, which waits on this object, or on any.
+fn first_to_go(state: &State, among: Option<Awaited>, received: bool) -> Option<Pid>
     requires parts { HasSoundParts state.now.limits state.now.state }
     requires linked { AreLinked state.now.state }
-    requires others { OthersWait state.now.limits state.now.state (Some on) }
+    requires rest { RestWaits state.now.limits state.now.state among }
     requires receives { received ≡ true → ReceivesWait state.now.limits state.now.state }
     ensures { IsFirst (can_go_on state.now.limits state.now.state) state.now.state.wait result }
 {
-    first_among(state, on, received, state.waits())
+    first_among(state, among, received, state.waits())
 }
 
 /// The same of these calls.
 fn first_among(
     state: &State,
-    on: Awaited,
+    among: Option<Awaited>,
     received: bool,
     calls: &[Waiting<Awaited, Parked>],
 ) -> Option<Pid>
     requires sound { All IsSoundWaiting calls.now }
     requires linked { All (λ w. is_process state.now.state w.pid.0 ≡ true) calls.now }
-    requires others { All (λ w. Some on ≢ Some w.on
-        → can_go_on state.now.limits state.now.state w ≡ false) calls.now }
+    requires rest { All (λ w. ¬ MayBe among w.on → can_go_on state.now.limits state.now.state w ≡ false) calls.now }
     requires receives { received ≡ true → All (λ w. is_receive w.call.kind ≡ true
         → can_go_on state.now.limits state.now.state w ≡ false) calls.now }
     ensures { IsFirst (can_go_on state.now.limits state.now.state) calls.now result }
 {
     for waiting in calls {
-        if can_go(state, on, received, waiting) {
+        if can_go(state, among, received, waiting) {
             return Some(waiting.pid);
         }
     }
     None
 }
 
-/// Whether a call can go on, which has to wait if it waits on another object than this, or is a receive after another.
-fn can_go(state: &State, on: Awaited, received: bool, waiting: &Waiting<Awaited, Parked>) -> bool
+/// Whether a call can go on, which has to wait if it waits on an object that has not changed, or is a receive after
+/// another.
+fn can_go(
+    state: &State,
+    among: Option<Awaited>,
+    received: bool,
+    waiting: &Waiting<Awaited, Parked>,
+) -> bool
     requires sound { IsSoundWaiting waiting.now }
     requires process { is_process state.now.state waiting.now.pid.0 ≡ true }
-    requires other { Some on ≢ Some waiting.now.on
-        → can_go_on state.now.limits state.now.state waiting.now ≡ false }
+    requires other { ¬ MayBe among waiting.now.on → can_go_on state.now.limits state.now.state waiting.now ≡ false }
     requires receive { received ≡ true → is_receive waiting.now.call.kind ≡ true
         → can_go_on state.now.limits state.now.state waiting.now ≡ false }
     ensures { result ≡ can_go_on state.now.limits state.now.state waiting.now }
 {
-    if !waits_on(waiting, on) || received && is_receive(&waiting.call) {
+    if !may_be(waiting, among) || received && is_receive(&waiting.call) {
         return false;
     }
     !has_to_wait(state, waiting.pid, &waiting.call)
 }
 
-/// Whether a call waits on this object.
-fn waits_on(waiting: &Waiting<Awaited, Parked>, on: Awaited) -> bool
-    ensures { IsTrue result ↔ (waiting.now.on ≡ on) }
+/// Whether a call waits on this object, or on any.
+fn may_be(waiting: &Waiting<Awaited, Parked>, among: Option<Awaited>) -> bool
+    ensures { IsTrue result ↔ MayBe among waiting.now.on }
 {
-    waiting.on == on
+    match among {
+        Some(on) => on == waiting.on,
+        None => true,
+    }
 }
 
 /// The call of a process, which is the first that can go on, leaves the list and is answered.

@@ -3,17 +3,18 @@
 use Rattle.std.proofs.Common.{◌≡◌, ◌≢◌, ℕ, ℤ, ◌+◌, ◌<◌, ◌≤◌, Bool, true, false, Option, Some, None, refl, arith, sym, ap, subst, ◌∙◌, List}
 use Rattle.std.proofs.Common.{[], ◌∷◌, ◌++◌, not, length, length-append}
 use Rattle.std.proofs.lemmas.Nat.{and_le_r}
-use Rattle.std.specs.Prelude.{Ok, Err, option_map, All, nat_eq}
+use Rattle.std.specs.Prelude.{Ok, Err, option_map, unwrap_or, All, nat_eq, nat_lt, IfSome, if◌then◌else◌, ◌^◌, ◌-◌}
+use Rattle.std.proofs.lemmas.Bool.Decides.{nat_tests}
 use Rattle.std.proofs.lemmas.List.Elements.{All-nil, All-filter, All-push}
 use Rattle.std.proofs.lemmas.List.{length-replicate}
 use Rattle.std.proofs.lemmas.List.Filters.{length-filter_both}
 use Rattle.sysv_sem.specs.declared.set.Semaphore.{Semaphore}
 use Rattle.std.specs.Borrow.{MutBor}
 use Rattle.std.specs.Option.{option_copied_mut, IsSome}
-use Rattle.ipc_base.specs.Table.{keys_of, EachValue}
+use Rattle.ipc_base.specs.Table.{keys_of, value_at, EachValue}
 use Rattle.std.specs.FinMap as fin
 use Rattle.sem_undo.specs.Undo.{Key, Undo, cleared}
-use Rattle.ipc_base.proofs.CallerLemmas.{nobody, own, rising-bounds, each-without, keys_of-with_value}
+use Rattle.ipc_base.proofs.CallerLemmas.{nobody, own, rising-bounds, each-at, each-with, each-without, keys_of-with_value}
 use Rattle.ipc_state.specs.Directory.{ArePositive}
 use Rattle.ipc_state.proofs.Directories.{named-positive}
 use Rattle.ipc_state.specs.Lends.{HasPutObject}
@@ -28,7 +29,8 @@ use Rattle.ipc_wait.proofs.CallerLemmas.{without-distinct, left-distinct, due-or
 use Rattle.sysv_msg.specs.Queue.{Queue, new_queue}
 use Rattle.sysv_sem.specs.Set.{Set, new_set, after_exit}
 use Rattle.ipc_wire.specs.Reply.{PlainBody}
-use Rattle.ipc_wire.specs.Request.{PlainRequest, Interrupt}
+use Rattle.ipc_wire.specs.Request.{PlainKind, PlainRequest, Hello, Interrupt, Calls}
+use Rattle.ipc_wire.specs.Request as requests
 use Rattle.ipc_state.specs.declared.keyed.Entry.{Entry}
 use Rattle.ipc_perm.specs.declared.perm.Perm.{Perm}
 use Rattle.ipc_perm.specs.Perm.{perm_of, owned_by}
@@ -36,9 +38,9 @@ use Rattle.ipc_state.specs.Numbered.{entry_of, with_entry, without_entry, is_ful
 use Rattle.ipc_state.specs.Keyed.{Keyed, holding, permitting, keyed, AreKeyed, AreNamed}
 use Rattle.ipc_state.specs.State.{State, start, at_moment, has_all_processes, is_process, with_process, exit, restart}
 use Rattle.ipc_state.specs.State.{is_waiting, with_waiting, without_due, without_waiting, queue_of, with_queue, with_new_queue}
-use Rattle.ipc_state.specs.State.{set_of, with_set, with_new_set, adjusted, undone, undo_of, without_adjustments}
+use Rattle.ipc_state.specs.State.{set_of, with_set, with_new_set, adjusted, undone, undo_of, without_adjustments, with_undo}
 use Rattle.ipc_state.specs.Sound.{HasSoundParts, IsSoundQueue, IsSoundSet, AreSoundSets, AreAt, AreAdjustments, semaphore_count, FitsBody}
-use Rattle.ipc_state.specs.Waiting.{PlainWaiting, AreSoundWaits, IsSoundWaiting}
+use Rattle.ipc_state.specs.Waiting.{PlainWaiting, AreSoundWaits, IsSoundWaiting, deadline_after, deadline_of, has_deadline}
 use Rattle.ipc_state.specs.Finish.{Finish, IfFinishes, Attempt, Halt, Fails, Blocks, Done, ended, done, answer, refuse, stop, ◌orstop◌, ◌>>◌, ◌>>=◌, if_some}
 use Rattle.ipc_state.specs.Touching.{is_there, IsAsBefore}
 use Rattle.ipc_state.specs.declared.parked.Awaited.{Awaited}
@@ -54,7 +56,7 @@ use Rattle.ipc_state.proofs.Adjusting.{each-moved, each-cleared, each-dropped, n
 pub use Rattle.ipc_state.proofs.Keying.{All-seen}
 pub use Rattle.ipc_state.proofs.Numbering.{neither}
 pub use Rattle.ipc_state.proofs.SoundQueues.{queue-numbers, sent-sound, taken-sound, changed-sound}
-pub use Rattle.ipc_state.proofs.SoundSets.{with_value-sound, with_values-sound, changed_set-sound}
+pub use Rattle.ipc_state.proofs.SoundSets.{with_value-sound, with_values-sound, carried-sound, changed_set-sound}
 
 -- the mode of a new object has nine bits
 pub perm_of-mode : (cred : Cred) (flags : ℕ) → (perm_of cred flags).mode < 512
@@ -69,6 +71,22 @@ module _ (limits : Limits) where
       → HasSoundParts limits (record s { undo = undo })
   set-undo s undo h good = record { processes = h.processes; wait = h.wait; undo = good; msg = h.msg; sem = h.sem }
 
+  -- other adjustments of a process, at semaphores that are there
+  pub with_undo-sound : (s : State) (pid : ℕ) (undo : Undo) → HasSoundParts limits s → AreAt s.sem undo → HasSoundParts limits (with_undo s pid undo)
+  with_undo-sound s pid undo h good =
+      set-undo s _ h (record {
+        pids = keys_of-with_value nat_eq s.undo pid undo ∙ h.undo.pids;
+        each = each-with (AreAt s.sem) s.undo pid undo h.undo.each good;
+      })
+
+  -- those that a process has are at such
+  pub undo_of-at : (s : State) (pid : ℕ) → HasSoundParts limits s → AreAt s.sem (undo_of s pid)
+  undo_of-at s pid h = by_value (value_at nat_eq s.undo pid) refl
+    where
+      by_value : (r : Option Undo) → value_at nat_eq s.undo pid ≡ r → AreAt s.sem (unwrap_or r fin.empty)
+      by_value None is = none-at s.sem
+      by_value (Some u) is = each-at (AreAt s.sem) s.undo pid u h.undo.each is
+
   pub set-wait : (s : State) (calls : List PlainWaiting) → HasSoundParts limits s → AreSoundWaits limits calls
       → HasSoundParts limits (record s { wait = calls })
   set-wait s calls h good = record { processes = h.processes; wait = good; undo = h.undo; msg = h.msg; sem = h.sem }
@@ -77,7 +95,8 @@ module _ (limits : Limits) where
       → HasSoundParts limits (record s { msg = msg })
   set-msg s msg h good = record { processes = h.processes; wait = h.wait; undo = h.undo; msg = good; sem = h.sem }
 
-  pub set-sem : (s : State) (sem : Keyed Set) → HasSoundParts limits s → HasAll s.sem sem → AreSoundSets limits sem → HasSoundParts limits (record s { sem = sem })
+  pub set-sem : (s : State) (sem : Keyed Set) → HasSoundParts limits s → HasAll s.sem sem → AreSoundSets limits sem
+      → HasSoundParts limits (record s { sem = sem })
   set-sem s sem h all good =
       record {
         processes = h.processes;
@@ -151,7 +170,8 @@ module _ (limits : Limits) where
   adjusted-sound pid o a h =
       adjusted-by (AreSoundSets limits) pid o a
       (λ e is. let x : Set = after_exit e.object a.0.1 a.1 (record { 0 = pid }) in
-      let good = sets.after_exit-sound limits e.object a.0.1 a.1 (record { 0 = pid }) (keying.entry-sound limits.semmni (IsSoundSet limits) o a.0.0 e is h.keyed) in
+      let good = sets.after_exit-sound limits e.object a.0.1 a.1 (record { 0 = pid }) (keying.entry-sound limits.semmni
+      (IsSoundSet limits) o a.0.0 e is h.keyed) in
       let mode = keying.entry-mode limits.semmni (IsSoundSet limits) o a.0.0 e is h.keyed in
       record {
         keyed = keying.with_entry-keyed limits.semmni (IsSoundSet limits) o a.0.0 e (holding e x) is refl mode good h.keyed;
@@ -289,6 +309,40 @@ module _ (limits : Limits) where
   pub set-sound : (s : State) (id : ℕ) (e : Entry Set) → set_of s id ≡ Some e → HasSoundParts limits s → IsSoundSet limits e.object
   set-sound s id e is h = keying.entry-sound limits.semmni (IsSoundSet limits) s.sem id e is h.sem.keyed
 
+-- ---- deadlines
+
+after-sound : (now timeout : ℕ) → IfSome (deadline_after now timeout) (λ d. (true ≡ true) × (d.0 < 2 ^ 64 - 1))
+after-sound now timeout = by_test (nat_lt (now + timeout) (2 ^ 64 - 1)) refl
+  where
+    by_test : (b : Bool) → nat_lt (now + timeout) (2 ^ 64 - 1) ≡ b
+        → IfSome (if b then Some (record { 0 = now + timeout }) else None) (λ (d : Moment). (true ≡ true) × (d.0 < 2 ^ 64 - 1))
+    by_test true less = (refl, grind (arith, nat_tests))
+    by_test false less = tt
+
+-- the deadline of a call that comes is one that it may have
+pub deadline-sound : (now : ℕ) (kind : PlainKind) → IfSome (deadline_of now kind) (λ d. (has_deadline kind ≡ true) × (d.0 < 2 ^ 64 - 1))
+unfolding deadline_of
+deadline-sound now (Hello cred) = tt
+deadline-sound now Interrupt = tt
+deadline-sound now (Calls (requests.Semop id timeout operations)) = after-sound now timeout
+deadline-sound now (Calls (requests.Msgget key flags)) = tt
+deadline-sound now (Calls (requests.Msgsnd id flags mtype text)) = tt
+deadline-sound now (Calls (requests.Msgrcv id flags size mtype)) = tt
+deadline-sound now (Calls (requests.MsgctlStat id)) = tt
+deadline-sound now (Calls (requests.MsgctlSet id uid gid mode qbytes)) = tt
+deadline-sound now (Calls (requests.MsgctlRmid id)) = tt
+deadline-sound now (Calls (requests.Semget key nsems flags)) = tt
+deadline-sound now (Calls (requests.SemctlGetVal id num)) = tt
+deadline-sound now (Calls (requests.SemctlGetPid id num)) = tt
+deadline-sound now (Calls (requests.SemctlGetNcnt id num)) = tt
+deadline-sound now (Calls (requests.SemctlGetZcnt id num)) = tt
+deadline-sound now (Calls (requests.SemctlSetVal id num value)) = tt
+deadline-sound now (Calls (requests.SemctlGetAll id)) = tt
+deadline-sound now (Calls (requests.SemctlSetAll id values)) = tt
+deadline-sound now (Calls (requests.SemctlStat id)) = tt
+deadline-sound now (Calls (requests.SemctlSet id uid gid mode)) = tt
+deadline-sound now (Calls (requests.SemctlRmid id)) = tt
+
 -- ---- objects that are held, and those of the definitions
 
 module _ {X : Type 0} (o : HeldObjects X) (s : Keyed X) (same : o.objects ≡ s) {most : ℕ} {IsSoundOne : X → Type 0} (sound : AreKeyed most IsSoundOne s) where
@@ -354,6 +408,7 @@ module _ {X : Type 0} (o : HeldObjects X) (s : Keyed X) (id : ℕ) (e : Entry X)
 
 as_before : (on : Awaited) (s : State) → IsAsBefore on s s
 as_before (awaited.Queue id) s = refl
+as_before (awaited.Set id) s = (refl, λ pid num. refl)
 
 -- What is to be shown of what a call that began in a state leaves and answers, if it may change this object alone: the
 -- state stays sound, the body of the answer fits, and all else that others wait for is as it was.

@@ -9,8 +9,10 @@ use Rattle.ipc_base.specs.Table.{value_at, with_value as put_at, without}
 use Rattle.ipc_base.specs.declared.identity.Pid.{Pid}
 use Rattle.ipc_base.specs.declared.limits.Limits.{Limits}
 use Rattle.sysv_sem.specs.declared.set.Semaphore.{Semaphore}
-use Rattle.sysv_sem.specs.Operation.{most_value, value_after}
-use Rattle.sysv_sem.specs.Set.{Set, new_set, with_value, with_values, changed, after_exit, values_of}
+use Rattle.sysv_sem.specs.declared.operation.Operation.{Operation}
+use Rattle.sysv_sem.specs.Operation.{Done, most_value, outcome, value_after}
+use Rattle.sysv_sem.specs.Set.{Set, new_set, with_value, with_values, carried, changed, after_exit, values_of}
+use Rattle.sysv_sem.proofs.CallerLemmas.{length-carried, range-carried}
 use Rattle.ipc_state.specs.declared.keyed.Entry.{Entry}
 use Rattle.ipc_state.specs.Keyed.{Keyed}
 use Rattle.ipc_state.specs.Numbered.{entry_of, with_entry, with_new, without_entry}
@@ -46,6 +48,16 @@ module _ (limits : Limits) where
       let len = length-set s.semaphores num x in
       let fits : x.value ≤ most_value = omega (arith, min-le_right (value_after (slice_index (values_of s) num) a) most_value) in
       record { some = omega (arith, len, h.some); few = omega (arith, len, h.few); values = All-set IsValue s.semaphores num x fits h.values }
+
+  pub carried-sound : (s : Set) (held after : ℕ → ℤ) (operations : List Operation) (values : List ℕ) (pid : Pid) (moment : ℕ)
+      → outcome (values_of s) held operations ≡ Done values after → IsSoundSet limits s → IsSoundSet limits (carried s values operations pid moment)
+  carried-sound s held after operations values pid moment is h =
+      let len = length-carried s held after operations values pid moment is in
+      record {
+        some = omega (arith, len, h.some);
+        few = omega (arith, len, h.few);
+        values = range-carried s held after operations values pid moment is h.values;
+      }
 
   pub changed_set-sound : (s : Set) (moment : ℕ) → IsSoundSet limits s → IsSoundSet limits (changed s moment)
   changed_set-sound s moment h = record { some = h.some; few = h.few; values = h.values }

@@ -6,7 +6,7 @@ use Rattle.std.specs.List.{fold}
 use Rattle.std.specs.FinMap as fin
 use Rattle.ipc_base.specs.declared.identity.Cred.{Cred}
 use Rattle.ipc_base.specs.declared.limits.Limits.{Limits}
-use Rattle.ipc_base.specs.Table.{value_at, seen_as, without as without_value}
+use Rattle.ipc_base.specs.Table.{value_at, with_value, seen_as, without as without_value}
 use Rattle.ipc_wait.specs.Waits.{call_of, calls_due, calls_left, without}
 use Rattle.sysv_msg.specs.Queue.{Queue, new_queue}
 use Rattle.sem_undo.specs.Undo.{Key, Undo, cleared}
@@ -67,6 +67,10 @@ without_due s = record s { wait = calls_left (record { 0 = s.clock }) s.wait }
 -- those of a process, none where no process has the number
 abbrev pub undo_of : State → ℕ → Undo
 undo_of s pid = unwrap_or (value_at nat_eq s.undo pid) fin.empty
+
+-- with other adjustments of a process, if it is there
+abbrev pub with_undo : State → ℕ → Undo → State
+with_undo s pid undo = record s { undo = with_value nat_eq s.undo pid undo }
 
 -- the sets after an adjustment of a process that exits was added; one of a set that is not there is dropped
 abbrev pub adjusted : ℕ → Keyed Set → Key × ℤ → Keyed Set

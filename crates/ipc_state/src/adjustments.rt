@@ -1,13 +1,13 @@
 //! The adjustments of the processes: what an exit adds, and what is cleared. See semop(2).
 
-ghost use Rattle.std.specs.Prelude.{◌≡◌, ◌↔◌, ◌++◌, map, IsTrue, OnOk, OnErr};
+ghost use Rattle.std.specs.Prelude.{◌≡◌, ◌<◌, ◌-ℤ◌, ◌↔◌, ◌++◌, true, None, map, IsTrue, OnOk, OnErr};
 ghost use Rattle.std.specs.FinMap as fin;
 ghost use Rattle.std.specs.List.{fold, list_all};
 ghost use Rattle.ipc_base.specs.Table.{keys_of, seen_as};
-ghost use Rattle.sem_undo.specs.Undo.{key_of, entry_of, cleared, IsKept};
+ghost use Rattle.sem_undo.specs.Undo.{key_of, entry_of, cleared, IsKept, adjustment, subtracted, is_adjustment, most_rows};
 ghost use Rattle.ipc_state.specs.Restored.{with_adjustment, with_no_adjustments};
 ghost use Rattle.ipc_state.specs.Sound.{has_semaphore, AreAdjustments};
-ghost use Rattle.ipc_state.specs.State.{adjusted, undone, undo_of, without_adjustments};
+ghost use Rattle.ipc_state.specs.State.{adjusted, undone, undo_of, with_undo, without_adjustments};
 ghost use Rattle.ipc_state.specs.Tables.{item_row, numbered_of};
 
 use crate::keyed::Keyed;
@@ -25,6 +25,33 @@ impl State {
         ensures { map item_row result.now ≡ self.now.state.undo }
     {
         self.undo.items()
+    }
+
+    /// The adjustment of a process at a semaphore; 0 if no process has the number.
+    pub fn adjustment(&self, pid: Pid, set: Id, num: u16) -> i16
+        ensures { result ≡ adjustment (undo_of self.now.state pid.0) (set.0, num) }
+    {
+        match self.undo.get(pid.0) {
+            Some(item) => item.value.get(set, num),
+            None => 0,
+        }
+    }
+
+    /// Subtracts what an operation of a process with SEM_UNDO has added. It takes no memory. Nothing is done if no
+    /// process has the number.
+    pub fn subtract(&mut self, pid: Pid, set: Id, num: u16, sem_op: i16)
+        requires few { fin.get (undo_of self.old.state pid.0) (set.0, num) ≡ None
+            → fin.len (undo_of self.old.state pid.0) < most_rows }
+        requires range { is_adjustment (adjustment (undo_of self.old.state pid.0) (set.0, num) -ℤ sem_op) ≡ true }
+        ensures { self.new ≡ record self.old {
+          state = with_undo self.old.state pid.0
+              (subtracted (undo_of self.old.state pid.0) (set.0, num) sem_op);
+        } }
+    {
+        let Some(undo) = self.undo.get_mut(pid.0) else {
+            return;
+        };
+        undo.subtract(set, num, sem_op);
     }
 
     /// Drops the adjustments of all processes at the semaphore of this number of a set, or at all of the set.
@@ -158,7 +185,8 @@ fn have_same_numbers<T, U>(items: &[Item<T>], others: &[Item<U>]) -> bool
 
 /// Whether each adjustment of these processes is at a semaphore that is there.
 fn are_at_semaphores(sets: &Keyed<SemSet>, items: &[Item<SemUndo>]) -> bool
-    ensures { result ≡ list_all (λ e. list_all (λ a. has_semaphore sets.now.objects a.0) (fin.entries e.value)) items.now }
+    ensures { result ≡ list_all (λ e. list_all (λ a. has_semaphore sets.now.objects a.0)
+        (fin.entries e.value)) items.now }
 {
     items.iter().all(|item| is_at_semaphores(sets, item))
 }

@@ -6,6 +6,7 @@ mod adjustments;
 mod keyed;
 mod keys;
 mod numbered;
+mod operations;
 mod parked;
 mod processes;
 mod queues;
@@ -16,6 +17,7 @@ mod waits;
 
 pub use keyed::{Entry, IPC_PRIVATE, Keyed};
 pub use numbered::{Item, LAST_NUMBER};
+pub use operations::Operations;
 pub use parked::{Awaited, Parked, ParkedCall};
 pub use processes::Process;
 pub use state::{Numbers, State};

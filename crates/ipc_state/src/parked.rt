@@ -4,7 +4,9 @@ ghost use Rattle.std.specs.Prelude.{◌≡◌, false, Some, IfOk, IfSome, IfNone
 ghost use Rattle.ipc_wire.specs.Request.{plain_kind};
 ghost use Rattle.ipc_wire.specs.Spelling.{HasFrame};
 ghost use Rattle.ipc_wire.specs.View.{plain_request};
+ghost use Rattle.ipc_state.specs.Waiting.{deadline_after};
 
+use crate::operations::Operations;
 use ipc_base::{Errno, Id, Moment, MsgFlags};
 use ipc_wire::{Call, Request, RequestKind};
 use std::alloc::{AllocError, Global};
@@ -16,9 +18,11 @@ use sysv_msg::Message;
 pub enum Awaited {
     /// A message queue.
     Queue(Id),
+    /// A semaphore set.
+    Set(Id),
 }
 
-/// A call that waits, with its fields. See msgop(2).
+/// A call that waits, with its fields. See msgop(2) and semop(2).
 #[derive(Drop)]
 pub enum ParkedCall {
     /// A send to a queue that is full for its text. The message is ready to be sent.
@@ -33,6 +37,12 @@ pub enum ParkedCall {
         flags: MsgFlags,
         size: u32,
         mtype: i64,
+    },
+    /// A list of operations of which one cannot proceed.
+    Semop {
+        id: Id,
+        timeout: u64,
+        operations: Operations,
     },
 }
 
@@ -56,10 +66,10 @@ impl Model for Parked {
 }
 
 impl Parked {
-    ghost use Rattle.ipc_state.specs.Waiting.{awaited_by, deadline_of, expiry, has_text, parked_kind};
+    ghost use Rattle.ipc_state.specs.Waiting.{awaited_by, deadline_of, has_deadline, expiry, has_text, parked_kind};
 
     /// A request that may have to wait; none, if its call never waits. Refused for want of memory, which only a text
-    /// takes.
+    /// or a list of operations takes.
     pub fn new(alloc: Global, request: &Request<'_>) -> Result<Option<Parked>, AllocError>
         ensures some { IfOk result (λ r. IfSome r (λ p. p ≡ plain_request request.now)) }
         ensures none { IfOk result (λ r. IfNone r (awaited_by (plain_kind request.now.kind) ≡ None)) }
@@ -92,6 +102,17 @@ impl Parked {
                 size,
                 mtype,
             },
+            RequestKind::Call(
+                Call::Semop {
+                    id,
+                    timeout,
+                    operations,
+                },
+            ) => ParkedCall::Semop {
+                id,
+                timeout,
+                operations: Operations::new(alloc, &operations)?,
+            },
             _ => return Ok(None),
         };
         Ok(Some(Parked {
@@ -122,6 +143,15 @@ impl Parked {
                 size: *size,
                 mtype: *mtype,
             },
+            ParkedCall::Semop {
+                id,
+                timeout,
+                operations,
+            } => Call::Semop {
+                id: *id,
+                timeout: *timeout,
+                operations: operations.lend(),
+            },
         };
         Request {
             serial: self.serial,
@@ -138,10 +168,23 @@ impl Parked {
 
     /// Until when it waits, if it comes at this moment; calls of message queues wait without end.
     #[tactic(auto, unfolding(crate::specs::Waiting::deadline_of))]
-    pub fn deadline(&self, _now: Moment) -> Option<Moment>
-        ensures { result ≡ deadline_of _now.0 self.now.kind }
+    pub fn deadline(&self, now: Moment) -> Option<Moment>
+        ensures { result ≡ deadline_of now.0 self.now.kind }
     {
-        None
+        match &self.call {
+            ParkedCall::Msgsnd { .. } | ParkedCall::Msgrcv { .. } => None,
+            ParkedCall::Semop { timeout, .. } => deadline_after(now, *timeout),
+        }
+    }
+
+    /// Whether it may have a deadline.
+    pub fn has_deadline(&self) -> bool
+        ensures { result ≡ has_deadline self.now.kind }
+    {
+        match &self.call {
+            ParkedCall::Msgsnd { .. } | ParkedCall::Msgrcv { .. } => false,
+            ParkedCall::Semop { .. } => true,
+        }
     }
 
     /// What it is told when its deadline has come.
@@ -173,6 +216,18 @@ impl Parked {
     {
         match &self.call {
             ParkedCall::Msgsnd { id, .. } | ParkedCall::Msgrcv { id, .. } => Awaited::Queue(*id),
+            ParkedCall::Semop { id, .. } => Awaited::Set(*id),
         }
     }
+}
+
+/// So much later; none if that is the greatest number of eight bytes, or above.
+fn deadline_after(now: Moment, timeout: u64) -> Option<Moment>
+    ensures { result ≡ deadline_after now.0 timeout }
+{
+    let sum = now.0.checked_add(timeout)?;
+    if sum == u64::MAX {
+        return None;
+    }
+    Some(Moment(sum))
 }

@@ -1,10 +1,10 @@
 //! The calls that wait.
 
-ghost use Rattle.std.specs.Prelude.{◌≡◌, ◌<◌, ◌≤◌, ◌↔◌, ◌∷◌, [], Some, false, All, IsTrue, IsOk, OnOk};
+ghost use Rattle.std.specs.Prelude.{◌≡◌, ◌<◌, ◌≤◌, ◌-◌, ◌^◌, ◌↔◌, ◌∷◌, [], Some, true, false, All, IsTrue, IsOk, OnOk};
 ghost use Rattle.std.specs.Prelude.{IfSome, IfNone, length};
 ghost use Rattle.ipc_state.specs.Restored.{with_waits};
 ghost use Rattle.ipc_state.specs.State.{at_moment, due_calls, is_waiting, with_waiting, without_due, without_waiting};
-ghost use Rattle.ipc_state.specs.Waiting.{AreSoundWaits, IsSoundWaiting};
+ghost use Rattle.ipc_state.specs.Waiting.{AreSoundWaits, IsSoundWaiting, has_deadline};
 ghost use Rattle.ipc_wait.specs.Waits.{call_of};
 
 use crate::parked::{Awaited, Parked};
@@ -118,8 +118,19 @@ fn are_sound(calls: &[Waiting<Awaited, Parked>]) -> bool
     true
 }
 
+/// Whether a call may have this deadline.
+fn may_have(call: &Parked, deadline: Option<Moment>) -> bool
+    ensures { IsTrue result
+        ↔ IfSome deadline (λ d. (has_deadline call.now.kind ≡ true) × (d.0 < 2 ^ 64 - 1)) }
+{
+    match deadline {
+        Some(deadline) => call.has_deadline() && deadline.0 < u64::MAX,
+        None => true,
+    }
+}
+
 fn is_sound(waiting: &Waiting<Awaited, Parked>) -> bool
     ensures { IsTrue result ↔ IsSoundWaiting waiting.now }
 {
-    waiting.call.awaited() == waiting.on && waiting.deadline.is_none()
+    waiting.call.awaited() == waiting.on && may_have(&waiting.call, waiting.deadline)
 }

@@ -1,4 +1,5 @@
 pub mod PairNumbers
+pub mod SixNumbers
 pub mod Rows
 pub mod Frames
 pub mod Read

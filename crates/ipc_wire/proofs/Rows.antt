@@ -37,6 +37,9 @@ has_row (Calls (requests.MsgctlStat id)) = record { row = refl; made = refl }
 has_row (Calls (requests.MsgctlSet id uid gid mode qbytes)) = record { row = refl; made = refl }
 has_row (Calls (requests.MsgctlRmid id)) = record { row = refl; made = refl }
 has_row (Calls (requests.Semget key nsems flags)) = record { row = refl; made = refl }
+has_row (Calls (requests.Semop id timeout operations)) = record { row = refl; made = refl }
+has_row (Calls (requests.SemctlGetNcnt id num)) = record { row = refl; made = refl }
+has_row (Calls (requests.SemctlGetZcnt id num)) = record { row = refl; made = refl }
 has_row (Calls (requests.SemctlGetVal id num)) = record { row = refl; made = refl }
 has_row (Calls (requests.SemctlGetPid id num)) = record { row = refl; made = refl }
 has_row (Calls (requests.SemctlSetVal id num value)) = record { row = refl; made = refl }

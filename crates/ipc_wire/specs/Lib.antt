@@ -2,6 +2,7 @@ pub mod Fields
 pub mod OneProof
 pub mod Pairs
 pub mod Reply
+pub mod Sixes
 pub mod Request
 pub mod Spelling
 pub mod Stream

@@ -6,6 +6,7 @@ use Rattle.ipc_wire.specs.declared.request.Call.TheVariants as calls
 use Rattle.ipc_wire.specs.declared.request.RequestKind.{RequestKind}
 use Rattle.ipc_wire.specs.declared.request.RequestKind.TheVariants as kinds
 use Rattle.ipc_wire.specs.Pairs.{bytes_of}
+use Rattle.ipc_wire.specs.Sixes as sixes
 
 pub data PlainCall : Type 0 where
   Msgget : (key : ℤ) → (flags : ℕ) → PlainCall
@@ -15,7 +16,9 @@ pub data PlainCall : Type 0 where
   MsgctlSet : (id uid gid mode qbytes : ℕ) → PlainCall
   MsgctlRmid : (id : ℕ) → PlainCall
   Semget : (key nsems : ℤ) → (flags : ℕ) → PlainCall
-  SemctlGetVal SemctlGetPid : (id num : ℕ) → PlainCall
+  -- the operations are the bytes that spell them: `operations_in` of Sixes.antt reads them
+  Semop : (id timeout : ℕ) → (operations : List ℕ) → PlainCall
+  SemctlGetVal SemctlGetPid SemctlGetNcnt SemctlGetZcnt : (id num : ℕ) → PlainCall
   SemctlSetVal : (id num : ℕ) → (value : ℤ) → PlainCall
   SemctlGetAll : (id : ℕ) → PlainCall
   -- the values are the bytes that spell them: `numbers_in` of Pairs.antt reads them
@@ -42,8 +45,11 @@ plain_call (calls.MsgctlStat id) = MsgctlStat id.0
 plain_call (calls.MsgctlSet id uid gid mode qbytes) = MsgctlSet id.0 uid gid mode qbytes
 plain_call (calls.MsgctlRmid id) = MsgctlRmid id.0
 plain_call (calls.Semget key nsems flags) = Semget key nsems flags.0
+plain_call (calls.Semop id timeout operations) = Semop id.0 timeout (sixes.bytes_of operations)
 plain_call (calls.SemctlGetVal id num) = SemctlGetVal id.0 num
 plain_call (calls.SemctlGetPid id num) = SemctlGetPid id.0 num
+plain_call (calls.SemctlGetNcnt id num) = SemctlGetNcnt id.0 num
+plain_call (calls.SemctlGetZcnt id num) = SemctlGetZcnt id.0 num
 plain_call (calls.SemctlSetVal id num value) = SemctlSetVal id.0 num value
 plain_call (calls.SemctlGetAll id) = SemctlGetAll id.0
 plain_call (calls.SemctlSetAll id values) = SemctlSetAll id.0 (bytes_of values)

@@ -1,6 +1,6 @@
 -- The table of requests: a row for each has its opcode, what follows it, and the request that this makes.
 use Rattle.std.specs.Prelude.{ℕ, List, [], ◌∷◌, ◌==◌, if◌then◌else◌, Option, Some, None}
-use Rattle.ipc_base.specs.Numbers.{Kind, U32, I32, I64, Values}
+use Rattle.ipc_base.specs.Numbers.{Kind, U32, U64, I32, I64, Values}
 use Rattle.ipc_wire.specs.Fields.{Rest, Nothing, Bytes, Units}
 use Rattle.ipc_wire.specs.Request.{PlainKind, Hello, Interrupt, Calls}
 use Rattle.ipc_wire.specs.Request as requests
@@ -96,6 +96,16 @@ semget =
       make = λ v rest. Calls (requests.Semget v.0 v.1.0 v.1.1.0);
     }
 
+-- id, timeout; the rest is the operations, each of six bytes
+abbrev pub semop : Row
+semop =
+    record {
+      opcode = 0x15;
+      fields = U32 ∷ U64 ∷ [];
+      rest = Units 6;
+      make = λ v rest. Calls (requests.Semop v.0 v.1.0 rest);
+    }
+
 -- id, num
 abbrev pub semctl_get_val : Row
 semctl_get_val =
@@ -114,6 +124,26 @@ semctl_get_pid =
       fields = U32 ∷ U32 ∷ [];
       rest = Nothing;
       make = λ v rest. Calls (requests.SemctlGetPid v.0 v.1.0);
+    }
+
+-- id, num
+abbrev pub semctl_get_ncnt : Row
+semctl_get_ncnt =
+    record {
+      opcode = 0x18;
+      fields = U32 ∷ U32 ∷ [];
+      rest = Nothing;
+      make = λ v rest. Calls (requests.SemctlGetNcnt v.0 v.1.0);
+    }
+
+-- id, num
+abbrev pub semctl_get_zcnt : Row
+semctl_get_zcnt =
+    record {
+      opcode = 0x19;
+      fields = U32 ∷ U32 ∷ [];
+      rest = Nothing;
+      make = λ v rest. Calls (requests.SemctlGetZcnt v.0 v.1.0);
     }
 
 -- id, num, value
@@ -180,7 +210,8 @@ abbrev pub rows : List Row
 rows =
     hello ∷ interrupt
     ∷ msgget ∷ msgsnd ∷ msgrcv ∷ msgctl_stat ∷ msgctl_set ∷ msgctl_rmid
-    ∷ semget ∷ semctl_get_val ∷ semctl_get_pid ∷ semctl_set_val ∷ semctl_get_all ∷ semctl_set_all
+    ∷ semget ∷ semop ∷ semctl_get_val ∷ semctl_get_pid ∷ semctl_get_ncnt ∷ semctl_get_zcnt
+    ∷ semctl_set_val ∷ semctl_get_all ∷ semctl_set_all
     ∷ semctl_stat ∷ semctl_set ∷ semctl_rmid ∷ []
 
 -- the row of an opcode among rows, if it has one
@@ -211,8 +242,14 @@ parts_of (Calls (requests.MsgctlSet id uid gid mode qbytes)) =
 parts_of (Calls (requests.MsgctlRmid id)) = record { row = msgctl_rmid; values = (id, tt); rest = [] }
 parts_of (Calls (requests.Semget key nsems flags)) =
     record { row = semget; values = (key, (nsems, (flags, tt))); rest = [] }
+parts_of (Calls (requests.Semop id timeout operations)) =
+    record { row = semop; values = (id, (timeout, tt)); rest = operations }
 parts_of (Calls (requests.SemctlGetVal id num)) = record { row = semctl_get_val; values = (id, (num, tt)); rest = [] }
 parts_of (Calls (requests.SemctlGetPid id num)) = record { row = semctl_get_pid; values = (id, (num, tt)); rest = [] }
+parts_of (Calls (requests.SemctlGetNcnt id num)) =
+    record { row = semctl_get_ncnt; values = (id, (num, tt)); rest = [] }
+parts_of (Calls (requests.SemctlGetZcnt id num)) =
+    record { row = semctl_get_zcnt; values = (id, (num, tt)); rest = [] }
 parts_of (Calls (requests.SemctlSetVal id num value)) =
     record { row = semctl_set_val; values = (id, (num, (value, tt))); rest = [] }
 parts_of (Calls (requests.SemctlGetAll id)) = record { row = semctl_get_all; values = (id, tt); rest = [] }

@@ -7,6 +7,7 @@ mod reading;
 mod record;
 mod reply;
 mod request;
+mod sixes;
 mod spelling;
 mod writing;
 
@@ -21,5 +22,6 @@ pub use reading::{
 pub use record::{Record, push_fields};
 pub use reply::{Body, Reply};
 pub use request::{Call, Frame, Request, RequestKind};
+pub use sixes::{SemBuf, Sixes};
 pub use spelling::{RequestParts, put_request, request_len, request_parts, write_request};
 pub use writing::{reply_len, write_reply};

@@ -20,6 +20,7 @@ ghost use Rattle.ipc_wire.specs.Stream.PlainFrame.{More, Whole};
 
 use crate::pairs::Pairs;
 use crate::request::{Call, Frame, Request, RequestKind};
+use crate::sixes::Sixes;
 use ipc_base::{Cred, Cursor, GetFlags, Id, MsgFlags};
 
 /// The least length of a request, in bytes behind the length itself: a serial and an opcode.
@@ -58,11 +59,20 @@ pub(crate) const MSGCTL_RMID: u8 = 0x0f;
 /// The opcode of semget(2).
 pub(crate) const SEMGET: u8 = 0x14;
 
+/// The opcode of semop(2).
+pub(crate) const SEMOP: u8 = 0x15;
+
 /// The opcode of GETVAL of semctl(2).
 pub(crate) const SEMCTL_GET_VAL: u8 = 0x16;
 
 /// The opcode of GETPID of semctl(2).
 pub(crate) const SEMCTL_GET_PID: u8 = 0x17;
+
+/// The opcode of GETNCNT of semctl(2).
+pub(crate) const SEMCTL_GET_NCNT: u8 = 0x18;
+
+/// The opcode of GETZCNT of semctl(2).
+pub(crate) const SEMCTL_GET_ZCNT: u8 = 0x19;
 
 /// The opcode of SETVAL of semctl(2).
 pub(crate) const SEMCTL_SET_VAL: u8 = 0x1a;
@@ -177,8 +187,11 @@ fn read_kind(opcode: u8, fields: &[u8]) -> Option<RequestKind<'_>>
         MSGCTL_SET => read_msgctl_set(fields),
         MSGCTL_RMID => read_msgctl_rmid(fields),
         SEMGET => read_semget(fields),
+        SEMOP => read_semop(fields),
         SEMCTL_GET_VAL => read_semctl_get_val(fields),
         SEMCTL_GET_PID => read_semctl_get_pid(fields),
+        SEMCTL_GET_NCNT => read_semctl_get_ncnt(fields),
+        SEMCTL_GET_ZCNT => read_semctl_get_zcnt(fields),
         SEMCTL_SET_VAL => read_semctl_set_val(fields),
         SEMCTL_GET_ALL => read_semctl_get_all(fields),
         SEMCTL_SET_ALL => read_semctl_set_all(fields),
@@ -311,6 +324,21 @@ fn read_semget(fields: &[u8]) -> Option<RequestKind<'_>>
     Some(RequestKind::Call(Call::Semget { key, nsems, flags }))
 }
 
+#[tactic(auto, unfolding(ipc_base::specs::Numbers::number_of))]
+fn read_semop(fields: &[u8]) -> Option<RequestKind<'_>>
+    ensures { option_map plain_kind result ≡ made_by table.semop fields.now }
+{
+    let mut cursor = Cursor::new(fields);
+    let id = Id(cursor.u32()?);
+    let timeout = cursor.u64()?;
+    let operations = Sixes::new(cursor.rest())?;
+    Some(RequestKind::Call(Call::Semop {
+        id,
+        timeout,
+        operations,
+    }))
+}
+
 fn read_semctl_get_val(fields: &[u8]) -> Option<RequestKind<'_>>
     ensures { option_map plain_kind result ≡ made_by table.semctl_get_val fields.now }
 {
@@ -323,6 +351,20 @@ fn read_semctl_get_pid(fields: &[u8]) -> Option<RequestKind<'_>>
 {
     let (id, num) = read_id_and_num(fields)?;
     Some(RequestKind::Call(Call::SemctlGetPid { id, num }))
+}
+
+fn read_semctl_get_ncnt(fields: &[u8]) -> Option<RequestKind<'_>>
+    ensures { option_map plain_kind result ≡ made_by table.semctl_get_ncnt fields.now }
+{
+    let (id, num) = read_id_and_num(fields)?;
+    Some(RequestKind::Call(Call::SemctlGetNcnt { id, num }))
+}
+
+fn read_semctl_get_zcnt(fields: &[u8]) -> Option<RequestKind<'_>>
+    ensures { option_map plain_kind result ≡ made_by table.semctl_get_zcnt fields.now }
+{
+    let (id, num) = read_id_and_num(fields)?;
+    Some(RequestKind::Call(Call::SemctlGetZcnt { id, num }))
 }
 
 #[tactic(auto, unfolding(ipc_base::specs::Numbers::number_of))]

@@ -6,6 +6,7 @@ ghost use Rattle.ipc_wire.specs.Spelling.{HasFrame};
 
 use crate::pairs::Pairs;
 use crate::reading::{GREATEST_LENGTH, LEAST_LENGTH};
+use crate::sixes::Sixes;
 use crate::spelling::request_parts;
 use ipc_base::{Cred, GetFlags, Id, MsgFlags};
 
@@ -93,6 +94,13 @@ pub enum Call<'a> {
         nsems: i32,
         flags: GetFlags,
     },
+    /// semop(2), with the timeout of semtimedop(2) in milliseconds, of which the greatest is none; the operations are
+    /// the rest of the frame, and there may be none.
+    Semop {
+        id: Id,
+        timeout: u64,
+        operations: Sixes<'a>,
+    },
     /// GETVAL of semctl(2).
     SemctlGetVal {
         id: Id,
@@ -100,6 +108,16 @@ pub enum Call<'a> {
     },
     /// GETPID of semctl(2).
     SemctlGetPid {
+        id: Id,
+        num: u32,
+    },
+    /// GETNCNT of semctl(2).
+    SemctlGetNcnt {
+        id: Id,
+        num: u32,
+    },
+    /// GETZCNT of semctl(2).
+    SemctlGetZcnt {
         id: Id,
         num: u32,
     },

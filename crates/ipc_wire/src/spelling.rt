@@ -24,13 +24,13 @@ ghost use Rattle.ipc_wire.specs.View.{plain_request};
 
 use crate::reading::{
     HELLO, INTERRUPT, MSGCTL_RMID, MSGCTL_SET, MSGCTL_STAT, MSGGET, MSGRCV, MSGSND, SEMCTL_GET_ALL,
-    SEMCTL_GET_PID, SEMCTL_GET_VAL, SEMCTL_RMID, SEMCTL_SET, SEMCTL_SET_ALL, SEMCTL_SET_VAL,
-    SEMCTL_STAT, SEMGET,
+    SEMCTL_GET_NCNT, SEMCTL_GET_PID, SEMCTL_GET_VAL, SEMCTL_GET_ZCNT, SEMCTL_RMID, SEMCTL_SET,
+    SEMCTL_SET_ALL, SEMCTL_SET_VAL, SEMCTL_STAT, SEMGET, SEMOP,
 };
 use crate::record::Record;
 use crate::request::{Call, Request, RequestKind};
 use crate::writing::text_len;
-use ipc_base::Field::{I32, I64, U32};
+use ipc_base::Field::{I32, I64, U32, U64};
 use ipc_base::{Field, Put};
 
 /// A request taken apart, as it stands in its frame after its serial.
@@ -143,8 +143,15 @@ fn call_parts(call: Call<'_>) -> RequestParts<'_>
             &[I32(key), I32(nsems), U32(flags.0)],
             &[],
         ),
+        Call::Semop {
+            id,
+            timeout,
+            operations,
+        } => spelled(SEMOP, &[U32(id.0), U64(timeout)], operations.bytes()),
         Call::SemctlGetVal { id, num } => spelled(SEMCTL_GET_VAL, &[U32(id.0), U32(num)], &[]),
         Call::SemctlGetPid { id, num } => spelled(SEMCTL_GET_PID, &[U32(id.0), U32(num)], &[]),
+        Call::SemctlGetNcnt { id, num } => spelled(SEMCTL_GET_NCNT, &[U32(id.0), U32(num)], &[]),
+        Call::SemctlGetZcnt { id, num } => spelled(SEMCTL_GET_ZCNT, &[U32(id.0), U32(num)], &[]),
         Call::SemctlSetVal { id, num, value } => spelled(
             SEMCTL_SET_VAL,
             &[U32(id.0), U32(num), I32(value)],

@@ -1,12 +1,13 @@
 -- Entries that rise, as finite maps; and what that says of rows.
 use Rattle.std.proofs.Common.{◌≡◌, ◌≢◌, ℕ, ℤ, pos, negsuc, to_z, of_z, ◌-ℤ◌, ◌+ℤ◌, Option, FitsSigned, Bool, true, false, not}
 use Rattle.std.proofs.Common.{cond, List, [], Some, None, refl, sym, ap, subst, ◌∙◌, arith}
-use Rattle.std.specs.Prelude.{All, ◌==◌, length}
+use Rattle.std.specs.Prelude.{All, ◌==◌, length, is_some}
 use Rattle.std.specs.Option.{unwrap_or}
 use Rattle.std.proofs.lemmas.List.{length-map}
 use Rattle.std.proofs.lemmas.List.Elements.{All-filter, All-nil}
 use Rattle.std.specs.Cmp.{IsTotalOrder, nat_cmp_total, then_total, on_total, tied_itself, eq_by_cmp_equiv}
 use Rattle.std.specs.Ordering.{is_eq, eq_by_cmp, nat_cmp, int_eq}
+use Rattle.std.specs.declared.cmp.Ordering.{Ordering}
 use Rattle.std.specs.declared.cmp.Ordering.TheVariants.{Less, Equal, Greater}
 use Rattle.std.specs.FinMap as fin
 use Rattle.std.specs.FinMap.{IsAntisymmetric, put, nat_cmp-IsAntisymmetric, same_map, same_entries_map, entries-insert}
@@ -17,7 +18,7 @@ use Rattle.std.proofs.lemmas.Int.{ints, to_z-of_z}
 use Rattle.std.proofs.lemmas.Map.Lookups.{exact_pairs}
 use Rattle.std.proofs.lemmas.Bool.Decides.{nat_tests}
 use Rattle.sem_undo.specs.declared.undo.UndoRow.{UndoRow}
-use Rattle.sem_undo.specs.Undo.{Key, Undo, adjustment, subtracted, key_cmp, IsKept, IsSoundUndo, is_adjustment, with_adjustment, entry_of}
+use Rattle.sem_undo.specs.Undo.{Key, Undo, adjustment, cleared, subtracted, key_cmp, IsKept, IsSoundUndo, is_adjustment, with_adjustment, entry_of}
 use Rattle.sem_undo.specs.Rows.{entries_of, AreRows}
 use Rattle.sem_undo.proofs.Sorted.{All-put}
 
@@ -108,7 +109,8 @@ put-undo k a es are ne =
 -- there are as many as there are rows
 pub count-rows : (rows : List UndoRow) → AreRows (entries_of rows) → fin.len (undo_of (entries_of rows)) ≡ length rows
 count-rows rows are =
-    len-entries (undo_of (entries_of rows)) ∙ ap (λ (es : List (Key × ℤ)). length es) (entries-from_sorted key_cmp (entries_of rows) are.rising) ∙ length-map rows entry_of
+    len-entries (undo_of (entries_of rows)) ∙ ap (λ (es : List (Key × ℤ)). length es) (entries-from_sorted key_cmp (entries_of rows) are.rising)
+    ∙ length-map rows entry_of
 
 fits : (a : ℤ) → is_adjustment a ≡ true → FitsSigned w16 a
 fits a h = grind (arith, ints)
@@ -193,3 +195,22 @@ subtracted_twice u k a b =
     let first = adjustment u k -ℤ a in
     ap (λ z. with_adjustment (with_adjustment u k first) k (z -ℤ b)) (subtracted_there u k a)
     ∙ with_again u k first (first -ℤ b) ∙ ap (with_adjustment u k) (by_sum (adjustment u k) a b)
+
+-- ---- elsewhere
+
+-- what is cleared at a set changes no adjustment at another
+pub cleared_others : (u : Undo) (set : ℕ) (num : Option ℕ) (q : Key) → q.0 ≢ set → adjustment (cleared set num u) q ≡ adjustment u q
+cleared_others u set None q apart = ap (λ r. unwrap_or r (pos 0)) (retained_all u (λ x. not (x.0 == set)) q (not_same q.0 set apart))
+cleared_others u set (Some num) q apart =
+    ap (λ r. unwrap_or r (pos 0)) (get-remove key_total u (set, num) q
+    ∙ ap (λ b. cond b None (fin.get u q)) (key_other q (set, num) (λ same. apart (ap (λ (x : Key). x.0) same))))
+
+-- what holds of the semaphore of an operation, and of each at which an adjustment was, holds of each after the operation
+pub subtracted_each : (P : Key → Type 0) (u : Undo) (k : Key) (a : ℤ) → P k → ((q : Key) → is_some (fin.get u q) ≡ true → P q)
+    → (q : Key) → is_some (fin.get (subtracted u k a) q) ≡ true → P q
+subtracted_each P u k a new old q is = by_order (key_cmp q k) refl (ap is_some (sym (get-with u k (adjustment u k -ℤ a) q)) ∙ is)
+  where
+    by_order : (r : Ordering) → key_cmp q k ≡ r → is_some (cond (is_eq r) (value_of (adjustment u k -ℤ a)) (fin.get u q)) ≡ true → P q
+    by_order Less eq there = old q there
+    by_order Equal eq there = subst P (sym (key_apart q k eq)) new
+    by_order Greater eq there = old q there

@@ -1,22 +1,25 @@
 -- What the crates above cite of the calls. From a sound state each ends in one, with a body that fits, and changes no more
 -- than its own object. Whether it has to wait depends on the limits, who makes it and its own object alone.
-use Rattle.std.proofs.Common.{◌≡◌, ◌≢◌, ℕ, ℤ, pos, ◌<◌, ◌≤◌, Bool, true, false, not, List, [], ◌∷◌, ◌++◌, length, take, refl, subst, sym, ap, ◌∙◌, cond, arith}
-use Rattle.std.specs.Prelude.{nat_eq, nat_lt, int_lt, is_some, if◌then◌else◌, Option, Some, None, Ok}
+use Rattle.std.proofs.Common.{◌≡◌, ◌≢◌, ℕ, ℤ, pos, ◌<◌, ◌≤◌, Bool, true, false, not, List, [], ◌++◌, length, take, refl, subst, sym, ap, ◌∙◌, arith}
+use Rattle.std.specs.List.{list_all}
+use Rattle.std.specs.Prelude.{◌==◌, nat_lt, int_lt, is_some, if◌then◌else◌, Option, Some, None, Ok}
 use Rattle.std.proofs.lemmas.Bool.{ltb-false}
 use Rattle.std.proofs.lemmas.List.{length-take}
 use Rattle.std.proofs.lemmas.List.Elements.{All-get_or}
 use Rattle.std.proofs.lemmas.Option.{unwrap_or-slice_get}
-use Rattle.ipc_base.specs.Table.{value_at}
 use Rattle.ipc_base.specs.declared.identity.Cred.{Cred}
 use Rattle.ipc_base.specs.declared.identity.Id.{Id}
 use Rattle.ipc_base.specs.declared.limits.Limits.{Limits}
-use Rattle.ipc_base.specs.declared.errno.Errno.TheVariants.{EPERM, EACCES, EINVAL, ENOSPC, EAGAIN, ENOMSG}
+use Rattle.ipc_base.specs.declared.errno.Errno.TheVariants.{E2BIG, EPERM, EACCES, EFBIG, EINVAL, ENOSPC, EAGAIN, ENOMSG}
 use Rattle.ipc_base.specs.Numbers.{record_bytes}
 use Rattle.ipc_base.proofs.CallerLemmas.{message-is_bounded, other-with, value_at-without}
 use Rattle.ipc_wire.specs.Request.{PlainCall, PlainRequest, Calls}
 use Rattle.ipc_wire.specs.Request as requests
 use Rattle.ipc_wire.specs.declared.reply.Body.TheVariants.{Empty, Number, Message, Record}
 use Rattle.sysv_msg.specs.Queue.{Queue, PlainMessage, pick, full, sent, taken, changed}
+use Rattle.sysv_sem.specs.declared.operation.Operation.{Operation}
+use Rattle.sysv_sem.specs.Operation.{Outcome, outcome}
+use Rattle.sysv_sem.specs.Set.{Set, values_of}
 use Rattle.ipc_state.specs.declared.keyed.Entry.{Entry}
 use Rattle.ipc_state.specs.declared.parked.Awaited.{Awaited}
 use Rattle.ipc_state.specs.declared.parked.Awaited.TheVariants as awaited
@@ -27,26 +30,27 @@ use Rattle.ipc_perm.specs.Perm.{perm_of, owned_by, asked_by, may, owns}
 use Rattle.ipc_state.specs.Finish.{Attempt, Done, Finish, Halt, Finishes, IfFinishes, has_to_wait}
 use Rattle.ipc_state.specs.Finish.{refuse, stop, ◌orelse◌, ◌>>◌, ◌>>=◌}
 use Rattle.ipc_state.specs.Sound.{HasSoundParts, IsSoundMessage, IsSoundQueue, FitsBody}
-use Rattle.ipc_state.specs.State.{State, cred_of, with_queue, with_new_queue}
+use Rattle.ipc_state.specs.State.{State, cred_of, set_of, with_queue, with_new_queue}
 use Rattle.ipc_state.specs.Touching.{is_there, IsAsBefore}
 use Rattle.ipc_state.specs.Waiting.{awaited_by, may_wait}
 use Rattle.ipc_state.proofs.CallerLemmas.{IsGood, Ends, after-refuse, after-attempt, by-if_some, answered, read, ended-good}
 use Rattle.ipc_state.proofs.CallerLemmas.{perm_of-mode, owned_by-mode, with_new_queue-sound, with_queue-sound, queue-sound, sent-sound, taken-sound}
 use Rattle.ipc_state.proofs.CallerLemmas.{changed-sound, permitted-sound, without_queue-sound}
-use Rattle.sysv_calls.specs.Access.{write, has, is_exclusive, accessible, reached, gone, may_make, removed, sought}
+use Rattle.sysv_calls.specs.Access.{write, has, accessible, gone, removed, sought}
 use Rattle.sysv_calls.specs.Msg.{except, is_too_long, sendable, receivable, message_at, waits_or}
+use Rattle.sysv_calls.specs.Semop.{are_within, asked, decided, held_by, operated, operations_of, performable, semop}
 use Rattle.sysv_calls.specs.Calls.{touched, call_of, attempt}
 use Rattle.sysv_calls.specs.Records.{perm_fields, queue_fields, set_fields}
 use Rattle.sysv_calls.specs.Seen.{place_in}
 use Rattle.sysv_calls.specs.Needs.{IsReserved}
 use Rattle.ipc_state.specs.Held.{Room}
 use Rattle.sysv_calls.proofs.Received.{receive_steps, left, after-receive, blocked-left}
-use Rattle.sysv_calls.proofs.Reaching.{reached-there, removed-is, sought-none, sends, receives}
+use Rattle.sysv_calls.proofs.Reaching.{reached-there, removed-is, sought-none, sends, receives, there-append}
 use Rattle.sysv_calls.proofs.SetEnds.{semget-ends, semctl_getval-ends, semctl_getpid-ends, semctl_setval-ends, semctl_getall-ends, semctl_setall-ends}
-use Rattle.sysv_calls.proofs.SetEnds.{semctl_stat-ends, semctl_set-ends, semctl_rmid-ends}
+use Rattle.sysv_calls.proofs.SetEnds.{semctl_stat-ends, semctl_set-ends, semctl_rmid-ends, semctl_getcnt-ends, semop-ends}
 use Rattle.sysv_calls.proofs.Running.{waits-blocked, blocked-then, blocked-seen, listed-runs, msgget-runs, msgctl_set-runs, msgctl_rmid-runs, semget-runs}
 use Rattle.sysv_calls.proofs.Running.{semctl_getval-runs, semctl_getpid-runs, semctl_setval-runs, semctl_getall-runs, semctl_setall-runs, semctl_set-runs}
-use Rattle.sysv_calls.proofs.Running.{semctl_rmid-runs}
+use Rattle.sysv_calls.proofs.Running.{semctl_getcnt-runs, semctl_rmid-runs}
 pub use Rattle.sysv_calls.proofs.Families.{IsOther, by-waiting}
 pub use Rattle.sysv_calls.proofs.Running.{is_blocked}
 use Rattle.sysv_calls.specs.Msg as defined
@@ -59,17 +63,6 @@ not_false : (b : Bool) → not b ≡ false → b ≡ true
 not_false true h = refl
 not_false false h = cc
 
--- what is there stays as it is when more comes
-there-append : {X : Type 0} (es more : List (ℕ × X)) (n : ℕ) → is_some (value_at nat_eq es n) ≡ true → value_at nat_eq (es ++ more) n ≡ value_at nat_eq es n
-there-append [] more n is = cc
-there-append (e ∷ es) more n is = by_test (nat_eq e.0 n) is (there-append es more n)
-  where
-    by_test : (b : Bool) → is_some (cond b (Some e.1) (value_at nat_eq es n)) ≡ true
-        → (is_some (value_at nat_eq es n) ≡ true → value_at nat_eq (es ++ more) n ≡ value_at nat_eq es n)
-        → cond b (Some e.1) (value_at nat_eq (es ++ more) n) ≡ cond b (Some e.1) (value_at nat_eq es n)
-    by_test true is rest = refl
-    by_test false is rest = rest is
-
 -- another object than the one of this identifier
 other_id : (id n : ℕ) → Some (awaited.Queue (record { 0 = id })) ≢ Some (awaited.Queue (record { 0 = n })) → n ≢ id
 other_id id n apart same = apart (ap (λ k. Some (awaited.Queue (record { 0 = k }))) (sym same))
@@ -77,11 +70,22 @@ other_id id n apart same = apart (ap (λ k. Some (awaited.Queue (record { 0 = k 
 own_id : (id : ℕ) (n : Id) → Some (awaited.Queue (record { 0 = id })) ≡ Some (awaited.Queue n) → id ≡ n.0
 own_id id n is = let same : record { 0 = id } ≡ n = cc in ap (λ (k : Id). k.0) same
 
+own_set : (id : ℕ) (n : Id) → Some (awaited.Set (record { 0 = id })) ≡ Some (awaited.Set n) → id ≡ n.0
+own_set id n is = let same : record { 0 = id } ≡ n = cc in ap (λ (k : Id). k.0) same
+
+-- a queue is no set
+no_set : (n k : Id) → Some (awaited.Queue n) ≡ Some (awaited.Set k) → ⊥
+no_set n k is = cc
+
+no_queue : (n k : Id) → Some (awaited.Set n) ≡ Some (awaited.Queue k) → ⊥
+no_queue n k is = cc
+
 module _ (limits : Limits) (s : State) where
   -- the object of this identifier alone is another one
   others-with : (id : ℕ) (e : Entry Queue) (on : Awaited) → Some (awaited.Queue (record { 0 = id })) ≢ Some on → is_there on s ≡ true
       → IsAsBefore on s (with_queue s id e)
   others-with id e (awaited.Queue n) apart there = other-with s.msg.entries id n.0 e (other_id id n.0 apart)
+  others-with id e (awaited.Set n) apart there = (refl, λ pid num. refl)
 
   msgget-ends : (cred : Cred) (key : ℤ) (flags : ℕ) → Ends limits s None (defined.msgget limits s cred key flags)
   msgget-ends cred key flags =
@@ -100,6 +104,7 @@ module _ (limits : Limits) (s : State) where
     where
       as_added : (on : Awaited) → is_there on s ≡ true → IsAsBefore on s (with_new_queue limits s key (perm_of cred flags))
       as_added (awaited.Queue n) there = there-append s.msg.entries _ n.0 there
+      as_added (awaited.Set n) there = (refl, λ pid num. refl)
 
   msgsnd-ends : (cred : Cred) (pid : ℕ) (again : Bool) (id flags : ℕ) (mtype : ℤ) (text : List ℕ)
       → Ends limits s (Some (awaited.Queue (record { 0 = id }))) (defined.msgsnd limits s cred pid again id flags mtype text)
@@ -183,6 +188,7 @@ module _ (limits : Limits) (s : State) where
     where
       as_left : (on : Awaited) → Some (awaited.Queue (record { 0 = id })) ≢ Some on → IsAsBefore on s (record s { msg = without_entry s.msg id })
       as_left (awaited.Queue n) apart = value_at-without s.msg.entries id n.0 (other_id id n.0 apart)
+      as_left (awaited.Set n) apart = (refl, λ pid num. refl)
 
   call-ends : (pid : ℕ) (again : Bool) (call : PlainCall) → Ends limits s (touched call) (call_of limits s pid again call)
   call-ends pid again (requests.Msgget key flags) = msgget-ends (cred_of s pid) key flags
@@ -192,6 +198,9 @@ module _ (limits : Limits) (s : State) where
   call-ends pid again (requests.MsgctlSet id uid gid mode qbytes) = msgctl_set-ends (cred_of s pid) id uid gid mode qbytes
   call-ends pid again (requests.MsgctlRmid id) = msgctl_rmid-ends (cred_of s pid) id
   call-ends pid again (requests.Semget key nsems flags) = semget-ends limits s (cred_of s pid) key nsems flags
+  call-ends pid again (requests.Semop id timeout operations) = semop-ends limits s (cred_of s pid) pid again id operations
+  call-ends pid again (requests.SemctlGetNcnt id num) = semctl_getcnt-ends limits s (cred_of s pid) false id num
+  call-ends pid again (requests.SemctlGetZcnt id num) = semctl_getcnt-ends limits s (cred_of s pid) true id num
   call-ends pid again (requests.SemctlGetVal id num) = semctl_getval-ends limits s (cred_of s pid) id num
   call-ends pid again (requests.SemctlGetPid id num) = semctl_getpid-ends limits s (cred_of s pid) id num
   call-ends pid again (requests.SemctlSetVal id num value) = semctl_setval-ends limits s (cred_of s pid) pid id num value
@@ -229,6 +238,13 @@ module _ (limits : Limits) (s : State) (pid : ℕ) (again : Bool) where
         body = Message (message_at found.0.object found.1).mtype (take size (message_at found.0.object found.1).text);
       } in d)
 
+  waits-semop : (id timeout : ℕ) (operations : List ℕ) → has_to_wait (attempt limits s pid again (requests.Semop id timeout operations))
+      ≡ is_blocked (performable limits s (cred_of s pid) pid again id (operations_of operations))
+  waits-semop id timeout operations =
+      waits-blocked s (semop limits s (cred_of s pid) pid again id operations)
+      ∙ blocked-then (performable limits s (cred_of s pid) pid again id (operations_of operations))
+      (λ (found : Entry Set × List ℕ). let d : Done = record { state = operated s pid id (operations_of operations) found; body = Empty } in d)
+
 -- the tests of a send by what they say
 abbrev send_steps : Bool → Bool → Bool → Option (Entry Queue) → (Perm → Bool) → Halt → (Queue → Bool) → Attempt (Entry Queue)
 send_steps again b1 b2 f refuses h fills =
@@ -249,6 +265,33 @@ receives-alike again other true f refuses h picks long = refl
 receives-alike again other false None refuses h picks long = refl
 receives-alike again other false (Some e) refuses h picks long = refl
 
+-- the tests of a list of operations by what they say
+abbrev operable_steps : Limits → Cred → Bool → Bool → Option (Entry Set) → List Operation → Attempt (Entry Set)
+operable_steps limits cred again b1 f ops = do
+  refuse EINVAL b1
+  e ← f orelse gone again
+  refuse E2BIG (nat_lt limits.semopm (length ops))
+  refuse EFBIG (not (are_within (length e.object.semaphores) ops))
+  refuse EACCES (not (list_all (λ o. may cred e.perm (asked o)) ops))
+  Ok e
+
+abbrev met_steps : Limits → Cred → Bool → Bool → Option (Entry Set) → (ℕ → ℤ) → List Operation → Attempt (Entry Set × Outcome)
+met_steps limits cred again b1 f held ops = do
+  e ← operable_steps limits cred again b1 f ops
+  Ok (e, outcome (values_of e.object) held ops)
+
+abbrev operate_steps : Limits → Cred → Bool → Bool → Option (Entry Set) → (ℕ → ℤ) → List Operation → Attempt (Entry Set × List ℕ)
+operate_steps limits cred again b1 f held ops = do
+  found ← met_steps limits cred again b1 f held ops
+  values ← decided ops found.1
+  Ok (found.0, values)
+
+operates-alike : (limits : Limits) (cred : Cred) (again other b1 : Bool) (f : Option (Entry Set)) (held : ℕ → ℤ) (ops : List Operation)
+    → is_blocked (operate_steps limits cred again b1 f held ops) ≡ is_blocked (operate_steps limits cred other b1 f held ops)
+operates-alike limits cred again other true f held ops = refl
+operates-alike limits cred again other false None held ops = refl
+operates-alike limits cred again other false (Some e) held ops = refl
+
 -- two states that have the same caller and the same object make the same call wait, whether it waited before or not
 module _ (limits : Limits) (s t : State) (pid : ℕ) (again other : Bool) where
   abbrev IsAlike : PlainCall → Type 0
@@ -268,6 +311,7 @@ module _ (limits : Limits) (s t : State) (pid : ℕ) (again other : Bool) where
       ∙ (ap (λ (f : Option (Entry Queue)). is_blocked (send_steps other b1 b2 f mine h fills)) same
       ∙ (sends-alike other again b1 b2 (entry_of s.msg id) mine h fills
       ∙ sym (waits-send limits s pid again id flags mtype text))))
+  alike-send id flags mtype text (awaited.Set n) is cred alike = absurd (no_set (record { 0 = id }) n is)
 
   alike-receive : (id flags size : ℕ) (mtype : ℤ) → IsAlike (requests.Msgrcv id flags size mtype)
   alike-receive id flags size mtype (awaited.Queue n) is cred alike =
@@ -282,9 +326,25 @@ module _ (limits : Limits) (s t : State) (pid : ℕ) (again other : Bool) where
       ∙ (ap (λ (f : Option (Entry Queue)). is_blocked (receive_steps other b1 f mine h picks long)) same
       ∙ (receives-alike other again b1 (entry_of s.msg id) mine h picks long
       ∙ sym (waits-receive limits s pid again id flags size mtype))))
+  alike-receive id flags size mtype (awaited.Set n) is cred alike = absurd (no_set (record { 0 = id }) n is)
+
+  alike-semop : (id timeout : ℕ) (operations : List ℕ) → IsAlike (requests.Semop id timeout operations)
+  alike-semop id timeout operations (awaited.Queue n) is cred alike = absurd (no_queue (record { 0 = id }) n is)
+  alike-semop id timeout operations (awaited.Set n) is cred alike =
+      let ops = operations_of operations in
+      let b1 = length ops == 0 in
+      let same : IsAsBefore (awaited.Set (record { 0 = id })) s t =
+      subst (λ (k : ℕ). IsAsBefore (awaited.Set (record { 0 = k })) s t) (sym (own_set id n is)) alike in
+      let held : held_by t pid id ≡ held_by s pid id = λ i num. same.1 pid num i in
+      waits-semop limits t pid other id timeout operations
+      ∙ (ap (λ (c : Cred). is_blocked (operate_steps limits c other b1 (set_of t id) (held_by t pid id) ops)) cred
+      ∙ (ap (λ (f : Option (Entry Set)). is_blocked (operate_steps limits (cred_of s pid) other b1 f (held_by t pid id) ops)) same.0
+      ∙ (ap (λ (h : ℕ → ℤ). is_blocked (operate_steps limits (cred_of s pid) other b1 (set_of s id) h ops)) held
+      ∙ (operates-alike limits (cred_of s pid) other again b1 (set_of s id) (held_by s pid id) ops
+      ∙ sym (waits-semop limits s pid again id timeout operations)))))
 
   pub waits-alike : (call : PlainCall) → IsAlike call
-  waits-alike call = by-waiting IsAlike alike-send alike-receive (λ call none on is. absurd (some-none (sym is ∙ none.never))) call
+  waits-alike call = by-waiting IsAlike alike-send alike-receive alike-semop (λ call none on is. absurd (some-none (sym is ∙ none.never))) call
 
 sends-there : (again b1 b2 : Bool) (f : Option (Entry Queue)) (refuses : Perm → Bool) (h : Halt) (fills : Queue → Bool)
     → is_blocked (send_steps again b1 b2 f refuses h fills) ≡ true → is_some f ≡ true
@@ -299,6 +359,12 @@ receives-there again true f refuses h picks long is = cc
 receives-there again false None refuses h picks long is = cc
 receives-there again false (Some e) refuses h picks long is = refl
 
+operates-there : (limits : Limits) (cred : Cred) (again b1 : Bool) (f : Option (Entry Set)) (held : ℕ → ℤ) (ops : List Operation)
+    → is_blocked (operate_steps limits cred again b1 f held ops) ≡ true → is_some f ≡ true
+operates-there limits cred again true f held ops is = cc
+operates-there limits cred again false None held ops is = cc
+operates-there limits cred again false (Some e) held ops is = refl
+
 -- what waits on an object finds it there
 module _ (limits : Limits) (s : State) (pid : ℕ) (again : Bool) where
   abbrev IsThere : PlainCall → Type 0
@@ -310,6 +376,7 @@ module _ (limits : Limits) (s : State) (pid : ℕ) (again : Bool) where
       sends-there again (not (int_lt (pos 0) mtype)) (nat_lt limits.msgmax (length text)) (entry_of s.msg id) (λ perm. not (may (cred_of s pid) perm write))
       (waits_or flags EAGAIN) (λ q. full q (length text)) (sym (waits-send limits s pid again id flags mtype text) ∙ waits) in
       subst (λ (k : ℕ). is_some (entry_of s.msg k) ≡ true) (own_id id n is) there
+  there-send id flags mtype text (awaited.Set n) is waits = absurd (no_set (record { 0 = id }) n is)
 
   there-receive : (id flags size : ℕ) (mtype : ℤ) → IsThere (requests.Msgrcv id flags size mtype)
   there-receive id flags size mtype (awaited.Queue n) is waits =
@@ -318,9 +385,19 @@ module _ (limits : Limits) (s : State) (pid : ℕ) (again : Bool) where
       (waits_or flags ENOMSG) (λ q. pick q.messages mtype (has flags except)) (λ q at. is_too_long flags size (length (message_at q at).text))
       (sym (waits-receive limits s pid again id flags size mtype) ∙ waits) in
       subst (λ (k : ℕ). is_some (entry_of s.msg k) ≡ true) (own_id id n is) there
+  there-receive id flags size mtype (awaited.Set n) is waits = absurd (no_set (record { 0 = id }) n is)
+
+  there-semop : (id timeout : ℕ) (operations : List ℕ) → IsThere (requests.Semop id timeout operations)
+  there-semop id timeout operations (awaited.Queue n) is waits = absurd (no_queue (record { 0 = id }) n is)
+  there-semop id timeout operations (awaited.Set n) is waits =
+      let ops = operations_of operations in
+      let there : is_some (entry_of s.sem id) ≡ true =
+      operates-there limits (cred_of s pid) again (length ops == 0) (set_of s id) (held_by s pid id) ops
+      (sym (waits-semop limits s pid again id timeout operations) ∙ waits) in
+      subst (λ (k : ℕ). is_some (entry_of s.sem k) ≡ true) (own_set id n is) there
 
   pub waits-there : (call : PlainCall) → IsThere call
-  waits-there call = by-waiting IsThere there-send there-receive (λ call none on is. absurd (some-none (sym is ∙ none.never))) call
+  waits-there call = by-waiting IsThere there-send there-receive there-semop (λ call none on is. absurd (some-none (sym is ∙ none.never))) call
 
 -- after a receive has come to its end, each other receive that had to wait has to wait on
 pub received-waits : (limits : Limits) (s : State) (pid : ℕ) (again : Bool) (id flags size : ℕ) (mtype : ℤ) (f : Finish)
@@ -346,6 +423,8 @@ never-blocked limits s pid again (requests.MsgctlRmid id) is = msgctl_rmid-runs 
 never-blocked limits s pid again (requests.Semget key nsems flags) is = semget-runs limits s (cred_of s pid) key nsems flags
 never-blocked limits s pid again (requests.SemctlGetVal id num) is = semctl_getval-runs s (cred_of s pid) id num
 never-blocked limits s pid again (requests.SemctlGetPid id num) is = semctl_getpid-runs s (cred_of s pid) id num
+never-blocked limits s pid again (requests.SemctlGetNcnt id num) is = semctl_getcnt-runs limits s (cred_of s pid) false id num
+never-blocked limits s pid again (requests.SemctlGetZcnt id num) is = semctl_getcnt-runs limits s (cred_of s pid) true id num
 never-blocked limits s pid again (requests.SemctlSetVal id num value) is = semctl_setval-runs s (cred_of s pid) pid id num value
 never-blocked limits s pid again (requests.SemctlGetAll id) is = semctl_getall-runs s (cred_of s pid) id
 never-blocked limits s pid again (requests.SemctlSetAll id values) is = semctl_setall-runs s (cred_of s pid) pid id values
@@ -354,6 +433,7 @@ never-blocked limits s pid again (requests.SemctlSet id uid gid mode) is = semct
 never-blocked limits s pid again (requests.SemctlRmid id) is = semctl_rmid-runs s (cred_of s pid) id
 never-blocked limits s pid again (requests.Msgsnd id flags mtype text) is = cc
 never-blocked limits s pid again (requests.Msgrcv id flags size mtype) is = cc
+never-blocked limits s pid again (requests.Semop id timeout operations) is = cc
 
 pub never-waits : (limits : Limits) (s : State) (pid : ℕ) (again : Bool) (call : PlainCall) → awaited_by (Calls call) ≡ None
     → has_to_wait (attempt limits s pid again call) ≡ false
@@ -361,14 +441,16 @@ never-waits limits s pid again call is = waits-blocked s (call_of limits s pid a
 
 -- whether a call has to wait, by its tests
 pub waits-as-tested : (limits : Limits) (s : State) (pid : ℕ) (again : Bool) (call : PlainCall)
-    → has_to_wait (attempt limits s pid again call) ≡ is_blocked (place_in limits s (cred_of s pid) again call)
+    → has_to_wait (attempt limits s pid again call) ≡ is_blocked (place_in limits s (cred_of s pid) pid again call)
 waits-as-tested limits s pid again =
-    by-waiting (λ call. has_to_wait (attempt limits s pid again call) ≡ is_blocked (place_in limits s (cred_of s pid) again call))
+    by-waiting (λ call. has_to_wait (attempt limits s pid again call) ≡ is_blocked (place_in limits s (cred_of s pid) pid again call))
     (λ id flags mtype text. waits-send limits s pid again id flags mtype text
     ∙ sym (blocked-seen (λ (e : Entry Queue). 0) (sendable limits s (cred_of s pid) again id flags mtype text)))
     (λ id flags size mtype. waits-receive limits s pid again id flags size mtype
     ∙ sym (blocked-seen (λ (found : Entry Queue × ℕ). found.1) (receivable s (cred_of s pid) again id flags size mtype)))
-    (λ call other. never-waits limits s pid again call other.never ∙ sym (ap is_blocked (other.untested limits s (cred_of s pid) again)))
+    (λ id timeout operations. waits-semop limits s pid again id timeout operations
+    ∙ sym (blocked-seen (λ (found : Entry Set × List ℕ). 0) (performable limits s (cred_of s pid) pid again id (operations_of operations))))
+    (λ call other. never-waits limits s pid again call other.never ∙ sym (ap is_blocked (other.untested limits s (cred_of s pid) pid again)))
 
 -- ---- what is reserved
 

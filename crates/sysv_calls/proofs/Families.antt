@@ -14,24 +14,35 @@ use Rattle.sysv_calls.specs.Seen.{place_in}
 pub record IsOther (call : PlainCall) : Type 0 where
   pub never : awaited_by (Calls call) ≡ None
   pub no_receive : is_receive (Calls call) ≡ false
-  pub untested : (limits : Limits) (s : State) (cred : Cred) (again : Bool) → place_in limits s cred again call ≡ Ok 0
+  pub untested : (limits : Limits) (s : State) (cred : Cred) (pid : ℕ) (again : Bool) → place_in limits s cred pid again call ≡ Ok 0
 
 -- what holds of the calls that may wait, and of all others, holds of every call
 pub by-waiting : (P : PlainCall → Type 0) → ((id flags : ℕ) (mtype : ℤ) (text : List ℕ) → P (requests.Msgsnd id flags mtype text))
-    → ((id flags size : ℕ) (mtype : ℤ) → P (requests.Msgrcv id flags size mtype)) → ((call : PlainCall) → IsOther call → P call)
+    → ((id flags size : ℕ) (mtype : ℤ) → P (requests.Msgrcv id flags size mtype))
+    → ((id timeout : ℕ) (operations : List ℕ) → P (requests.Semop id timeout operations)) → ((call : PlainCall) → IsOther call → P call)
     → (call : PlainCall) → P call
-by-waiting P sends receives others (requests.Msgsnd id flags mtype text) = sends id flags mtype text
-by-waiting P sends receives others (requests.Msgrcv id flags size mtype) = receives id flags size mtype
-by-waiting P sends receives others (requests.Msgget key flags) = others _ (record { never = refl; no_receive = refl; untested = λ limits s cred again. refl })
-by-waiting P sends receives others (requests.MsgctlStat id) = others _ (record { never = refl; no_receive = refl; untested = λ limits s cred again. refl })
-by-waiting P sends receives others (requests.MsgctlSet id uid gid mode qbytes) = others _ (record { never = refl; no_receive = refl; untested = λ limits s cred again. refl })
-by-waiting P sends receives others (requests.MsgctlRmid id) = others _ (record { never = refl; no_receive = refl; untested = λ limits s cred again. refl })
-by-waiting P sends receives others (requests.Semget key nsems flags) = others _ (record { never = refl; no_receive = refl; untested = λ limits s cred again. refl })
-by-waiting P sends receives others (requests.SemctlGetVal id num) = others _ (record { never = refl; no_receive = refl; untested = λ limits s cred again. refl })
-by-waiting P sends receives others (requests.SemctlGetPid id num) = others _ (record { never = refl; no_receive = refl; untested = λ limits s cred again. refl })
-by-waiting P sends receives others (requests.SemctlSetVal id num value) = others _ (record { never = refl; no_receive = refl; untested = λ limits s cred again. refl })
-by-waiting P sends receives others (requests.SemctlGetAll id) = others _ (record { never = refl; no_receive = refl; untested = λ limits s cred again. refl })
-by-waiting P sends receives others (requests.SemctlSetAll id values) = others _ (record { never = refl; no_receive = refl; untested = λ limits s cred again. refl })
-by-waiting P sends receives others (requests.SemctlStat id) = others _ (record { never = refl; no_receive = refl; untested = λ limits s cred again. refl })
-by-waiting P sends receives others (requests.SemctlSet id uid gid mode) = others _ (record { never = refl; no_receive = refl; untested = λ limits s cred again. refl })
-by-waiting P sends receives others (requests.SemctlRmid id) = others _ (record { never = refl; no_receive = refl; untested = λ limits s cred again. refl })
+by-waiting P sends receives operates others (requests.Msgsnd id flags mtype text) = sends id flags mtype text
+by-waiting P sends receives operates others (requests.Msgrcv id flags size mtype) = receives id flags size mtype
+by-waiting P sends receives operates others (requests.Semop id timeout operations) = operates id timeout operations
+by-waiting P sends receives operates others (requests.Msgget key flags) = others _ (record { never = refl; no_receive = refl; untested = λ _ _ _ _ _. refl })
+by-waiting P sends receives operates others (requests.MsgctlStat id) = others _ (record { never = refl; no_receive = refl; untested = λ _ _ _ _ _. refl })
+by-waiting P sends receives operates others (requests.MsgctlSet id uid gid mode qbytes) =
+    others _ (record { never = refl; no_receive = refl; untested = λ _ _ _ _ _. refl })
+by-waiting P sends receives operates others (requests.MsgctlRmid id) = others _ (record { never = refl; no_receive = refl; untested = λ _ _ _ _ _. refl })
+by-waiting P sends receives operates others (requests.Semget key nsems flags) =
+    others _ (record { never = refl; no_receive = refl; untested = λ _ _ _ _ _. refl })
+by-waiting P sends receives operates others (requests.SemctlGetVal id num) = others _ (record { never = refl; no_receive = refl; untested = λ _ _ _ _ _. refl })
+by-waiting P sends receives operates others (requests.SemctlGetPid id num) = others _ (record { never = refl; no_receive = refl; untested = λ _ _ _ _ _. refl })
+by-waiting P sends receives operates others (requests.SemctlGetNcnt id num) =
+    others _ (record { never = refl; no_receive = refl; untested = λ _ _ _ _ _. refl })
+by-waiting P sends receives operates others (requests.SemctlGetZcnt id num) =
+    others _ (record { never = refl; no_receive = refl; untested = λ _ _ _ _ _. refl })
+by-waiting P sends receives operates others (requests.SemctlSetVal id num value) =
+    others _ (record { never = refl; no_receive = refl; untested = λ _ _ _ _ _. refl })
+by-waiting P sends receives operates others (requests.SemctlGetAll id) = others _ (record { never = refl; no_receive = refl; untested = λ _ _ _ _ _. refl })
+by-waiting P sends receives operates others (requests.SemctlSetAll id values) =
+    others _ (record { never = refl; no_receive = refl; untested = λ _ _ _ _ _. refl })
+by-waiting P sends receives operates others (requests.SemctlStat id) = others _ (record { never = refl; no_receive = refl; untested = λ _ _ _ _ _. refl })
+by-waiting P sends receives operates others (requests.SemctlSet id uid gid mode) =
+    others _ (record { never = refl; no_receive = refl; untested = λ _ _ _ _ _. refl })
+by-waiting P sends receives operates others (requests.SemctlRmid id) = others _ (record { never = refl; no_receive = refl; untested = λ _ _ _ _ _. refl })

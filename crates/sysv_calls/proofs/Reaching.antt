@@ -1,7 +1,9 @@
 -- What an identifier has for a caller, in what is held and in the definitions.
-use Rattle.std.proofs.Common.{◌≡◌, ℕ, zero, suc, ℤ, pos, negsuc, ◌*◌, ◌<◌, Bool, true, false, List, [], ◌∷◌, length, map, arith, Option, Some, None, refl, sym, ap, subst, ◌∙◌}
-use Rattle.std.specs.Prelude.{not, is_some, nat_le, nat_lt, int_lt, ◌≤◌, ◌==◌, slice_get, sum_by, All, if◌then◌else◌, Ok, Err}
-use Rattle.std.proofs.lemmas.Bool.{eqb-true, leb-true}
+use Rattle.std.proofs.Common.{◌≡◌, ℕ, zero, suc, ℤ, pos, negsuc, ◌*◌, ◌<◌, Bool, true, false, List, [], ◌∷◌, ◌++◌, cond, length}
+use Rattle.std.proofs.Common.{map, arith, Option, Some, None, refl, sym, ap, subst, ◌∙◌}
+use Rattle.std.specs.List.{list_all}
+use Rattle.std.specs.Prelude.{not, is_some, nat_eq, nat_le, nat_lt, int_lt, ◌≤◌, ◌==◌, slice_get, sum_by, All, if◌then◌else◌, Ok, Err}
+use Rattle.std.proofs.lemmas.Bool.{eqb-true, leb-true, ltb-false, ltb-true}
 use Rattle.std.proofs.lemmas.Bool.Decides.{nat_tests}
 use Rattle.std.proofs.lemmas.List.Elements.{All-weaker}
 use Rattle.std.proofs.lemmas.List.Sums.{AllPass-from_list_all, sum_by-cons}
@@ -11,8 +13,11 @@ use Rattle.ipc_base.specs.declared.field.Field.TheVariants.{U16}
 use Rattle.ipc_base.specs.Numbers.{field_bytes, record_bytes}
 use Rattle.std.proofs.lemmas.List.Quantifiers.{position-Some}
 use Rattle.ipc_base.specs.declared.limits.Limits.{Limits}
+use Rattle.ipc_base.specs.Limits.{ArePassed}
+use Rattle.ipc_base.specs.Table.{value_at}
+use Rattle.ipc_base.proofs.CallerLemmas.{passed-bounds}
 use Rattle.ipc_base.specs.declared.errno.Errno.{Errno}
-use Rattle.ipc_base.specs.declared.errno.Errno.TheVariants.{EACCES, EEXIST, ENOENT, EINVAL, EAGAIN, ENOMSG, E2BIG, ERANGE}
+use Rattle.ipc_base.specs.declared.errno.Errno.TheVariants.{EACCES, EEXIST, EFBIG, ENOENT, EINVAL, EAGAIN, ENOMSG, E2BIG, ERANGE}
 use Rattle.ipc_base.specs.declared.identity.Cred.{Cred}
 use Rattle.ipc_perm.specs.declared.perm.Perm.{Perm}
 use Rattle.ipc_state.specs.declared.keyed.Entry.{Entry}
@@ -21,8 +26,9 @@ use Rattle.sysv_msg.specs.Queue.{Queue, PlainMessage, is_allowed, pick, full}
 use Rattle.ipc_state.specs.Numbered.{entry_of, last_number, without_entry}
 use Rattle.ipc_state.specs.Keyed.{Keyed, keyed}
 use Rattle.sysv_sem.specs.declared.set.Semaphore.{Semaphore}
-use Rattle.sysv_sem.specs.Operation.{most_value}
-use Rattle.sysv_sem.specs.Set.{Set}
+use Rattle.sysv_sem.specs.declared.operation.Operation.{Operation}
+use Rattle.sysv_sem.specs.Operation.{Outcome, Done as IsDone, Blocks as Stops, Fails as IsRefused, most_value, outcome}
+use Rattle.sysv_sem.specs.Set.{Set, values_of}
 use Rattle.ipc_state.specs.Held.{Room, HasSetPlace}
 use Rattle.ipc_state.specs.Lends.{HasPutObject}
 use Rattle.ipc_state.specs.Tables.{HeldObjects}
@@ -33,6 +39,7 @@ use Rattle.sysv_calls.specs.Access.{read, write, has, gone, is_exclusive, may_ma
 use Rattle.sysv_calls.specs.Msg.{except, waits_or, is_too_long, message_at, sendable, receivable}
 use Rattle.sysv_calls.specs.Needs.{Has, Nothing, SetPlace, set_place}
 use Rattle.sysv_calls.specs.Sem.{are_values, count_of, semaphore, settable}
+use Rattle.sysv_calls.specs.Semop.{Passes, are_within, asked, decided, held_by, operable, performable, tried_list}
 use Rattle.sysv_calls.specs.Seen.{seen}
 
 module _ {X : Type 0} where
@@ -65,10 +72,22 @@ module _ {X : Type 0} where
       by_found true id is = cc
       by_found false id is = cc
 
-      by_key : (o : Option ℕ) → if_some o (λ id. refuse EEXIST (is_exclusive flags) >> Ok (Some id)) (refuse ENOENT (not (may_make key flags)) >> Ok None) ≡ Ok None
+      by_key : (o : Option ℕ) → if_some o (λ id. refuse EEXIST (is_exclusive flags) >> Ok (Some id)) (refuse ENOENT (not
+          (may_make key flags)) >> Ok None) ≡ Ok None
           → o ≡ None
       by_key None is = refl
       by_key (Some id) is = by_found (is_exclusive flags) id is
+
+-- what is there stays as it is when more comes
+pub there-append : {X : Type 0} (es more : List (ℕ × X)) (n : ℕ) → is_some (value_at nat_eq es n) ≡ true → value_at nat_eq (es ++ more) n ≡ value_at nat_eq es n
+there-append [] more n is = cc
+there-append (e ∷ es) more n is = by_test (nat_eq e.0 n) is (there-append es more n)
+  where
+    by_test : (b : Bool) → is_some (cond b (Some e.1) (value_at nat_eq es n)) ≡ true
+        → (is_some (value_at nat_eq es n) ≡ true → value_at nat_eq (es ++ more) n ≡ value_at nat_eq es n)
+        → cond b (Some e.1) (value_at nat_eq (es ++ more) n) ≡ cond b (Some e.1) (value_at nat_eq es n)
+    by_test true is rest = refl
+    by_test false is rest = rest is
 
 -- ---- what it says that a call went on
 
@@ -139,7 +158,8 @@ pub record IsFound (s : State) (id num : ℕ) (found : Entry Set × Semaphore) :
   pub there : set_of s id ≡ Some found.0
   pub at : slice_get found.0.object.semaphores num ≡ Some found.1
 
-pub semaphore-there : (s : State) (cred : Cred) (id num access : ℕ) (found : Entry Set × Semaphore) → semaphore s cred id num access ≡ Ok found → IsFound s id num found
+pub semaphore-there : (s : State) (cred : Cred) (id num access : ℕ) (found : Entry Set × Semaphore) → semaphore s cred id num access ≡ Ok found
+    → IsFound s id num found
 semaphore-there s cred id num access found is =
     let a = passed (set_of s id orelse EINVAL) _ found is in
     let b = passed (slice_get a.value.object.semaphores num orelse EINVAL) _ found a.rest in
@@ -175,6 +195,54 @@ settable-there s cred id values e is =
       values = All-weaker (λ v. nat_le v most_value ≡ true) (λ v. v ≤ most_value) (λ v is. leb-true v most_value is) values
           (AllPass-from_list_all (λ v. nat_le v most_value) values (not-false _ d.0));
     })
+
+-- what holds of a list of operations that can be performed, of its set, and of the values after it
+pub record Operates (limits : Limits) (s : State) (pid id : ℕ) (ops : List Operation) (found : Entry Set × List ℕ) : Type 0 where
+  pub few : length ops ≤ limits.semopm
+  pub there : set_of s id ≡ Some found.0
+  pub within : All (λ o. o.num < length found.0.object.semaphores) ops
+  pub done : (after : ℕ → ℤ) × (outcome (values_of found.0.object) (held_by s pid id) ops ≡ IsDone found.1 after)
+
+decided-done : (ops : List Operation) (r : Outcome) (values : List ℕ) → decided ops r ≡ Ok values → (after : ℕ → ℤ) × (r ≡ IsDone values after)
+decided-done ops (IsDone v after) values is = let same : v ≡ values = cc in (after, ap (λ (l : List ℕ). IsDone l after) same)
+decided-done ops (Stops at) values is = cc
+decided-done ops (IsRefused e) values is = cc
+
+ok_same : {X : Type 0} {x y : X} → (let a : Attempt X = Ok x in a) ≡ Ok y → x ≡ y
+ok_same is = cc
+
+pub operates : (limits : Limits) (s : State) (cred : Cred) (pid : ℕ) (again : Bool) (id : ℕ) (ops : List Operation) (found : Entry Set × List ℕ)
+    → performable limits s cred pid again id ops ≡ Ok found → Operates limits s pid id ops found
+operates limits s cred pid again id ops found is =
+    let t = passed (tried_list limits s cred pid again id ops) _ found is in
+    let o = passed (operable limits s cred again id ops) _ t.value t.was in
+    let d = passed (decided ops t.value.1) _ found t.rest in
+    let some = stop-passed (Fails EINVAL) (length ops == 0) _ o.value o.was in
+    let e = passed (set_of s id orelse gone again) _ o.value some.1 in
+    let b = stop-passed (Fails E2BIG) (nat_lt limits.semopm (length ops)) _ o.value e.rest in
+    let c = stop-passed (Fails EFBIG) (not (are_within (length e.value.object.semaphores) ops)) _ o.value b.1 in
+    let f = stop-passed (Fails EACCES) (not (list_all (λ x. may cred e.value.perm (asked x)) ops)) _ o.value c.1 in
+    let meets : Entry Set → Outcome = λ x. outcome (values_of x.object) (held_by s pid id) ops in
+    let set : e.value ≡ o.value = ok_same f.1 in
+    let pair : Entry Set → Entry Set × Outcome = λ x. (x, meets x) in
+    let tried : pair e.value ≡ t.value = ◌∙◌ {b = pair o.value} (ap pair set) (ok_same o.rest) in
+    let ends : Entry Set × Outcome → Entry Set × List ℕ = λ p. (p.0, d.value) in
+    let whole : ends (pair e.value) ≡ found = ◌∙◌ {b = ends t.value} (ap ends tried) (ok_same d.rest) in
+    subst (Operates limits s pid id ops) whole (record {
+      few = ltb-false limits.semopm (length ops) b.0;
+      there = orstop-passed (set_of s id) (Fails (gone again)) e.value e.was;
+      within = All-weaker (λ o. nat_lt o.num (length e.value.object.semaphores) ≡ true) (λ o. o.num < length e.value.object.semaphores)
+          (λ o is. ltb-true o.num (length e.value.object.semaphores) is) ops
+          (AllPass-from_list_all (λ o. nat_lt o.num (length e.value.object.semaphores)) ops (not-false _ c.0));
+      done = decided-done ops (meets e.value) d.value (◌∙◌ {b = decided ops t.value.1} (ap (λ (p : Entry Set × Outcome). decided ops p.1) tried) d.was);
+    })
+
+-- such a list has no more than a buffer has room for
+pub operates-passes : (limits : Limits) (s : State) (pid id : ℕ) (ops : List Operation) (found : Entry Set × List ℕ) → ArePassed limits
+    → Operates limits s pid id ops found → Passes limits s pid id ops found
+operates-passes limits s pid id ops found checked ok =
+    let most = (passed-bounds limits checked).semopm in
+    record { few = omega (arith, most, ok.few); there = ok.there; within = ok.within; done = ok.done }
 
 -- what is seen of an attempt tells of it
 pub record Shows {X Y : Type 0} (f : X → Y) (a : Attempt X) (y : Y) : Type 0 where

@@ -24,6 +24,7 @@ use Rattle.sysv_calls.specs.Access.{accessible, is_exclusive, listed, may_make, 
 use Rattle.sysv_calls.specs.Msg.{found_queue, made_queue, msgget, msgctl_set, msgctl_rmid}
 use Rattle.sysv_calls.specs.Sem.{count_of, found_set, made_set, semaphore, settable, value_of, semget, semctl_getval, semctl_getpid, semctl_setval}
 use Rattle.sysv_calls.specs.Sem.{are_values, has_fewer, semctl_getall, semctl_setall, semctl_set, semctl_rmid}
+use Rattle.sysv_calls.specs.Semop.{semctl_getcnt}
 
 abbrev pub is_blocked : {X : Type 0} → Attempt X → Bool
 is_blocked (Ok x) = false
@@ -95,7 +96,8 @@ listed-runs s o cred id fields = then-runs (accessible false o cred id read) _ (
 
 pub msgget-runs : (limits : Limits) (s : State) (cred : Cred) (key : ℤ) (flags : ℕ) → Runs (msgget limits s cred key flags)
 msgget-runs limits s cred key flags =
-    then-runs (sought s.msg key flags) _ (sought-runs s.msg key flags) (λ found. if_some-runs found (found_queue s cred flags) (made_queue limits s cred key flags)
+    then-runs (sought s.msg key flags) _ (sought-runs s.msg key flags)
+    (λ found. if_some-runs found (found_queue s cred flags) (made_queue limits s cred key flags)
     (λ id. then-runs (accessible false s.msg cred id (asked_by flags)) _ (accessible-runs s.msg cred id (asked_by flags)) (λ e. refl))
     (refuse-runs ENOSPC (is_full limits.msgmni s.msg) (answer (with_new_queue limits s key (perm_of cred flags)) (Number s.msg.next)) refl))
 
@@ -133,6 +135,9 @@ semctl_getval-runs s cred id num = then-runs (semaphore s cred id num read) _ (s
 
 pub semctl_getpid-runs : (s : State) (cred : Cred) (id num : ℕ) → Runs (semctl_getpid s cred id num)
 semctl_getpid-runs s cred id num = then-runs (semaphore s cred id num read) _ (semaphore-runs s cred id num read) (λ found. refl)
+
+pub semctl_getcnt-runs : (limits : Limits) (s : State) (cred : Cred) (zero : Bool) (id num : ℕ) → Runs (semctl_getcnt limits s cred zero id num)
+semctl_getcnt-runs limits s cred zero id num = then-runs (semaphore s cred id num read) _ (semaphore-runs s cred id num read) (λ found. refl)
 
 pub semctl_setval-runs : (s : State) (cred : Cred) (pid id num : ℕ) (value : ℤ) → Runs (semctl_setval s cred pid id num value)
 semctl_setval-runs s cred pid id num value =

@@ -11,20 +11,22 @@ use Rattle.ipc_wire.specs.Request as requests
 use Rattle.ipc_wire.specs.Reply.{PlainBody}
 use Rattle.ipc_wire.specs.declared.reply.Body.TheVariants.{Empty, Message}
 use Rattle.sysv_msg.specs.Queue.{Queue, byte_count, full, most_messages, sent, taken}
+use Rattle.sysv_sem.specs.Set.{Set}
 use Rattle.ipc_state.specs.declared.keyed.Entry.{Entry}
 use Rattle.ipc_state.specs.declared.parked.ParkedCall.{ParkedCall}
 use Rattle.ipc_state.specs.Keyed.{holding}
 use Rattle.ipc_state.specs.Finish.{Attempt, Done, Halt, Finishes, answer, done, ended, has_to_wait, ◌>>=◌}
 use Rattle.ipc_state.specs.Sound.{HasSoundParts}
-use Rattle.ipc_state.specs.State.{State, cred_of, queue_of, with_queue}
+use Rattle.ipc_state.specs.State.{State, cred_of, is_process, queue_of, with_queue}
 use Rattle.ipc_state.specs.Waiting.{parked_kind}
 use Rattle.ipc_state.proofs.CallerLemmas.{queue-sound}
 use Rattle.sysv_calls.specs.Calls.{attempt, call_of}
 use Rattle.sysv_calls.specs.Msg.{message_at, receivable, sendable}
+use Rattle.sysv_calls.specs.Semop.{IsReady, Passes, operated, operations_of, performable}
 use Rattle.sysv_calls.specs.Seen.{attempted, place_in, plain_halt}
 use Rattle.sysv_calls.specs.declared.msg.Halt.{Halt as Stops}
 use Rattle.sysv_calls.proofs.CallerLemmas.{is_blocked, by-waiting, waits-as-tested}
-use Rattle.sysv_calls.proofs.Reaching.{Shows, Sends, Receives, shows, sends, receives, stays-stopped}
+use Rattle.sysv_calls.proofs.Reaching.{Shows, Sends, Receives, shows, sends, receives, operates, operates-passes, stays-stopped}
 
 -- a queue that is not full has places
 has_places : (q : Queue) (n most : ℕ) → q.qbytes ≤ most → most ≤ most_messages → full q n ≡ false → length q.messages < most_messages
@@ -39,23 +41,25 @@ has_places q n most few places is =
     second false b is = is
 
 -- stopped by its tests, a call ends so
-stopped : (limits : Limits) (s : State) (pid : ℕ) (again : Bool) (call : PlainCall) (h : Halt) → place_in limits s (cred_of s pid) again call ≡ Err h
+stopped : (limits : Limits) (s : State) (pid : ℕ) (again : Bool) (call : PlainCall) (h : Halt) → place_in limits s (cred_of s pid) pid again call ≡ Err h
     → call_of limits s pid again call ≡ Err h
 stopped limits s pid again call h =
-    by-waiting (λ c. place_in limits s (cred_of s pid) again c ≡ Err h → call_of limits s pid again c ≡ Err h)
+    by-waiting (λ c. place_in limits s (cred_of s pid) pid again c ≡ Err h → call_of limits s pid again c ≡ Err h)
     (λ id flags mtype text is. stays-stopped (λ (e : Entry Queue). 0) _ (sendable limits s (cred_of s pid) again id flags mtype text) h is)
     (λ id flags size mtype is. stays-stopped (λ (found : Entry Queue × ℕ). found.1) _ (receivable s (cred_of s pid) again id flags size mtype) h is)
-    (λ c other is. let both = sym (other.untested limits s (cred_of s pid) again) ∙ is in cc) call
+    (λ id timeout operations is.
+    stays-stopped (λ (found : Entry Set × List ℕ). 0) _ (performable limits s (cred_of s pid) pid again id (operations_of operations)) h is)
+    (λ c other is. let both = sym (other.untested limits s (cred_of s pid) pid again) ∙ is in cc) call
 
 -- the tests of a call of this kind answered so
 pub record Tested (limits : Limits) (s : State) (pid : ℕ) (again : Bool) (kind : PlainKind) (r : Result ℕ Stops) : Type 0 where
-  pub place : (wanted : PlainCall) → kind ≡ Calls wanted → place_in limits s (cred_of s pid) again wanted ≡ attempted r
+  pub place : (wanted : PlainCall) → kind ≡ Calls wanted → place_in limits s (cred_of s pid) pid again wanted ≡ attempted r
 
 pub tested : (limits : Limits) (s : State) (pid : ℕ) (again : Bool) (cred : Cred) → cred ≡ cred_of s pid → (kind : PlainKind) (call : ParkedCall)
     → parked_kind call ≡ kind → (r : Result ℕ Stops)
-    → ((wanted : PlainCall) → parked_kind call ≡ Calls wanted → attempted r ≡ place_in limits s cred again wanted) → Tested limits s pid again kind r
+    → ((wanted : PlainCall) → parked_kind call ≡ Calls wanted → attempted r ≡ place_in limits s cred pid again wanted) → Tested limits s pid again kind r
 tested limits s pid again cred same kind call shown r answers =
-    record { place = λ wanted is. sym (answers wanted (shown ∙ is) ∙ ap (λ (c : Cred). place_in limits s c again wanted) same) }
+    record { place = λ wanted is. sym (answers wanted (shown ∙ is) ∙ ap (λ (c : Cred). place_in limits s c pid again wanted) same) }
 
 module _ {limits : Limits} {s : State} {pid : ℕ} {again : Bool} {kind : PlainKind} {r : Result ℕ Stops} (tests : Tested limits s pid again kind r) where
   pub waits-on : (wanted : PlainCall) → kind ≡ Calls wanted → is_blocked (attempted r) ≡ has_to_wait (attempt limits s pid again wanted)
@@ -126,3 +130,35 @@ module _ {limits : Limits} {s : State} {pid : ℕ} {again : Bool} {kind : PlainK
         subst (λ (w : PlainCall). Finishes (done t body) ≡ attempt limits s pid again w) one
         ((λ i. Finishes (done (left e may_receive.there i) (says e may_receive.there i)))
         ∙ (ap (λ (n : ℕ). ended s (next (e, n))) (sym shown-receive.is) ∙ ends))
+
+  -- a list of operations that may be performed
+  module _ {at : ℕ} (was : r ≡ Ok at) {id timeout : ℕ} {operations : List ℕ} (is : Calls (requests.Semop id timeout operations) ≡ kind)
+      (checked : ArePassed limits) where
+    shown-operate : Shows (λ (found : Entry Set × List ℕ). 0) (performable limits s (cred_of s pid) pid again id (operations_of operations)) at
+    shown-operate = shows (λ (found : Entry Set × List ℕ). 0) _ at (tests.place (requests.Semop id timeout operations) (sym is) ∙ ap attempted was)
+
+    may_operate : Passes limits s pid id (operations_of operations) shown-operate.value
+    may_operate =
+        operates-passes limits s pid id (operations_of operations) shown-operate.value checked
+        (operates limits s (cred_of s pid) pid again id (operations_of operations) shown-operate.value shown-operate.was)
+
+    -- the bytes of the operations, as they are lent
+    module _ (bytes : List ℕ) (same : bytes ≡ operations) where
+      pub operates-ready : is_process s pid ≡ true → IsReady limits s pid id (operations_of bytes)
+      operates-ready process =
+          subst (λ (l : List ℕ). IsReady limits s pid id (operations_of l)) (sym same)
+          (record { passed = checked; process = process; found = (shown-operate.value, may_operate) })
+
+      pub operates-finish : (t : State)
+          → ((found : Entry Set × List ℕ) → Passes limits s pid id (operations_of bytes) found → t ≡ operated s pid id (operations_of bytes) found)
+          → (wanted : PlainCall) → kind ≡ Calls wanted → Finishes (done t Empty) ≡ attempt limits s pid again wanted
+      operates-finish t left wanted wants =
+          let one : requests.Semop id timeout operations ≡ wanted = cc in
+          let found : Entry Set × List ℕ = shown-operate.value in
+          let next : Entry Set × List ℕ → Attempt Done = λ f. answer (operated s pid id (operations_of operations) f) Empty in
+          let ends : ended s (next found) ≡ attempt limits s pid again (requests.Semop id timeout operations) =
+          sym (ap (λ (a : Attempt (Entry Set × List ℕ)). ended s (a >>= next)) shown-operate.was) in
+          let leaves : t ≡ operated s pid id (operations_of operations) found =
+          subst (λ (l : List ℕ). Passes limits s pid id (operations_of l) found → t ≡ operated s pid id (operations_of l) found) same (left found)
+          may_operate in
+          subst (λ (w : PlainCall). Finishes (done t Empty) ≡ attempt limits s pid again w) one (ap (λ (u : State). Finishes (done u Empty)) leaves ∙ ends)

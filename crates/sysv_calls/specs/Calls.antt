@@ -10,6 +10,7 @@ use Rattle.ipc_state.specs.Finish.{Tried, Attempt, Done, ended}
 use Rattle.sysv_calls.specs.Msg.{msgget, msgsnd, msgrcv, msgctl_stat, msgctl_set, msgctl_rmid}
 use Rattle.sysv_calls.specs.Sem.{semget, semctl_getval, semctl_getpid, semctl_setval, semctl_getall, semctl_setall}
 use Rattle.sysv_calls.specs.Sem.{semctl_stat, semctl_set, semctl_rmid}
+use Rattle.sysv_calls.specs.Semop.{semop, semctl_getcnt}
 
 -- each call by a process; again where it is one that waited
 abbrev pub call_of : Limits → State → ℕ → Bool → PlainCall → Attempt Done
@@ -23,8 +24,12 @@ call_of limits s pid again (requests.MsgctlSet id uid gid mode qbytes) =
     msgctl_set limits s (cred_of s pid) id uid gid mode qbytes
 call_of limits s pid again (requests.MsgctlRmid id) = msgctl_rmid s (cred_of s pid) id
 call_of limits s pid again (requests.Semget key nsems flags) = semget limits s (cred_of s pid) key nsems flags
+call_of limits s pid again (requests.Semop id timeout operations) =
+    semop limits s (cred_of s pid) pid again id operations
 call_of limits s pid again (requests.SemctlGetVal id num) = semctl_getval s (cred_of s pid) id num
 call_of limits s pid again (requests.SemctlGetPid id num) = semctl_getpid s (cred_of s pid) id num
+call_of limits s pid again (requests.SemctlGetNcnt id num) = semctl_getcnt limits s (cred_of s pid) false id num
+call_of limits s pid again (requests.SemctlGetZcnt id num) = semctl_getcnt limits s (cred_of s pid) true id num
 call_of limits s pid again (requests.SemctlSetVal id num value) = semctl_setval s (cred_of s pid) pid id num value
 call_of limits s pid again (requests.SemctlGetAll id) = semctl_getall s (cred_of s pid) id
 call_of limits s pid again (requests.SemctlSetAll id values) = semctl_setall s (cred_of s pid) pid id values
@@ -41,14 +46,17 @@ touched (requests.MsgctlStat id) = None
 touched (requests.MsgctlSet id uid gid mode qbytes) = Some (awaited.Queue (record { 0 = id }))
 touched (requests.MsgctlRmid id) = Some (awaited.Queue (record { 0 = id }))
 touched (requests.Semget key nsems flags) = None
+touched (requests.Semop id timeout operations) = Some (awaited.Set (record { 0 = id }))
 touched (requests.SemctlGetVal id num) = None
 touched (requests.SemctlGetPid id num) = None
-touched (requests.SemctlSetVal id num value) = None
+touched (requests.SemctlGetNcnt id num) = None
+touched (requests.SemctlGetZcnt id num) = None
+touched (requests.SemctlSetVal id num value) = Some (awaited.Set (record { 0 = id }))
 touched (requests.SemctlGetAll id) = None
-touched (requests.SemctlSetAll id values) = None
+touched (requests.SemctlSetAll id values) = Some (awaited.Set (record { 0 = id }))
 touched (requests.SemctlStat id) = None
-touched (requests.SemctlSet id uid gid mode) = None
-touched (requests.SemctlRmid id) = None
+touched (requests.SemctlSet id uid gid mode) = Some (awaited.Set (record { 0 = id }))
+touched (requests.SemctlRmid id) = Some (awaited.Set (record { 0 = id }))
 
 -- whether it is a receive from a queue: one takes a message away, so that no other receive goes on by it
 abbrev pub is_receive : PlainKind → Bool

@@ -19,7 +19,7 @@ pub data Needs : Type 0 where
   Place : (key : ℤ) → Needs
   -- room for one set more of so many semaphores, and for its key
   SetPlace : (key : ℤ) → (nsems : ℕ) → Needs
-  -- a text in memory of its own
+  -- a text, or a list of operations, in memory of its own
   Text : Needs
 
 -- a set of so many semaphores, if one may have as many under any limits: from 1 to 64
@@ -32,6 +32,7 @@ abbrev pub needs : PlainKind → Needs
 needs (Calls (requests.Msgget key flags)) = Place key
 needs (Calls (requests.Msgsnd id flags mtype text)) = Text
 needs (Calls (requests.Semget key nsems flags)) = set_place key nsems
+needs (Calls (requests.Semop id timeout operations)) = Text
 needs _ = Nothing
 
 abbrev pub is_something : Needs → Bool

@@ -11,6 +11,7 @@ use Rattle.ipc_state.specs.Finish.{Attempt, Halt, Fails, Blocks, Tried, Finishes
 use Rattle.ipc_state.specs.Held.{Held}
 use Rattle.ipc_state.specs.State.{State}
 use Rattle.sysv_calls.specs.Msg.{sendable, receivable}
+use Rattle.sysv_calls.specs.Semop.{operations_of, performable}
 use Rattle.sysv_calls.specs.declared.msg.Halt.{Halt as Stops}
 use Rattle.sysv_calls.specs.declared.msg.Halt.TheVariants as stops
 use Rattle.sysv_calls.specs.declared.waiting.Tried.{Tried as Comes}
@@ -51,14 +52,16 @@ abbrev pub seen : {X Y : Type 0} → (X → Y) → Attempt X → Attempt Y
 seen f (Ok x) = Ok (f x)
 seen f (Err h) = Err h
 
--- the tests of a call that may wait: if it may go on now, the place of the message that a receive takes, and 0 for a
--- send
-abbrev pub place_in : Limits → State → Cred → Bool → PlainCall → Attempt ℕ
-place_in limits s cred again (requests.Msgsnd id flags mtype text) =
+-- the tests of a call that may wait: if it may go on now, the place of the message that a receive takes, and 0 for any
+-- other
+abbrev pub place_in : Limits → State → Cred → ℕ → Bool → PlainCall → Attempt ℕ
+place_in limits s cred pid again (requests.Msgsnd id flags mtype text) =
     seen (λ e. 0) (sendable limits s cred again id flags mtype text)
-place_in limits s cred again (requests.Msgrcv id flags size mtype) =
+place_in limits s cred pid again (requests.Msgrcv id flags size mtype) =
     seen (λ found. found.1) (receivable s cred again id flags size mtype)
-place_in limits s cred again call = Ok 0
+place_in limits s cred pid again (requests.Semop id timeout operations) =
+    seen (λ found. 0) (performable limits s cred pid again id (operations_of operations))
+place_in limits s cred pid again call = Ok 0
 
 -- what came of a call that may wait and left this state
 abbrev pub tried_of : State → Comes → Tried

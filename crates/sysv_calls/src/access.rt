@@ -36,7 +36,7 @@ pub(crate) fn accessible<T>(
 }
 
 /// Why an identifier has nothing: it is not valid, or its object was removed while the call waited.
-fn gone(again: bool) -> Errno
+pub(crate) fn gone(again: bool) -> Errno
     ensures { result ≡ defined.gone again }
 {
     if again { Errno::EIDRM } else { Errno::EINVAL }

@@ -19,6 +19,7 @@ use crate::sem::{
     semctl_getall, semctl_getpid, semctl_getval, semctl_rmid, semctl_set, semctl_setall,
     semctl_setval, semctl_stat, semget,
 };
+use crate::semop::semctl_getcnt;
 use ipc_base::{Errno, Pid};
 use ipc_state::{Parked, State};
 use ipc_wire::{Body, Call, Request};
@@ -97,6 +98,8 @@ pub fn attempt(state: &mut State, pid: Pid, call: &Call<'_>, spare: &mut Vec<u8>
         Call::Semget { key, nsems, flags } => semget(state, cred, *key, *nsems, *flags),
         Call::SemctlGetVal { id, num } => semctl_getval(state, cred, *id, *num),
         Call::SemctlGetPid { id, num } => semctl_getpid(state, cred, *id, *num),
+        Call::SemctlGetNcnt { id, num } => semctl_getcnt(state, cred, false, *id, *num),
+        Call::SemctlGetZcnt { id, num } => semctl_getcnt(state, cred, true, *id, *num),
         Call::SemctlSetVal { id, num, value } => {
             semctl_setval(state, cred, pid, *id, *num, *value)
         }
@@ -107,6 +110,6 @@ pub fn attempt(state: &mut State, pid: Pid, call: &Call<'_>, spare: &mut Vec<u8>
             semctl_set(state, cred, *id, *uid, *gid, *mode)
         }
         Call::SemctlRmid { id } => semctl_rmid(state, cred, *id),
-        Call::Msgsnd { .. } | Call::Msgrcv { .. } => unreachable!(),
+        Call::Msgsnd { .. } | Call::Msgrcv { .. } | Call::Semop { .. } => unreachable!(),
     }
 }

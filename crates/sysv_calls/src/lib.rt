@@ -7,6 +7,7 @@ mod calls;
 mod memory;
 mod msg;
 mod sem;
+mod semop;
 mod waiting;
 
 pub use calls::{Answer, attempt, reserve};

@@ -15,7 +15,7 @@ pub(crate) enum Needs {
     Place { key: i32 },
     /// Room for one set more of so many semaphores, and its key.
     SetPlace { key: i32, nsems: usize },
-    /// A text in memory of its own.
+    /// A text, or a list of operations, in memory of its own.
     Text,
 }
 
@@ -25,7 +25,7 @@ pub(crate) fn needed_by(kind: &RequestKind<'_>) -> Needs
 {
     match kind {
         RequestKind::Call(Call::Msgget { key, .. }) => Needs::Place { key: *key },
-        RequestKind::Call(Call::Msgsnd { .. }) => Needs::Text,
+        RequestKind::Call(Call::Msgsnd { .. } | Call::Semop { .. }) => Needs::Text,
         RequestKind::Call(Call::Semget { key, nsems, .. }) => set_place(*key, *nsems),
         _ => Needs::Nothing,
     }

@@ -114,7 +114,7 @@ fn make_set(state: &mut State, cred: Cred, key: i32, count: usize, flags: GetFla
 }
 
 /// A semaphore of a set, for a caller that may use it so.
-fn semaphore(
+pub(crate) fn semaphore(
     state: &State,
     cred: Cred,
     id: Id,

@@ -12,6 +12,7 @@ ghost use Rattle.sysv_calls.specs.Seen.{IsKeptIn, attempted, place_in, tried_of}
 
 use crate::calls::Answer;
 use crate::msg::{Halt, ready_to_receive, ready_to_send, receive, send};
+use crate::semop::{operate, ready_to_operate};
 use ipc_base::{Cred, Pid};
 use ipc_state::{Awaited, Parked, ParkedCall, State};
 use ipc_wire::{Body, Call};
@@ -38,7 +39,7 @@ pub fn try_parked(state: &mut State, pid: Pid, again: bool, call: Parked) -> Tri
     ensures waits { state.new.room.waits ≡ state.old.room.waits }
 {
     let cred = state.cred(pid);
-    let at = match ready(state, cred, again, call.call()) {
+    let at = match ready(state, cred, pid, again, call.call()) {
         Ok(at) => at,
         Err(Halt::Fails(e)) => return Tried::Finishes(Err(e)),
         Err(Halt::Blocks) => return Tried::Waits(call),
@@ -51,6 +52,10 @@ pub fn try_parked(state: &mut State, pid: Pid, again: bool, call: Parked) -> Tri
         ParkedCall::Msgrcv { id, size, .. } => Tried::Finishes(Ok(receive(
             state, pid, id, at, size,
         ))),
+        ParkedCall::Semop { id, operations, .. } => {
+            operate(state, pid, id, &operations.lend());
+            Tried::Finishes(Ok(Body::Empty))
+        }
     }
 }
 
@@ -60,7 +65,7 @@ pub fn has_to_wait(state: &State, pid: Pid, call: &Parked) -> bool
     ensures { (wanted : PlainCall) → call.now.kind ≡ Calls wanted
         → result ≡ finish.has_to_wait (defined.attempt state.now.limits state.now.state pid.0 true wanted) }
 {
-    match ready(state, state.cred(pid), true, call.call()) {
+    match ready(state, state.cred(pid), pid, true, call.call()) {
         Ok(_) => false,
         Err(Halt::Fails(_)) => false,
         Err(Halt::Blocks) => true,
@@ -68,9 +73,9 @@ pub fn has_to_wait(state: &State, pid: Pid, call: &Parked) -> bool
 }
 
 /// Whether a call may go on now, and then the place of the message that a receive takes; for a send that is 0.
-fn ready(state: &State, cred: Cred, again: bool, call: &ParkedCall) -> Result<usize, Halt>
+fn ready(state: &State, cred: Cred, pid: Pid, again: bool, call: &ParkedCall) -> Result<usize, Halt>
     ensures tests { (wanted : PlainCall) → parked_kind call.now ≡ Calls wanted
-        → attempted result ≡ place_in state.now.limits state.now.state cred again wanted }
+        → attempted result ≡ place_in state.now.limits state.now.state cred pid.0 again wanted }
     ensures passed { OnOk result (ArePassed state.now.limits) }
 {
     match call {
@@ -84,6 +89,10 @@ fn ready(state: &State, cred: Cred, again: bool, call: &ParkedCall) -> Result<us
             size,
             mtype,
         } => ready_to_receive(state, cred, again, *id, *flags, *size, *mtype),
+        ParkedCall::Semop { id, operations, .. } => {
+            ready_to_operate(state, cred, pid, again, *id, &operations.lend())?;
+            Ok(0)
+        }
     }
 }
 
@@ -103,7 +112,7 @@ pub fn is_receive(call: &Parked) -> bool
 {
     match call.call() {
         ParkedCall::Msgrcv { .. } => true,
-        ParkedCall::Msgsnd { .. } => false,
+        ParkedCall::Msgsnd { .. } | ParkedCall::Semop { .. } => false,
     }
 }
 
@@ -116,16 +125,19 @@ pub fn touched(call: &Call<'_>) -> Option<Awaited>
         | Call::Msgrcv { id, .. }
         | Call::MsgctlSet { id, .. }
         | Call::MsgctlRmid { id } => Some(Awaited::Queue(*id)),
+        Call::Semop { id, .. }
+        | Call::SemctlSetVal { id, .. }
+        | Call::SemctlSetAll { id, .. }
+        | Call::SemctlSet { id, .. }
+        | Call::SemctlRmid { id } => Some(Awaited::Set(*id)),
         Call::Msgget { .. }
         | Call::MsgctlStat { .. }
         | Call::Semget { .. }
         | Call::SemctlGetVal { .. }
         | Call::SemctlGetPid { .. }
-        | Call::SemctlSetVal { .. }
+        | Call::SemctlGetNcnt { .. }
+        | Call::SemctlGetZcnt { .. }
         | Call::SemctlGetAll { .. }
-        | Call::SemctlSetAll { .. }
-        | Call::SemctlStat { .. }
-        | Call::SemctlSet { .. }
-        | Call::SemctlRmid { .. } => None,
+        | Call::SemctlStat { .. } => None,
     }
 }

@@ -41,8 +41,11 @@ passes_adjustment false false false false h u = u
 pub value-passes : (v : ℕ) (a : ℤ) (o : Operation) → judged v a o ≡ Passes → value_after v o.sem_op ≤ most_value
 value-passes v a o h = ltb-false most_value (value_after v o.sem_op) (passes_value _ _ _ h)
 
+pub adjustment-judged : (v : ℕ) (a : ℤ) (o : Operation) → judged v a o ≡ Passes → has_undo o ≡ true → is_adjustment (a -ℤ o.sem_op) ≡ true
+adjustment-judged v a o h u = passes_adjustment _ _ _ _ h u
+
 pub adjustment-passes : (v : ℕ) (a : ℤ) (o : Operation) → judged v a o ≡ Passes → has_undo o ≡ true → FitsSigned w16 (a -ℤ o.sem_op)
-adjustment-passes v a o h u = fits (a -ℤ o.sem_op) (passes_adjustment _ _ _ _ h u)
+adjustment-passes v a o h u = fits (a -ℤ o.sem_op) (adjustment-judged v a o h u)
 
 -- ---- one semaphore
 

@@ -1,60 +1,30 @@
-use Rattle.std.proofs.Common.{◌≡◌, ◌++◌, ◌∷◌, [], List, map, sym, ap, ◌∙◌, append-nil, arith, Some}
+use Rattle.std.proofs.Common.{◌++◌, List, map, sym, ap, ◌∙◌, append-nil, arith}
 use Rattle.std.proofs.lemmas.List.{length-map}
 use Rattle.ipc_wait.proofs.CallerLemmas.{none-due}
 use Rattle.ipc_state.specs.Held.{Held}
 use Rattle.ipc_state.specs.State.{State}
 use Rattle.ipc_state.specs.Waiting.{PlainWaiting}
-use Rattle.ipc_engine.specs.Step.{Step, expired}
+use Rattle.ipc_engine.specs.Step.{expired}
 use Rattle.ipc_engine.specs.View.{plain_outcome}
-use Rattle.ipc_engine.proofs.Buffers.{pushed}
 use Rattle.ipc_engine.proofs.Expiring.{Expires, expires}
-use Rattle.ipc_engine.proofs.deadlines.expire.Goals.{After-push}
+use Rattle.ipc_engine.proofs.deadlines.expire.Goals.{After-end_late}
 use Rattle.ipc_engine.proofs.deadlines.expire.Goals as goal
 
 -- a call has left, and is answered
-one : (c : After-push) → Expires c.loop-waiting.state.state c.leave_due.new.self.state (map plain_outcome c.loop-waiting.outcomes.items)
-    (map plain_outcome c.push.new.outcomes.items)
+one : (c : After-end_late) → Expires c.loop-waiting.state.state c.leave_due.new.self.state (map plain_outcome c.loop-waiting.outcomes.items)
+    (map plain_outcome c.end_late.new.outcomes.items)
 one c =
     let l = c.loop-waiting in
-    let w = c.in-Some.waiting in
-    let told : record { pid = w.pid.0; serial = c.serial-serial.result; errno = Some c.expiry-errno.result; body = (expired w).body } ∷ [] ≡ expired w ∷ [] =
-    (λ i. record { pid = w.pid.0; serial = c.serial-serial.ensures i; errno = Some (c.expiry-errno.ensures i); body = (expired w).body } ∷ []) in
-    expires l.state.state c.leave_due.new.self.state (map plain_outcome l.outcomes.items) (map plain_outcome c.push.new.outcomes.items) w l.invariant.pids
-    c.in-Some.ensures.first c.in-Some.ensures.call c.in-Some.ensures.state
-    (pushed l.outcomes.items c.push.new.outcomes.items c.reply_to.result (expired w ∷ []) c.push.ensures.items
-    (ap (λ (t : Step). t.outcomes) (c.reply_to.ensures.reply l.state.state) ∙ told))
-
-pub loop-waiting-smaller-in-Some : goal.loop-waiting-smaller-in-Some
-loop-waiting-smaller-in-Some c = (one (goal.at.loop-waiting-smaller-in-Some c).After-push).fewer
+    expires l.state.state c.leave_due.new.self.state (map plain_outcome l.outcomes.items) (map plain_outcome c.end_late.new.outcomes.items)
+    c.in-Some.waiting l.invariant.pids c.in-Some.ensures.first c.in-Some.ensures.call c.in-Some.ensures.state c.end_late.ensures.outcomes
 
 pub loop-waiting-smaller : goal.loop-waiting-smaller
-loop-waiting-smaller c = (one (goal.at.loop-waiting-smaller c).After-push).fewer
-
-pub loop-waiting-preserved-in-Some : goal.loop-waiting-preserved-in-Some
-loop-waiting-preserved-in-Some c =
-    let l = c.loop-waiting in
-    let now = one (goal.at.loop-waiting-preserved-in-Some c).After-push in
-    record {
-      pids = now.pids;
-      places = omega (
-        arith,
-        now.room,
-        l.invariant.places,
-        length-map l.outcomes.items plain_outcome,
-        length-map c.push.new.outcomes.items plain_outcome,
-        c.push.ensures.capacity,
-      );
-      state = now.state ∙ l.invariant.state;
-      outcomes = now.outcomes ∙ l.invariant.outcomes;
-      limits = c.leave_due.ensures.limits ∙ l.invariant.limits;
-      room = c.leave_due.ensures.room ∙ l.invariant.room;
-      capacity = omega (arith, l.invariant.capacity, c.push.ensures.capacity);
-    }
+loop-waiting-smaller c = (one (goal.at.loop-waiting-smaller c).After-end_late).fewer
 
 pub loop-waiting-preserved : goal.loop-waiting-preserved
 loop-waiting-preserved c =
     let l = c.loop-waiting in
-    let now = one (goal.at.loop-waiting-preserved c).After-push in
+    let now = one (goal.at.loop-waiting-preserved c).After-end_late in
     record {
       pids = now.pids;
       places = omega (
@@ -62,14 +32,14 @@ loop-waiting-preserved c =
         now.room,
         l.invariant.places,
         length-map l.outcomes.items plain_outcome,
-        length-map c.push.new.outcomes.items plain_outcome,
-        c.push.ensures.capacity,
+        length-map c.end_late.new.outcomes.items plain_outcome,
+        c.end_late.ensures.capacity,
       );
       state = now.state ∙ l.invariant.state;
       outcomes = now.outcomes ∙ l.invariant.outcomes;
       limits = c.leave_due.ensures.limits ∙ l.invariant.limits;
       room = c.leave_due.ensures.room ∙ l.invariant.room;
-      capacity = omega (arith, l.invariant.capacity, c.push.ensures.capacity);
+      capacity = omega (arith, l.invariant.capacity, c.end_late.ensures.capacity);
     }
 
 pub returns-clause-state : goal.returns-clause-state

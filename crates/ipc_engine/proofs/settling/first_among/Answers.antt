@@ -1,10 +1,11 @@
-use Rattle.std.proofs.Common.{◌≡◌, ◌≢◌, true, false, Some, List, take, sym, subst, ◌∙◌, arith}
+use Rattle.std.proofs.Common.{◌≡◌, true, false, List, take, sym, subst, ◌∙◌, arith}
 use Rattle.std.specs.Prelude.{All}
 use Rattle.std.proofs.lemmas.List.{take_all}
 use Rattle.std.proofs.lemmas.List.Elements.{All-more}
 use Rattle.ipc_state.specs.State.{is_process}
 use Rattle.ipc_state.specs.Waiting.{PlainWaiting, IsSoundWaiting}
 use Rattle.sysv_calls.specs.Calls.{is_receive}
+use Rattle.ipc_engine.specs.Settling.{MayBe}
 use Rattle.ipc_engine.specs.Step.{can_go_on}
 use Rattle.ipc_engine.proofs.Lists.{found-at, nothing-found}
 use Rattle.ipc_engine.proofs.settling.first_among.Goals as goal
@@ -20,8 +21,8 @@ can_go-requires-clause-process c =
 
 pub can_go-requires-clause-other : goal.can_go-requires-clause-other
 can_go-requires-clause-other c =
-    subst (λ (w : PlainWaiting). Some c.args.on ≢ Some w.on → can_go_on c.args.state.now.limits c.args.state.now.state w ≡ false) (sym c.waiting-item.is)
-    (c.requires.others c.loop-waiting.waiting-index c.waiting-item.result c.loop-waiting-test.true)
+    subst (λ (w : PlainWaiting). ¬ MayBe c.args.among w.on → can_go_on c.args.state.now.limits c.args.state.now.state w ≡ false) (sym c.waiting-item.is)
+    (c.requires.rest c.loop-waiting.waiting-index c.waiting-item.result c.loop-waiting-test.true)
 
 pub can_go-requires-clause-receive : goal.can_go-requires-clause-receive
 can_go-requires-clause-receive c after =

@@ -47,7 +47,7 @@ pub returns-in-SemctlGetAll-clause-fields : goal.returns-in-SemctlGetAll-clause-
 returns-in-SemctlGetAll-clause-fields c = rw c.in-SemctlGetAll.is c.spelled-in-SemctlGetAll.ensures.fields
 
 pub returns-in-SemctlSetAll-clause-fields : goal.returns-in-SemctlSetAll-clause-fields
-returns-in-SemctlSetAll-clause-fields c = rw c.in-SemctlSetAll.is (rw c.bytes.ensures.bytes at c.spelled-in-SemctlSetAll.ensures.fields)
+returns-in-SemctlSetAll-clause-fields c = rw c.in-SemctlSetAll.is (rw c.bytes-in-SemctlSetAll.ensures.bytes at c.spelled-in-SemctlSetAll.ensures.fields)
 
 pub returns-in-SemctlStat-clause-fields : goal.returns-in-SemctlStat-clause-fields
 returns-in-SemctlStat-clause-fields c = rw c.in-SemctlStat.is c.spelled-in-SemctlStat.ensures.fields
@@ -102,3 +102,21 @@ returns-in-SemctlSet-clause-numbers c = rw c.in-SemctlSet.is (search rules)
 
 pub returns-in-SemctlRmid-clause-numbers : goal.returns-in-SemctlRmid-clause-numbers
 returns-in-SemctlRmid-clause-numbers c = rw c.in-SemctlRmid.is (search rules)
+
+pub returns-in-SemctlGetNcnt-clause-fields : goal.returns-in-SemctlGetNcnt-clause-fields
+returns-in-SemctlGetNcnt-clause-fields c = rw c.in-SemctlGetNcnt.is c.spelled-in-SemctlGetNcnt.ensures.fields
+
+pub returns-in-SemctlGetNcnt-clause-numbers : goal.returns-in-SemctlGetNcnt-clause-numbers
+returns-in-SemctlGetNcnt-clause-numbers c = rw c.in-SemctlGetNcnt.is (search rules)
+
+pub returns-in-SemctlGetZcnt-clause-fields : goal.returns-in-SemctlGetZcnt-clause-fields
+returns-in-SemctlGetZcnt-clause-fields c = rw c.in-SemctlGetZcnt.is c.spelled-in-SemctlGetZcnt.ensures.fields
+
+pub returns-in-SemctlGetZcnt-clause-numbers : goal.returns-in-SemctlGetZcnt-clause-numbers
+returns-in-SemctlGetZcnt-clause-numbers c = rw c.in-SemctlGetZcnt.is (search rules)
+
+pub returns-in-Semop-clause-fields : goal.returns-in-Semop-clause-fields
+returns-in-Semop-clause-fields c = rw c.in-Semop.is (rw c.bytes.ensures.bytes at c.spelled-in-Semop.ensures.fields)
+
+pub returns-in-Semop-clause-numbers : goal.returns-in-Semop-clause-numbers
+returns-in-Semop-clause-numbers c = rw c.in-Semop.is (search rules)

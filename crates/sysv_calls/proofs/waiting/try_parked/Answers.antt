@@ -1,7 +1,8 @@
 use Rattle.std.proofs.Common.{◌∙◌, ap}
 use Rattle.std.specs.Prelude.{Err}
 use Rattle.sysv_calls.specs.declared.msg.Halt.{Halt as Stops}
-use Rattle.sysv_calls.proofs.Trying.{Tested, tested, ends-stopped, sends-there, sends-room, sends-finish, receives-there, receives-inside, receives-finish}
+use Rattle.sysv_calls.proofs.Trying.{Tested, tested, ends-stopped, sends-there, sends-room, sends-finish}
+use Rattle.sysv_calls.proofs.Trying.{receives-there, receives-inside, receives-finish, operates-ready, operates-finish}
 use Rattle.sysv_calls.proofs.waiting.try_parked.Goals.{After-ready}
 use Rattle.sysv_calls.proofs.waiting.try_parked.Goals as goal
 
@@ -40,3 +41,13 @@ pub returns-in-Msgrcv-clause-finish : goal.returns-in-Msgrcv-clause-finish
 returns-in-Msgrcv-clause-finish c =
     receives-finish (tests (goal.at.returns-in-Msgrcv-clause-finish c).After-ready) c.in-Ok.is c.in-Msgrcv.ensures c.receive.new.state.state _
     c.receive.ensures.state c.receive.ensures.body
+
+pub operate-requires-clause-ready : goal.operate-requires-clause-ready
+operate-requires-clause-ready c =
+    operates-ready (tests (goal.at.operate-requires-clause-ready c).After-ready) c.in-Ok.is c.in-Semop.ensures c.in-Ok.ensures.passed _ c.lend.ensures
+    c.requires.process
+
+pub returns-in-Semop-clause-finish : goal.returns-in-Semop-clause-finish
+returns-in-Semop-clause-finish c =
+    operates-finish (tests (goal.at.returns-in-Semop-clause-finish c).After-ready) c.in-Ok.is c.in-Semop.ensures c.in-Ok.ensures.passed _ c.lend.ensures
+    c.operate.new.state.state c.operate.ensures.state

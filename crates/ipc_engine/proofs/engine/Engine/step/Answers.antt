@@ -1,4 +1,4 @@
-use Rattle.std.proofs.Common.{◌≡◌, ◌≤◌, ℕ, ◌++◌, [], List, map, append-nil, vec_capacity, false, sym, subst, ap, ◌∙◌, arith, rules}
+use Rattle.std.proofs.Common.{◌≡◌, ◌≤◌, ℕ, ◌++◌, List, map, vec_capacity, false, sym, subst, ap, ◌∙◌, arith, rules}
 use Rattle.std.specs.Prelude.{Option}
 use Rattle.std.specs.Global.{Vec}
 use Rattle.ipc_base.specs.declared.limits.Limits.{Limits}
@@ -6,17 +6,15 @@ use Rattle.ipc_base.specs.Limits.{ArePassed}
 use Rattle.ipc_wire.specs.Request.{PlainRequest}
 use Rattle.ipc_wire.specs.View.{plain_request}
 use Rattle.ipc_state.specs.Held.{Room}
-use Rattle.ipc_state.specs.State.{State, exit, is_waiting}
+use Rattle.ipc_state.specs.State.{State, is_waiting}
 use Rattle.sysv_calls.specs.Needs.{Has, IsReserved, Needs, Nothing, Place, SetPlace, Text, needs}
 use Rattle.ipc_engine.specs.declared.event.Outcome.{Outcome}
 use Rattle.ipc_engine.specs.Buffer.{HasBuffer}
-use Rattle.ipc_engine.specs.Engine.{Machine}
 use Rattle.ipc_engine.specs.Event.{PlainOutcome, Connect, Call, Interrupt, Tick, Exit, Restart}
 use Rattle.ipc_engine.specs.Sound.{IsSound}
-use Rattle.ipc_engine.specs.Step.{Step, connect, due, most_replies, settle}
+use Rattle.ipc_engine.specs.Step.{Step, connect, due, most_replies}
 use Rattle.ipc_engine.specs.View.{plain_outcome}
 use Rattle.ipc_engine.proofs.Buffers.{buffer-spare, after-sound, after-fits, pushed}
-use Rattle.ipc_engine.proofs.Soundness.{due-sound, exit-waits, sound-settled}
 use Rattle.ipc_engine.proofs.engine.Engine.step.Goals as goal
 
 -- what the machine keeps, told of what is known to be equal
@@ -41,12 +39,6 @@ reserved-due s places request kept moment h = record { call = h.call; room = by_
     by_needs (Place key) has = record { queue = has.queue; fresh = has.fresh; vacant = has.vacant }
     by_needs (SetPlace key nsems) has = record { set = has.set; fresh = has.fresh; vacant = has.vacant }
     by_needs Text has = has
-
--- nobody goes on by an exit
-exit-settled : (limits : Limits) (s : State) (pid moment : ℕ) → IsSound limits s
-    → settle limits (exit (due moment s).state pid) ≡ record { state = exit (due moment s).state pid; outcomes = [] }
-exit-settled limits s pid moment h =
-    sound-settled limits (exit (due moment s).state pid) (exit-waits limits (due moment s).state pid (due-sound limits s moment h))
 
 pub returns-in_ok-reserve_hello-in-Connect-clause-sound : goal.returns-in_ok-reserve_hello-in-Connect-clause-sound
 returns-in_ok-reserve_hello-in-Connect-clause-sound c =
@@ -163,57 +155,30 @@ returns-in-Tick-clause-fits c =
     after-fits old.limits c.begin-in-Tick.new.state.limits old.state (map plain_outcome c.begin-in-Tick.new.outcomes.items) (Tick c.in-Tick.moment.0)
     (search rules) (search rules) c.self.invariant.1
 
--- what an exit leaves is sound
-left-sound : (c : goal.After-remove_process) → IsSound c.remove_process.new.self.limits c.remove_process.new.self.state
-left-sound c =
-    let old = c.self.inside.state in
-    let moment = c.in-Exit.moment.0 in
-    let pid = c.in-Exit.pid.0 in
-    let is : c.remove_process.new.self.state ≡ exit (due moment old.state).state pid = search rules in
-    after-sound old.limits c.remove_process.new.self.limits old.state c.remove_process.new.self.state (Exit pid moment) (search rules)
-    (is ∙ sym (ap (λ (t : Step). t.state) (exit-settled old.limits old.state pid moment c.self.invariant.1))) c.self.invariant.1 (search rules) tt
-
-pub returns-in-Exit-clause-state : goal.returns-in-Exit-clause-state
-returns-in-Exit-clause-state c =
-    let old = c.self.inside.state in
-    let moment = c.in-Exit.moment.0 in
-    let pid = c.in-Exit.pid.0 in
-    let is : c.remove_process.new.self.state ≡ exit (due moment old.state).state pid = search rules in
-    rw c.in-Exit.is (is ∙ (sym (ap (λ (t : Step). t.state) (exit-settled old.limits old.state pid moment c.self.invariant.1))
-    ∙ ap (λ (m : Machine). (settle m.limits (exit (due moment m.state).state pid)).state) c.self.view_is))
-
-pub returns-in-Exit-clause-outcomes : goal.returns-in-Exit-clause-outcomes
-returns-in-Exit-clause-outcomes c =
-    let old = c.self.inside.state in
-    let moment = c.in-Exit.moment.0 in
-    let pid = c.in-Exit.pid.0 in
-    rw c.in-Exit.is (c.begin-in-Exit.ensures.outcomes ∙ (sym (append-nil (due moment old.state).outcomes)
-    ∙ (ap (λ (t : Step). (due moment old.state).outcomes ++ t.outcomes) (sym (exit-settled old.limits old.state pid moment c.self.invariant.1))
-    ∙ ap (λ (m : Machine). (due moment m.state).outcomes ++ (settle m.limits (exit (due moment m.state).state pid)).outcomes) c.self.view_is)))
-
 pub returns-in-Exit-clause-sound : goal.returns-in-Exit-clause-sound
-returns-in-Exit-clause-sound c = left-sound c
+returns-in-Exit-clause-sound c =
+    let old = c.self.inside.state in
+    let new = c.leave.new.state in
+    after-sound old.limits new.limits old.state new.state (Exit c.in-Exit.pid.0 c.in-Exit.moment.0) (search rules) (search rules) c.self.invariant.1
+    (search rules) tt
 
 pub returns-in-Exit-clause-fits : goal.returns-in-Exit-clause-fits
 returns-in-Exit-clause-fits c =
     let old = c.self.inside.state in
-    let moment = c.in-Exit.moment.0 in
-    let pid = c.in-Exit.pid.0 in
-    let told : map plain_outcome c.begin-in-Exit.new.outcomes.items ≡ (due moment old.state).outcomes ++ (settle old.limits
-    (exit (due moment old.state).state pid)).outcomes = c.begin-in-Exit.ensures.outcomes ∙ (sym (append-nil (due moment old.state).outcomes)
-    ∙ ap (λ (t : Step). (due moment old.state).outcomes ++ t.outcomes) (sym (exit-settled old.limits old.state pid moment c.self.invariant.1))) in
-    after-fits old.limits c.remove_process.new.self.limits old.state (map plain_outcome c.begin-in-Exit.new.outcomes.items) (Exit pid moment) (search rules)
-    told c.self.invariant.1
+    after-fits old.limits c.leave.new.state.limits old.state (map plain_outcome c.leave.new.outcomes.items) (Exit c.in-Exit.pid.0 c.in-Exit.moment.0)
+    (search rules) (search rules) c.self.invariant.1
 
 pub invariant_of-self-in-Exit : goal.invariant_of-self-in-Exit
 invariant_of-self-in-Exit c =
     let old = c.self.inside.state in
-    let new = c.remove_process.new.self in
+    let new = c.leave.new.state in
     let same : new.limits ≡ old.limits = search rules in
-    let waits = c.remove_process.ensures.waits ∙ ap (λ (r : Room). r.waits) c.begin-in-Exit.ensures.room in
-    keeps old.limits new.limits old.room.waits new.room.waits (vec_capacity c.begin-in-Exit.new.outcomes) new.state c.begin-in-Exit.new.spare
-    c.begin-in-Exit.new.outcomes.items same (search rules) (left-sound c) c.self.invariant.2
-    (buffer-spare old.limits new.limits c.self.inside.spare c.begin-in-Exit.new.spare c.self.inside.outcomes.items c.begin-in-Exit.new.outcomes.items same
+    let waits = c.leave.ensures.waits ∙ ap (λ (r : Room). r.waits) c.begin-in-Exit.ensures.room in
+    keeps old.limits new.limits old.room.waits new.room.waits (vec_capacity c.leave.new.outcomes) new.state c.begin-in-Exit.new.spare
+    c.leave.new.outcomes.items same (search rules)
+    (after-sound old.limits new.limits old.state new.state (Exit c.in-Exit.pid.0 c.in-Exit.moment.0) same (search rules) c.self.invariant.1 (search rules) tt)
+    c.self.invariant.2
+    (buffer-spare old.limits new.limits c.self.inside.spare c.begin-in-Exit.new.spare c.self.inside.outcomes.items c.leave.new.outcomes.items same
     c.self.invariant.3 c.begin-in-Exit.ensures.buffer)
     c.self.invariant.4 waits
 

@@ -1,10 +1,10 @@
-use Rattle.std.proofs.Common.{◌≡◌, ◌+◌, ◌-◌, ◌≤◌, ◌++◌, true, Some, length, map, vec_capacity}
+use Rattle.std.proofs.Common.{◌≡◌, ◌+◌, ◌-◌, ◌≤◌, ◌++◌, true, length, map, vec_capacity}
 use Rattle.ipc_state.specs.Sound.{HasSoundParts}
 use Rattle.ipc_engine.specs.Buffer.{room_in}
-use Rattle.ipc_engine.specs.Settling.{AreLinked, OthersWait, ReceivesWait}
+use Rattle.ipc_engine.specs.Settling.{AreLinked, ReceivesWait, RestWaits}
 use Rattle.ipc_engine.specs.Step.{settle as settled, settle_within}
 use Rattle.ipc_engine.specs.View.{plain_outcome}
-use Rattle.ipc_engine.proofs.settling.settle.Given as goal
+use Rattle.ipc_engine.proofs.settling.settle_among.Given as goal
 
 -- what is left to be done comes to what was asked for
 abbrev pub invariant-loop-gone : goal.invariant-loop-gone
@@ -13,7 +13,7 @@ invariant-loop-gone l =
     record {
       parts : HasSoundParts l.state.limits l.state.state;
       linked : AreLinked l.state.state;
-      others : OthersWait l.state.limits l.state.state (Some l.on);
+      rest : RestWaits l.state.limits l.state.state l.among;
       receives : l.received ≡ true → ReceivesWait l.state.limits l.state.state;
       room : length l.outcomes.items + length l.state.state.wait ≤ vec_capacity l.outcomes;
       limits : l.state.limits ≡ l.fn.state.limits;

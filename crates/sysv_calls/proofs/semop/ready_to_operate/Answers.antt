@@ -1,0 +1,74 @@
+use Rattle.std.proofs.Common.{◌≡◌, ◌∙◌, ◌<◌, List, ℕ, length, ap, sym, arith, rules, take, pos}
+use Rattle.std.specs.Prelude.{Ok, Err}
+use Rattle.ipc_wire.specs.Sixes.{bytes_of}
+use Rattle.ipc_state.specs.Finish.{Attempt, Halt}
+use Rattle.sysv_sem.specs.declared.operation.Operation.{Operation}
+use Rattle.sysv_sem.specs.declared.operation.Trial.{Trial}
+use Rattle.sysv_sem.specs.declared.operation.Trial.TheVariants as trial
+use Rattle.sysv_calls.specs.Seen.{attempted, plain_halt, seen}
+use Rattle.sysv_calls.specs.Semop.{operations_of, stopped_by, tried_list}
+use Rattle.sysv_calls.proofs.Semops.{Tried, at-front, front-inside, performs-done, performs-not, performs-refused, performs-stopped, stopped, trial-found, tried-inside}
+use Rattle.sysv_calls.proofs.semop.ready_to_operate.Goals.{After-try_operations, In-Blocks}
+use Rattle.sysv_calls.proofs.semop.ready_to_operate.Goals as goal
+
+abbrev operations : After-try_operations → List Operation
+operations c = operations_of (bytes_of c.args.operations.now)
+
+abbrev tried : After-try_operations → Tried
+tried c = tried_list c.args.state.now.limits c.args.state.now.state c.args.cred c.args.pid.0 c.args.again c.args.id.0 (operations c)
+
+-- what the tests came to
+met : (c : After-try_operations) (a : Attempt Trial) → attempted c.try_operations.result ≡ a → seen trial-found (tried c) ≡ a
+met c a is = sym c.try_operations.ensures.tests ∙ is
+
+inside : (c : After-try_operations) (at : ℕ) → attempted c.try_operations.result ≡ Ok (trial.Blocks at) → at < length (operations c)
+inside c at is =
+    tried-inside c.args.state.now.limits c.args.state.now.state c.args.cred c.args.pid.0 c.args.again c.args.id.0 (operations c) at
+    (stopped (operations c) (tried c) at (met c (Ok (trial.Blocks at)) is))
+
+blocks : (c : In-Blocks) → attempted c.try_operations.result ≡ Ok (trial.Blocks c.in-Blocks.at)
+blocks c = ap attempted c.in_ok-try_operations.was ∙ ap (λ (t : Trial). Ok t) c.in-Blocks.is
+
+below : (c : In-Blocks) (t : After-try_operations) → attempted t.try_operations.result ≡ Ok (trial.Blocks c.in-Blocks.at)
+    → take (length (operations t)) c.try_operations.new.all ≡ operations t → c.in-Blocks.at < 32
+below c t is front =
+    let first = front-inside (operations t) c.try_operations.new.all c.in-Blocks.at front (inside t c.in-Blocks.at is) in
+    omega (arith, first, c.in_ok-try_operations.ensures.count)
+
+pub bounds-all-at : goal.bounds-all-at
+bounds-all-at c =
+    let g = goal.at.bounds-all-at c in below g.In-Blocks g.After-try_operations (blocks g.In-Blocks) c.in_ok-try_operations.ensures.operations
+
+pub offset_bounds-all-at : goal.offset_bounds-all-at
+offset_bounds-all-at c =
+    let g = goal.at.offset_bounds-all-at c in
+    omega (arith, below g.In-Blocks g.After-try_operations (blocks g.In-Blocks) c.in_ok-try_operations.ensures.operations)
+
+pub returns-in_err-try_operations-clause-tests : goal.returns-in_err-try_operations-clause-tests
+returns-in_err-try_operations-clause-tests c =
+    let t = (goal.at.returns-in_err-try_operations-clause-tests c).After-try_operations in
+    let h = c.in_err-try_operations.field-0.0 in
+    let from : c.from_residual.result ≡ Err h = search rules in
+    ap attempted from ∙ performs-not (operations t) (tried t) (plain_halt h) (met t (Err (plain_halt h)) (ap attempted c.in_err-try_operations.was))
+
+pub returns-in-Done-clause-tests : goal.returns-in-Done-clause-tests
+returns-in-Done-clause-tests c =
+    let t = (goal.at.returns-in-Done-clause-tests c).After-try_operations in
+    performs-done (operations t) (tried t) (met t (Ok trial.Done) (ap attempted c.in_ok-try_operations.was ∙ ap (λ (t : Trial). Ok t) c.in-Done.is))
+
+pub returns-in-Blocks-clause-tests : goal.returns-in-Blocks-clause-tests
+returns-in-Blocks-clause-tests c =
+    let g = goal.at.returns-in-Blocks-clause-tests c in
+    let t = g.After-try_operations in
+    let at = c.in-Blocks.at in
+    let is = blocks g.In-Blocks in
+    let none : Operation = record { num = 0; sem_op = pos 0; flags = record { 0 = 0 } } in
+    let one = at-front (operations t) c.try_operations.new.all at none c.in_ok-try_operations.ensures.operations (inside t at is) in
+    ap (λ (h : Halt). Err h) (c.stopped_by.ensures ∙ ap stopped_by (sym one))
+    ∙ performs-stopped (operations t) (tried t) at (met t (Ok (trial.Blocks at)) is)
+
+pub returns-in-Fails-clause-tests : goal.returns-in-Fails-clause-tests
+returns-in-Fails-clause-tests c =
+    let t = (goal.at.returns-in-Fails-clause-tests c).After-try_operations in
+    performs-refused (operations t) (tried t) c.in-Fails.errno
+    (met t (Ok (trial.Fails c.in-Fails.errno)) (ap attempted c.in_ok-try_operations.was ∙ ap (λ (t : Trial). Ok t) c.in-Fails.is))

@@ -1,0 +1,322 @@
+//! semop(2), and how many lists of operations wait for a semaphore. None takes memory.
+
+ghost use Rattle.std.specs.Prelude.{◌≡◌, ◌^◌, ◌<◌, ◌≤◌, ℕ, List, Some, OnOk, length, map, nat_eq, take, true};
+ghost use Rattle.std.specs.List.{fold, list_all};
+ghost use Rattle.ipc_base.specs.Limits.{ArePassed};
+ghost use Rattle.ipc_base.specs.Table.{value_at};
+ghost use Rattle.ipc_perm.specs.Perm.{may as may_use};
+ghost use Rattle.ipc_wire.specs.Sixes.{bytes_of};
+ghost use Rattle.sysv_sem.specs.declared.operation.Operation.{Operation as PlainOperation};
+ghost use Rattle.sysv_sem.specs.Operation.{has_undo, trial_of};
+ghost use Rattle.sysv_sem.specs.Set.{Set};
+ghost use Rattle.ipc_state.specs.declared.keyed.Entry.{Entry};
+ghost use Rattle.ipc_state.specs.Finish.{Finishes, ended, finish_of};
+ghost use Rattle.ipc_state.specs.Sound.{HasSoundParts};
+ghost use Rattle.ipc_state.specs.State.{cred_of, undo_of, with_undo};
+ghost use Rattle.ipc_state.specs.Waiting.{parked_kind};
+ghost use Rattle.sysv_calls.specs.Seen.{attempted, plain_halt, seen};
+ghost use Rattle.sysv_calls.specs.Semop as defined;
+ghost use Rattle.sysv_calls.specs.Semop.{operation_of, operations_of, held_by, noted, CanBeNoted, CanNote, IsReady, Passes};
+
+use crate::access::gone;
+use crate::calls::Answer;
+use crate::msg::Halt;
+use crate::sem::semaphore;
+use bitflags::Flags;
+use ipc_base::{Cred, Errno, Id, Pid, SemFlags};
+use ipc_perm::{Access, Perm, may};
+use ipc_state::{ParkedCall, State};
+use ipc_wire::{Body, SemBuf, Sixes};
+use sem_undo::subtracted_adds_up;
+use sysv_sem::{Operation, Trial};
+
+/// The most operations of a list, under any limits.
+const MOST_OPERATIONS: usize = 32;
+
+/// Operations on their way to be tried.
+type Operations = [Operation; MOST_OPERATIONS];
+
+/// None of them yet.
+const NO_OPERATIONS: Operations = [Operation {
+    num: 0,
+    sem_op: 0,
+    flags: SemFlags(0),
+}; MOST_OPERATIONS];
+
+/// Who no process is.
+const NOBODY: Cred = Cred {
+    uid: 65534,
+    gid: 65534,
+};
+
+/// An operation as it stands in a request.
+fn operation_of(operation: SemBuf) -> Operation
+    ensures { result ≡ operation_of operation }
+{
+    Operation {
+        num: operation.num,
+        sem_op: operation.op,
+        flags: SemFlags(operation.flags),
+    }
+}
+
+/// Puts the operations of a request to the front of a buffer that has room for them.
+fn put_operations(operations: &Sixes<'_>, all: &mut [Operation])
+    requires { length (operations_of (bytes_of operations.now)) ≤ length all.old }
+    ensures operations { take (length (operations_of (bytes_of operations.now))) all.new
+        ≡ operations_of (bytes_of operations.now) }
+    ensures count { length all.new ≡ length all.old }
+{
+    for place in 0..operations.len() {
+        all[place] = operation_of(operations.at(place));
+    }
+}
+
+/// Puts the adjustments of a process at the semaphores of these operations to the front of a buffer that has room for
+/// them.
+fn put_adjustments(state: &State, pid: Pid, id: Id, operations: &[Operation], all: &mut [i16])
+    requires { length operations.now ≤ length all.old }
+    ensures { take (length operations.now) all.new
+        ≡ map (λ o. held_by state.now.state pid.0 id.0 o.num) operations.now }
+{
+    for place in 0..operations.len() {
+        all[place] = state.adjustment(pid, id, operations[place].num);
+    }
+}
+
+/// Whether the semaphore of each is there.
+fn are_within(nsems: usize, operations: &[Operation]) -> bool
+    ensures { result ≡ defined.are_within nsems operations.now }
+{
+    operations
+        .iter()
+        .all(|operation| (operation.num as usize) < nsems)
+}
+
+/// The access that an operation wants.
+fn asked(operation: &Operation) -> Access
+    ensures { result.0 ≡ defined.asked operation.now }
+{
+    if operation.sem_op == 0 {
+        Access::READ
+    } else {
+        Access::WRITE
+    }
+}
+
+/// Whether a caller may perform each of these.
+fn are_allowed(cred: Cred, perm: &Perm, operations: &[Operation]) -> bool
+    ensures { result ≡ list_all (λ o. may_use cred perm.now (defined.asked o)) operations.now }
+{
+    operations
+        .iter()
+        .all(|operation| may(&cred, perm, asked(operation)))
+}
+
+/// What the operations of a request meet, if they may be tried: the tests of semop, as semop(2) has it. Those that may
+/// are put to the front of the buffer.
+fn try_operations(
+    state: &State,
+    cred: Cred,
+    pid: Pid,
+    again: bool,
+    id: Id,
+    operations: &Sixes<'_>,
+    all: &mut [Operation],
+) -> Result<Trial, Halt>
+    requires { length all.old ≡ 32 }
+    ensures tests { attempted result ≡ seen (λ found. trial_of found.1) (defined.tried_list state.now.limits
+        state.now.state cred pid.0 again id.0 (operations_of (bytes_of operations.now))) }
+    ensures operations { OnOk result (take (length (operations_of (bytes_of operations.now))) all.new
+        ≡ operations_of (bytes_of operations.now)) }
+    ensures count { OnOk result (length all.new ≡ 32) }
+    ensures passed { OnOk result (ArePassed state.now.limits) }
+{
+    let count = operations.len();
+    if count == 0 {
+        return Err(Halt::Fails(Errno::EINVAL));
+    }
+    let Some(entry) = state.sem().get(id) else {
+        return Err(Halt::Fails(gone(again)));
+    };
+    if count > state.limits().semopm as usize {
+        return Err(Halt::Fails(Errno::E2BIG));
+    }
+    put_operations(operations, all);
+    let all = &all[..count];
+    if !are_within(entry.object.semaphores().len(), all) {
+        return Err(Halt::Fails(Errno::EFBIG));
+    }
+    if !are_allowed(cred, &entry.perm, all) {
+        return Err(Halt::Fails(Errno::EACCES));
+    }
+    let mut adjustments = [0; MOST_OPERATIONS];
+    put_adjustments(state, pid, id, all, &mut adjustments);
+    Ok(entry.object.try_list(all, &adjustments[..count]))
+}
+
+/// What becomes of a list that this operation stops.
+fn stopped_by(operation: &Operation) -> Halt
+    ensures { plain_halt result ≡ defined.stopped_by (Some operation.now) }
+{
+    if operation.flags.contains(SemFlags::IPC_NOWAIT) {
+        Halt::Fails(Errno::EAGAIN)
+    } else {
+        Halt::Blocks
+    }
+}
+
+/// Whether the operations of a request may be performed now, as semop(2) has it.
+pub(crate) fn ready_to_operate(
+    state: &State,
+    cred: Cred,
+    pid: Pid,
+    again: bool,
+    id: Id,
+    operations: &Sixes<'_>,
+) -> Result<(), Halt>
+    ensures tests { attempted result ≡ seen (λ found. tt) (defined.performable state.now.limits state.now.state cred
+        pid.0 again id.0 (operations_of (bytes_of operations.now))) }
+    ensures passed { OnOk result (ArePassed state.now.limits) }
+{
+    let mut all = NO_OPERATIONS;
+    match try_operations(state, cred, pid, again, id, operations, &mut all)? {
+        Trial::Done => Ok(()),
+        Trial::Blocks(at) => Err(stopped_by(&all[at])),
+        Trial::Fails(errno) => Err(Halt::Fails(errno)),
+    }
+}
+
+/// Performs the operations of a request, which may be performed.
+pub(crate) fn operate(state: &mut State, pid: Pid, id: Id, operations: &Sixes<'_>)
+    requires sound { HasSoundParts state.old.limits state.old.state }
+    requires ready { IsReady state.old.limits state.old.state pid.0 id.0 (operations_of (bytes_of operations.now)) }
+    ensures state { (found : Entry Set × List ℕ)
+        → Passes state.old.limits state.old.state pid.0 id.0 (operations_of (bytes_of operations.now)) found
+        → state.new.state ≡ defined.operated state.old.state pid.0 id.0 (operations_of
+        (bytes_of operations.now)) found }
+    ensures limits { state.new.limits ≡ state.old.limits }
+    ensures keys { state.new.room.keys ≡ state.old.room.keys }
+    ensures set_keys { state.new.room.set_keys ≡ state.old.room.set_keys }
+    ensures waits { state.new.room.waits ≡ state.old.room.waits }
+{
+    let mut all = NO_OPERATIONS;
+    put_operations(operations, &mut all);
+    let all = &all[..operations.len()];
+    let now = state.clock();
+    let set = state.sem_mut().get_mut(id).unwrap();
+    set.carry(all, pid, now);
+    subtracted_adds_up();
+    note_undo(state, pid, id, all);
+}
+
+/// Notes what is undone of these operations when their process exits.
+fn note_undo(state: &mut State, pid: Pid, id: Id, operations: &[Operation])
+    requires { CanBeNoted state.old.state pid.0 id.0 operations.now }
+    ensures { state.new ≡ record state.old {
+      state = with_undo state.old.state pid.0
+          (fold (noted id.0) (undo_of state.old.state pid.0) operations.now);
+    } }
+{
+    for operation in operations {
+        note_operation(state, pid, id, operation);
+    }
+}
+
+/// Notes what is undone of an operation when its process, which has adjustments, exits.
+fn note_operation(state: &mut State, pid: Pid, id: Id, operation: &Operation)
+    requires there { value_at nat_eq state.old.state.undo pid.0 ≡ Some (undo_of state.old.state pid.0) }
+    requires can { has_undo operation.now ≡ true → CanNote id.0 (undo_of state.old.state pid.0) operation.now }
+    ensures { state.new ≡ record state.old {
+      state = with_undo state.old.state pid.0
+          (noted id.0 (undo_of state.old.state pid.0) operation.now);
+    } }
+{
+    if operation.flags.contains(SemFlags::SEM_UNDO) {
+        state.subtract(pid, id, operation.num, operation.sem_op);
+    }
+}
+
+/// How many lists wait now for a semaphore of a set to become 0, or to have more.
+fn count_stopped(state: &State, zero: bool, id: Id, num: u16) -> u32
+    requires { length state.now.state.wait < 2 ^ 32 }
+    ensures { result ≡ defined.count_stopped state.now.limits state.now.state zero id.0 num }
+{
+    let mut count = 0;
+    for waiting in state.waits() {
+        let is_one = is_stopped(state, zero, id, num, waiting.pid, waiting.call.call());
+        count += u32::from(is_one);
+    }
+    count
+}
+
+/// Whether a call that waits is a list on this set that such an operation stops now.
+fn is_stopped(state: &State, zero: bool, id: Id, num: u16, pid: Pid, call: &ParkedCall) -> bool
+    ensures { result ≡ defined.is_stopped state.now.limits state.now.state zero id.0 num pid.0
+        (parked_kind call.now) }
+{
+    let ParkedCall::Semop {
+        id: other,
+        operations,
+        ..
+    } = call
+    else {
+        return false;
+    };
+    *other == id && is_stopping(state, zero, id, num, pid, &operations.lend())
+}
+
+/// The user and the group of a process; those of nobody if none has the number.
+fn cred_of(state: &State, pid: Pid) -> Cred
+    ensures { result ≡ cred_of state.now.state pid.0 }
+{
+    if !state.has_process(pid) {
+        return NOBODY;
+    }
+    state.cred(pid)
+}
+
+/// Whether such an operation stops this list now.
+fn is_stopping(
+    state: &State,
+    zero: bool,
+    id: Id,
+    num: u16,
+    pid: Pid,
+    operations: &Sixes<'_>,
+) -> bool
+    ensures { result ≡ defined.is_of zero num (defined.stopping (operations_of (bytes_of operations.now))
+        (defined.tried_list state.now.limits state.now.state (cred_of state.now.state pid.0) pid.0 true id.0
+        (operations_of (bytes_of operations.now)))) }
+{
+    let mut all = NO_OPERATIONS;
+    let cred = cred_of(state, pid);
+    match try_operations(state, cred, pid, true, id, operations, &mut all) {
+        Ok(Trial::Blocks(at)) => is_of(zero, num, &all[at]),
+        Ok(Trial::Done) => false,
+        Ok(Trial::Fails(_)) => false,
+        Err(_) => false,
+    }
+}
+
+/// Whether it is a zero operation, or one that takes away, on the semaphore of this number.
+fn is_of(zero: bool, num: u16, operation: &Operation) -> bool
+    ensures { result ≡ defined.is_of zero num (Some operation.now) }
+{
+    let is_wanted = if zero {
+        operation.sem_op == 0
+    } else {
+        operation.sem_op < 0
+    };
+    operation.num == num && is_wanted
+}
+
+/// GETNCNT and GETZCNT of semctl(2).
+pub(crate) fn semctl_getcnt(state: &State, cred: Cred, zero: bool, id: Id, num: u32) -> Answer
+    requires sound { HasSoundParts state.now.limits state.now.state }
+    ensures { Finishes (finish_of state.now.state result)
+        ≡ ended state.now.state (defined.semctl_getcnt state.now.limits state.now.state cred zero id.0 num) }
+{
+    semaphore(state, cred, id, num, Access::READ)?;
+    Ok(Body::Number(count_stopped(state, zero, id, num as u16)))
+}
