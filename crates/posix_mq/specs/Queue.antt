@@ -1,7 +1,7 @@
 -- POSIX message queues, after mq_overview(7). A queue is a list of messages in the order in which they came. A send
 -- appends one, if there are fewer than maxmsg; a receive removes the oldest of those of the greatest priority. At most
 -- one process is registered, to be told when a message comes (mq_notify(3)).
-use Rattle.std.specs.Prelude.{◌≡◌, ℕ, nat_le, Bool, List, [], ◌∷◌, ◌++◌, length, remove, position, slice_get}
+use Rattle.std.specs.Prelude.{ℕ, nat_le, Bool, List, [], ◌∷◌, ◌++◌, length, remove, position, slice_get}
 use Rattle.std.specs.Prelude.{Option, Some, None, option_and_then}
 use Rattle.std.specs.List.{list_all}
 use Rattle.std.specs.Option.{option_map_or}
@@ -32,6 +32,10 @@ is_of_greatest_priority messages m = list_all (λ other. nat_le other.priority m
 -- the position of the message that a receive takes: the first of the greatest priority; none without messages
 abbrev pub next_to_receive : List PlainMessage → Option ℕ
 next_to_receive messages = position (is_of_greatest_priority messages) messages
+
+-- under any limits a queue never holds more messages than this; the memory of their places is taken when it is made
+abbrev pub most_messages : ℕ
+most_messages = 10
 
 -- there are maxmsg messages or more
 abbrev pub is_full : Queue → Bool
@@ -65,12 +69,3 @@ deregistered q = record q { registration = None }
 -- what mq_getattr(3) tells of a queue
 abbrev pub attr_of : Queue → MqAttr
 attr_of q = record { maxmsg = q.maxmsg; msgsize = q.msgsize; curmsgs = length q.messages }
-
--- a queue, and the room kept for a further text: one of exactly so many bytes takes no memory
-pub record Kept : Type 0 where
-  pub queue : Queue
-  pub room : ℕ
-
--- a text of so many bytes has its room
-abbrev pub HasRoom : Kept → ℕ → Type 0
-HasRoom k bytes = k.room ≡ bytes

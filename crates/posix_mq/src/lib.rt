@@ -6,6 +6,9 @@ mod laws;
 mod message;
 mod queue;
 
-pub use laws::{received_is_oldest_of_greatest, received_leaves_a_place, sent_is_within_maxmsg};
+pub use laws::{
+    not_full_has_a_place, received_is_oldest_of_greatest, received_leaves_a_place,
+    sent_is_within_maxmsg,
+};
 pub use message::Message;
 pub use queue::{Mq, MqAttr, Registration};
