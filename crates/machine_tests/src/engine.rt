@@ -6,7 +6,6 @@ ghost use Rattle.ipc_engine.specs.Engine.{IsForProcess};
 ghost use Rattle.ipc_engine.specs.View.{plain_event};
 
 mod restored;
-mod sets;
 mod waiting;
 
 use ipc_base::{Cred, Errno, GetFlags, Id, Limits, Moment, MsgFlags, Pid};
@@ -22,7 +21,6 @@ enum Answer<'a> {
     Done,
     Number(u32),
     Message(i64, &'a [u8]),
-    Record(&'a [u8]),
     Refused(Errno),
 }
 
@@ -41,7 +39,6 @@ fn says(outcome: &Outcome, wanted: Answer<'_>) -> bool {
         (Answer::Message(wanted, bytes), None, Body::Message { mtype, text }) => {
             wanted == *mtype && text.as_slice() == bytes
         }
-        (Answer::Record(wanted), None, Body::Record(bytes)) => bytes.as_slice() == wanted,
         (Answer::Refused(wanted), Some(errno), Body::Empty) => wanted == errno,
         _ => false,
     }
