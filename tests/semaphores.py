@@ -337,6 +337,28 @@ def kept() -> None:
         check(client.semget(2, 1, IPC_CREAT | MODE) == private + 1, "an identifier comes again")
 
 
+def ask_until_killed(server: Server, seconds: float, client: Client, request: Callable[[int], bytes], last: int) -> int:
+    """Kills the server after so long, while a client sends the requests of the numbers after the last, 20 ahead of
+    the answers. Gives the number of the one that was answered last."""
+    killer = threading.Timer(seconds, server.process.kill)
+    killer.start()
+    sent = last
+    try:
+        while True:
+            while sent < last + 20:
+                sent += 1
+                client.send(request(sent))
+            check(client.receive()[1] == 0, f"request {last + 1} is refused")
+            last += 1
+    except (ConnectionResetError, BrokenPipeError):
+        pass
+    client.close()
+    killer.join()
+    server.process.wait()
+    os.remove("socket")
+    return last
+
+
 def whole_or_not_at_all() -> None:
     """The server is killed while a client sets all 64 values to 1, then to 2, and so on, 20 requests ahead. What was
     answered last is there, or a later one, and never a part of one."""
@@ -345,7 +367,6 @@ def whole_or_not_at_all() -> None:
     last = 0
     for turn in range(10):
         server = Server()
-        killer = threading.Timer(rng.uniform(0.05, 0.3), server.process.kill)
         client = process()
         semid = client.semget(1, 64, IPC_CREAT | MODE)
         found = client.semctl_getall(semid)
@@ -353,22 +374,13 @@ def whole_or_not_at_all() -> None:
         # Values begin anew after 32767.
         ahead = (found[0] - last) % 32768
         check(ahead <= 20, f"seed {SEED}, turn {turn}: {found[0]} is kept, and {last} was answered")
-        last += ahead
-        killer.start()
-        try:
-            sent = last
-            while True:
-                while sent < last + 20:
-                    sent += 1
-                    client.send(semctl_setall_request(semid, 64 * [sent % 32768]))
-                check(client.receive()[1] == 0, "a SETALL is refused")
-                last += 1
-        except (ConnectionResetError, BrokenPipeError):
-            pass
-        client.close()
-        killer.join()
-        server.process.wait()
-        os.remove("socket")
+        last = ask_until_killed(
+            server,
+            rng.uniform(0.05, 0.3),
+            client,
+            lambda number: semctl_setall_request(semid, 64 * [number % 32768]),
+            last + ahead,
+        )
 
 
 def taken_back_after_a_kill() -> None:
@@ -402,24 +414,10 @@ def moved_whole() -> None:
         semid = client.semget(1, 2, IPC_CREAT | MODE)
     for turn in range(10):
         server = Server()
-        killer = threading.Timer(rng.uniform(0.05, 0.2), server.process.kill)
         client = process()
         client.semctl_setall(semid, [32767, 0])
-        killer.start()
-        sent = moved = 0
-        try:
-            while True:
-                while sent < moved + 20:
-                    sent += 1
-                    client.send(semop_request(semid, [(0, -1), (1, 1)]))
-                check(client.receive()[1] == 0, "a list is refused")
-                moved += 1
-        except (ConnectionResetError, BrokenPipeError):
-            pass
-        client.close()
-        killer.join()
-        server.process.wait()
-        os.remove("socket")
+        moves = semop_request(semid, [(0, -1), (1, 1)])
+        moved = ask_until_killed(server, rng.uniform(0.05, 0.2), client, lambda number: moves, 0)
         with serving(), process() as client:
             found = client.semctl_getall(semid)
         check(sum(found) == 32767, f"seed {SEED}, turn {turn}: {found} are not all units")
