@@ -351,7 +351,9 @@ TURNED: tuple[tuple[int, int, int, int], ...] = (
     (354, 33, 35, 0),
     (354, 36, 36, 1),  # the next number of a semaphore set
     (354, 37, 39, 0),
-    (354, 40, 51, 1),  # those of other kinds
+    (354, 40, 40, 1),  # the next number of a POSIX queue
+    (354, 41, 43, 0),
+    (354, 44, 51, 1),  # those of other kinds
     (354, 52, 67, 354),  # the number and the length of the processes
     (354, 68, 71, 1),  # how many there are
     (354, 72, 75, 1),  # the pid: not below the next one
@@ -428,7 +430,8 @@ NO_STATE: tuple[tuple[int, int, int], ...] = (
     (0, 11, 1),  # the next pid is that of the process
     (0, 15, 1),  # the next identifier is that of the queue
     (0, 19, 1),  # the next identifier is that of the set
-    (0, 23, 2),  # a kind that is to come has had an object
+    (0, 23, 0),  # the next POSIX queue is 0
+    (0, 27, 2),  # a kind that is to come has had an object
     (1, 3, 2),  # one process more than there are
     (1, 7, 2),  # a process with the next pid
     (1, 19, 1),  # a descriptor
@@ -491,7 +494,7 @@ def unsound() -> Iterator[tuple[str, Objects]]:
     for index in range(4):
         yield f"no object {index}", START[:index] + START[index + 1 :]
     yield "an object more", [*START, (4, NONE)]
-    yield "an object of a later kind", [*START, (3 * QUEUE_KIND + 1, NONE)]
+    yield "an object of a later kind", [*START, (4 * QUEUE_KIND + 1, NONE)]
     yield "no object", []
 
 

@@ -17,6 +17,7 @@ LAST_NUMBER = 2147483647
 LAST_EPOCH = 2**64 - 1
 QUEUE_KIND = 4294967296
 SET_KIND = 2 * QUEUE_KIND
+POSIX_KIND = 3 * QUEUE_KIND
 NONE = bytes(4)
 NO_DEADLINE = 2**64 - 1
 IPC_NOWAIT, MSG_NOERROR, MSG_EXCEPT = 0x800, 0x1000, 0x2000
@@ -199,13 +200,27 @@ def semctl_rmid(serial: int, semid: int) -> bytes:
 # ---- objects of a state
 
 
-def clock(moment: int, next_pid: int, next_queue: int, next_set: int = 1) -> bytes:
-    return struct.pack(">QIIIIII", moment, next_pid, next_queue, next_set, 1, 1, 1)
+def clock(moment: int, next_pid: int, next_queue: int, next_set: int = 1, next_posix: int = 1) -> bytes:
+    return struct.pack(">QIIIIII", moment, next_pid, next_queue, next_set, next_posix, 1, 1)
 
 
-def processes(*them: tuple[int, int, int]) -> bytes:
-    """Of each its pid, uid and gid."""
-    return struct.pack(">I", len(them)) + b"".join(struct.pack(">IIII", *one, 0) for one in them)
+class Open(NamedTuple):
+    """A descriptor: its number, the POSIX queue on which it is open, and its flags."""
+
+    fd: int
+    number: int
+    flags: int = 2
+    kind: int = 3
+
+
+def processes(*them: tuple[int, int, int], opened: dict[int, tuple[Open, ...]] | None = None) -> bytes:
+    """Of each its pid, uid and gid; and by pid what each has open."""
+    parts = [struct.pack(">I", len(them))]
+    for pid, uid, gid in them:
+        descriptors = (opened or {}).get(pid, ())
+        parts.append(struct.pack(">IIII", pid, uid, gid, len(descriptors)))
+        parts += [struct.pack(">IIII", one.fd, one.kind, one.number, one.flags) for one in descriptors]
+    return b"".join(parts)
 
 
 class Waiting(NamedTuple):
@@ -288,6 +303,24 @@ class Set(NamedTuple):
         )
 
 
+class Posix(NamedTuple):
+    """A POSIX queue: of each message its priority and its text; and who is registered: 0, 1 for a null registration or
+    2, its pid, its descriptor and its cookie."""
+
+    name: bytes
+    messages: tuple[tuple[int, bytes], ...] = ()
+    owner: Cred = (1000, 100)
+    mode: int = 0o600
+    maxmsg: int = 2
+    msgsize: int = 64
+    registration: tuple[int, int, int, int] = (0, 0, 0, 0)
+
+    def data(self) -> bytes:
+        numbers = (*self.owner, self.mode, self.maxmsg, self.msgsize, *self.registration)
+        parts = [struct.pack(">II", priority, len(text)) + text for priority, text in self.messages]
+        return struct.pack(">11I", *numbers, len(self.messages), len(self.name)) + self.name + b"".join(parts)
+
+
 def gives(one: Queue | Set, cred: Cred, bits: int) -> bool:
     """Whether it gives this permission: 4 to read, 2 to write."""
     uid, gid = cred
@@ -305,10 +338,12 @@ def state(
     sets: dict[int, Set] | None = None,
     calls: bytes = NONE,
     undo: bytes = NONE,
+    posix: dict[int, Posix] | None = None,
 ) -> list[tuple[int, bytes]]:
     parts = [(0, the_clock), (1, the_processes), (2, calls), (3, undo)]
     parts += [(QUEUE_KIND + number, queue.data()) for number, queue in queues.items()]
-    return parts + [(SET_KIND + number, one.data()) for number, one in (sets or {}).items()]
+    parts += [(SET_KIND + number, one.data()) for number, one in (sets or {}).items()]
+    return parts + [(POSIX_KIND + number, one.data()) for number, one in (posix or {}).items()]
 
 
 START = state(clock(0, 1, 1), processes(), {})
@@ -405,26 +440,39 @@ def read_objects(image: bytes, limits: Limits) -> tuple[int, int, list[tuple[int
     return epoch, which, objects
 
 
-def read_clock(data: bytes) -> tuple[int, int, int, int]:
-    """The clock, the next pid, the next queue and the next semaphore set."""
+def read_clock(data: bytes) -> tuple[int, int, int, int, int]:
+    """The clock, the next pid, the next queue, the next semaphore set and the next POSIX queue."""
     demand(len(data) == 32, ROOT)
-    moment, pid, queue, one_set, *others = struct.unpack(">QIIIIII", data)
-    demand(all(0 < number <= LAST_NUMBER + 1 for number in (pid, queue, one_set)), ROOT)
-    demand(others == [1, 1, 1], ROOT)
-    return moment, pid, queue, one_set
+    moment, *numbers, fourth, fifth = struct.unpack(">QIIIIII", data)
+    demand(all(0 < number <= LAST_NUMBER + 1 for number in numbers), ROOT)
+    demand(fourth == fifth == 1, ROOT)
+    return moment, *numbers
 
 
-def read_processes(data: bytes, limits: Limits, next_pid: int) -> dict[int, Cred]:
-    """The processes by pid."""
+class Process(NamedTuple):
+    cred: Cred
+    opened: dict[int, Open]
+
+
+def read_processes(data: bytes, limits: Limits, next_pid: int) -> dict[int, Process]:
+    """The processes by pid, with what they have open."""
     (count,) = struct.unpack(">I", data[:4].ljust(4, b"\0"))
-    demand(len(data) == 4 + 16 * count and count <= limits.processes, ROOT)
-    before = 0
+    demand(count <= limits.processes, ROOT)
+    at, before = 4, 0
     them = {}
-    for at in range(4, len(data), 16):
+    for _ in range(count):
+        demand(at + 16 <= len(data), ROOT)
         pid, uid, gid, descriptors = struct.unpack(">IIII", data[at : at + 16])
-        demand(before < pid < next_pid and descriptors == 0, ROOT)
-        them[pid] = (uid, gid)
-        before = pid
+        demand(before < pid < next_pid and at + 16 + 16 * descriptors <= len(data), ROOT)
+        at, before, last = at + 16, pid, -1
+        opened = {}
+        for fd, kind, number, flags in struct.iter_unpack(">IIII", data[at : at + 16 * descriptors]):
+            demand(last < fd < limits.descriptors and kind == 3 and flags & 3 != 3, ROOT)
+            opened[fd] = Open(fd, number, flags)
+            last = fd
+        at += 16 * descriptors
+        them[pid] = Process((uid, gid), opened)
+    demand(at == len(data), ROOT)
     return them
 
 
@@ -473,6 +521,39 @@ def read_set(data: bytes, limits: Limits) -> Set:
     semaphores = tuple(struct.iter_unpack(">HI", data[44:]))
     demand(max(value for value, _ in semaphores) <= 32767, ROOT)
     return Set(key, semaphores, (uid, gid), (cuid, cgid), mode, tuple(times))
+
+
+def is_name(name: bytes) -> bool:
+    """Whether a queue may have it."""
+    return name[:1] == b"/" and 1 < len(name) <= 255 and b"/" not in name[1:] and 0 not in name
+
+
+def read_posix(data: bytes, limits: Limits) -> Posix:
+    demand(len(data) >= 44, ROOT)
+    uid, gid, mode, maxmsg, msgsize, *registration, count, named = struct.unpack(">11I", data[:44])
+    name, at, messages = data[44 : 44 + named], 44 + named, []
+    demand(mode < 0o1000 and 0 < maxmsg <= limits.posix_messages and 0 < msgsize <= limits.posix_bytes, ROOT)
+    demand(count <= maxmsg and len(name) == named and (not name or is_name(name)), ROOT)
+    demand(registration[0] <= 2 and (registration[0] or registration == [0, 0, 0, 0]), ROOT)
+    for _ in range(count):
+        demand(at + 8 <= len(data), ROOT)
+        priority, length = struct.unpack(">II", data[at : at + 8])
+        text = data[at + 8 : at + 8 + length]
+        demand(priority < 32768 and len(text) == length <= msgsize, ROOT)
+        messages.append((priority, text))
+        at += 8 + length
+    demand(at == len(data), ROOT)
+    return Posix(name, tuple(messages), (uid, gid), mode, maxmsg, msgsize, tuple(registration))
+
+
+def are_opened(them: dict[int, Process], posix: dict[int, Posix]) -> bool:
+    """What is open is there, what has no name is open, and who is registered has it open by that descriptor."""
+    opened = {one.number for process in them.values() for one in process.opened.values()}
+    for number, queue in posix.items():
+        kind, pid, fd, _ = queue.registration
+        if kind and (pid not in them or fd not in them[pid].opened or them[pid].opened[fd].number != number):
+            return False
+    return opened <= set(posix) and all(queue.name or number in opened for number, queue in posix.items())
 
 
 def read_adjustments(data: bytes, pids: set[int], sets: dict[int, Set]) -> dict[tuple[int, int, int], int]:
@@ -542,16 +623,23 @@ class State(NamedTuple):
 def read_state(objects: list[tuple[int, bytes]], limits: Limits) -> tuple[int, set[int]]:
     """The next pid, and the processes that are connected."""
     demand([number for number, _ in objects[:4]] == [0, 1, 2, 3], ROOT)
-    moment, next_pid, next_queue, next_set = read_clock(objects[0][1])
-    creds = read_processes(objects[1][1], limits, next_pid)
+    moment, next_pid, next_queue, next_set, next_posix = read_clock(objects[0][1])
+    them = read_processes(objects[1][1], limits, next_pid)
+    creds = {pid: one.cred for pid, one in them.items()}
     calls = read_waits(objects[2][1], limits, moment)
     of_queues = [one for one in objects[4:] if one[0] < SET_KIND]
-    of_sets = objects[4 + len(of_queues) :]
+    of_sets = [one for one in objects[4:] if SET_KIND <= one[0] < POSIX_KIND]
+    of_posix = objects[4 + len(of_queues) + len(of_sets) :]
     demand(len(of_queues) <= limits.msgmni and len(of_sets) <= limits.semmni, ROOT)
+    demand(len(of_posix) <= limits.posix_queues, ROOT)
     demand(all(0 < number - QUEUE_KIND < next_queue for number, _ in of_queues), ROOT)
     demand(all(0 < number - SET_KIND < next_set for number, _ in of_sets), ROOT)
+    demand(all(0 < number - POSIX_KIND < next_posix for number, _ in of_posix), ROOT)
     queues = {number - QUEUE_KIND: read_queue(data, limits) for number, data in of_queues}
     sets = {number - SET_KIND: read_set(data, limits) for number, data in of_sets}
+    posix = {number - POSIX_KIND: read_posix(data, limits) for number, data in of_posix}
+    names = [one.name for one in posix.values() if one.name]
+    demand(len(names) == len(set(names)) and are_opened(them, posix), ROOT)
     for kind in (queues, sets):
         keys = [one.key for one in kind.values() if one.key]
         demand(len(keys) == len(set(keys)), ROOT)

@@ -17,6 +17,7 @@ from device_layout import (
     SECTOR,
     Device,
     Fault,
+    Posix,
     Queue,
     Set,
     batch,
@@ -136,6 +137,14 @@ def row_of_set(number: int, one: Set) -> str:
     """The line of a semaphore set in a listing."""
     owner = f"{one.mode:04o} {one.owner[0]:10} {one.owner[1]:10}"
     return f"sem {number:10} {one.key:11} {owner} {len(one.semaphores):10}\n"
+
+
+def row_of_posix(posix: Posix) -> str:
+    """The line of a POSIX queue in a listing."""
+    owner = f"{posix.mode:04o} {posix.owner[0]:10} {posix.owner[1]:10}"
+    counts = f"{len(posix.messages):10} {posix.maxmsg:10} {posix.msgsize:10}"
+    name = "".join(chr(byte) if 0x20 < byte < 0x7F and byte != 0x5C else f"\\x{byte:02x}" for byte in posix.name)
+    return f"pmq {owner} {counts} {name}\n"
 
 
 def sends(moment: int, connection: int, *frames: bytes) -> str:

@@ -363,7 +363,7 @@ module _ (limits : Limits) where
   pub unanswered-owed : (s : State) (e : PlainEvent) (pid : ℕ) → IsSound limits s → is_process s pid ≡ true → asks s e pid ≡ true
       → bytes_to pid (step limits s e).outcomes ≡ 0 → (owed limits s pid ≡ 0) × (0 < owed limits (step limits s e).state pid)
   unanswered-owed s (Connect cred serial moment) pid sound is asking none =
-      let below = (rising-found 1 s.processes.entries s.processes.next pid sound.parts.processes.numbers is).1 in
+      let below = (rising-found 1 s.processes.entries s.processes.next pid sound.parts.processes.numbered.numbers is).1 in
       absurd (grind (arith, nat_tests, below, asking))
   unanswered-owed s (Call asker request moment) pid sound is asking none =
       let t = (due moment s).state in
@@ -396,5 +396,5 @@ hello-greets limits s cred serial moment =
       front = d.outcomes;
       reply = record { pid = s.processes.next; serial = serial; errno = None; body = Number s.processes.next };
       last = refl;
-      process = inr (refl, is_some-push nat_eq nat_eq_equiv s.processes.entries s.processes.next (record { cred = cred }));
+      process = inr (refl, is_some-push nat_eq nat_eq_equiv s.processes.entries s.processes.next (record { cred = cred; descriptors = [] }));
     })

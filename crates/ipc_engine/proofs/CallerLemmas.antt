@@ -78,7 +78,7 @@ pub connect-stays : (limits : Limits) (s : State) (cred : Cred) (serial moment p
 connect-stays limits s cred serial moment pid is =
     choice (λ (t : Step). is_process t.state pid ≡ true) (has_all_processes limits (due moment s).state) _ _
     (λ _. is)
-    (λ _. is_some-append nat_eq s.processes.entries ((s.processes.next, record { cred = cred }) ∷ []) pid is)
+    (λ _. is_some-append nat_eq s.processes.entries ((s.processes.next, record { cred = cred; descriptors = [] }) ∷ []) pid is)
 
 pub call-stays : (limits : Limits) (s : State) (asker : ℕ) (request : PlainRequest) (moment pid : ℕ) → is_process s pid ≡ true
     → is_process (step limits s (Call asker request moment)).state pid ≡ true

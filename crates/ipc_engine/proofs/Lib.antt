@@ -1,4 +1,5 @@
 mod Lists
+mod Sorting
 mod Weights
 mod Expiring
 pub mod Settled

@@ -152,8 +152,8 @@ module _ (limits : Limits) where
         waits = all-wait s (with_process s cred) s.wait h.parts.wait.each refl refl (same-undo s)
             (λ k d i.
             let pid = (get_or s.wait k d).pid.0 in
-            let below = (rising-found 1 s.processes.entries s.processes.next pid h.parts.processes.numbers (h.waits k d i).process).1 in
-            other-push s.processes.entries s.processes.next pid (record { cred = cred }) (λ same. absurd (omega arith)))
+            let below = (rising-found 1 s.processes.entries s.processes.next pid h.parts.processes.numbered.numbers (h.waits k d i).process).1 in
+            other-push s.processes.entries s.processes.next pid (record { cred = cred; descriptors = [] }) (λ same. absurd (omega arith)))
             (all-early s h) h.waits;
       })
 

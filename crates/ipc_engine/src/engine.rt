@@ -35,7 +35,7 @@ ghost use Rattle.ipc_engine.specs.Buffer.{room_in, HasBuffer};
 ghost use Rattle.ipc_engine.specs.Bytes.{most_owed, owed};
 ghost use Rattle.ipc_engine.specs.Engine.{IsReadyForHello};
 ghost use Rattle.ipc_engine.specs.Step.{step as step_on, connect as connect_step, due, replied, most_replies};
-ghost use Rattle.ipc_engine.specs.Listing.{rows_of};
+ghost use Rattle.ipc_engine.specs.Listing.{plain_row, rows_of};
 ghost use Rattle.ipc_engine.specs.Sound.{IsSound};
 ghost use Rattle.ipc_engine.specs.View.{plain_event, plain_outcome, step_of};
 
@@ -148,11 +148,17 @@ impl Engine {
         &self.state
     }
 
-    /// A row for each object, kind by kind, by rising identifier. Refused for want of memory.
-    pub fn list(&self, alloc: Global) -> Result<Vec<Row>, AllocError>
-        ensures { IfOk result (λ rows. rows.items ≡ rows_of self.now.state) }
+    /// A row for each object, kind by kind: message queues and semaphore sets by rising identifier, and then
+    /// POSIX queues by the bytes of their names, those without a name first. Refused for want of memory.
+    pub fn list(&self, alloc: Global) -> Result<Vec<Row<&[u8]>>, AllocError>
+        ensures { IfOk result (λ rows. map plain_row rows.items ≡ rows_of self.now.state) }
     {
-        list_objects(alloc, self.state.queues(), self.state.sets())
+        list_objects(
+            alloc,
+            self.state.queues(),
+            self.state.sets(),
+            self.state.mqs(),
+        )
     }
 
     /// The limits that it keeps, which have passed their check; by them the state is sound.

@@ -68,15 +68,15 @@ last-sent (p ∷ front) o = omega (arith, last-sent front o)
 -- a process that is connected has a number above 0
 pub connected-above : (limits : Limits) (s : State) (pid : ℕ) → IsSound limits s → is_process s pid ≡ true → 0 < pid
 connected-above limits s pid sound is =
-    omega (arith, (rising-found 1 s.processes.entries s.processes.next pid sound.parts.processes.numbers is).0)
+    omega (arith, (rising-found 1 s.processes.entries s.processes.next pid sound.parts.processes.numbered.numbers is).0)
 
 -- which has one too
 pub next-above : (limits : Limits) (s : State) → IsSound limits s → 0 < s.processes.next
-next-above limits s sound = omega (arith, rising-bounds 1 (keys_of s.processes.entries) s.processes.next sound.parts.processes.numbers)
+next-above limits s sound = omega (arith, rising-bounds 1 (keys_of s.processes.entries) s.processes.next sound.parts.processes.numbered.numbers)
 
 -- and one below the next
 pub connected-below : (limits : Limits) (s : State) (pid : ℕ) → IsSound limits s → is_process s pid ≡ true → pid < s.processes.next
-connected-below limits s pid sound is = (rising-found 1 s.processes.entries s.processes.next pid sound.parts.processes.numbers is).1
+connected-below limits s pid sound is = (rising-found 1 s.processes.entries s.processes.next pid sound.parts.processes.numbered.numbers is).1
 
 -- one that does not ask is sent what it was owed, or is owed it still
 pub quiet-owes : (limits : Limits) (s : State) (e : PlainEvent) (pid : ℕ) → IsSound limits s → is_process s pid ≡ true → asks s e pid ≡ false

@@ -13,6 +13,6 @@ pub mod CallerLemmas
 mod Windows
 mod SavedObjects
 mod Marks
+mod MqObjects
 mod AdjustmentLists
 mod WaitingCalls
-pub mod Shapes

@@ -4,10 +4,10 @@ use Rattle.std.proofs.Common.{length, map, take, drop, get_or, Some, refl, ap, s
 use Rattle.std.specs.Prelude.{All, option_map}
 use Rattle.std.proofs.lemmas.List.{append-nil, length-append, flat_map_more, take_more, take-append-drop}
 use Rattle.std.proofs.lemmas.List.Concat.{flat_map-cons}
-use Rattle.std.proofs.lemmas.List.Elements.{All-get_or}
+use Rattle.std.proofs.lemmas.List.Elements.{All-get_or, All-head, All-tail}
 use Rattle.std.proofs.lemmas.Grind.{flat_map-append}
 use Rattle.std.proofs.lemmas.Option.{get_or_from_slice_get, slice_get_within, slice_get_read, slice_get-map, slice_get-get_or}
-use Rattle.std.proofs.Math.Nat.{mul-zero, mul-suc}
+use Rattle.std.proofs.Math.Nat.{mul-zero, mul-suc, suc-mul}
 use Rattle.std.specs.List.{flat_map, slice_get}
 use Rattle.ipc_base.specs.declared.objects.Mark.{Mark}
 use Rattle.ipc_base.specs.Objects.{PlainObjects}
@@ -80,3 +80,17 @@ length-each bytes_of n each [] = sym (mul-zero n)
 length-each bytes_of n each (x ∷ xs) =
     ap length (flat_map-cons bytes_of x xs) ∙ length-append (bytes_of x) (flat_map bytes_of xs)
     ∙ omega (arith, each x, length-each bytes_of n each xs, mul-suc n (length xs))
+
+-- and of things that have no more than so many
+pub length-most : {X : Type 0} (bytes_of : X → List ℕ) (n : ℕ) (xs : List X) → All (λ x. length (bytes_of x) ≤ n) xs
+    → length (flat_map bytes_of xs) ≤ length xs * n
+length-most bytes_of n [] each = omega arith
+length-most bytes_of n (x ∷ xs) each =
+    omega (
+      arith,
+      ap length (flat_map-cons bytes_of x xs),
+      length-append (bytes_of x) (flat_map bytes_of xs),
+      All-head (λ y. length (bytes_of y) ≤ n) x xs each,
+      length-most bytes_of n xs (All-tail (λ y. length (bytes_of y) ≤ n) x xs each),
+      suc-mul (length xs) n,
+    )

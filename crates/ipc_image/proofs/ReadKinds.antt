@@ -100,3 +100,9 @@ pub later-kind : {X : Type 0} (first next : ℕ) (bytes_of : X → List ℕ) (xs
     → IsOther first (map (object_in next bytes_of) xs)
 later-kind first next bytes_of [] le = tt
 later-kind first next bytes_of (x ∷ xs) le = λ id few same. omega (arith, le, few, same)
+
+-- and so with others behind them
+pub later-both : {X : Type 0} (first next : ℕ) (bytes_of : X → List ℕ) (xs : List (ℕ × X)) (more : PlainObjects) → first + 2 ^ 32 ≤ next → IsOther first more
+    → IsOther first (map (object_in next bytes_of) xs ++ more)
+later-both first next bytes_of [] more le other = other
+later-both first next bytes_of (x ∷ xs) more le other = λ id few same. omega (arith, le, few, same)

@@ -15,6 +15,7 @@ emptied s =
       undo = [];
       msg = record { next = s.msg.next; entries = [] };
       sem = record { next = s.sem.next; entries = [] };
+      mq = record { next = s.mq.next; entries = [] };
     }
 
 -- states with the same clock's object have the same clock and next numbers
@@ -29,5 +30,6 @@ clock_one s t fit also same =
       undo = [];
       msg = record { next = get_or ns 2 0; entries = [] };
       sem = record { next = get_or ns 3 0; entries = [] };
+      mq = record { next = get_or ns 4 0; entries = [] };
     } in
     ap made first.0

@@ -1,9 +1,9 @@
 -- The state as objects: how many bytes each has, that they are objects, and that they fit where they are kept.
-use Rattle.std.proofs.Common.{◌≡◌, ℕ, zero, suc, ◌+◌, ◌*◌, ◌^◌, ◌<◌, ◌≤◌, ◌-◌, List, [], ◌∷◌, ◌++◌, length, map, Some, refl, sym, ap, subst, ◌∙◌, arith}
+use Rattle.std.proofs.Common.{◌≡◌, true, ℕ, zero, suc, ◌+◌, ◌*◌, ◌^◌, ◌<◌, ◌≤◌, ◌-◌, List, [], ◌∷◌, ◌++◌, length, map, Some, refl, sym, ap, subst, ◌∙◌, arith}
 use Rattle.std.specs.Prelude.{All, sum_by, option_map}
 use Rattle.std.proofs.lemmas.List.{append-nil, length-map, length-append, map-id}
 use Rattle.std.proofs.lemmas.List.Concat.{flat_map-cons}
-use Rattle.std.proofs.lemmas.List.Elements.{All-append, All-cons, All-map, All-nil, All-weaker}
+use Rattle.std.proofs.lemmas.List.Elements.{All-append, All-cons, All-head, All-map, All-nil, All-tail, All-weaker}
 use Rattle.std.proofs.lemmas.List.Sums.{sum_by-append, sum_by-cons, sum_by-le, sum_by_from}
 use Rattle.std.proofs.lemmas.Nat.{mul-le}
 use Rattle.std.proofs.Math.Nat.{mul_assoc}
@@ -18,7 +18,10 @@ use Rattle.sysv_msg.specs.Queue.{Queue, PlainMessage, byte_count, stat_of as que
 use Rattle.sysv_msg.specs.declared.queue.QueueStat.{QueueStat}
 use Rattle.ipc_state.specs.declared.numbered.Item.{Item}
 use Rattle.ipc_state.specs.declared.keyed.Entry.{Entry}
-use Rattle.ipc_state.specs.Sound.{IsSoundQueue, IsSoundSet, HasNumbers}
+use Rattle.ipc_state.specs.declared.named.NamedEntry.{NamedEntry}
+use Rattle.ipc_state.specs.Opening.{is_named_so}
+use Rattle.ipc_state.specs.Sound.{IsSoundQueue, IsSoundSet, IsSoundMq, HasNumbers, AreSoundDescriptors}
+use Rattle.posix_mq.specs.Queue.{Queue as Mq}
 use Rattle.sysv_sem.specs.Set.{Set, stat_of as set_stat}
 use Rattle.sysv_sem.specs.declared.set.SemStat.{SemStat}
 use Rattle.ipc_state.proofs.CallerLemmas.{All-seen, queue-numbers, few-adjustments}
@@ -32,10 +35,12 @@ use Rattle.ipc_image.specs.Saved.{clock_sizes, clock_numbers, count_bytes, proce
 use Rattle.ipc_image.specs.Saved.{waiting_bytes, waits_bytes, Adjustment, adjustment_bytes, adjustments_in, adjustments_bytes}
 use Rattle.sem_undo.specs.Undo.{Undo}
 use Rattle.ipc_image.specs.Kind.{object_in}
-use Rattle.ipc_image.specs.Saved.{queue_bytes, queue_object, semaphore_bytes, set_bytes, set_object, saved, HasAllPlaces}
+use Rattle.ipc_image.specs.Saved.{queue_bytes, queue_object, semaphore_bytes, set_bytes, set_object, mq_bytes, mq_object, saved, HasAllPlaces}
+use Rattle.ipc_image.specs.Saved.{descriptor_bytes}
 use Rattle.ipc_state.specs.declared.state.Numbers.{Numbers}
-use Rattle.ipc_image.specs.SavedParts.{IsMarkAfter, IsFound, Stands, seen_state}
-use Rattle.ipc_image.proofs.Marks.{each-at, length-each}
+use Rattle.ipc_image.specs.SavedParts.{IsMarkAfter, IsFound, IsSmallMq, Stands, seen_state}
+use Rattle.ipc_image.proofs.Marks.{each-at, length-each, length-most}
+use Rattle.ipc_image.proofs.MqObjects.{mq-long, mq-short, mq-small}
 use Rattle.ipc_image.proofs.WaitingCalls.{length-waits}
 use Rattle.ipc_image.proofs.Attaching.{rising-distinct}
 use Rattle.ipc_image.proofs.AdjustmentLists.{few-in}
@@ -44,11 +49,11 @@ use Rattle.ipc_image.specs.Sizes.{sectors, process_sectors, area_of}
 
 -- ---- how many bytes each has
 
-pub length-processes : (processes : List (ℕ × Process)) → length (flat_map process_bytes processes) ≡ 16 * length processes
-length-processes processes = length-each process_bytes 16 (λ p. refl) processes
+pub process-long : (p : ℕ × Process) → length (process_bytes p) ≡ 16 + 16 * length p.1.descriptors
+process-long p = omega (arith, length-each descriptor_bytes 16 (λ d. refl) p.1.descriptors)
 
-pub processes-long : (processes : List (ℕ × Process)) → length (processes_bytes processes) ≡ 4 + 16 * length processes
-processes-long processes = omega (arith, length-append (count_bytes (length processes)) (flat_map process_bytes processes), length-processes processes)
+pub processes-long : (processes : List (ℕ × Process)) → length (processes_bytes processes) ≡ 4 + length (flat_map process_bytes processes)
+processes-long processes = length-append (count_bytes (length processes)) (flat_map process_bytes processes)
 
 pub waits-long : (ws : List PlainWaiting) → length (waits_bytes ws) ≡ 4 + length (flat_map waiting_bytes ws)
 waits-long ws = length-append (count_bytes (length ws)) (flat_map waiting_bytes ws)
@@ -83,17 +88,19 @@ set-long e = omega (arith, length-each semaphore_bytes 6 (λ x. refl) e.object.s
 
 -- the things that have objects of their own
 abbrev pub things : State → PlainObjects
-things s = map queue_object s.msg.entries ++ map set_object s.sem.entries
+things s = map queue_object s.msg.entries ++ (map set_object s.sem.entries ++ map mq_object s.mq.entries)
 
 module _ (s : State) where
-  pub saved-count : length (saved s) ≡ 4 + (length s.msg.entries + length s.sem.entries)
+  pub saved-count : length (saved s) ≡ 4 + (length s.msg.entries + (length s.sem.entries + length s.mq.entries))
   unfolding saved
   saved-count =
       omega (
         arith,
-        length-append (map queue_object s.msg.entries) (map set_object s.sem.entries),
+        length-append (map queue_object s.msg.entries) (map set_object s.sem.entries ++ map mq_object s.mq.entries),
+        length-append (map set_object s.sem.entries) (map mq_object s.mq.entries),
         length-map s.msg.entries queue_object,
         length-map s.sem.entries set_object,
+        length-map s.mq.entries mq_object,
       )
 
   pub saved-clock : slice_get (saved s) 0 ≡ Some (0, fields_bytes clock_sizes (clock_numbers s))
@@ -130,27 +137,29 @@ module _ (s : State) where
       let short = each-at (λ (p : ℕ × List ℕ). length p.1 < 2 ^ 64) (saved s) i o are.lengths found in
       record { stands = stands; object = found; short = short; fits = fits }
 
-  -- what holds of the four, of each queue and of each set holds of all
+  -- what holds of the four, and of each thing that has an object of its own, holds of all
   each-saved : (P : ℕ × List ℕ → Type 0) → P (0, fields_bytes clock_sizes (clock_numbers s)) → P (1, processes_bytes s.processes.entries)
       → P (2, waits_bytes s.wait) → P (3, adjustments_bytes s.undo) → All (λ e. P (queue_object e)) s.msg.entries
-      → All (λ e. P (set_object e)) s.sem.entries → All P (saved s)
+      → All (λ e. P (set_object e)) s.sem.entries → All (λ e. P (mq_object e)) s.mq.entries → All P (saved s)
   unfolding saved
-  each-saved P clock processes waiting adjustments each others =
+  each-saved P clock processes waiting adjustments queues sets mqs =
       let two : List (ℕ × List ℕ) = (2, waits_bytes s.wait) ∷ (3, adjustments_bytes s.undo) ∷ things s in
       All-cons P _ ((1, processes_bytes s.processes.entries) ∷ two) clock
       (All-cons P _ two processes
       (All-cons P _ ((3, adjustments_bytes s.undo) ∷ things s) waiting
       (All-cons P _ (things s) adjustments
-      (All-append P (map queue_object s.msg.entries) (map set_object s.sem.entries) (All-map P queue_object s.msg.entries each)
-      (All-map P set_object s.sem.entries others)))))
+      (All-append P (map queue_object s.msg.entries) (map set_object s.sem.entries ++ map mq_object s.mq.entries)
+      (All-map P queue_object s.msg.entries queues)
+      (All-append P (map set_object s.sem.entries) (map mq_object s.mq.entries) (All-map P set_object s.sem.entries sets)
+      (All-map P mq_object s.mq.entries mqs))))))
 
 -- the state that tables are, and how many objects it has
 module _ (n : Numbers) (ps : List (Item Process)) (ws : List PlainWaiting) (us : List (Item Undo)) (qs : List (Item (Entry Queue)))
-    (xs : List (Item (Entry Set))) where
+    (xs : List (Item (Entry Set))) (ms : List (Item (NamedEntry Mq))) where
   pub seen-is : (s : State) → n.clock.0 ≡ s.clock → n.next_pid ≡ s.processes.next → n.next_queue ≡ s.msg.next → n.next_set ≡ s.sem.next
-      → map item_row ps ≡ s.processes.entries → ws ≡ s.wait → map item_row us ≡ s.undo → map item_row qs ≡ s.msg.entries
-      → map item_row xs ≡ s.sem.entries → seen_state n ps ws us qs xs ≡ s
-  seen-is s clock pid queue set processes waits undo queues sets =
+      → n.next_mq ≡ s.mq.next → map item_row ps ≡ s.processes.entries → ws ≡ s.wait → map item_row us ≡ s.undo → map item_row qs ≡ s.msg.entries
+      → map item_row xs ≡ s.sem.entries → map item_row ms ≡ s.mq.entries → seen_state n ps ws us qs xs ms ≡ s
+  seen-is s clock pid queue set mq processes waits undo queues sets mqs =
       λ i. record {
         clock = clock i;
         processes = record { next = pid i; entries = processes i };
@@ -158,15 +167,24 @@ module _ (n : Numbers) (ps : List (Item Process)) (ws : List PlainWaiting) (us :
         undo = undo i;
         msg = record { next = queue i; entries = queues i };
         sem = record { next = set i; entries = sets i };
+        mq = record { next = mq i; entries = mqs i };
       }
 
-  pub seen_count : length (saved (seen_state n ps ws us qs xs)) ≡ 4 + (length qs + length xs)
-  seen_count = omega (arith, saved-count (seen_state n ps ws us qs xs), length-map qs item_row, length-map xs item_row)
+  pub seen_count : length (saved (seen_state n ps ws us qs xs ms)) ≡ 4 + (length qs + (length xs + length ms))
+  seen_count =
+      omega (arith, saved-count (seen_state n ps ws us qs xs ms), length-map qs item_row, length-map xs item_row, length-map ms item_row)
+
+  -- the bytes of the processes can be counted
+  pub processes-counted : AreObjects (saved (seen_state n ps ws us qs xs ms)) → 4 + length (flat_map process_bytes (map item_row ps)) < 2 ^ 64
+  processes-counted are =
+      let s : State = seen_state n ps ws us qs xs ms in
+      let short = each-at (λ (p : ℕ × List ℕ). length p.1 < 2 ^ 64) (saved s) 1 _ are.lengths (saved-processes s) in
+      omega (arith, short, processes-long s.processes.entries)
 
   -- the bytes of the waiting calls can be counted
-  pub waits-counted : AreObjects (saved (seen_state n ps ws us qs xs)) → 4 + length (flat_map waiting_bytes (map (λ w. w) ws)) < 2 ^ 64
+  pub waits-counted : AreObjects (saved (seen_state n ps ws us qs xs ms)) → 4 + length (flat_map waiting_bytes (map (λ w. w) ws)) < 2 ^ 64
   waits-counted are =
-      let s : State = seen_state n ps ws us qs xs in
+      let s : State = seen_state n ps ws us qs xs ms in
       let short = each-at (λ (p : ℕ × List ℕ). length p.1 < 2 ^ 64) (saved s) 2 _ are.lengths (saved-waits s) in
       omega (arith, short, waits-long ws, ap (λ (l : List PlainWaiting). length (flat_map waiting_bytes l)) (map-id ws))
 
@@ -196,6 +214,11 @@ kind-sectors first most bytes bytes_of es short few =
     let all : length objects ≤ most = omega (arith, few, length-map es (object_in first bytes_of)) in
     omega (arith, sum_by-le of (sectors bytes) objects each, mul-le (length objects) (sectors bytes) most (sectors bytes) all (omega arith))
 
+-- numbers that rise are no more than those between their bounds
+rising-few : (low : ℕ) (ns : List ℕ) (high : ℕ) → IsRising low ns high → low + length ns ≤ high
+rising-few low [] high h = omega (arith, h)
+rising-few low (n ∷ ns) high h = omega (arith, h.0, rising-few (n + 1) ns high h.1)
+
 module _ (limits : Limits) (s : State) (passed : ArePassed limits) (sound : IsSound limits s) where
   -- each number of a queue that is kept fits in a field of four bytes
   pub rows-numbers : (rows : List (Item (Entry Queue))) → map item_row rows ≡ s.msg.entries → All (λ e. HasNumbers e.value.object) rows
@@ -213,6 +236,60 @@ module _ (limits : Limits) (s : State) (passed : ArePassed limits) (sound : IsSo
       All-seen P item_row rows (subst (All P) (sym are)
       (All-weaker (λ (e : ℕ × Entry Set). IsSoundSet limits e.1.object) P (λ e good. omega (arith, good.few, b.semmsl))
       s.sem.entries sound.parts.sem.keyed.each))
+
+  -- the count of the descriptors of a process
+  pub descriptors-few : All (λ p. length p.1.descriptors ≤ limits.descriptors) s.processes.entries
+  descriptors-few =
+      let P : ℕ × Process → Type 0 = λ p. AreSoundDescriptors limits s.mq p.1.descriptors in
+      All-weaker P (λ p. length p.1.descriptors ≤ limits.descriptors)
+      (λ p good. omega (arith, length-map p.1.descriptors (λ d. d.0), rising-few 0 (keys_of p.1.descriptors) limits.descriptors good.numbers))
+      s.processes.entries sound.parts.processes.descriptors
+
+  pub processes-numbers : (rows : List (Item Process)) → map item_row rows ≡ s.processes.entries
+      → All (λ p. length p.value.descriptors < 2 ^ 32) rows
+  processes-numbers rows are =
+      let b = passed-bounds limits passed in
+      let P : ℕ × Process → Type 0 = λ p. length p.1.descriptors < 2 ^ 32 in
+      All-seen P item_row rows (subst (All P) (sym are)
+      (All-weaker (λ (p : ℕ × Process). length p.1.descriptors ≤ limits.descriptors) P (λ p few. omega (arith, few, b.descriptors))
+      s.processes.entries descriptors-few))
+
+  -- what holds of what is sound and has such a name holds of each POSIX queue
+  each-mq : (P : ℕ × NamedEntry Mq → Type 0) → ((e : ℕ × NamedEntry Mq) → IsSoundMq limits e.1.object → is_named_so e ≡ true → P e)
+      → All P s.mq.entries
+  each-mq P from = both s.mq.entries sound.parts.mq.named.each sound.parts.mq.forms
+    where
+      both : (es : List (ℕ × NamedEntry Mq)) → All (λ e. IsSoundMq limits e.1.object) es → All (λ e. is_named_so e ≡ true) es → All P es
+      both [] each formed = All-nil P
+      both (e ∷ es) each formed =
+          let one = from e (All-head (λ (f : ℕ × NamedEntry Mq). IsSoundMq limits f.1.object) e es each) (All-head (λ (f : ℕ × NamedEntry Mq). is_named_so f ≡ true) e es formed) in
+          All-cons P e es one (both es (All-tail (λ (f : ℕ × NamedEntry Mq). IsSoundMq limits f.1.object) e es each)
+          (All-tail (λ (f : ℕ × NamedEntry Mq). is_named_so f ≡ true) e es formed))
+
+  -- the sizes of a POSIX queue
+  pub mqs-numbers : (rows : List (Item (NamedEntry Mq))) → map item_row rows ≡ s.mq.entries → All (λ e. IsSmallMq e.value) rows
+  mqs-numbers rows are =
+      let P : ℕ × NamedEntry Mq → Type 0 = λ e. IsSmallMq e.1 in
+      All-seen P item_row rows (subst (All P) (sym are) (each-mq P (λ e good formed. mq-small limits e.0 e.1 good formed passed)))
+
+  abbrev most_mq : ℕ
+  most_mq = 299 + limits.maxmsg * (8 + limits.msgsize)
+
+  mqs-short : All (λ e. length (mq_bytes e.1) ≤ most_mq) s.mq.entries
+  mqs-short = each-mq (λ e. length (mq_bytes e.1) ≤ most_mq) (λ e good formed. mq-short limits e.0 e.1 good formed)
+
+  processes-short : length (processes_bytes s.processes.entries) ≤ 4 + limits.processes * (16 + 16 * limits.descriptors)
+  processes-short =
+      let most : ℕ = 16 + 16 * limits.descriptors in
+      let each : All (λ p. length (process_bytes p) ≤ most) s.processes.entries =
+      All-weaker (λ (p : ℕ × Process). length p.1.descriptors ≤ limits.descriptors) (λ p. length (process_bytes p) ≤ most)
+      (λ p few. omega (arith, process-long p, few)) s.processes.entries descriptors-few in
+      omega (
+        arith,
+        processes-long s.processes.entries,
+        length-most process_bytes most s.processes.entries each,
+        mul-le (length s.processes.entries) most limits.processes most sound.parts.processes.numbered.count (omega arith),
+      )
 
   queues-short : All (λ e. length (queue_bytes e.1) ≤ 64 + 13 * limits.msgmnb) s.msg.entries
   queues-short =
@@ -232,7 +309,7 @@ module _ (limits : Limits) (s : State) (passed : ArePassed limits) (sound : IsSo
   undo-few =
       let connected = length-map s.processes.entries (λ e. e.0) in
       let few : length s.undo ≤ limits.processes =
-      omega (arith, length-map s.undo (λ e. e.0), ap length sound.parts.undo.pids, connected, sound.parts.processes.count) in
+      omega (arith, length-map s.undo (λ e. e.0), ap length sound.parts.undo.pids, connected, sound.parts.processes.numbered.count) in
       omega (
         arith,
         few-in limits.semmns s.undo (few-adjustments limits s sound.parts),
@@ -247,15 +324,17 @@ module _ (limits : Limits) (s : State) (passed : ArePassed limits) (sound : IsSo
   numbers-rise : IsRising 0 (keys_of (saved s)) (2 ^ 64)
   unfolding saved
   numbers-rise =
-      let n : ℕ = 2 * 2 ^ 32 + s.sem.next in
-      let bound : n ≤ 2 ^ 64 = omega (arith, sound.parts.sem.keyed.numbered.next) in
-      let sets : IsRising (2 * 2 ^ 32 + 1) (keys_of (map set_object s.sem.entries)) (2 ^ 64) =
-      subst (λ (os : PlainObjects). IsRising (2 * 2 ^ 32 + 1) (keys_of os) (2 ^ 64)) (append-nil (map set_object s.sem.entries))
-      (objects-rise (2 * 2 ^ 32) set_bytes 1 s.sem.next (2 ^ 64) s.sem.entries [] sound.parts.sem.keyed.numbered.numbers bound) in
-      let after = rising-lower (2 ^ 32 + s.msg.next) (2 * 2 ^ 32 + 1) (keys_of (map set_object s.sem.entries)) (2 ^ 64)
-      (omega (arith, sound.parts.msg.numbered.next)) sets in
-      let all = objects-rise (2 ^ 32) queue_bytes 1 s.msg.next (2 ^ 64) s.msg.entries (map set_object s.sem.entries)
-      sound.parts.msg.numbered.numbers after in
+      let mqs : PlainObjects = map mq_object s.mq.entries in
+      let bound : 3 * 2 ^ 32 + s.mq.next ≤ 2 ^ 64 = omega (arith, sound.parts.mq.named.numbered.next) in
+      let third : IsRising (3 * 2 ^ 32 + 1) (keys_of mqs) (2 ^ 64) =
+      subst (λ (os : PlainObjects). IsRising (3 * 2 ^ 32 + 1) (keys_of os) (2 ^ 64)) (append-nil mqs)
+      (objects-rise (3 * 2 ^ 32) mq_bytes 1 s.mq.next (2 ^ 64) s.mq.entries [] sound.parts.mq.named.numbered.numbers bound) in
+      let sets : PlainObjects = map set_object s.sem.entries ++ mqs in
+      let second : IsRising (2 * 2 ^ 32 + 1) (keys_of sets) (2 ^ 64) =
+      objects-rise (2 * 2 ^ 32) set_bytes 1 s.sem.next (2 ^ 64) s.sem.entries mqs sound.parts.sem.keyed.numbered.numbers
+      (rising-lower (2 * 2 ^ 32 + s.sem.next) (3 * 2 ^ 32 + 1) (keys_of mqs) (2 ^ 64) (omega (arith, sound.parts.sem.keyed.numbered.next)) third) in
+      let all = objects-rise (2 ^ 32) queue_bytes 1 s.msg.next (2 ^ 64) s.msg.entries sets sound.parts.msg.numbered.numbers
+      (rising-lower (2 ^ 32 + s.msg.next) (2 * 2 ^ 32 + 1) (keys_of sets) (2 ^ 64) (omega (arith, sound.parts.msg.numbered.next)) second) in
       (omega arith, (omega arith, (omega arith, (omega arith, rising-lower 4 (2 ^ 32 + 1) (keys_of (things s)) (2 ^ 64) (omega arith) all))))
 
   pub saved-are : AreObjects (saved s)
@@ -264,34 +343,49 @@ module _ (limits : Limits) (s : State) (passed : ArePassed limits) (sound : IsSo
       let Some-bytes : ℕ × List ℕ → Type 0 = λ o. 0 < length o.1 in
       let Few-bytes : ℕ × List ℕ → Type 0 = λ o. length o.1 < 2 ^ 64 in
       let IsShort : ℕ × Entry Set → Type 0 = λ e. length (set_bytes e.1) ≤ 44 + 6 * limits.semmsl in
+      let IsShortMq : ℕ × NamedEntry Mq → Type 0 = λ e. length (mq_bytes e.1) ≤ most_mq in
+      let most : most_mq < 2 ^ 64 = omega (arith, mul-le limits.maxmsg (8 + limits.msgsize) 10 8200 b.maxmsg (omega (arith, b.msgsize))) in
+      let processes : limits.processes * (16 + 16 * limits.descriptors) ≤ 64 * 528 =
+      mul-le limits.processes (16 + 16 * limits.descriptors) 64 528 b.processes.1 (omega (arith, b.descriptors)) in
       record {
         numbers = numbers-rise;
         some = each-saved s Some-bytes (omega arith) (omega (arith, processes-long s.processes.entries)) (omega (arith, waits-long s.wait))
             (omega (arith, adjustments-long s.undo))
             (All-weaker (λ (e : ℕ × Entry Queue). length (queue_bytes e.1) ≤ 64 + 13 * limits.msgmnb) (λ e. Some-bytes (queue_object e))
             (λ e short. omega (arith, queue-long e.1)) s.msg.entries queues-short)
-            (All-weaker IsShort (λ e. Some-bytes (set_object e)) (λ e short. omega (arith, set-long e.1)) s.sem.entries sets-short);
+            (All-weaker IsShort (λ e. Some-bytes (set_object e)) (λ e short. omega (arith, set-long e.1)) s.sem.entries sets-short)
+            (All-weaker IsShortMq (λ e. Some-bytes (mq_object e)) (λ e short. omega (arith, mq-long e.1)) s.mq.entries mqs-short);
         lengths = each-saved s Few-bytes (omega arith)
-            (omega (arith, processes-long s.processes.entries, sound.parts.processes.count, b.processes.1))
+            (omega (arith, processes-short, processes))
             (omega (arith, waits-short, b.processes.1)) (omega (arith, adjustments-long s.undo, undo-counted))
             (All-weaker (λ (e : ℕ × Entry Queue). length (queue_bytes e.1) ≤ 64 + 13 * limits.msgmnb) (λ e. Few-bytes (queue_object e))
             (λ e short. omega (arith, short, b.msgmnb.1)) s.msg.entries queues-short)
-            (All-weaker IsShort (λ e. Few-bytes (set_object e)) (λ e short. omega (arith, short, b.semmsl)) s.sem.entries sets-short);
-        count = omega (arith, saved-count s, sound.parts.msg.numbered.count, b.msgmni, sound.parts.sem.keyed.numbered.count, b.semmni);
+            (All-weaker IsShort (λ e. Few-bytes (set_object e)) (λ e short. omega (arith, short, b.semmsl)) s.sem.entries sets-short)
+            (All-weaker IsShortMq (λ e. Few-bytes (mq_object e)) (λ e short. omega (arith, short, most)) s.mq.entries mqs-short);
+        count = omega (
+          arith,
+          saved-count s,
+          sound.parts.msg.numbered.count,
+          b.msgmni,
+          sound.parts.sem.keyed.numbered.count,
+          b.semmni,
+          sound.parts.mq.named.numbered.count,
+          b.queues,
+        );
       }
 
   -- ---- they fit
 
   object-sectors : object_sectors (saved s)
       ≤ process_sectors limits + limits.msgmni * sectors (64 + 13 * limits.msgmnb) + limits.semmni * sectors (44 + 6 * limits.semmsl)
+      + limits.queues * sectors most_mq
   unfolding saved
   object-sectors =
       let of : ℕ × List ℕ → ℕ = λ o. sectors (length o.1) in
       let queues = kind-sectors (2 ^ 32) limits.msgmni (64 + 13 * limits.msgmnb) queue_bytes s.msg.entries queues-short sound.parts.msg.numbered.count in
       let sets = kind-sectors (2 * 2 ^ 32) limits.semmni (44 + 6 * limits.semmsl) set_bytes s.sem.entries sets-short
       sound.parts.sem.keyed.numbered.count in
-      let processes : 16 * length s.processes.entries ≤ limits.processes * (16 + 16 * limits.descriptors) =
-      omega (arith, mul-le (length s.processes.entries) 16 limits.processes (16 + 16 * limits.descriptors) sound.parts.processes.count (omega arith)) in
+      let mqs = kind-sectors (3 * 2 ^ 32) limits.queues most_mq mq_bytes s.mq.entries mqs-short sound.parts.mq.named.numbered.count in
       let first : ℕ = sectors 32 + sectors (length (processes_bytes s.processes.entries)) + sectors (length (waits_bytes s.wait))
       + sectors (length (adjustments_bytes s.undo)) in
       let undo : 12 * length (adjustments_in s.undo) ≤ 12 * limits.processes * limits.semmns =
@@ -299,15 +393,24 @@ module _ (limits : Limits) (s : State) (passed : ArePassed limits) (sound : IsSo
       omega (
         arith,
         sum_by_from of first (things s),
-        sum_by-append of (map queue_object s.msg.entries) (map set_object s.sem.entries),
-        processes-long s.processes.entries,
+        sum_by-append of (map queue_object s.msg.entries) (map set_object s.sem.entries ++ map mq_object s.mq.entries),
+        sum_by-append of (map set_object s.sem.entries) (map mq_object s.mq.entries),
+        processes-short,
         waits-short,
         adjustments-long s.undo,
         undo,
       )
 
   pub saved-fit : Fit (area_of limits) (saved s)
-  saved-fit = omega (arith, object-sectors, saved-count s, sound.parts.msg.numbered.count, sound.parts.sem.keyed.numbered.count)
+  saved-fit =
+      omega (
+        arith,
+        object-sectors,
+        saved-count s,
+        sound.parts.msg.numbered.count,
+        sound.parts.sem.keyed.numbered.count,
+        sound.parts.mq.named.numbered.count,
+      )
 
 -- ---- the state to which nothing has happened
 
@@ -325,6 +428,7 @@ start-places = record {
   distinct = rising-distinct 1 [] 1 (omega arith);
   queues = All-nil _;
   sets = All-nil _;
+  mqs = All-nil _;
 }
 
 pub start-are : AreObjects (saved start)
@@ -332,7 +436,7 @@ unfolding saved
 start-are =
     record {
       numbers = (omega arith, (omega arith, (omega arith, (omega arith, omega arith))));
-      some = each-saved start (λ o. 0 < length o.1) (omega arith) (omega arith) (omega arith) (omega arith) (All-nil _) (All-nil _);
-      lengths = each-saved start (λ o. length o.1 < 2 ^ 64) (omega arith) (omega arith) (omega arith) (omega arith) (All-nil _) (All-nil _);
+      some = each-saved start (λ o. 0 < length o.1) (omega arith) (omega arith) (omega arith) (omega arith) (All-nil _) (All-nil _) (All-nil _);
+      lengths = each-saved start (λ o. length o.1 < 2 ^ 64) (omega arith) (omega arith) (omega arith) (omega arith) (All-nil _) (All-nil _) (All-nil _);
       count = omega arith;
     }

@@ -14,10 +14,10 @@ use Rattle.ipc_state.specs.declared.parked.Awaited.{Awaited}
 use Rattle.ipc_state.specs.Waiting.{has_deadline, PlainWaiting, awaited_by, IsSoundWaiting}
 use Rattle.ipc_wire.specs.Request.{PlainRequest}
 use Rattle.ipc_wire.specs.Spelling.{HasFrame, request_bytes, opcode_of, fields_of}
-use Rattle.ipc_image.specs.Relations.WaitingCalls.{waiting_known}
+use Rattle.ipc_image.specs.Relations.Trees.{waiting_one}
 use Rattle.ipc_image.specs.Saved.{deadline_number, waiting_sizes, waiting_shape, waiting_numbers, waiting_tree, waiting_bytes, waits_bytes, FitsWaiting}
-use Rattle.ipc_image.specs.SavedParts.{deadline_from, waiting_of}
-use Rattle.ipc_image.proofs.Shapes.{tree_one, plain_one, counted_one}
+use Rattle.ipc_image.specs.SavedParts.{deadline_from}
+use Rattle.ipc_image.specs.Relations.Shapes.{tree_one, plain_one, counted_one}
 
 -- the parts of a request are its bytes
 pub call_spelled : (r : PlainRequest) (opcode : ℕ) → opcode < 256 → (fields rest : List ℕ) → opcode ≡ opcode_of r.kind
@@ -81,7 +81,7 @@ made_is pid n text on until call fit is has text_is waits =
 -- no two lists of calls have the same bytes
 pub waits_one : (vs ws : List PlainWaiting) → length vs < 2 ^ 32 → length ws < 2 ^ 32 → All FitsWaiting vs → All FitsWaiting ws
     → waits_bytes vs ≡ waits_bytes ws → vs ≡ ws
-waits_one = counted_one waiting_bytes FitsWaiting (plain_one waiting_shape waiting_tree waiting_of FitsWaiting waiting_known)
+waits_one = counted_one waiting_bytes FitsWaiting (plain_one waiting_shape waiting_tree FitsWaiting (λ w fit. fit.tree) waiting_one)
 
 -- ---- how many bytes
 

@@ -2,36 +2,36 @@
 use Rattle.std.proofs.Common.{◌≡◌, ℕ, ◌*◌, ◌<◌, ◌^◌, List, [], ◌∷◌, ◌++◌, length, map, drop, Option, Some, refl, sym, ap, subst, ◌∙◌, arith}
 use Rattle.std.specs.Prelude.{All, slice_get, unwrap_or, nat_eq}
 use Rattle.std.specs.List.{IsDistinct}
-use Rattle.std.specs.Int.{w64}
-use Rattle.std.proofs.lemmas.Int.{to_z-of_z}
 use Rattle.ipc_base.specs.declared.limits.Limits.{Limits}
 use Rattle.ipc_base.specs.Numbers.{fields_bytes}
 use Rattle.ipc_base.specs.Objects.{PlainObjects}
 use Rattle.ipc_base.specs.Table.{keys_of}
 use Rattle.sem_undo.specs.Undo.{Undo}
+use Rattle.posix_mq.specs.Queue.{Queue as Mq}
 use Rattle.sysv_msg.specs.Queue.{Queue}
 use Rattle.sysv_sem.specs.Set.{Set}
 use Rattle.ipc_state.specs.declared.keyed.Entry.{Entry}
+use Rattle.ipc_state.specs.declared.named.NamedEntry.{NamedEntry}
 use Rattle.ipc_state.specs.declared.processes.Process.{Process}
 use Rattle.ipc_state.specs.declared.state.Numbers.{Numbers}
 use Rattle.ipc_state.specs.Restored.{with_numbers, with_waits}
 use Rattle.ipc_state.specs.State.{State, start}
 use Rattle.ipc_state.specs.Waiting.{PlainWaiting}
 use Rattle.ipc_wait.specs.Waits.{HaveDistinctPids}
-use Rattle.ipc_image.specs.Kind.{FitsIn}
+use Rattle.ipc_image.specs.Kind.{FitsIn, IsOther}
 use Rattle.ipc_image.specs.Relations.Restored.{IsClockOf}
-use Rattle.ipc_image.specs.Saved.{clock_sizes, clock_numbers, process_shape, process_numbers, process_bytes, processes_bytes, FitsProcess}
+use Rattle.ipc_image.specs.Saved.{clock_sizes, clock_numbers, process_shape, process_tree, process_bytes, processes_bytes, FitsProcess}
 use Rattle.ipc_image.specs.Saved.{message_shape, message_tree, message_bytes, FitsMessage, messages_of, queue_sizes, queue_numbers, queue_bytes, queue_object}
 use Rattle.ipc_image.specs.Saved.{FitsQueue, semaphore_shape, semaphore_numbers, semaphore_bytes, FitsSemaphore, semaphores_of, set_sizes, set_numbers}
-use Rattle.ipc_image.specs.Saved.{set_bytes, set_object, FitsSet, waits_bytes, FitsWaiting, saved, HasAllPlaces}
+use Rattle.ipc_image.specs.Saved.{set_bytes, set_object, FitsSet, mq_bytes, mq_object, FitsMq, waits_bytes, FitsWaiting, saved, HasAllPlaces}
 use Rattle.ipc_image.specs.Saved.{adjustment_shape, adjustment_numbers, adjustment_bytes, adjustments_in, adjustments_bytes, FitsAdjustment}
-use Rattle.ipc_image.specs.SavedParts.{adjustment_of, process_of, message_of, message_from, queue_from, semaphore_from, set_from}
-use Rattle.ipc_image.specs.SavedParts.{with_more, put_processes, put_queues, put_sets}
-use Rattle.ipc_image.specs.Relations.Adjustments.{adjustment_known}
+use Rattle.ipc_image.specs.SavedParts.{queue_from, set_from, with_more, put_processes, put_queues, put_sets, put_mqs}
+use Rattle.ipc_image.specs.Relations.Trees.{process_one, message_one, semaphore_one, adjustment_one}
 use Rattle.ipc_image.proofs.Attaching.{undo_one}
-use Rattle.ipc_image.proofs.Entries.{entry_one}
-use Rattle.ipc_image.proofs.Shapes.{plain_one, counted_one}
-use Rattle.ipc_image.proofs.ReadKinds.{object_at, objects_one, later-kind}
+use Rattle.ipc_image.specs.Relations.Entries.{entry_one}
+use Rattle.ipc_image.specs.Relations.Mqs.{mq_one}
+use Rattle.ipc_image.specs.Relations.Shapes.{plain_one, counted_one}
+use Rattle.ipc_image.proofs.ReadKinds.{object_at, objects_one, later-kind, later-both}
 use Rattle.ipc_image.proofs.RestoredParts.{clock_one}
 use Rattle.ipc_image.proofs.SavedObjects.{things}
 use Rattle.ipc_image.proofs.WaitingCalls.{waits_one}
@@ -70,8 +70,9 @@ same_object objects i a b is also =
 -- ---- added
 
 -- the state that has these
-abbrev pub state_of : Numbers → List (ℕ × Process) → List PlainWaiting → List (ℕ × Undo) → List (ℕ × Entry Queue) → List (ℕ × Entry Set) → State
-state_of n ps ws us es fs =
+abbrev pub state_of : Numbers → List (ℕ × Process) → List PlainWaiting → List (ℕ × Undo) → List (ℕ × Entry Queue) → List (ℕ × Entry Set)
+    → List (ℕ × NamedEntry Mq) → State
+state_of n ps ws us es fs ms =
     record {
       clock = n.clock.0;
       processes = record { next = n.next_pid; entries = ps };
@@ -79,21 +80,22 @@ state_of n ps ws us es fs =
       undo = us;
       msg = record { next = n.next_queue; entries = es };
       sem = record { next = n.next_set; entries = fs };
+      mq = record { next = n.next_mq; entries = ms };
     }
 
 -- with these adjustments
 abbrev pub put_undo : State × Limits → List (ℕ × Undo) → State × Limits
 put_undo s us = (record s.0 { undo = us }, s.1)
 
-pub all-added : (n : Numbers) (limits : Limits) (one two three four five six : State × Limits) (ps : List (ℕ × Process)) (ws : List PlainWaiting)
-    (us : List (ℕ × Undo)) (es : List (ℕ × Entry Queue)) (fs : List (ℕ × Entry Set)) → one ≡ (with_numbers start n, limits)
+pub all-added : (n : Numbers) (limits : Limits) (one two three four five six seven : State × Limits) (ps : List (ℕ × Process)) (ws : List PlainWaiting)
+    (us : List (ℕ × Undo)) (es : List (ℕ × Entry Queue)) (fs : List (ℕ × Entry Set)) (ms : List (ℕ × NamedEntry Mq)) → one ≡ (with_numbers start n, limits)
     → two ≡ with_more (λ s. s.0.processes.entries) put_processes one ps → three ≡ (with_waits two.0 ws, two.1) → four ≡ put_undo three us
     → five ≡ with_more (λ s. s.0.msg.entries) put_queues four es → six ≡ with_more (λ s. s.0.sem.entries) put_sets five fs
-    → six ≡ (state_of n ps ws us es fs, limits)
-all-added n limits one two three four five six ps ws us es fs from processes waits undo queues sets =
-    sets ∙ ap (λ (s : State × Limits). put_sets s (s.0.sem.entries ++ fs)) (queues ∙ ap (λ (s : State × Limits). put_queues s (s.0.msg.entries ++ es))
+    → seven ≡ with_more (λ s. s.0.mq.entries) put_mqs six ms → seven ≡ (state_of n ps ws us es fs ms, limits)
+all-added n limits one two three four five six seven ps ws us es fs ms from processes waits undo queues sets mqs =
+    mqs ∙ ap (λ (s : State × Limits). put_mqs s (s.0.mq.entries ++ ms)) (sets ∙ ap (λ (s : State × Limits). put_sets s (s.0.sem.entries ++ fs)) (queues ∙ ap (λ (s : State × Limits). put_queues s (s.0.msg.entries ++ es))
     (undo ∙ ap (λ (s : State × Limits). put_undo s us) (waits ∙ ap (λ (s : State × Limits). let t : State × Limits = (with_waits s.0 ws, s.1) in t)
-    (processes ∙ ap (λ (s : State × Limits). put_processes s (s.0.processes.entries ++ ps)) from))))
+    (processes ∙ ap (λ (s : State × Limits). put_processes s (s.0.processes.entries ++ ps)) from)))))
 
 -- the processes are those that were read
 pub processes_added : (n : Numbers) (limits : Limits) (one two : State × Limits) (three : State) (ps : List (ℕ × Process)) (ws : List PlainWaiting)
@@ -106,7 +108,7 @@ processes_added n limits one two three ps ws from processes waits =
 -- no two lists of processes have the same bytes
 pub processes_one : (ps qs : List (ℕ × Process)) → length ps < 2 ^ 32 → length qs < 2 ^ 32 → All FitsProcess ps → All FitsProcess qs
     → processes_bytes ps ≡ processes_bytes qs → ps ≡ qs
-processes_one = counted_one process_bytes FitsProcess (plain_one process_shape process_numbers process_of FitsProcess (λ p fit. (fit, refl)))
+processes_one = counted_one process_bytes FitsProcess (plain_one process_shape process_tree FitsProcess (λ p fit. fit.0) process_one)
 
 -- adjustments that were read for these processes
 pub record AreAdjustmentsRead (ps : List (ℕ × Process)) (us : List (ℕ × Undo)) (object : List ℕ) : Type 0 where
@@ -117,17 +119,17 @@ pub record AreAdjustmentsRead (ps : List (ℕ × Process)) (us : List (ℕ × Un
 
 -- the objects are those of the state that they make; its numbers have their places, if no two processes have the same pid
 pub all_restored : (objects : PlainObjects) (n : Numbers) (ps : List (ℕ × Process)) (ws : List PlainWaiting) (us : List (ℕ × Undo))
-    (es : List (ℕ × Entry Queue)) (fs : List (ℕ × Entry Set)) (s : State) (clock processes calls adjustments : List ℕ)
+    (es : List (ℕ × Entry Queue)) (fs : List (ℕ × Entry Set)) (ms : List (ℕ × NamedEntry Mq)) (s : State) (clock processes calls adjustments : List ℕ)
     → slice_get objects 0 ≡ Some (0, clock) → slice_get objects 1 ≡ Some (1, processes) → slice_get objects 2 ≡ Some (2, calls)
     → slice_get objects 3 ≡ Some (3, adjustments) → AreAdjustmentsRead ps us adjustments → IsClockOf n clock
     → length ps < 2 ^ 32 → All FitsProcess ps → processes ≡ processes_bytes ps
     → length ws < 2 ^ 32 → All FitsWaiting ws → HaveDistinctPids ws → calls ≡ waits_bytes ws → All (FitsIn FitsQueue) es → All (FitsIn FitsSet) fs
-    → drop 4 objects ≡ map queue_object es ++ map set_object fs → s ≡ state_of n ps ws us es fs
+    → All (FitsIn FitsMq) ms → drop 4 objects ≡ map queue_object es ++ (map set_object fs ++ map mq_object ms) → s ≡ state_of n ps ws us es fs ms
     → (IsDistinct nat_eq (keys_of s.undo) → HasAllPlaces s) × (objects ≡ saved s)
-all_restored objects n ps ws us es fs s clock processes calls adjustments at0 at1 at2 at3 adjusted of few fit read less fits distinct heard places
-    holds others is =
-    let t : State = state_of n ps ws us es fs in
-    let numbers = of t refl refl refl refl in
+all_restored objects n ps ws us es fs ms s clock processes calls adjustments at0 at1 at2 at3 adjusted of few fit read less fits distinct heard places
+    holds named others is =
+    let t : State = state_of n ps ws us es fs ms in
+    let numbers = of t refl refl refl refl refl in
     let all : IsDistinct nat_eq (keys_of us) → HasAllPlaces t = λ apart. record {
       clock = numbers.0;
       count = few;
@@ -141,6 +143,7 @@ all_restored objects n ps ws us es fs s clock processes calls adjustments at0 at
       distinct = apart;
       queues = places;
       sets = holds;
+      mqs = named;
     } in
     let parts : HasParts t objects = record {
       clock = at0 ∙ ap (λ (l : List ℕ). let o : Option (ℕ × List ℕ) = Some (0, l) in o) numbers.1;
@@ -153,9 +156,10 @@ all_restored objects n ps ws us es fs s clock processes calls adjustments at0 at
 
 -- ---- told apart
 
--- a state with these processes, waiting calls, adjustments, queues and semaphore sets
-abbrev with_parts : State → List (ℕ × Process) → List PlainWaiting → List (ℕ × Undo) → List (ℕ × Entry Queue) → List (ℕ × Entry Set) → State
-with_parts u ps ws us es fs =
+-- a state with these processes, waiting calls, adjustments, queues, semaphore sets and POSIX queues
+abbrev with_parts : State → List (ℕ × Process) → List PlainWaiting → List (ℕ × Undo) → List (ℕ × Entry Queue) → List (ℕ × Entry Set)
+    → List (ℕ × NamedEntry Mq) → State
+with_parts u ps ws us es fs ms =
     record {
       clock = u.clock;
       processes = record { next = u.processes.next; entries = ps };
@@ -163,19 +167,32 @@ with_parts u ps ws us es fs =
       undo = us;
       msg = record { next = u.msg.next; entries = es };
       sem = record { next = u.sem.next; entries = fs };
+      mq = record { next = u.mq.next; entries = ms };
     }
 
 -- two queues with the same bytes, and two semaphore sets
 queue_one : (e f : Entry Queue) → FitsQueue e → FitsQueue f → queue_bytes e ≡ queue_bytes f → e ≡ f
 queue_one =
     entry_one queue_sizes queue_numbers message_bytes FitsMessage messages_of
-    (plain_one message_shape message_tree message_of FitsMessage (λ m fit. (fit.1, ap (message_from m.text) (to_z-of_z w64 m.mtype fit.0))))
+    (plain_one message_shape message_tree FitsMessage (λ m fit. fit.1) message_one)
     queue_from (λ q. refl)
 
 set_one : (e f : Entry Set) → FitsSet e → FitsSet f → set_bytes e ≡ set_bytes f → e ≡ f
 set_one =
     entry_one set_sizes set_numbers semaphore_bytes FitsSemaphore semaphores_of
-    (plain_one semaphore_shape semaphore_numbers semaphore_from FitsSemaphore (λ x fit. (fit.1, refl))) set_from (λ s. refl)
+    (plain_one semaphore_shape semaphore_numbers FitsSemaphore (λ x fit. fit.1) semaphore_one) set_from (λ s. refl)
+
+-- what follows the queues, and what follows the semaphore sets, is of other kinds
+abbrev pub sets_and_mqs : State → PlainObjects
+sets_and_mqs s = map set_object s.sem.entries ++ map mq_object s.mq.entries
+
+pub after-queues : (s : State) → IsOther (2 ^ 32) (sets_and_mqs s)
+after-queues s =
+    later-both (2 ^ 32) (2 * 2 ^ 32) set_bytes s.sem.entries (map mq_object s.mq.entries) (omega arith)
+    (later-kind (2 ^ 32) (3 * 2 ^ 32) mq_bytes s.mq.entries (omega arith))
+
+pub after-sets : (s : State) → IsOther (2 * 2 ^ 32) (map mq_object s.mq.entries)
+after-sets s = later-kind (2 * 2 ^ 32) (3 * 2 ^ 32) mq_bytes s.mq.entries (omega arith)
 
 -- two states
 pub saved_once : (s t : State) → HasAllPlaces s → HasAllPlaces t → saved s ≡ saved t → s ≡ t
@@ -189,21 +206,23 @@ saved_once s t at also same =
     let processes = processes_one ps qs at.count also.count at.processes also.processes (same_object objects 1 _ _ mine.processes its.processes) in
     let waits = waits_one s.wait t.wait at.wait_count also.wait_count at.waits also.waits (same_object objects 2 _ _ mine.calls its.calls) in
     let adjustments = counted_one adjustment_bytes FitsAdjustment
-    (plain_one adjustment_shape adjustment_numbers adjustment_of FitsAdjustment adjustment_known) (adjustments_in s.undo) (adjustments_in t.undo)
+    (plain_one adjustment_shape adjustment_numbers FitsAdjustment (λ x fit. fit.1) adjustment_one) (adjustments_in s.undo) (adjustments_in t.undo)
     at.adjustment_count also.adjustment_count at.adjustments also.adjustments (same_object objects 3 _ _ mine.adjustments its.adjustments) in
     let undo = undo_one s.undo t.undo at.distinct
     (at.undo_pids ∙ ap (λ (l : List (ℕ × Process)). keys_of l) processes ∙ sym also.undo_pids) adjustments in
-    let queues = objects_one (2 ^ 32) queue_bytes FitsQueue queue_one s.msg.entries t.msg.entries (map set_object s.sem.entries)
-    (map set_object t.sem.entries) at.queues also.queues (later-kind (2 ^ 32) (2 * 2 ^ 32) set_bytes s.sem.entries (omega arith))
-    (later-kind (2 ^ 32) (2 * 2 ^ 32) set_bytes t.sem.entries (omega arith)) (sym mine.things ∙ its.things) in
-    let sets = objects_one (2 * 2 ^ 32) set_bytes FitsSet set_one s.sem.entries t.sem.entries [] [] at.sets also.sets tt tt
-    (ap (λ (os : PlainObjects). os ++ []) queues.1) in
-    ap (λ (u : State). with_parts u ps s.wait s.undo s.msg.entries s.sem.entries) clock
-    ∙ ap (λ (l : List (ℕ × Process)). with_parts t l s.wait s.undo s.msg.entries s.sem.entries) processes
-    ∙ ap (λ (ws : List PlainWaiting). with_parts t qs ws s.undo s.msg.entries s.sem.entries) waits
-    ∙ ap (λ (us : List (ℕ × Undo)). with_parts t qs t.wait us s.msg.entries s.sem.entries) undo
-    ∙ ap (λ (es : List (ℕ × Entry Queue)). with_parts t qs t.wait t.undo es s.sem.entries) queues.0
-    ∙ ap (λ (fs : List (ℕ × Entry Set)). with_parts t qs t.wait t.undo t.msg.entries fs) sets.0
+    let queues = objects_one (2 ^ 32) queue_bytes FitsQueue queue_one s.msg.entries t.msg.entries (sets_and_mqs s)
+    (sets_and_mqs t) at.queues also.queues (after-queues s) (after-queues t) (sym mine.things ∙ its.things) in
+    let sets = objects_one (2 * 2 ^ 32) set_bytes FitsSet set_one s.sem.entries t.sem.entries (map mq_object s.mq.entries) (map mq_object t.mq.entries)
+    at.sets also.sets (after-sets s) (after-sets t) queues.1 in
+    let mqs = objects_one (3 * 2 ^ 32) mq_bytes FitsMq mq_one s.mq.entries t.mq.entries [] [] at.mqs also.mqs tt tt
+    (ap (λ (os : PlainObjects). os ++ []) sets.1) in
+    ap (λ (u : State). with_parts u ps s.wait s.undo s.msg.entries s.sem.entries s.mq.entries) clock
+    ∙ ap (λ (l : List (ℕ × Process)). with_parts t l s.wait s.undo s.msg.entries s.sem.entries s.mq.entries) processes
+    ∙ ap (λ (ws : List PlainWaiting). with_parts t qs ws s.undo s.msg.entries s.sem.entries s.mq.entries) waits
+    ∙ ap (λ (us : List (ℕ × Undo)). with_parts t qs t.wait us s.msg.entries s.sem.entries s.mq.entries) undo
+    ∙ ap (λ (es : List (ℕ × Entry Queue)). with_parts t qs t.wait t.undo es s.sem.entries s.mq.entries) queues.0
+    ∙ ap (λ (fs : List (ℕ × Entry Set)). with_parts t qs t.wait t.undo t.msg.entries fs s.mq.entries) sets.0
+    ∙ ap (λ (ms : List (ℕ × NamedEntry Mq)). with_parts t qs t.wait t.undo t.msg.entries t.sem.entries ms) mqs.0
 
 -- what was read is the state, if one has these objects
 pub restored_once : (s t : State) (objects : PlainObjects) (ps : List (ℕ × Process)) (processes : List ℕ) → HasAllPlaces s → objects ≡ saved s

@@ -1,4 +1,7 @@
 -- What joins the readers of saved objects to the definitions. A reader of the definitions alone needs none of it.
 pub mod Restored
-pub mod WaitingCalls
+pub mod Shapes
+pub mod Trees
+pub mod Entries
+pub mod Mqs
 pub mod Adjustments

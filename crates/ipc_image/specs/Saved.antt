@@ -1,9 +1,10 @@
 -- The state as objects, each of them some bytes under a number: what a checkpoint keeps. There are four that every
--- state has, one for each queue, and one for each semaphore set. Kinds that are still to come have their place: their
--- next number is 1, and no process has a descriptor. Of a call that waits the object on
--- which it waits is not kept: its request says it.
+-- state has, one for each message queue, one for each semaphore set, and one for each POSIX queue. Kinds that are still
+-- to come have their place: their next number is 1. Of a call that waits the object on which it waits is not kept: its
+-- request says it.
 use Rattle.std.specs.Prelude.{◌≡◌, ◌*◌, ◌-◌, ◌<◌, ◌≤◌, ◌^◌, ℕ, ℤ, List, [], ◌∷◌, ◌++◌}
-use Rattle.std.specs.Prelude.{length, map, All, FitsSigned, Option, Some, None, IfSome, nat_eq}
+use Rattle.std.specs.Prelude.{length, map, slice_index, All, FitsSigned, Option, Some, None, IfSome, nat_eq}
+use Rattle.std.specs.Prelude.{if◌then◌else◌}
 use Rattle.std.specs.FinMap as fin
 use Rattle.std.specs.Int.{w16, w32, w64, cast_unsigned}
 use Rattle.std.specs.List.{flat_map, IsDistinct}
@@ -14,12 +15,18 @@ use Rattle.ipc_base.specs.Table.{keys_of}
 use Rattle.ipc_wait.specs.Waits.{HaveDistinctPids}
 use Rattle.ipc_wire.specs.Spelling.{HasFrame, request_bytes}
 use Rattle.sem_undo.specs.Undo.{Key, Undo, IsKept}
+use Rattle.posix_mq.specs.Queue.{Queue as Mq, PlainMessage as MqMessage}
+use Rattle.posix_mq.specs.declared.queue.Registration.{Registration}
 use Rattle.sysv_msg.specs.Queue.{Queue, PlainMessage}
 use Rattle.sysv_sem.specs.Operation.{most_value}
 use Rattle.sysv_sem.specs.declared.set.Semaphore.{Semaphore}
 use Rattle.sysv_sem.specs.Set.{Set}
 use Rattle.ipc_perm.specs.declared.perm.Perm.{Perm}
+use Rattle.ipc_state.specs.declared.descriptors.Descriptor.{Descriptor}
+use Rattle.ipc_state.specs.declared.descriptors.Opened.{Opened}
+use Rattle.ipc_state.specs.declared.descriptors.Opened.TheVariants as opened
 use Rattle.ipc_state.specs.declared.keyed.Entry.{Entry}
+use Rattle.ipc_state.specs.declared.named.NamedEntry.{NamedEntry}
 use Rattle.ipc_state.specs.declared.processes.Process.{Process}
 use Rattle.ipc_engine.specs.Sound.{IsSound}
 use Rattle.ipc_state.specs.State.{State}
@@ -32,13 +39,13 @@ use Rattle.ipc_image.specs.Shape.{Shape, Fields, Texts, Tree, IsTree, bytes_in}
 
 -- ---- the four that every state has
 
--- the clock, the next pid, and the next number of each of five kinds: message queues, semaphore sets, and three that
--- are to come
+-- the clock, the next pid, and the next number of each of five kinds: message queues, semaphore sets, POSIX queues, and
+-- two that are to come
 abbrev pub clock_sizes : List Size
 clock_sizes = Eight ∷ Four ∷ Four ∷ Four ∷ Four ∷ Four ∷ Four ∷ []
 
 abbrev pub clock_numbers : State → List ℕ
-clock_numbers s = s.clock ∷ s.processes.next ∷ s.msg.next ∷ s.sem.next ∷ 1 ∷ 1 ∷ 1 ∷ []
+clock_numbers s = s.clock ∷ s.processes.next ∷ s.msg.next ∷ s.sem.next ∷ s.mq.next ∷ 1 ∷ 1 ∷ []
 
 abbrev pub count_bytes : ℕ → List ℕ
 count_bytes n = fields_bytes (Four ∷ []) (n ∷ [])
@@ -47,18 +54,41 @@ count_bytes n = fields_bytes (Four ∷ []) (n ∷ [])
 abbrev pub counted_bytes : {X : Type 0} → (X → List ℕ) → List X → List ℕ
 counted_bytes bytes_of xs = count_bytes (length xs) ++ flat_map bytes_of xs
 
--- a process: its pid, its user, its group, and how many descriptors it has
+-- what a descriptor is open on: its kind, of which 3 is a POSIX queue, and its number
+abbrev pub opened_kind : Opened → ℕ
+opened_kind (opened.Queue number) = 3
+
+abbrev pub opened_number : Opened → ℕ
+opened_number (opened.Queue number) = number
+
+-- a descriptor: its number, what it is open on, and its flags
+abbrev pub descriptor_sizes : List Size
+descriptor_sizes = Four ∷ Four ∷ Four ∷ Four ∷ []
+
+abbrev pub descriptor_shape : Shape
+descriptor_shape = Fields descriptor_sizes
+
+abbrev pub descriptor_numbers : ℕ × Descriptor → List ℕ
+descriptor_numbers d = d.0 ∷ opened_kind d.1.on ∷ opened_number d.1.on ∷ d.1.flags ∷ []
+
+abbrev pub descriptor_bytes : ℕ × Descriptor → List ℕ
+descriptor_bytes = bytes_in descriptor_shape descriptor_numbers
+
+-- a process: its pid, its user, its group, how many descriptors it has, and each of them
 abbrev pub process_sizes : List Size
 process_sizes = Four ∷ Four ∷ Four ∷ Four ∷ []
 
 abbrev pub process_shape : Shape
-process_shape = Fields process_sizes
+process_shape = Texts process_sizes (λ ns. 16 * slice_index ns 3)
 
 abbrev pub process_numbers : ℕ × Process → List ℕ
-process_numbers p = p.0 ∷ p.1.cred.uid ∷ p.1.cred.gid ∷ 0 ∷ []
+process_numbers p = p.0 ∷ p.1.cred.uid ∷ p.1.cred.gid ∷ length p.1.descriptors ∷ []
+
+abbrev pub process_tree : ℕ × Process → Tree process_shape
+process_tree p = (process_numbers p, flat_map descriptor_bytes p.1.descriptors)
 
 abbrev pub process_bytes : ℕ × Process → List ℕ
-process_bytes = bytes_in process_shape process_numbers
+process_bytes = bytes_in process_shape process_tree
 
 -- how many processes there are, and each of them, by pid
 abbrev pub processes_bytes : List (ℕ × Process) → List ℕ
@@ -74,7 +104,7 @@ abbrev pub waiting_sizes : List Size
 waiting_sizes = Four ∷ Eight ∷ Four ∷ []
 
 abbrev pub waiting_shape : Shape
-waiting_shape = Texts waiting_sizes (2 ∷ [])
+waiting_shape = Texts waiting_sizes (λ ns. slice_index ns 2)
 
 abbrev pub waiting_numbers : PlainWaiting → List ℕ
 waiting_numbers w = w.pid.0 ∷ deadline_number w.deadline ∷ length (request_bytes w.call) ∷ []
@@ -148,7 +178,7 @@ abbrev pub message_numbers : PlainMessage → List ℕ
 message_numbers m = cast_unsigned w64 m.mtype ∷ length m.text ∷ []
 
 abbrev pub message_shape : Shape
-message_shape = Texts message_sizes (1 ∷ [])
+message_shape = Texts message_sizes (λ ns. slice_index ns 1)
 
 abbrev pub message_tree : PlainMessage → Tree message_shape
 message_tree m = (message_numbers m, m.text)
@@ -199,20 +229,71 @@ set_bytes = entry_bytes set_sizes set_numbers semaphore_bytes semaphores_of
 abbrev pub set_object : ℕ × Entry Set → ℕ × List ℕ
 set_object = object_in (2 * 2 ^ 32) set_bytes
 
+-- ---- POSIX queues
+
+-- who is registered: 0 if nobody is, else 1 if no frame is sent and 2 if one is; who it is, by which descriptor, and
+-- the cookie, each 0 if nobody is
+abbrev pub registration_numbers : Option Registration → List ℕ
+registration_numbers None = 0 ∷ 0 ∷ 0 ∷ 0 ∷ []
+registration_numbers (Some r) = (if r.sends then 2 else 1) ∷ r.pid.0 ∷ r.descriptor ∷ r.cookie ∷ []
+
+-- uid, gid, mode, maxmsg, msgsize, the four of the registration, how many messages there are, how long the name is
+abbrev pub mq_sizes : List Size
+mq_sizes = Four ∷ Four ∷ Four ∷ Four ∷ Four ∷ Four ∷ Four ∷ Four ∷ Four ∷ Four ∷ Four ∷ []
+
+abbrev pub mq_numbers : NamedEntry Mq → List ℕ
+mq_numbers e =
+    e.owner.uid ∷ e.owner.gid ∷ e.mode ∷ e.object.maxmsg ∷ e.object.msgsize
+    ∷ registration_numbers e.object.registration ++ length e.object.messages ∷ length e.name ∷ []
+
+-- these, and the name
+abbrev pub mq_shape : Shape
+mq_shape = Texts mq_sizes (λ ns. slice_index ns 10)
+
+abbrev pub mq_tree : NamedEntry Mq → Tree mq_shape
+mq_tree e = (mq_numbers e, e.name)
+
+-- a message: its priority, how long its text is, and the text
+abbrev pub mq_message_sizes : List Size
+mq_message_sizes = Four ∷ Four ∷ []
+
+abbrev pub mq_message_shape : Shape
+mq_message_shape = Texts mq_message_sizes (λ ns. slice_index ns 1)
+
+abbrev pub mq_message_tree : MqMessage → Tree mq_message_shape
+mq_message_tree m = (m.priority ∷ length m.text ∷ [], m.text)
+
+abbrev pub mq_message_bytes : MqMessage → List ℕ
+mq_message_bytes = bytes_in mq_message_shape mq_message_tree
+
+-- its messages, the oldest first
+abbrev pub mq_messages : Mq → List MqMessage
+mq_messages q = q.messages
+
+abbrev pub mq_bytes : NamedEntry Mq → List ℕ
+mq_bytes e = bytes_in mq_shape mq_tree e ++ flat_map mq_message_bytes (mq_messages e.object)
+
+-- its object
+abbrev pub mq_object : ℕ × NamedEntry Mq → ℕ × List ℕ
+mq_object = object_in (3 * 2 ^ 32) mq_bytes
+
 -- ---- all of it
 
--- the objects: the clock, the processes, the waiting calls, the adjustments, the queues by identifier, and the
--- semaphore sets by identifier
+-- the objects: the clock, the processes, the waiting calls, the adjustments, the queues by identifier, the semaphore
+-- sets by identifier, and the POSIX queues by number
 unfoldable pub saved : State → PlainObjects
 saved s =
     (0, fields_bytes clock_sizes (clock_numbers s)) ∷ (1, processes_bytes s.processes.entries)
     ∷ (2, waits_bytes s.wait) ∷ (3, adjustments_bytes s.undo)
-    ∷ map queue_object s.msg.entries ++ map set_object s.sem.entries
+    ∷ map queue_object s.msg.entries ++ (map set_object s.sem.entries ++ map mq_object s.mq.entries)
 
 -- ---- each number has its place
 
+abbrev pub FitsDescriptor : ℕ × Descriptor → Type 0
+FitsDescriptor d = IsTree descriptor_shape (descriptor_numbers d)
+
 abbrev pub FitsProcess : ℕ × Process → Type 0
-FitsProcess p = IsTree process_shape (process_numbers p)
+FitsProcess p = IsTree process_shape (process_tree p) × All FitsDescriptor p.1.descriptors
 
 -- an adjustment, and not 0
 abbrev pub FitsAdjustment : Adjustment → Type 0
@@ -246,6 +327,12 @@ FitsQueue = FitsEntry queue_sizes queue_numbers FitsMessage messages_of
 abbrev pub FitsSet : Entry Set → Type 0
 FitsSet = FitsEntry set_sizes set_numbers FitsSemaphore semaphores_of
 
+abbrev pub FitsMqMessage : MqMessage → Type 0
+FitsMqMessage m = IsTree mq_message_shape (mq_message_tree m)
+
+abbrev pub FitsMq : NamedEntry Mq → Type 0
+FitsMq e = IsTree mq_shape (mq_tree e) × All FitsMqMessage (mq_messages e.object)
+
 -- of the state
 pub record HasAllPlaces (s : State) : Type 0 where
   pub clock : FitFields clock_sizes (clock_numbers s)
@@ -262,6 +349,7 @@ pub record HasAllPlaces (s : State) : Type 0 where
   pub distinct : IsDistinct nat_eq (keys_of s.undo)
   pub queues : All (FitsIn FitsQueue) s.msg.entries
   pub sets : All (FitsIn FitsSet) s.sem.entries
+  pub mqs : All (FitsIn FitsMq) s.mq.entries
 
 -- the objects stand for a sound state
 pub record StandForState (limits : Limits) (s : State) (objects : PlainObjects) : Type 0 where

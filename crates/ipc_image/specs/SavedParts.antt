@@ -1,7 +1,7 @@
 -- What is known of numbers once they are read, marks, and what a tree is of.
 use Rattle.std.specs.Prelude.{◌≡◌, ℕ, zero, suc, ◌-◌, ◌<◌, ◌≤◌, ◌^◌, ◌↔◌, List, [], ◌∷◌, ◌++◌, length}
 use Rattle.std.specs.Prelude.{ℤ, take, drop, Option, Some, None, slice_get, slice_index, map, unwrap_or}
-use Rattle.std.specs.Prelude.{nat_eq, ◌==◌, if◌then◌else◌}
+use Rattle.std.specs.Prelude.{nat_eq, ◌==◌, if◌then◌else◌, All}
 use Rattle.std.specs.List.{flat_map, fold}
 use Rattle.std.specs.FinMap as fin
 use Rattle.std.specs.Int.{w16, w64, cast_signed}
@@ -15,14 +15,20 @@ use Rattle.ipc_wire.specs.Stream.{PlainFrame, frame_of}
 use Rattle.ipc_wire.specs.Stream.PlainFrame.{Whole}
 use Rattle.sem_undo.specs.Undo.{Undo, entry_of as row_entry}
 use Rattle.sem_undo.specs.declared.undo.UndoRow.{UndoRow}
+use Rattle.posix_mq.specs.Queue.{Queue as Mq, PlainMessage as MqMessage}
+use Rattle.posix_mq.specs.declared.queue.Registration.{Registration}
 use Rattle.sysv_msg.specs.Queue.{Queue, PlainMessage}
 use Rattle.sysv_sem.specs.declared.set.Semaphore.{Semaphore}
 use Rattle.sysv_sem.specs.Set.{Set}
 use Rattle.ipc_perm.specs.declared.perm.Perm.{Perm}
 use Rattle.ipc_state.specs.declared.parked.Awaited.{Awaited}
 use Rattle.ipc_state.specs.declared.parked.Awaited.TheVariants as awaited
+use Rattle.ipc_state.specs.declared.descriptors.Descriptor.{Descriptor}
+use Rattle.ipc_state.specs.declared.descriptors.Opened.TheVariants as opened
 use Rattle.ipc_state.specs.declared.processes.Process.{Process}
 use Rattle.ipc_state.specs.declared.keyed.Entry.{Entry}
+use Rattle.ipc_state.specs.declared.named.NamedEntry.{NamedEntry}
+use Rattle.ipc_state.specs.Descriptors.{Table}
 use Rattle.ipc_state.specs.declared.numbered.Item.{Item}
 use Rattle.ipc_state.specs.declared.state.Numbers.{Numbers}
 use Rattle.ipc_state.specs.State.{State}
@@ -32,7 +38,7 @@ use Rattle.ipc_image.specs.declared.state_objects.Thing.{Thing}
 use Rattle.ipc_image.specs.declared.state_objects.Thing.TheVariants as thing
 use Rattle.ipc_image.specs.Kind.{FitsIn}
 use Rattle.ipc_image.specs.Saved.{Adjustment, process_bytes, waiting_bytes, message_bytes, queue_object, FitsQueue}
-use Rattle.ipc_image.specs.Saved.{semaphore_bytes, set_object, FitsSet, saved}
+use Rattle.ipc_image.specs.Saved.{semaphore_bytes, set_object, FitsSet, mq_message_bytes, mq_object, FitsMq, saved}
 
 -- ---- what was added
 
@@ -46,7 +52,7 @@ pub record IsPlace {S X : Type 0} (items : S → List X) (put : S → List X →
   pub found : (s : S) (xs : List X) → items (put s xs) ≡ xs
   pub again : (s : S) (xs ys : List X) → put (put s xs) ys ≡ put s ys
 
--- the processes of a state, its queues, and its semaphore sets
+-- the processes of a state, its queues, its semaphore sets, and its POSIX queues
 abbrev pub put_processes : State × Limits → List (ℕ × Process) → State × Limits
 put_processes s xs = (record s.0 { processes = record { next = s.0.processes.next; entries = xs } }, s.1)
 
@@ -55,6 +61,9 @@ put_queues s xs = (record s.0 { msg = record { next = s.0.msg.next; entries = xs
 
 abbrev pub put_sets : State × Limits → List (ℕ × Entry Set) → State × Limits
 put_sets s xs = (record s.0 { sem = record { next = s.0.sem.next; entries = xs } }, s.1)
+
+abbrev pub put_mqs : State × Limits → List (ℕ × NamedEntry Mq) → State × Limits
+put_mqs s xs = (record s.0 { mq = record { next = s.0.mq.next; entries = xs } }, s.1)
 
 -- with an adjustment of a process, if the process is there; with all of these
 abbrev pub attached : List (ℕ × Undo) → Adjustment → List (ℕ × Undo)
@@ -80,16 +89,21 @@ MarkAt IsMark next [] at m = next at m
 MarkAt IsMark next (x ∷ xs) zero m = IsMark x m
 MarkAt IsMark next (x ∷ xs) (suc at) m = MarkAt IsMark next xs at m
 
--- of a queue's messages, or a set's semaphores
+-- of the messages of a queue, of a set's semaphores, or of the messages of a POSIX queue
 abbrev pub IsMarkOfQueue : ℕ × Entry Queue → Mark → Type 0
 IsMarkOfQueue e m = IsMarkIn message_bytes e.1.object.messages m
 
 abbrev pub IsMarkOfSet : ℕ × Entry Set → Mark → Type 0
 IsMarkOfSet e m = IsMarkIn semaphore_bytes e.1.object.semaphores m
 
+abbrev pub IsMarkOfMq : ℕ × NamedEntry Mq → Mark → Type 0
+IsMarkOfMq e m = IsMarkIn mq_message_bytes e.1.object.messages m
+
 -- of the one at a place after the four objects that every state has
 abbrev pub IsMarkAfter : State → ℕ → Mark → Type 0
-IsMarkAfter s = MarkAt IsMarkOfQueue (MarkAt IsMarkOfSet (λ at m. Unit {0}) s.sem.entries) s.msg.entries
+IsMarkAfter s =
+    MarkAt IsMarkOfQueue (MarkAt IsMarkOfSet (MarkAt IsMarkOfMq (λ at m. Unit {0}) s.mq.entries) s.sem.entries)
+    s.msg.entries
 
 -- it is a mark of the i-th object; those of objects without a list are never looked at
 pub record IsMarkOf (s : State) (i : ℕ) (m : Mark) : Type 0 where
@@ -107,16 +121,19 @@ pub record Stands (objects : PlainObjects) (IsMark : ℕ → Mark → Type 0) (a
 abbrev pub object_of : Thing → ℕ × List ℕ
 object_of (thing.Queue q) = queue_object (item_row q.now)
 object_of (thing.Set e) = set_object (item_row e.now)
+object_of (thing.Mq e) = mq_object (item_row e.now)
 
 -- each of its numbers has its place
 abbrev pub FitsThing : Thing → Type 0
 FitsThing (thing.Queue q) = FitsIn FitsQueue (item_row q.now)
 FitsThing (thing.Set e) = FitsIn FitsSet (item_row e.now)
+FitsThing (thing.Mq e) = FitsIn FitsMq (item_row e.now)
 
 -- the mark is of its parts
 abbrev pub IsMarkOfThing : Thing → Mark → Type 0
 IsMarkOfThing (thing.Queue q) m = IsMarkOfQueue (item_row q.now) m
 IsMarkOfThing (thing.Set e) m = IsMarkOfSet (item_row e.now) m
+IsMarkOfThing (thing.Mq e) m = IsMarkOfMq (item_row e.now) m
 
 -- this is the i-th object, and of what it is each number has its place
 pub record IsFound (s : State) (i : ℕ) (o : ℕ × List ℕ) (IsOfIt : Mark → Type 0) (Fits : Type 0) : Type 0 where
@@ -127,8 +144,19 @@ pub record IsFound (s : State) (i : ℕ) (o : ℕ × List ℕ) (IsOfIt : Mark �
 
 -- ---- what a tree is of, and what has these numbers and these parts
 
-abbrev pub process_of : List ℕ → ℕ × Process
-process_of ns = (slice_index ns 0, record { cred = record { uid = slice_index ns 1; gid = slice_index ns 2 } })
+-- with these descriptors
+abbrev pub process_from : List ℕ → Table → ℕ × Process
+process_from ns descriptors = (
+  slice_index ns 0,
+  record {
+    cred = record { uid = slice_index ns 1; gid = slice_index ns 2 };
+    descriptors = descriptors;
+  },
+)
+
+abbrev pub descriptor_of : List ℕ → ℕ × Descriptor
+descriptor_of ns =
+    (slice_index ns 0, record { on = opened.Queue (slice_index ns 2); flags = slice_index ns 3 })
 
 -- the adjustment of a process that a row is
 abbrev pub of_process : ℕ → UndoRow → Adjustment
@@ -200,10 +228,47 @@ with_semaphores s semaphores = record s { semaphores = semaphores }
 abbrev pub set_from : List ℕ → List Semaphore → Set
 set_from ns semaphores = record { semaphores = semaphores; otime = slice_index ns 0; ctime = slice_index ns 1 }
 
+-- who is registered, by the four numbers from this place on
+abbrev pub registration_from : List ℕ → Option Registration
+registration_from ns =
+    if slice_index ns 0 == 0 then None
+    else Some (record {
+      pid = record { 0 = slice_index ns 1 };
+      descriptor = slice_index ns 2;
+      sends = slice_index ns 0 == 2;
+      cookie = slice_index ns 3;
+    })
+
+abbrev pub with_mq_messages : Mq → List MqMessage → Mq
+with_mq_messages q messages = record q { messages = messages }
+
+abbrev pub mq_message_of : List ℕ × List ℕ → MqMessage
+mq_message_of t = record { priority = slice_index t.0 0; text = t.1 }
+
+abbrev pub mq_from : List ℕ × List ℕ → List MqMessage → NamedEntry Mq
+mq_from t messages =
+    record {
+      name = t.1;
+      owner = record { uid = slice_index t.0 0; gid = slice_index t.0 1 };
+      mode = slice_index t.0 2;
+      object = record {
+        messages = messages;
+        maxmsg = slice_index t.0 3;
+        msgsize = slice_index t.0 4;
+        registration = registration_from (drop 5 t.0);
+      };
+    }
+
+-- what is known of the sizes of a sound POSIX queue
+pub record IsSmallMq (e : NamedEntry Mq) : Type 0 where
+  pub name : length e.name < 2 ^ 32
+  pub count : length e.object.messages < 2 ^ 32
+  pub texts : All (λ m. length m.text < 2 ^ 32) e.object.messages
+
 -- the state that has these tables
 abbrev pub seen_state : Numbers → List (Item Process) → List PlainWaiting → List (Item Undo) → List (Item (Entry Queue))
-    → List (Item (Entry Set)) → State
-seen_state n processes waits undo queues sets =
+    → List (Item (Entry Set)) → List (Item (NamedEntry Mq)) → State
+seen_state n processes waits undo queues sets mqs =
     record {
       clock = n.clock.0;
       processes = record { next = n.next_pid; entries = map item_row processes };
@@ -211,4 +276,5 @@ seen_state n processes waits undo queues sets =
       undo = map item_row undo;
       msg = record { next = n.next_queue; entries = map item_row queues };
       sem = record { next = n.next_set; entries = map item_row sets };
+      mq = record { next = n.next_mq; entries = map item_row mqs };
     }

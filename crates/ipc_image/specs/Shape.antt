@@ -1,33 +1,26 @@
--- The form of a thing that stands in a saved list: numbers in fields, and then texts, whose lengths are among the
--- numbers.
-use Rattle.std.specs.Prelude.{◌≡◌, ℕ, ◌+◌, List, [], ◌∷◌, ◌++◌, length, slice_index}
+-- The form of a thing that stands in a saved list: numbers in fields, and then bytes, as many as the numbers say.
+use Rattle.std.specs.Prelude.{◌≡◌, ℕ, List, ◌++◌, length}
 use Rattle.ipc_base.specs.declared.field.Size.{Size}
 use Rattle.ipc_base.specs.Numbers.{fields_bytes, FitFields}
 
--- the sizes of the numbers; the places of the texts' lengths
+-- the sizes of the numbers; how many bytes come after them, by the numbers
 pub data Shape : Type 0 where
   Fields : List Size → Shape
-  Texts : List Size → List ℕ → Shape
+  Texts : List Size → (List ℕ → ℕ) → Shape
 
--- its numbers; all its texts, one after another
+-- its numbers; the bytes after them
 abbrev pub Tree : Shape → Type 0
 Tree (Fields sizes) = List ℕ
-Tree (Texts sizes lengths) = List ℕ × List ℕ
+Tree (Texts sizes count) = List ℕ × List ℕ
 
 abbrev pub tree_bytes : (s : Shape) → Tree s → List ℕ
 tree_bytes (Fields sizes) numbers = fields_bytes sizes numbers
-tree_bytes (Texts sizes lengths) t = fields_bytes sizes t.0 ++ t.1
+tree_bytes (Texts sizes count) t = fields_bytes sizes t.0 ++ t.1
 
--- the numbers at some places together
-abbrev pub total_at : List ℕ → List ℕ → ℕ
-total_at [] numbers = 0
-total_at (p ∷ []) numbers = slice_index numbers p
-total_at (p ∷ q ∷ places) numbers = slice_index numbers p + total_at (q ∷ places) numbers
-
--- each number has its place, and the texts are as long as the numbers say
+-- each number has its place, and as many bytes come after them as they say
 abbrev pub IsTree : (s : Shape) → Tree s → Type 0
 IsTree (Fields sizes) numbers = FitFields sizes numbers
-IsTree (Texts sizes lengths) t = FitFields sizes t.0 × (length t.1 ≡ total_at lengths t.0)
+IsTree (Texts sizes count) t = FitFields sizes t.0 × (length t.1 ≡ count t.0)
 
 -- the bytes of what has such a tree
 abbrev pub bytes_in : (s : Shape) {X : Type 0} → (X → Tree s) → X → List ℕ

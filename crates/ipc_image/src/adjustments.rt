@@ -9,8 +9,9 @@ ghost use Rattle.sem_undo.specs.Undo.{Undo};
 ghost use Rattle.ipc_state.specs.Tables.{item_row};
 ghost use Rattle.ipc_image.specs.Saved.{Adjustment as PlainAdjustment, adjustment_shape, adjustment_numbers};
 ghost use Rattle.ipc_image.specs.Saved.{adjustments_in, adjustments_bytes, FitsAdjustment};
-ghost use Rattle.ipc_image.specs.SavedParts.{adjustment_of, all_attached, of_process};
-ghost use Rattle.ipc_image.specs.Relations.Adjustments.{adjustment_known, plain_of};
+ghost use Rattle.ipc_image.specs.SavedParts.{all_attached, of_process};
+ghost use Rattle.ipc_image.specs.Relations.Adjustments.{plain_of};
+ghost use Rattle.ipc_image.specs.Relations.Trees.{adjustment_one};
 
 use crate::adjustment_list::put_adjustment;
 use crate::fields::{FOUR, TWO};
@@ -40,8 +41,6 @@ impl Saved for Adjustment {
 
     ghost tree = { adjustment_numbers };
 
-    ghost back = { adjustment_of };
-
     ghost Fits = { FitsAdjustment };
 
     ghost Seen = { List PlainAdjustment };
@@ -54,7 +53,9 @@ impl Saved for Adjustment {
 
     ghost place = { record { same = λ s. refl; found = λ s xs. refl; again = λ s xs ys. refl } };
 
-    ghost known = { adjustment_known };
+    ghost known = { λ x fit. fit.1 };
+
+    ghost one = { adjustment_one };
 
     fn len(&self) -> u64 {
         12

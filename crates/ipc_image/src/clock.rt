@@ -15,7 +15,8 @@ use ipc_state::Numbers;
 /// The clock, the next pid, and the next number of each kind; kinds that are to come begin at 1.
 pub(crate) fn put_clock(window: &mut Window, numbers: Numbers)
     ensures { window.new ≡ passed (fields_bytes clock_sizes
-        (numbers.clock.0 ∷ numbers.next_pid ∷ numbers.next_queue ∷ numbers.next_set ∷ 1 ∷ 1 ∷ 1 ∷ [])) window.old }
+        (numbers.clock.0 ∷ numbers.next_pid ∷ numbers.next_queue ∷ numbers.next_set
+        ∷ numbers.next_mq ∷ 1 ∷ 1 ∷ [])) window.old }
 {
     put_fields(
         window,
@@ -24,7 +25,7 @@ pub(crate) fn put_clock(window: &mut Window, numbers: Numbers)
             Field::U32(numbers.next_pid),
             Field::U32(numbers.next_queue),
             Field::U32(numbers.next_set),
-            Field::U32(1),
+            Field::U32(numbers.next_mq),
             Field::U32(1),
             Field::U32(1),
         ],
@@ -47,13 +48,13 @@ pub(crate) fn read_clock(bytes: &[u8]) -> Option<Numbers>
         next_pid: numbers[1] as u32,
         next_queue: numbers[2] as u32,
         next_set: numbers[3] as u32,
+        next_mq: numbers[4] as u32,
     })
 }
 
 // Whether the next numbers of the kinds that are to come are 1.
 fn are_to_come(numbers: &[u64; 7]) -> bool
-    ensures { IsTrue result ↔ (slice_index numbers.now 4 ≡ 1) × (slice_index numbers.now 5 ≡ 1)
-        × (slice_index numbers.now 6 ≡ 1) }
+    ensures { IsTrue result ↔ (slice_index numbers.now 5 ≡ 1) × (slice_index numbers.now 6 ≡ 1) }
 {
-    numbers[4] == 1 && numbers[5] == 1 && numbers[6] == 1
+    numbers[5] == 1 && numbers[6] == 1
 }

@@ -1,45 +1,73 @@
 //! The object of a thing with a key: its key and who may use it, and then what its kind has.
 
-ghost use Rattle.std.specs.Prelude.{◌≡◌, ◌≢◌, ◌<◌, ◌^◌, ◌++◌, ℕ, List};
-ghost use Rattle.std.specs.Prelude.{Err, pos, drop, length, IfOk, IfSome, IfNone, FitsSigned};
+ghost use Rattle.std.specs.Prelude.{◌≡◌, ◌≢◌, ◌++◌, ℕ, List, pos, drop, IfSome, IfNone, FitsSigned};
 ghost use Rattle.std.specs.Int.{w32};
 ghost use Rattle.ipc_base.specs.Numbers.{fields_bytes, FitFields};
-ghost use Rattle.ipc_engine.specs.declared.fault.StateFault.{StateFault};
-ghost use Rattle.ipc_state.specs.declared.keyed.Entry.{Entry as PlainEntry};
 ghost use Rattle.ipc_image.specs.Saved.{head_sizes, head_numbers, entry_bytes, FitsEntry};
 ghost use Rattle.ipc_image.specs.SavedParts.{perm_from, IsMarkIn};
 ghost use Rattle.ipc_image.specs.Window.{passed};
+ghost use Rattle.ipc_image.specs.Relations.Entries.{entry_one};
 
 use crate::fields::{FOUR, put_fields};
 use crate::kind::Kind;
+use crate::stored::Stored;
 use crate::window::Window;
-use ipc_base::{Field, Mark, take_fields};
+use ipc_base::{Field, Id, Mark, take_fields};
 use ipc_engine::StateFault;
 use ipc_perm::Perm;
-use ipc_state::Entry;
-use std::alloc::Global;
+use ipc_state::{Entry, State};
+use std::alloc::{AllocError, Global};
 
-/// How many bytes its object has.
-pub(crate) fn entry_len<T: Kind>(entry: &Entry<T>) -> u64
-    requires { length (entry_bytes T.sizes T.numbers T.part_bytes T.parts entry.now) < 2 ^ 64 }
-    ensures { result ≡ length (entry_bytes T.sizes T.numbers T.part_bytes T.parts entry.now) }
-{
-    24 + entry.object.len()
-}
+impl<T: Kind> Stored for Entry<T> {
+    ghost bytes_of = { entry_bytes T.sizes T.numbers T.part_bytes T.parts };
 
-/// Its object passes the window. The mark is of its parts.
-pub(crate) fn put_entry<T: Kind>(window: &mut Window, entry: &Entry<T>, mark: &mut Mark)
-    requires fits { FitsEntry T.sizes T.numbers T.FitsPart T.parts entry.now }
-    requires short { length (entry_bytes T.sizes T.numbers T.part_bytes T.parts entry.now)
-        < 2 ^ 64 }
-    requires mark { IsMarkIn T.part_bytes (T.parts entry.now.object) mark.old }
-    ensures passed { window.new
-        ≡ passed (entry_bytes T.sizes T.numbers T.part_bytes T.parts entry.now) window.old }
-    ensures mark { IsMarkIn T.part_bytes (T.parts entry.now.object) mark.new }
-{
-    put_head(window, entry);
-    entry.object.put_numbers(window);
-    entry.object.put_parts(window, mark);
+    ghost Fits = { FitsEntry T.sizes T.numbers T.FitsPart T.parts };
+
+    ghost IsSmall = { λ e. T.IsSmall e.object };
+
+    ghost IsMark = { λ e m. IsMarkIn T.part_bytes (T.parts e.object) m };
+
+    ghost FIRST = { T.FIRST };
+
+    const FIRST: u64 = T::FIRST;
+
+    ghost items = { T.items };
+
+    ghost put = { T.put };
+
+    ghost one = { entry_one T.sizes T.numbers T.part_bytes T.FitsPart T.parts T.part_one T.from T.whole };
+
+    ghost place = { T.place };
+
+    fn read_numbers(&self) {
+        read_head(self);
+        self.object.read_numbers();
+    }
+
+    fn len(&self) -> u64 {
+        24 + self.object.len()
+    }
+
+    fn put(&self, window: &mut Window, mark: &mut Mark) {
+        put_head(window, self);
+        self.object.put_numbers(window);
+        self.object.put_parts(window, mark);
+    }
+
+    fn read(alloc: Global, bytes: &[u8]) -> Result<Entry<T>, StateFault> {
+        let (head, rest) = take_head(bytes).ok_or(StateFault::Unsound)?;
+        let (mut object, rest) = T::begin(alloc, rest)?;
+        object.read_parts(rest)?;
+        Ok(Entry {
+            key: head.key,
+            perm: head.perm,
+            object,
+        })
+    }
+
+    fn add(state: &mut State, number: u32, entry: Entry<T>) -> Result<(), AllocError> {
+        T::add(state, Id(number), entry)
+    }
 }
 
 fn put_head<T>(window: &mut Window, entry: &Entry<T>)
@@ -57,24 +85,6 @@ fn put_head<T>(window: &mut Window, entry: &Entry<T>)
             Field::U32(perm.mode),
         ],
     );
-}
-
-/// Reads all of an object.
-pub(crate) fn read_entry<T: Kind>(alloc: Global, bytes: &[u8]) -> Result<Entry<T>, StateFault>
-    ensures ok { IfOk result (λ e. FitsEntry T.sizes T.numbers T.FitsPart T.parts e
-        × (bytes.now ≡ entry_bytes T.sizes T.numbers T.part_bytes T.parts e)) }
-    ensures damaged { result ≡ Err StateFault.Unsound → (e : PlainEntry T)
-        → FitsEntry T.sizes T.numbers T.FitsPart T.parts e
-        → bytes.now ≢ entry_bytes T.sizes T.numbers T.part_bytes T.parts e }
-{
-    let (head, rest) = take_head(bytes).ok_or(StateFault::Unsound)?;
-    let (mut object, rest) = T::begin(alloc, rest)?;
-    object.read_parts(rest)?;
-    Ok(Entry {
-        key: head.key,
-        perm: head.perm,
-        object,
-    })
 }
 
 // An entry with its key and who may use it, and no object yet; and the bytes after them.
@@ -107,8 +117,8 @@ fn perm_in(numbers: &[u64; 6]) -> Perm
     }
 }
 
-/// Reads the key of an entry and who may use it, so that each number has its place.
-pub(crate) fn read_head<T>(entry: &Entry<T>)
+// Reads the key of an entry and who may use it, so that each number has its place.
+fn read_head<T>(entry: &Entry<T>)
     ensures key { FitsSigned w32 entry.now.key }
     ensures head { FitFields head_sizes (head_numbers entry.now.key entry.now.perm) }
 {

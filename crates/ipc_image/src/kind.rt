@@ -1,23 +1,19 @@
-//! Objects of one kind, one for each thing of it, numbered by its identifier: read one after another.
+//! What a thing with a key has beside the key and who may use it, whatever it is.
 
-ghost use Rattle.std.specs.Prelude.{◌≡◌, ◌≢◌, ◌<◌, ◌+◌, ◌*◌, ◌^◌, ◌++◌, ◌∷◌, [], ℕ, List, All};
-ghost use Rattle.std.specs.Prelude.{length, map, drop, Err, IfOk, OnOk, IfSome, IfNone};
+ghost use Rattle.std.specs.Prelude.{◌≡◌, ◌≢◌, ◌<◌, ◌^◌, ◌++◌, ◌∷◌, [], ℕ, List, All, length, Err, IfOk, OnOk};
 ghost use Rattle.std.specs.List.{flat_map};
 ghost use Rattle.ipc_base.specs.declared.field.Size.{Size};
 ghost use Rattle.ipc_base.specs.declared.limits.Limits.{Limits};
 ghost use Rattle.ipc_base.specs.Numbers.{fields_bytes, FitFields};
-ghost use Rattle.ipc_base.specs.Objects.{PlainObjects};
 ghost use Rattle.ipc_engine.specs.declared.fault.StateFault.{StateFault};
 ghost use Rattle.ipc_state.specs.declared.keyed.Entry.{Entry as PlainEntry};
 ghost use Rattle.ipc_state.specs.State.{State as PlainState};
-ghost use Rattle.ipc_image.specs.Kind.{object_in, FitsIn, IsOther};
-ghost use Rattle.ipc_image.specs.Saved.{counted_bytes, entry_bytes, FitsEntry};
+ghost use Rattle.ipc_image.specs.Saved.{counted_bytes};
 ghost use Rattle.ipc_image.specs.SavedParts.{with_more, IsMarkIn, IsPlace};
 ghost use Rattle.ipc_image.specs.Window.{passed};
 
-use crate::entry::read_entry;
 use crate::window::Window;
-use ipc_base::{Id, Mark, ObjectMap, Objects};
+use ipc_base::{Id, Mark};
 use ipc_engine::StateFault;
 use ipc_state::{Entry, State};
 use std::alloc::{AllocError, Global};
@@ -106,49 +102,13 @@ pub(crate) trait Kind: Drop {
     ghost known: { (ns : List ℕ) (ps : List Part) → FitFields sizes ns
         → (numbers (from ns ps) ≡ ns) × (parts (from ns ps) ≡ ps) };
 
+    /// It has no more than them.
+    ghost whole: { (x : Self) → from (numbers x) (parts x) ≡ x };
+
+    /// A part is told by its bytes, whatever follows them.
+    ghost part_one: { (p q : Part) (more others : List ℕ) → FitsPart p → FitsPart q
+        → part_bytes p ++ more ≡ part_bytes q ++ others → (p ≡ q) × (more ≡ others) };
+
     /// What was added is what is found there.
     ghost place: { IsPlace items put };
-}
-
-/// Reads the objects of a kind, from this one on, and adds what they are. Gives the place of the first object that is
-/// of another kind.
-pub(crate) fn restore_kind<T: Kind>(
-    state: &mut State,
-    alloc: Global,
-    objects: &ObjectMap,
-    from: u32,
-) -> Result<u32, StateFault>
-    ensures ok { IfOk result (λ next. (xs : List (ℕ × PlainEntry T))
-        × All (FitsIn (FitsEntry T.sizes T.numbers T.FitsPart T.parts)) xs
-        × (drop from objects.now
-        ≡ map (object_in T.FIRST (entry_bytes T.sizes T.numbers T.part_bytes T.parts)) xs ++ drop next objects.now)
-        × ((state.new.state, state.new.limits) ≡ with_more T.items T.put (state.old.state, state.old.limits) xs)) }
-    ensures whole { IfOk result (λ next. (xs : List (ℕ × PlainEntry T)) (rest : PlainObjects)
-        → IsOther T.FIRST rest
-        → drop from objects.now
-        ≡ map (object_in T.FIRST (entry_bytes T.sizes T.numbers T.part_bytes T.parts)) xs ++ rest
-        → All (FitsIn (FitsEntry T.sizes T.numbers T.FitsPart T.parts)) xs → drop next objects.now ≡ rest) }
-    ensures damaged { result ≡ Err StateFault.Unsound → (xs : List (ℕ × PlainEntry T)) (rest : PlainObjects)
-        → IsOther T.FIRST rest → All (FitsIn (FitsEntry T.sizes T.numbers T.FitsPart T.parts)) xs
-        → drop from objects.now
-        ≢ map (object_in T.FIRST (entry_bytes T.sizes T.numbers T.part_bytes T.parts)) xs ++ rest }
-{
-    for i in from..objects.count() {
-        let Some(id) = id_of_number(objects.number(i), T::FIRST) else {
-            return Ok(i);
-        };
-        let entry = read_entry::<T>(alloc, objects.object(i))?;
-        T::add(state, id, entry)?;
-    }
-    Ok(objects.count())
-}
-
-// The identifier that an object's number names, if it is of the kind with this first number.
-fn id_of_number(number: u64, first: u64) -> Option<Id>
-    ensures some { IfSome result (λ id. number ≡ first + id.0) }
-    ensures none { IfNone result ((id : ℕ) → id < 2 ^ 32 → number ≢ first + id) }
-{
-    let id = number.checked_sub(first)?;
-    let id = u32::try_from(id).ok()?;
-    Some(Id(id))
 }

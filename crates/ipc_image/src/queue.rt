@@ -1,9 +1,7 @@
 //! A message queue's object: its numbers, and its messages.
 
 ghost use Rattle.std.specs.Prelude.{◌≡◌, ◌≢◌, ◌++◌, Err, IfOk, OnOk, ◌∷◌, ◌<◌, ◌*◌, ◌^◌, [], ℕ, List, All, length};
-ghost use Rattle.std.specs.Int.{w64};
-ghost use Rattle.std.proofs.Common.{ap, sym, refl};
-ghost use Rattle.std.proofs.lemmas.Int.{to_z-of_z};
+ghost use Rattle.std.proofs.Common.{sym, refl};
 ghost use Rattle.ipc_base.proofs.CallerLemmas.{numbers_are};
 ghost use Rattle.ipc_base.specs.declared.limits.Limits.{Limits};
 ghost use Rattle.ipc_base.specs.Numbers.{fields_bytes, FitFields};
@@ -13,8 +11,9 @@ ghost use Rattle.ipc_state.specs.Sound.{HasNumbers};
 ghost use Rattle.ipc_state.specs.State.{State as PlainState};
 ghost use Rattle.ipc_image.specs.Saved.{message_shape, message_tree, message_bytes, FitsMessage, messages_of};
 ghost use Rattle.ipc_image.specs.Saved.{queue_sizes, queue_numbers};
-ghost use Rattle.ipc_image.specs.SavedParts.{message_of, message_from, with_messages};
-ghost use Rattle.ipc_image.specs.SavedParts.{queue_from, put_queues, with_more};
+ghost use Rattle.ipc_image.specs.SavedParts.{with_messages, queue_from, put_queues, with_more};
+ghost use Rattle.ipc_image.specs.Relations.Trees.{message_one};
+ghost use Rattle.ipc_image.specs.Relations.Shapes.{plain_one};
 
 use crate::fields::{EIGHT, FOUR, put_fields, put_row};
 use crate::kind::Kind;
@@ -40,8 +39,6 @@ impl Saved for Message {
 
     ghost tree = { message_tree };
 
-    ghost back = { message_of };
-
     ghost Fits = { FitsMessage };
 
     ghost Seen = { Queue };
@@ -54,7 +51,9 @@ impl Saved for Message {
 
     ghost place = { record { same = λ q. refl; found = λ q ms. refl; again = λ q ms ns. refl } };
 
-    ghost known = { λ m fit. (fit.1, ap (message_from m.text) (to_z-of_z w64 m.mtype fit.0)) };
+    ghost known = { λ m fit. fit.1 };
+
+    ghost one = { message_one };
 
     fn len(&self) -> u64 {
         MESSAGE_NUMBERS + self.text.len() as u64
@@ -98,6 +97,10 @@ impl Kind for MsgQueue {
     ghost from = { queue_from };
 
     ghost known = { λ ns ms fit. (sym (numbers_are queue_sizes ns fit), refl) };
+
+    ghost whole = { λ q. refl };
+
+    ghost part_one = { plain_one message_shape message_tree FitsMessage (λ m fit. fit.1) message_one };
 
     ghost IsSmall = { HasNumbers };
 

@@ -10,12 +10,13 @@ ghost use Rattle.ipc_image.specs.Saved.{saved, HasAllPlaces, StandForState};
 
 use crate::adjustments::restore_adjustments;
 use crate::clock::read_clock;
-use crate::kind::restore_kind;
 use crate::saved::read_counted;
+use crate::stored::restore_kind;
 use crate::waiting::restore_waits;
 use ipc_base::{Limits, ObjectMap, Objects};
 use ipc_engine::{Engine, StateFault};
-use ipc_state::{Item, Process, State};
+use ipc_state::{Entry, Item, NamedEntry, Process, State};
+use posix_mq::Mq;
 use std::alloc::Global;
 use sysv_msg::MsgQueue;
 use sysv_sem::SemSet;
@@ -63,8 +64,9 @@ fn restore(state: &mut State, alloc: Global, objects: &ObjectMap) -> Result<(), 
     read_counted::<Item<Process>>(state, processes)?;
     restore_waits(state, alloc, calls)?;
     restore_adjustments(state, alloc, adjustments)?;
-    let next = restore_kind::<MsgQueue>(state, alloc, objects, ALWAYS)?;
-    let next = restore_kind::<SemSet>(state, alloc, objects, next)?;
+    let next = restore_kind::<Entry<MsgQueue>>(state, alloc, objects, ALWAYS)?;
+    let next = restore_kind::<Entry<SemSet>>(state, alloc, objects, next)?;
+    let next = restore_kind::<NamedEntry<Mq>>(state, alloc, objects, next)?;
     if next < objects.count() {
         return Err(StateFault::Unsound);
     }

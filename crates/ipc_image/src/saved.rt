@@ -32,8 +32,6 @@ pub(crate) trait Saved {
 
     ghost tree: { Plain → Tree shape };
 
-    ghost back: { Tree shape → Plain };
-
     /// Each of its numbers has its place.
     ghost Fits: { Plain → Type 0 };
 
@@ -64,8 +62,11 @@ pub(crate) trait Saved {
         ensures damaged { result ≡ Err StateFault.Unsound → (x : Plain) (rest : List ℕ) → Fits x
             → bytes.now ≢ tree_bytes shape (tree x) ++ rest };
 
-    /// Its tree gives it back.
-    ghost known: { (x : Plain) → Fits x → IsTree shape (tree x) × (back (tree x) ≡ x) };
+    /// What fits has a tree of that shape.
+    ghost known: { (x : Plain) → Fits x → IsTree shape (tree x) };
+
+    /// Two of one tree are one.
+    ghost one: { (x y : Plain) → Fits x → Fits y → tree x ≡ tree y → x ≡ y };
 
     /// What was added is what is found there.
     ghost place: { IsPlace items put };
@@ -119,8 +120,8 @@ fn pass_over<T: Saved>(window: &mut Window, items: &[T], mark: &mut Mark)
     }
 }
 
-// Those after the first ones, as many as are seen.
-fn put_from<T: Saved>(window: &mut Window, items: &[T], first: usize)
+/// Those after the first ones pass the window, as many as are seen.
+pub(crate) fn put_from<T: Saved>(window: &mut Window, items: &[T], first: usize)
     requires { All T.Fits (map T.plain items.now) }
     ensures { (begun : Shown)
         → window.old ≡ passed (first_bytes (bytes_in T.shape T.tree) first (map T.plain items.now)) begun

@@ -13,7 +13,9 @@ ghost use Rattle.ipc_engine.specs.declared.fault.StateFault.{StateFault};
 ghost use Rattle.ipc_state.specs.State.{State as PlainState};
 ghost use Rattle.ipc_image.specs.Saved.{semaphore_shape, semaphore_numbers, semaphore_bytes, FitsSemaphore};
 ghost use Rattle.ipc_image.specs.Saved.{set_sizes, set_numbers, semaphores_of};
-ghost use Rattle.ipc_image.specs.SavedParts.{semaphore_from, with_semaphores, set_from, put_sets, with_more};
+ghost use Rattle.ipc_image.specs.SavedParts.{with_semaphores, set_from, put_sets, with_more};
+ghost use Rattle.ipc_image.specs.Relations.Trees.{semaphore_one};
+ghost use Rattle.ipc_image.specs.Relations.Shapes.{plain_one};
 
 use crate::fields::{EIGHT, FOUR, TWO, put_fields};
 use crate::kind::Kind;
@@ -37,8 +39,6 @@ impl Saved for Semaphore {
 
     ghost tree = { semaphore_numbers };
 
-    ghost back = { semaphore_from };
-
     ghost Fits = { FitsSemaphore };
 
     ghost Seen = { Set };
@@ -51,7 +51,9 @@ impl Saved for Semaphore {
 
     ghost place = { record { same = λ s. refl; found = λ s xs. refl; again = λ s xs ys. refl } };
 
-    ghost known = { λ x fit. (fit.1, refl) };
+    ghost known = { λ x fit. fit.1 };
+
+    ghost one = { semaphore_one };
 
     fn len(&self) -> u64 {
         6
@@ -101,6 +103,10 @@ impl Kind for SemSet {
     ghost from = { set_from };
 
     ghost known = { λ ns xs fit. (sym (numbers_are set_sizes ns fit), refl) };
+
+    ghost whole = { λ s. refl };
+
+    ghost part_one = { plain_one semaphore_shape semaphore_numbers FitsSemaphore (λ x fit. fit.1) semaphore_one };
 
     ghost IsSmall = { λ s. length s.semaphores < 2 ^ 32 };
 

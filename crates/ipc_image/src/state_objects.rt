@@ -12,23 +12,23 @@ ghost use Rattle.ipc_image.specs.Window.{passed};
 
 use crate::adjustment_list::{adjustments_len, put_adjustments};
 use crate::clock::put_clock;
-use crate::entry::{entry_len, put_entry};
-use crate::kind::Kind;
 use crate::restoring::ALWAYS;
 use crate::saved::{START, list_len, put_counted};
+use crate::stored::Stored;
 use crate::widths::read_state;
 use crate::window::Window;
 use ipc_base::{Mark, Moment, Objects};
 use ipc_engine::Engine;
-use ipc_state::{Awaited, Entry, Item, Numbers, Parked, Process};
+use ipc_state::{Awaited, Entry, Item, NamedEntry, Numbers, Parked, Process};
 use ipc_wait::Waiting;
+use posix_mq::Mq;
 use sem_undo::SemUndo;
 use std::marker::Model;
 use sysv_msg::MsgQueue;
 use sysv_sem::SemSet;
 
-/// The objects of a state: four that every state has, one for each queue, and one for each semaphore
-/// set. A contract sees the state. Each object counts as changed.
+/// The objects of a state: four that every state has, one for each message queue, one for each semaphore set, and
+/// one for each POSIX queue. A contract sees the state. Each object counts as changed.
 #[derive(Drop)]
 pub struct StateObjects<'a> {
     numbers: Numbers,
@@ -37,6 +37,7 @@ pub struct StateObjects<'a> {
     undo: &'a [Item<SemUndo>],
     queues: &'a [Item<Entry<MsgQueue>>],
     sets: &'a [Item<Entry<SemSet>>],
+    mqs: &'a [Item<NamedEntry<Mq>>],
 }
 
 /// What has an object of its own.
@@ -44,6 +45,7 @@ pub struct StateObjects<'a> {
 pub(crate) enum Thing<'a> {
     Queue(&'a Item<Entry<MsgQueue>>),
     Set(&'a Item<Entry<SemSet>>),
+    Mq(&'a Item<NamedEntry<Mq>>),
 }
 
 impl<'a> Model for StateObjects<'a> {
@@ -58,11 +60,13 @@ impl<'a> Model for StateObjects<'a> {
 
     ghost coded = { Prim.hlevel (codes, undo_code) };
 
-    ghost view = { λ o. seen_state o.numbers o.processes.now o.waits.now o.undo.now o.queues.now o.sets.now };
+    ghost view = { λ o.
+        seen_state o.numbers o.processes.now o.waits.now o.undo.now o.queues.now o.sets.now o.mqs.now };
 
     ghost invariant = { λ o.
-        HasAllPlaces (seen_state o.numbers o.processes.now o.waits.now o.undo.now o.queues.now o.sets.now)
-        × AreObjects (saved (seen_state o.numbers o.processes.now o.waits.now o.undo.now o.queues.now o.sets.now)) };
+        HasAllPlaces (seen_state o.numbers o.processes.now o.waits.now o.undo.now o.queues.now o.sets.now o.mqs.now)
+        × AreObjects (saved
+        (seen_state o.numbers o.processes.now o.waits.now o.undo.now o.queues.now o.sets.now o.mqs.now)) };
 }
 
 /// The state of the machine as objects. It takes no memory. They stand for that state, and fit where
@@ -80,12 +84,14 @@ pub fn objects_of<'a>(engine: &'a Engine) -> StateObjects<'a>
             next_pid: state.next_pid(),
             next_queue: state.next_queue(),
             next_set: state.next_set(),
+            next_mq: state.next_mq(),
         },
         processes: state.processes(),
         waits: state.waits(),
         undo: state.adjustments(),
         queues: state.queues(),
         sets: state.sets(),
+        mqs: state.mqs(),
     }
 }
 
@@ -100,12 +106,14 @@ pub fn start_objects() -> StateObjects<'static>
             next_pid: 1,
             next_queue: 1,
             next_set: 1,
+            next_mq: 1,
         },
         processes: &[],
         waits: &[],
         undo: &[],
         queues: &[],
         sets: &[],
+        mqs: &[],
     }
 }
 
@@ -118,7 +126,7 @@ impl<'a> Objects for StateObjects<'a> {
 
     #[tactic(auto, using(crate::proofs::SavedObjects::seen_count))]
     fn count(&self) -> u32 {
-        ALWAYS + self.queues.len() as u32 + self.sets.len() as u32
+        ALWAYS + self.queues.len() as u32 + self.sets.len() as u32 + self.mqs.len() as u32
     }
 
     fn number(&self, i: u32) -> u64 {
@@ -126,8 +134,9 @@ impl<'a> Objects for StateObjects<'a> {
             return u64::from(i);
         }
         match thing_at(self, i) {
-            Thing::Queue(queue) => MsgQueue::FIRST + u64::from(queue.number),
-            Thing::Set(set) => SemSet::FIRST + u64::from(set.number),
+            Thing::Queue(queue) => Entry::<MsgQueue>::FIRST + u64::from(queue.number),
+            Thing::Set(set) => Entry::<SemSet>::FIRST + u64::from(set.number),
+            Thing::Mq(mq) => NamedEntry::<Mq>::FIRST + u64::from(mq.number),
         }
     }
 
@@ -138,7 +147,7 @@ impl<'a> Objects for StateObjects<'a> {
     fn len(&self, i: u32) -> u64 {
         match i {
             0 => 32,
-            1 => 4 + 16 * self.processes.len() as u64,
+            1 => 4 + list_len(self.processes),
             2 => 4 + list_len(self.waits),
             3 => adjustments_len(self.undo),
             _ => thing_len(&thing_at(self, i)),
@@ -167,17 +176,23 @@ fn thing_at<'a, 'b>(objects: &'b StateObjects<'a>, i: u32) -> Thing<'a>
         return Thing::Queue(&objects.queues[at]);
     }
     let at = at - objects.queues.len();
-    Thing::Set(&objects.sets[at])
+    if at < objects.sets.len() {
+        return Thing::Set(&objects.sets[at]);
+    }
+    let at = at - objects.sets.len();
+    Thing::Mq(&objects.mqs[at])
 }
 
 // How many bytes its object has.
 fn thing_len(thing: &Thing<'_>) -> u64
-    requires { length (object_of thing.now).1 < 2 ^ 64 }
+    requires fits { FitsThing thing.now }
+    requires short { length (object_of thing.now).1 < 2 ^ 64 }
     ensures { result ≡ length (object_of thing.now).1 }
 {
     match thing {
-        Thing::Queue(queue) => entry_len(&queue.value),
-        Thing::Set(set) => entry_len(&set.value),
+        Thing::Queue(queue) => queue.value.len(),
+        Thing::Set(set) => set.value.len(),
+        Thing::Mq(mq) => mq.value.len(),
     }
 }
 
@@ -190,8 +205,9 @@ fn put_thing(window: &mut Window, thing: &Thing<'_>, mark: &mut Mark)
     ensures mark { IsMarkOfThing thing.now mark.new }
 {
     match thing {
-        Thing::Queue(queue) => put_entry(window, &queue.value, mark),
-        Thing::Set(set) => put_entry(window, &set.value, mark),
+        Thing::Queue(queue) => queue.value.put(window, mark),
+        Thing::Set(set) => set.value.put(window, mark),
+        Thing::Mq(mq) => mq.value.put(window, mark),
     }
 }
 

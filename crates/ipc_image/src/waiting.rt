@@ -10,9 +10,9 @@ ghost use Rattle.ipc_wait.specs.Waits.{HaveDistinctPids};
 ghost use Rattle.ipc_wire.specs.Spelling.{HasFrame, request_bytes};
 ghost use Rattle.ipc_image.specs.Saved.{waiting_sizes, waiting_shape, waiting_tree, waiting_bytes, waits_bytes};
 ghost use Rattle.ipc_image.specs.Saved.{deadline_number, FitsWaiting};
-ghost use Rattle.ipc_image.specs.SavedParts.{waiting_of, deadline_from};
+ghost use Rattle.ipc_image.specs.SavedParts.{deadline_from};
 ghost use Rattle.ipc_image.specs.Window.{passed};
-ghost use Rattle.ipc_image.specs.Relations.WaitingCalls.{waiting_known};
+ghost use Rattle.ipc_image.specs.Relations.Trees.{waiting_one};
 
 use crate::fields::{EIGHT, FOUR, put_fields, put_row};
 use crate::saved::{Saved, read_counted};
@@ -41,8 +41,6 @@ impl Saved for Waiting<Awaited, Parked> {
 
     ghost tree = { waiting_tree };
 
-    ghost back = { waiting_of };
-
     ghost Fits = { FitsWaiting };
 
     ghost Seen = { List PlainWaiting };
@@ -55,7 +53,9 @@ impl Saved for Waiting<Awaited, Parked> {
 
     ghost place = { record { same = λ s. refl; found = λ s ws. refl; again = λ s vs ws. refl } };
 
-    ghost known = { waiting_known };
+    ghost known = { λ w fit. fit.tree };
+
+    ghost one = { waiting_one };
 
     fn len(&self) -> u64 {
         WAITING_NUMBERS + u64::from(call_len(&self.call))

@@ -3,20 +3,20 @@
 //! Messages are not read: a queue says of them what is needed; nor are the requests of calls that wait, which have
 //! frames.
 
-ghost use Rattle.std.specs.Prelude.{◌<◌, ◌^◌, All, ⊤};
+ghost use Rattle.std.specs.Prelude.{◌<◌, ◌^◌, All, ⊤, length};
 ghost use Rattle.ipc_base.specs.Limits.{ArePassed};
 ghost use Rattle.ipc_base.specs.Numbers.{FitFields};
 ghost use Rattle.sem_undo.specs.Undo.{IsKept};
+ghost use Rattle.ipc_state.specs.Descriptors.{descriptor_row};
 ghost use Rattle.ipc_state.specs.Tables.{item_row};
 ghost use Rattle.ipc_state.specs.Waiting.{IsSoundWaiting};
 ghost use Rattle.ipc_engine.specs.Sound.{IsSound};
 ghost use Rattle.ipc_image.specs.Kind.{FitsIn};
 ghost use Rattle.ipc_image.specs.Saved.{clock_sizes, clock_numbers, adjustments_of, HasAllPlaces};
-ghost use Rattle.ipc_image.specs.Saved.{FitsAdjustment, FitsEntry, FitsProcess, FitsWaiting};
+ghost use Rattle.ipc_image.specs.Saved.{FitsAdjustment, FitsDescriptor, FitsProcess, FitsWaiting};
 
-use crate::entry::read_head;
-use crate::kind::Kind;
-use ipc_state::{Awaited, Entry, Item, Parked, Process, State};
+use crate::stored::Stored;
+use ipc_state::{Awaited, DescriptorRow, Item, Opened, Parked, Process, State};
 use ipc_wait::Waiting;
 use sem_undo::{SemUndo, UndoRow};
 
@@ -35,7 +35,7 @@ pub(crate) trait Wide {
 }
 
 impl Wide for Item<Process> {
-    ghost IsSmall = { λ p. ⊤ };
+    ghost IsSmall = { λ p. length p.value.descriptors < 2 ^ 32 };
 
     ghost IsWide = { λ p. FitsProcess (item_row p) };
 
@@ -43,6 +43,19 @@ impl Wide for Item<Process> {
         let _pid = self.number;
         let _uid = self.value.cred.uid;
         let _gid = self.value.cred.gid;
+        read_each(self.value.descriptors.rows());
+    }
+}
+
+impl Wide for DescriptorRow {
+    ghost IsSmall = { λ r. ⊤ };
+
+    ghost IsWide = { λ r. FitsDescriptor (descriptor_row r) };
+
+    fn read(&self) {
+        let _fd = self.fd;
+        let Opened::Queue(_number) = self.descriptor.on;
+        let _flags = self.descriptor.flags;
     }
 }
 
@@ -78,16 +91,14 @@ impl Wide for Item<SemUndo> {
     }
 }
 
-impl<T: Kind> Wide for Item<Entry<T>> {
-    ghost IsSmall = { λ e. T.IsSmall e.value.object };
+impl<T: Stored> Wide for Item<T> {
+    ghost IsSmall = { λ i. T.IsSmall i.value };
 
-    ghost IsWide = { λ e.
-        FitsIn (FitsEntry T.sizes T.numbers T.FitsPart T.parts) (e.number, e.value) };
+    ghost IsWide = { λ i. FitsIn T.Fits (item_row i) };
 
     fn read(&self) {
-        let _id = self.number;
-        read_head(&self.value);
-        self.value.object.read_numbers();
+        let _number = self.number;
+        self.value.read_numbers();
     }
 }
 
@@ -113,6 +124,7 @@ pub(crate) fn read_state(state: &State)
     read_each(state.adjustments());
     read_each(state.queues());
     read_each(state.sets());
+    read_each(state.mqs());
 }
 
 fn read_clock(state: &State)
@@ -122,4 +134,5 @@ fn read_clock(state: &State)
     let _next_pid = state.next_pid();
     let _next_queue = state.next_queue();
     let _next_set = state.next_set();
+    let _next_mq = state.next_mq();
 }

@@ -4,10 +4,15 @@
 use Rattle.std.specs.Prelude.{ℕ, ◌==◌, nat_lt, Bool, false, not, ◌&&◌, ◌||◌, if◌then◌else◌, List, [], ◌∷◌, length, drop}
 use Rattle.std.specs.Prelude.{Option, Some, None, Result, Ok, Err}
 use Rattle.std.specs.List.{list_any}
+use Rattle.std.specs.Str.{bytes_eq}
 use Rattle.ipc_base.specs.declared.errno.Errno.{Errno}
 use Rattle.ipc_base.specs.declared.errno.Errno.TheVariants.{EINVAL, ENOENT, EACCES, ENAMETOOLONG}
 use Rattle.ipc_keys.specs.declared.check.NameKind.{NameKind}
 use Rattle.ipc_keys.specs.declared.check.NameKind.TheVariants.{Queue, Semaphore, Segment}
+
+-- no bytes are no name
+abbrev pub is_none : List ℕ → Bool
+is_none name = bytes_eq name []
 
 -- the byte of '/'
 abbrev pub slash : ℕ

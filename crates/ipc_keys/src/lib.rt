@@ -4,8 +4,10 @@
 mod check;
 mod directory;
 mod keys;
+mod name;
 mod names;
 
 pub use check::{NameKind, check_name};
 pub use keys::KeyDir;
+pub use name::Name;
 pub use names::NameDir;

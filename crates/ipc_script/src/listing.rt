@@ -2,10 +2,10 @@
 
 ghost use Rattle.std.specs.Prelude.{◌≡◌, string_bytes, Some, IfOk, OnOk, OnErr};
 ghost use Rattle.std.specs.Io.KnownBytes.{Appends};
-ghost use Rattle.ipc_engine.specs.Listing.{rows_of};
+ghost use Rattle.ipc_engine.specs.Listing.{plain_row, rows_of};
 ghost use Rattle.ipc_script.specs.Dump.{dump_text, row_line as row_text};
-ghost use Rattle.ipc_script.specs.Dump.{number_text, key_text, mode_text};
-ghost use Rattle.ipc_script.specs.Relations.Columns.{msg_text, sem_text};
+ghost use Rattle.ipc_script.specs.Dump.{number_text, key_text, mode_text, is_plain, byte_text, name_text};
+ghost use Rattle.ipc_script.specs.Relations.Columns.{msg_text, sem_text, pmq_text};
 ghost use Rattle.ipc_script.specs.Script.{WritesPart};
 ghost use Rattle.ipc_script.specs.declared.listing.DumpError.TheVariants.{NoMemory};
 
@@ -37,9 +37,12 @@ impl From<AllocError> for DumpError {
     }
 }
 
-/// Writes a line for each object of the machine, as ipcs(1) lists them, the message queues first and each
-/// kind by rising identifier: `msg` or `sem`, and then its identifier, key, mode, owner and group; of a
-/// queue its bytes of text and its messages, of a semaphore set how many semaphores it has.
+/// Writes a line for each object of the machine, as ipcs(1) lists them. First the message queues and then the
+/// semaphore sets, each by rising identifier: `msg` or `sem`, and then its identifier, key, mode, owner and
+/// group; of a queue its bytes of text and its messages, of a semaphore set how many semaphores it has. Then
+/// the POSIX queues, by name: `pmq`, its mode, owner and group, its messages, the most messages, the most bytes
+/// of one, and its name. A queue that was unlinked has none, so that its line ends with a space. A backslash of
+/// a name, and a byte that is no character from `!` to `~`, is written as `\x` and two hexadecimal digits.
 pub fn dump<D: SectorDisk, W: Write>(
     alloc: Global,
     store: &Store<D>,
@@ -143,9 +146,71 @@ impl fmt::Display for SemLine {
     }
 }
 
+/// A byte of a name, as it is if it is plain; else `\x` and two hexadecimal digits.
+#[derive(Clone, Copy)]
+struct Byte(u8);
+
+impl fmt::Display for Byte {
+    ghost output = { λ byte. Some (byte_text byte.0) };
+
+    fn fmt<W: fmt::Write>(&self, f: &mut fmt::Formatter<W>) -> fmt::Result {
+        if is_plain(self.0) {
+            write!(f, "{}", char::from(self.0))
+        } else {
+            write!(f, "\\x{:02x}", self.0)
+        }
+    }
+}
+
+/// Whether it is a character that prints, and neither a space nor a backslash.
+fn is_plain(byte: u8) -> bool
+    ensures { result ≡ is_plain byte }
+{
+    byte.is_ascii_graphic() && byte != b'\\'
+}
+
+/// A name.
+#[derive(Clone, Copy)]
+struct Name<'a>(&'a [u8]);
+
+impl<'a> fmt::Display for Name<'a> {
+    ghost output = { λ name. Some (name_text name.0.now) };
+
+    fn fmt<W: fmt::Write>(&self, f: &mut fmt::Formatter<W>) -> fmt::Result {
+        for byte in self.0 {
+            write!(f, "{}", Byte(*byte))?;
+        }
+        Ok(())
+    }
+}
+
+/// The line of a POSIX queue.
+#[derive(Clone, Copy)]
+struct PmqLine<'a> {
+    mode: Mode,
+    uid: Number,
+    gid: Number,
+    messages: Number,
+    maxmsg: Number,
+    msgsize: Number,
+    name: Name<'a>,
+}
+
+impl<'a> fmt::Display for PmqLine<'a> {
+    ghost output = { λ line. Some (pmq_text line) };
+
+    fn fmt<W: fmt::Write>(&self, f: &mut fmt::Formatter<W>) -> fmt::Result {
+        write!(
+            f,
+            "pmq {} {} {} {} {} {} {}\n",
+            self.mode, self.uid, self.gid, self.messages, self.maxmsg, self.msgsize, self.name
+        )
+    }
+}
+
 /// The line of an object. Refused for want of memory.
-fn line_of(alloc: Global, row: &Row) -> Result<String, AllocError>
-    ensures { IfOk result (λ line. string_bytes line ≡ row_text row.now) }
+fn line_of(alloc: Global, row: &Row<&[u8]>) -> Result<String, AllocError>
+    ensures { IfOk result (λ line. string_bytes line ≡ row_text (plain_row row.now)) }
 {
     match *row {
         Row::Msg {
@@ -180,6 +245,24 @@ fn line_of(alloc: Global, row: &Row) -> Result<String, AllocError>
             uid: Number(u128::from(uid)),
             gid: Number(u128::from(gid)),
             nsems: Number(nsems as u128),
+        }
+        .to_string(alloc),
+        Row::Pmq {
+            mode,
+            uid,
+            gid,
+            messages,
+            maxmsg,
+            msgsize,
+            name,
+        } => PmqLine {
+            mode: Mode(mode),
+            uid: Number(u128::from(uid)),
+            gid: Number(u128::from(gid)),
+            messages: Number(messages as u128),
+            maxmsg: Number(u128::from(maxmsg)),
+            msgsize: Number(u128::from(msgsize)),
+            name: Name(name),
         }
         .to_string(alloc),
     }

@@ -26,6 +26,7 @@ use Rattle.ipc_base.specs.declared.identity.Pid.{Pid}
 use Rattle.ipc_base.specs.declared.limits.Limits.{Limits}
 use Rattle.ipc_wait.specs.Waits.{is_of, is_due, call_of, without}
 use Rattle.ipc_wait.proofs.CallerLemmas.{without-distinct, left-distinct, due-or-left, HaveDistinctPids-enter}
+use Rattle.posix_mq.specs.Queue.{Queue as Mq}
 use Rattle.sysv_msg.specs.Queue.{Queue, new_queue}
 use Rattle.sysv_sem.specs.Set.{Set, new_set, after_exit}
 use Rattle.ipc_wire.specs.Reply.{PlainBody}
@@ -35,6 +36,7 @@ use Rattle.ipc_state.specs.declared.keyed.Entry.{Entry}
 use Rattle.ipc_perm.specs.declared.perm.Perm.{Perm}
 use Rattle.ipc_perm.specs.Perm.{perm_of, owned_by}
 use Rattle.ipc_state.specs.Numbered.{entry_of, with_entry, without_entry, is_full}
+use Rattle.ipc_state.specs.Named.{Named}
 use Rattle.ipc_state.specs.Keyed.{Keyed, holding, permitting, keyed, AreKeyed, AreNamed}
 use Rattle.ipc_state.specs.State.{State, start, at_moment, has_all_processes, is_process, with_process, exit, restart}
 use Rattle.ipc_state.specs.State.{is_waiting, with_waiting, without_due, without_waiting, queue_of, with_queue, with_new_queue}
@@ -45,15 +47,16 @@ use Rattle.ipc_state.specs.Finish.{Finish, IfFinishes, Attempt, Halt, Fails, Blo
 use Rattle.ipc_state.specs.Touching.{is_there, IsAsBefore}
 use Rattle.ipc_state.specs.declared.parked.Awaited.{Awaited}
 use Rattle.ipc_state.specs.declared.parked.Awaited.TheVariants as awaited
-use Rattle.ipc_state.proofs.Numbering.{none_yet-numbered, with_new-numbered, without_entry-numbered, cleared-numbered}
+use Rattle.ipc_state.proofs.Numbering.{none_yet-numbered}
 use Rattle.ipc_state.proofs.Counting.{few-waiting}
 use Rattle.ipc_state.proofs.Few.{few-each, each-fewer}
 use Rattle.ipc_state.proofs.Keying as keying
 use Rattle.ipc_state.proofs.SoundQueues as queues
 use Rattle.ipc_state.proofs.SoundSets as sets
+use Rattle.ipc_state.proofs.SoundMqs as mqs
 use Rattle.ipc_state.proofs.Adjusting.{HasAll, moved, has-new, has-with, has-adjusted, adjusted-by, exit-length, undone-keeps, all-undone-keeps}
 use Rattle.ipc_state.proofs.Adjusting.{each-moved, each-cleared, each-dropped, none-at, without-same, push-same, each-pushed, seen-keys}
-pub use Rattle.ipc_state.proofs.Keying.{All-seen}
+pub use Rattle.ipc_state.proofs.EntryKeys.{All-seen}
 pub use Rattle.ipc_state.proofs.Numbering.{neither}
 pub use Rattle.ipc_state.proofs.SoundQueues.{queue-numbers, sent-sound, taken-sound, changed-sound}
 pub use Rattle.ipc_state.proofs.SoundSets.{with_value-sound, with_values-sound, carried-sound, changed_set-sound}
@@ -69,7 +72,7 @@ module _ (limits : Limits) where
   -- a state with another part that is sound is sound
   pub set-undo : (s : State) (undo : List (ℕ × Undo)) → HasSoundParts limits s → AreAdjustments (keys_of s.processes.entries) s.sem undo
       → HasSoundParts limits (record s { undo = undo })
-  set-undo s undo h good = record { processes = h.processes; wait = h.wait; undo = good; msg = h.msg; sem = h.sem }
+  set-undo s undo h good = record { processes = h.processes; wait = h.wait; undo = good; msg = h.msg; sem = h.sem; mq = h.mq }
 
   -- other adjustments of a process, at semaphores that are there
   pub with_undo-sound : (s : State) (pid : ℕ) (undo : Undo) → HasSoundParts limits s → AreAt s.sem undo → HasSoundParts limits (with_undo s pid undo)
@@ -89,11 +92,11 @@ module _ (limits : Limits) where
 
   pub set-wait : (s : State) (calls : List PlainWaiting) → HasSoundParts limits s → AreSoundWaits limits calls
       → HasSoundParts limits (record s { wait = calls })
-  set-wait s calls h good = record { processes = h.processes; wait = good; undo = h.undo; msg = h.msg; sem = h.sem }
+  set-wait s calls h good = record { processes = h.processes; wait = good; undo = h.undo; msg = h.msg; sem = h.sem; mq = h.mq }
 
   pub set-msg : (s : State) (msg : Keyed Queue) → HasSoundParts limits s → AreKeyed limits.msgmni (IsSoundQueue limits) msg
       → HasSoundParts limits (record s { msg = msg })
-  set-msg s msg h good = record { processes = h.processes; wait = h.wait; undo = h.undo; msg = good; sem = h.sem }
+  set-msg s msg h good = record { processes = h.processes; wait = h.wait; undo = h.undo; msg = good; sem = h.sem; mq = h.mq }
 
   pub set-sem : (s : State) (sem : Keyed Set) → HasSoundParts limits s → HasAll s.sem sem → AreSoundSets limits sem
       → HasSoundParts limits (record s { sem = sem })
@@ -104,6 +107,7 @@ module _ (limits : Limits) where
         undo = moved (keys_of s.processes.entries) s.sem sem s.undo all h.undo;
         msg = h.msg;
         sem = good;
+        mq = h.mq;
       }
 
   none-waits : AreSoundWaits limits []
@@ -129,7 +133,7 @@ module _ (limits : Limits) where
       let all = All-push (λ (v : PlainWaiting). is_process s v.pid.0 ≡ true) s.wait w connected process in
       set-wait s _ h (record {
         pids = distinct;
-        few = omega (arith, few-waiting s.processes.entries (s.wait ++ w ∷ []) distinct all, h.processes.count);
+        few = omega (arith, few-waiting s.processes.entries (s.wait ++ w ∷ []) distinct all, h.processes.numbered.count);
         each = All-push IsSoundWaiting s.wait w h.wait.each good;
       })
 
@@ -141,20 +145,21 @@ module _ (limits : Limits) where
       let w : PlainWaiting = record { pid = record { 0 = pid }; on = awaited.Queue (record { 0 = 0 }); deadline = None; call = call } in
       let distinct = HaveDistinctPids-enter s.wait w h.wait.pids (nobody (call_of w.pid s.wait) free) in
       let all = All-push (λ (v : PlainWaiting). is_process s v.pid.0 ≡ true) s.wait w connected process in
-      omega (arith, few-waiting s.processes.entries (s.wait ++ w ∷ []) distinct all, h.processes.count, length-append s.wait (w ∷ []))
+      omega (arith, few-waiting s.processes.entries (s.wait ++ w ∷ []) distinct all, h.processes.numbered.count, length-append s.wait (w ∷ []))
 
   pub start-sound : HasSoundParts limits start
   start-sound =
       record {
-        processes = none_yet-numbered limits.processes;
+        processes = record { numbered = none_yet-numbered limits.processes; descriptors = All-nil _ };
         wait = none-waits;
         undo = record { pids = refl; each = tt };
         msg = keying.none_yet-keyed limits.msgmni (IsSoundQueue limits);
         sem = record { keyed = keying.none_yet-keyed limits.semmni (IsSoundSet limits); count = omega arith };
+        mq = mqs.none-mqs limits;
       }
 
   pub begin-sound : (s : State) (moment : ℕ) → HasSoundParts limits s → HasSoundParts limits (at_moment s moment)
-  begin-sound s moment h = record { processes = h.processes; wait = h.wait; undo = h.undo; msg = h.msg; sem = h.sem }
+  begin-sound s moment h = record { processes = h.processes; wait = h.wait; undo = h.undo; msg = h.msg; sem = h.sem; mq = h.mq }
 
   pub without_due-sound : (s : State) → HasSoundParts limits s → HasSoundParts limits (without_due s)
   without_due-sound s h =
@@ -185,8 +190,9 @@ module _ (limits : Limits) where
   exit-sound s pid h =
       let p : ℕ × Undo = (pid, undo_of s pid) in
       let all : HasAll s.sem (undone s.sem p) = undone-keeps (HasAll s.sem) (has-adjusted s.sem) s.sem p (λ k is. is) in
+      let left = mqs.exit-mqs limits s.processes pid s.mq h.processes h.mq in
       record {
-        processes = without_entry-numbered limits.processes s.processes pid h.processes;
+        processes = left.0;
         wait = without-waits (record { 0 = pid }) s.wait h.wait;
         undo = record {
           pids = without-same s.undo s.processes.entries pid h.undo.pids;
@@ -194,29 +200,34 @@ module _ (limits : Limits) where
         };
         msg = h.msg;
         sem = undone-sound s.sem p h.sem;
+        mq = left.1;
       }
 
   pub restart-sound : (s : State) → HasSoundParts limits s → HasSoundParts limits (restart s)
   restart-sound s h =
+      let left = mqs.restart-mqs limits s.processes s.mq h.processes h.mq in
       record {
-        processes = cleared-numbered limits.processes s.processes h.processes;
+        processes = left.0;
         wait = none-waits;
         undo = record { pids = refl; each = tt };
         msg = h.msg;
         sem = all-undone-keeps (AreSoundSets limits) adjusted-sound s.sem s.undo h.sem;
+        mq = left.1;
       }
 
   pub with_process-sound : (s : State) (cred : Cred) → has_all_processes limits s ≡ false → HasSoundParts limits s → HasSoundParts limits (with_process s cred)
   with_process-sound s cred room h =
+      let come = mqs.with_process-mqs limits s.processes cred s.mq room h.processes h.mq in
       record {
-        processes = with_new-numbered limits.processes s.processes (record { cred = cred }) room h.processes;
+        processes = come.0;
         wait = h.wait;
         undo = record {
-          pids = push-same s.undo s.processes.entries s.processes.next fin.empty (record { cred = cred }) h.undo.pids;
+          pids = push-same s.undo s.processes.entries s.processes.next fin.empty (record { cred = cred; descriptors = [] }) h.undo.pids;
           each = each-pushed (AreAt s.sem) s.undo s.processes.next fin.empty h.undo.each (none-at s.sem);
         };
         msg = h.msg;
         sem = h.sem;
+        mq = come.1;
       }
 
   -- the identifiers of the sets stay, and the next one
@@ -304,10 +315,15 @@ module _ (limits : Limits) where
           keyed = keying.without_entry-keyed limits.semmni (IsSoundSet limits) s.sem id h.sem.keyed;
           count = omega (arith, sets.count-without s.sem id, h.sem.count);
         };
+        mq = h.mq;
       }
 
   pub set-sound : (s : State) (id : ℕ) (e : Entry Set) → set_of s id ≡ Some e → HasSoundParts limits s → IsSoundSet limits e.object
   set-sound s id e is h = keying.entry-sound limits.semmni (IsSoundSet limits) s.sem id e is h.sem.keyed
+
+-- a restart of what a restart has left leaves it
+pub restart-twice : (s : State) → restart (restart s) ≡ restart s
+restart-twice s = ap (λ (o : Named Mq). let t : State = record (restart s) { mq = o } in t) (mqs.restarted-again s.mq)
 
 -- ---- deadlines
 
@@ -351,7 +367,7 @@ module _ {X : Type 0} (o : HeldObjects X) (s : Keyed X) (same : o.objects ≡ s)
   held-named = subst AreNamed (sym same) (record { numbers = sound.numbered.numbers; keys = sound.keys })
 
   pub held-positive : ArePositive o.objects.entries
-  held-positive = named-positive o.objects held-named.numbers
+  held-positive = named-positive o.objects.entries o.objects.next held-named.numbers
 
 -- the next identifier is above 0
 pub next_of-positive : {X : Type 0} {most : ℕ} {IsSoundOne : X → Type 0} (o : Keyed X) → AreKeyed most IsSoundOne o → 0 < o.next

@@ -2,10 +2,14 @@ pub mod CallerLemmas
 pub mod Numbering
 mod Counting
 mod Places
+mod EntryKeys
 mod Keying
 mod SoundQueues
 mod SoundSets
+mod SoundMqs
 mod Directories
+mod Naming
 mod Adjusting
 mod Clearing
 mod Few
+mod Opening

@@ -6,9 +6,9 @@ use Rattle.std.proofs.Math.Dec.{leb}
 use Rattle.std.proofs.Math.Seq.{drop-cons}
 use Rattle.std.proofs.lemmas.Bool.Decides.{nat_tests}
 use Rattle.std.proofs.lemmas.Bool.{leb-true, le-leb}
-use Rattle.std.proofs.lemmas.List.{map-append, length-append, take_more, take-append-drop}
-use Rattle.ipc_base.specs.Table.{keys_of, IsRising}
-use Rattle.ipc_base.proofs.CallerLemmas.{rising-push, rising-weaker, rising-bounds, rising-without, length-without, length-with_value, keys_of-with_value}
+use Rattle.std.proofs.lemmas.List.{map-append, length-append, length-map, take_more, take-append-drop}
+use Rattle.ipc_base.specs.Table.{keys_of, seen_as, IsRising}
+use Rattle.ipc_base.proofs.CallerLemmas.{rising-push, rising-weaker, rising-bounds, rising-without, length-without, length-with_value, keys_of-with_value, keys-map}
 use Rattle.ipc_state.specs.declared.numbered.Item.{Item}
 use Rattle.ipc_state.specs.Tables.{item_row}
 use Rattle.ipc_state.specs.Numbered.{Numbered, none_yet, is_full, with_entry, with_new, without_entry, last_number, AreNumbered}
@@ -23,45 +23,46 @@ rising-part : (low : ℕ) (ns more : List ℕ) (n high : ℕ) → IsRising low (
 rising-part low [] more n high h = let rest = rising-bounds (n + 1) more high h.1 in (h.0, omega arith)
 rising-part low (k ∷ ns) more n high h = let rest = rising-part (k + 1) ns more n high h.1 in ((h.0, rest.0), rest.1)
 
--- they rise, and the next is this one at least
-pub record RiseTo (ns : List ℕ) (least : ℕ) : Type 0 where
-  pub rise : IsRising 1 ns least
-  pub lowest : (high : ℕ) → IsRising 1 ns high → least ≤ high
+-- they rise from `low` on, and the next is this one at least
+pub record RiseTo (low : ℕ) (ns : List ℕ) (least : ℕ) : Type 0 where
+  pub rise : IsRising low ns least
+  pub lowest : (high : ℕ) → IsRising low ns high → least ≤ high
 
-pub rise-none : RiseTo [] 1
-rise-none = record { rise = omega arith; lowest = λ high h. h }
+pub rise-none : (low : ℕ) → RiseTo low [] low
+rise-none low = record { rise = omega arith; lowest = λ high h. h }
 
-rise-one : (ns : List ℕ) (least n : ℕ) → RiseTo ns least → least ≤ n → RiseTo (ns ++ n ∷ []) (n + 1)
-rise-one ns least n h le =
+rise-one : (low : ℕ) (ns : List ℕ) (least n : ℕ) → RiseTo low ns least → least ≤ n → RiseTo low (ns ++ n ∷ []) (n + 1)
+rise-one low ns least n h le =
     record {
-      rise = rising-push 1 ns n (rising-weaker 1 ns least n le h.rise);
-      lowest = λ high all. let part = rising-part 1 ns [] n high all in omega (arith, part.1);
+      rise = rising-push low ns n (rising-weaker low ns least n le h.rise);
+      lowest = λ high all. let part = rising-part low ns [] n high all in omega (arith, part.1);
     }
 
-module _ {X : Type 0} (number : X → ℕ) (xs : List X) (i : ℕ) (x : X) (within : ◌<◌ i (length xs)) where
+module _ {X : Type 0} (number : X → ℕ) (low : ℕ) (xs : List X) (i : ℕ) (x : X) (within : ◌<◌ i (length xs)) where
   numbers : map number (take (i + 1) xs) ≡ map number (take i xs) ++ number (get_or xs i x) ∷ []
   numbers = ap (map number) (take_more xs i x within) ∙ map-append number (take i xs) (get_or xs i x ∷ [])
 
   -- one number more
-  pub rise-next : (least : ℕ) → RiseTo (map number (take i xs)) least → least ≤ number (get_or xs i x)
-      → RiseTo (map number (take (i + 1) xs)) (number (get_or xs i x) + 1)
-  rise-next least h le = subst (λ (ns : List ℕ). RiseTo ns (number (get_or xs i x) + 1)) (sym numbers) (rise-one (map number (take i xs)) least _ h le)
+  pub rise-next : (least : ℕ) → RiseTo low (map number (take i xs)) least → least ≤ number (get_or xs i x)
+      → RiseTo low (map number (take (i + 1) xs)) (number (get_or xs i x) + 1)
+  rise-next least h le =
+      subst (λ (ns : List ℕ). RiseTo low ns (number (get_or xs i x) + 1)) (sym numbers) (rise-one low (map number (take i xs)) least _ h le)
 
   -- one that is not above the others
-  pub rise-stuck : (least high : ℕ) → RiseTo (map number (take i xs)) least → number (get_or xs i x) < least → IsRising 1 (map number xs) high → ⊥
+  pub rise-stuck : (least high : ℕ) → RiseTo low (map number (take i xs)) least → number (get_or xs i x) < least → IsRising low (map number xs) high → ⊥
   rise-stuck least high h lt all =
       let whole : map number xs ≡ map number (take i xs) ++ number (get_or xs i x) ∷ map number (drop (suc i) xs) =
       ap (map number) (sym (take-append-drop i xs) ∙ ap (λ (l : List X). take i xs ++ l) (drop-cons xs i x within))
       ∙ map-append number (take i xs) (get_or xs i x ∷ drop (suc i) xs) in
-      let part = rising-part 1 (map number (take i xs)) (map number (drop (suc i) xs)) (number (get_or xs i x)) high
-      (subst (λ (ns : List ℕ). IsRising 1 ns high) whole all) in
+      let part = rising-part low (map number (take i xs)) (map number (drop (suc i) xs)) (number (get_or xs i x)) high
+      (subst (λ (ns : List ℕ). IsRising low ns high) whole all) in
       let bound = h.lowest (number (get_or xs i x)) part.0 in
       absurd (omega arith)
 
 -- a next number may be any from there on
-pub rise-decides : (ns : List ℕ) (least next : ℕ) → RiseTo ns least → Decides (leb least next) (IsRising 1 ns next)
-rise-decides ns least next h =
-    (λ yes. rising-weaker 1 ns least next (leb-true least next yes) h.rise, λ all. le-leb least next (h.lowest next all))
+pub rise-decides : (low : ℕ) (ns : List ℕ) (least next : ℕ) → RiseTo low ns least → Decides (leb least next) (IsRising low ns next)
+rise-decides low ns least next h =
+    (λ yes. rising-weaker low ns least next (leb-true least next yes) h.rise, λ all. le-leb least next (h.lowest next all))
 
 -- the numbers of a table
 pub item-numbers : {T : Type 0} (es : List (Item T)) → keys_of (map item_row es) ≡ map (λ (e : Item T). e.number) es
@@ -97,3 +98,12 @@ module _ {X : Type 0} (most : ℕ) where
   pub cleared-numbered : (o : Numbered X) → AreNumbered most o → AreNumbered {X = X} most (record { next = o.next; entries = [] })
   cleared-numbered o h =
       record { numbers = rising-bounds 1 (keys_of o.entries) o.next h.numbers; next = h.next; count = omega arith }
+
+  -- others in their places
+  pub seen-numbered : (f : X → X) (o : Numbered X) → AreNumbered most o → AreNumbered {X = X} most (record { next = o.next; entries = seen_as f o.entries })
+  seen-numbered f o h =
+      record {
+        numbers = subst (λ (ns : List ℕ). IsRising 1 ns o.next) (sym (keys-map f o.entries)) h.numbers;
+        next = h.next;
+        count = omega (arith, length-map o.entries (λ (e : ℕ × X). let g : ℕ × X = (e.0, f e.1) in g), h.count);
+      }

@@ -1,10 +1,15 @@
--- The directory of the keys of one kind (sysvipc(7)): which identifier a key has. IPC_PRIVATE, which is 0, has none.
-use Rattle.std.specs.Prelude.{◌≡◌, ◌<◌, ℕ, ℤ, pos, false, if◌then◌else◌, List, All, Option, Some, None}
+-- The directory of the keys or names of one kind: which number a key has. One key has none: of System V keys
+-- (sysvipc(7)) it is IPC_PRIVATE, which is 0, and no bytes are no name.
+use Rattle.std.specs.Prelude.{◌≡◌, ◌<◌, ℕ, ℤ, pos, Bool, false, if◌then◌else◌, List, [], All, Option, Some, None}
 use Rattle.std.specs.FinMap.{FinMap}
-use Rattle.std.specs.Ordering.{int_cmp, int_eq}
+use Rattle.std.specs.Cmp.Lexicographic.{slice_cmp}
+use Rattle.std.specs.Ordering.{int_cmp, int_eq, nat_cmp}
+use Rattle.std.specs.Str.{bytes_eq}
 use Rattle.ipc_base.specs.Table.{keys_of}
 use Rattle.ipc_keys.specs.Directory.{found, is_vacant}
+use Rattle.ipc_keys.specs.Names.{is_none}
 use Rattle.ipc_state.specs.Keyed.{Keyed, keyed}
+use Rattle.ipc_state.specs.Named.{Named, named}
 
 -- the identifier of a key
 abbrev pub named_by : FinMap int_cmp ℕ → ℤ → Option ℕ
@@ -19,14 +24,40 @@ abbrev pub or_else : Option ℕ → Option ℕ → Option ℕ
 or_else None other = other
 or_else (Some n) other = Some n
 
--- what an object with this key and identifier adds for a key
+-- what an object with this key and number adds for another key, of keys that a test tells apart; one of them has none
+abbrev pub adds : {K : Type 0} → (K → K → Bool) → K → K → ℕ → K → Option ℕ
+adds same none key n other = if same other none then None else if same key other then Some n else None
+
+-- of System V keys
 abbrev pub added : ℤ → ℕ → ℤ → Option ℕ
-added key id other = if int_eq other (pos 0) then None else if int_eq key other then Some id else None
+added = adds int_eq (pos 0)
 
 -- each number is above 0
 abbrev pub ArePositive : {X : Type 0} → List (ℕ × X) → Type 0
 ArePositive es = All (λ n. 0 < n) (keys_of es)
 
+-- what is found at the keys is what they name, if none of them names 0
+abbrev pub Agrees : {K : Type 0} → (K → Option ℕ) → (K → Option ℕ) → Type 0
+Agrees {K} found named = ((key : K) (n : ℕ) → named key ≡ Some n → 0 < n) → (key : K) → found key ≡ named key
+
 -- the directory names the objects as their keys do
 abbrev pub Agree : {X : Type 0} → FinMap int_cmp ℕ → Keyed X → Type 0
-Agree keys o = ArePositive o.entries → (key : ℤ) → named_by keys key ≡ keyed o key
+Agree keys o = Agrees (named_by keys) (keyed o)
+
+-- ---- of names
+
+-- the number of a name
+abbrev pub number_at : FinMap (slice_cmp nat_cmp) ℕ → List ℕ → Option ℕ
+number_at names name = if is_none name then None else found names name
+
+-- no name has room that no object has
+abbrev pub HasNoSpareName : FinMap (slice_cmp nat_cmp) ℕ → Type 0
+HasNoSpareName names = (name : List ℕ) → is_vacant names name ≡ false
+
+-- what an object with this name and number adds for another name
+abbrev pub name_added : List ℕ → ℕ → List ℕ → Option ℕ
+name_added = adds bytes_eq []
+
+-- the directory names the objects as their names do
+abbrev pub AgreeNames : {X : Type 0} → FinMap (slice_cmp nat_cmp) ℕ → Named X → Type 0
+AgreeNames names o = Agrees (number_at names) (named o)

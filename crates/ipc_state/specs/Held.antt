@@ -10,10 +10,10 @@ use Rattle.ipc_state.specs.Directory.{HasNoSpareKey}
 use Rattle.ipc_state.specs.Keyed.{keyed}
 use Rattle.ipc_state.specs.State.{State}
 
--- whether there is room for one process more, with adjustments of its own, and for one queue; the directory of the queues' keys, with those that
--- have room there; whether a queue without messages is kept ready to be added; for how many calls that wait there is
--- room; whether there is room for one semaphore set more; the directory of the sets' keys; the set that is kept ready
--- to be added
+-- whether there is room for one process more, with adjustments and descriptors of its own, and for one queue; the
+-- directory of the queues' keys, with those that have room there; whether a queue without messages is kept ready to be
+-- added; for how many calls that wait there is room; whether there is room for one semaphore set more; the directory of
+-- the sets' keys; the set that is kept ready to be added
 pub record Room : Type 0 where
   pub process : Bool
   pub queue : Bool

@@ -2,12 +2,15 @@
 use Rattle.std.specs.Prelude.{◌≡◌, ℕ, Option, Some}
 use Rattle.std.specs.Borrow.{Fml, RattleType, MutBor, LendsSo}
 use Rattle.ipc_state.specs.declared.keyed.Entry.{Entry}
+use Rattle.ipc_state.specs.declared.named.NamedEntry.{NamedEntry}
 use Rattle.ipc_state.specs.declared.numbered.Numbered.{Numbered as Table}
 use Rattle.ipc_state.specs.contracts.numbered.Numbered as numbered
 use Rattle.ipc_state.specs.contracts.keyed.Keyed as keyed
+use Rattle.ipc_state.specs.contracts.named.Named as named
 use Rattle.ipc_state.specs.Numbered.{entry_of, with_entry}
 use Rattle.ipc_state.specs.Keyed.{holding}
-use Rattle.ipc_state.specs.Tables.{HeldObjects, numbered_of, has_place}
+use Rattle.ipc_state.specs.Named.{with_object}
+use Rattle.ipc_state.specs.Tables.{HeldObjects, HeldNamed, numbered_of, has_place}
 
 -- what has the number is this now, and all else is as before
 pub record HasPut {T : Type 0} (old : Table T) (number : ℕ) (x : T) (new : Table T) : Type 0 where
@@ -20,6 +23,12 @@ HasPutObject {X} old id x new =
     (e : Entry X) → entry_of old.objects id ≡ Some e
     → new ≡ record old { objects = with_entry old.objects id (holding e x) }
 
+-- the number has this object now, under the same name, and all else is as before
+abbrev pub HasPutNamed : {X : Type 0} → HeldNamed X → ℕ → X → HeldNamed X → Type 0
+HasPutNamed {X} old number x new =
+    (e : NamedEntry X) → entry_of old.objects number ≡ Some e
+    → new ≡ record old { objects = with_entry old.objects number (with_object e x) }
+
 module _ (T : RattleType) where
   -- the number has the last value written through r, and at `None` nothing has changed
   abbrev pub lends_numbered : MutBor (Table T.Denot) → ℕ → Option (MutBor T.Denot) → Fml
@@ -27,3 +36,6 @@ module _ (T : RattleType) where
 
   abbrev pub lends_object : MutBor (HeldObjects T.Denot) → ℕ → Option (MutBor T.Denot) → Fml
   lends_object o id r = LendsSo (keyed.the_row T) T o r (λ n x. HasPutObject o.now id x n) (λ n. n ≡ o.now)
+
+  abbrev pub lends_named : MutBor (HeldNamed T.Denot) → ℕ → Option (MutBor T.Denot) → Fml
+  lends_named o number r = LendsSo (named.the_row T) T o r (λ n x. HasPutNamed o.now number x n) (λ n. n ≡ o.now)

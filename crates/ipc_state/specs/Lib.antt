@@ -1,6 +1,9 @@
 pub mod Numbered
 pub mod Keyed
+pub mod Named
 pub mod Waiting
+pub mod Descriptors
+pub mod Opening
 pub mod State
 pub mod Sound
 pub mod Tests

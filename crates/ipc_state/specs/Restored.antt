@@ -4,9 +4,11 @@ use Rattle.std.specs.FinMap as fin
 use Rattle.ipc_base.specs.Table.{with_value, seen_as}
 use Rattle.sem_undo.specs.Undo.{key_of}
 use Rattle.sem_undo.specs.declared.undo.UndoRow.{UndoRow}
+use Rattle.posix_mq.specs.Queue.{Queue as Mq}
 use Rattle.sysv_msg.specs.Queue.{Queue}
 use Rattle.sysv_sem.specs.Set.{Set}
 use Rattle.ipc_state.specs.declared.keyed.Entry.{Entry}
+use Rattle.ipc_state.specs.declared.named.NamedEntry.{NamedEntry}
 use Rattle.ipc_state.specs.declared.processes.Process.{Process}
 use Rattle.ipc_state.specs.declared.state.Numbers.{Numbers}
 use Rattle.ipc_state.specs.Numbered.{with_last}
@@ -21,6 +23,7 @@ with_numbers s n =
       processes = record { next = n.next_pid; entries = s.processes.entries };
       msg = record { next = n.next_queue; entries = s.msg.entries };
       sem = record { next = n.next_set; entries = s.sem.entries };
+      mq = record { next = n.next_mq; entries = s.mq.entries };
     }
 
 -- with a process at the end
@@ -47,3 +50,7 @@ with_last_queue s id e = record s { msg = with_last s.msg id e }
 -- with a semaphore set at the end
 abbrev pub with_last_set : State → ℕ → Entry Set → State
 with_last_set s id e = record s { sem = with_last s.sem id e }
+
+-- with a POSIX queue at the end
+abbrev pub with_last_mq : State → ℕ → NamedEntry Mq → State
+with_last_mq s n e = record s { mq = with_last s.mq n e }

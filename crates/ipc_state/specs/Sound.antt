@@ -1,19 +1,25 @@
 -- What holds of each part of the state by itself, after every event: numbers rise and are never given twice, no limit
 -- is passed, each key is the key of one object that is there, and no object holds more than it may. What holds between
 -- parts is told where calls are put together.
-use Rattle.std.specs.Prelude.{◌≡◌, ℕ, ◌^◌, ◌<◌, ◌≤◌, pos, int_lt, Bool, true, false, nat_lt, length, All, sum_by, IsTrue}
+use Rattle.std.specs.Prelude.{◌≡◌, ℕ, ◌^◌, ◌<◌, ◌≤◌, pos, int_lt, Bool, true, false, nat_lt}
+use Rattle.std.specs.Prelude.{length, All, sum_by, IsTrue}
 use Rattle.std.specs.Prelude.{option_map, unwrap_or, is_some, List}
 use Rattle.std.specs.FinMap as fin
-use Rattle.ipc_base.specs.Table.{keys_of, EachValue}
+use Rattle.ipc_base.specs.Table.{keys_of, EachValue, IsRising}
 use Rattle.sem_undo.specs.Undo.{Key, Undo}
 use Rattle.ipc_base.specs.declared.limits.Limits.{Limits}
 use Rattle.ipc_base.specs.Limits.{longest_body}
 use Rattle.ipc_wire.specs.Reply.{PlainBody, body_bytes}
+use Rattle.posix_mq.specs.Queue.{Queue as Mq, PlainMessage as MqMessage}
 use Rattle.sysv_msg.specs.Queue.{Queue, PlainMessage, byte_count}
 use Rattle.sysv_sem.specs.Operation.{most_value}
 use Rattle.sysv_sem.specs.Set.{Set}
-use Rattle.ipc_state.specs.Numbered.{AreNumbered, entry_of}
+use Rattle.ipc_state.specs.declared.processes.Process.{Process}
+use Rattle.ipc_state.specs.Descriptors.{Table}
+use Rattle.ipc_state.specs.Numbered.{Numbered, AreNumbered, entry_of}
 use Rattle.ipc_state.specs.Keyed.{Keyed, AreKeyed}
+use Rattle.ipc_state.specs.Named.{Named, AreNamedObjects}
+use Rattle.ipc_state.specs.Opening.{is_named_so, is_registered, is_sound_descriptor, stays}
 use Rattle.ipc_state.specs.State.{State}
 use Rattle.ipc_state.specs.Waiting.{AreSoundWaits}
 
@@ -64,13 +70,43 @@ pub record AreAdjustments (connected : List ℕ) (sets : Keyed Set) (undo : List
   pub pids : keys_of undo ≡ connected
   pub each : EachValue (AreAt sets) undo
 
+-- a message of a POSIX queue has a priority below 32768 and at most msgsize bytes
+pub record IsSoundMqMessage (msgsize : ℕ) (m : MqMessage) : Type 0 where
+  pub priority : m.priority < 32768
+  pub short : length m.text ≤ msgsize
+
+-- a POSIX queue may hold as many messages, and as long ones, as was asked for, within the limits; it holds no more
+pub record IsSoundMq (limits : Limits) (q : Mq) : Type 0 where
+  pub maxmsg : (0 < q.maxmsg) × (q.maxmsg ≤ limits.maxmsg)
+  pub msgsize : (0 < q.msgsize) × (q.msgsize ≤ limits.msgsize)
+  pub count : length q.messages ≤ q.maxmsg
+  pub messages : All (IsSoundMqMessage q.msgsize) q.messages
+
+-- each POSIX queue is sound, has a name or is open, and whoever is registered with it has it open
+pub record AreSoundMqs (limits : Limits) (processes : List (ℕ × Process)) (o : Named Mq) : Type 0 where
+  pub named : AreNamedObjects limits.queues (IsSoundMq limits) o
+  pub forms : All (λ e. is_named_so e ≡ true) o.entries
+  pub stay : All (λ e. stays processes e ≡ true) o.entries
+  pub registered : All (λ e. is_registered processes e ≡ true) o.entries
+
+-- the numbers of a process's descriptors rise, each below the limit; what each is open on is there
+pub record AreSoundDescriptors (limits : Limits) (mqs : Named Mq) (table : Table) : Type 0 where
+  pub numbers : IsRising 0 (keys_of table) limits.descriptors
+  pub each : All (λ d. is_sound_descriptor mqs d.1 ≡ true) table
+
+-- pids rise, and each process's descriptors are sound
+pub record AreSoundProcesses (limits : Limits) (mqs : Named Mq) (processes : Numbered Process) : Type 0 where
+  pub numbered : AreNumbered limits.processes processes
+  pub descriptors : All (λ p. AreSoundDescriptors limits mqs p.1.descriptors) processes.entries
+
 -- each part is sound
 pub record HasSoundParts (limits : Limits) (s : State) : Type 0 where
-  pub processes : AreNumbered limits.processes s.processes
+  pub processes : AreSoundProcesses limits s.mq s.processes
   pub wait : AreSoundWaits limits s.wait
   pub undo : AreAdjustments (keys_of s.processes.entries) s.sem s.undo
   pub msg : AreKeyed limits.msgmni (IsSoundQueue limits) s.msg
   pub sem : AreSoundSets limits s.sem
+  pub mq : AreSoundMqs limits s.processes.entries s.mq
 
 -- the body of a reply is no longer than the longest one
 abbrev pub FitsBody : Limits → PlainBody → Type 0

@@ -1,6 +1,6 @@
 -- The state of the server between two events (sysvipc(7)): what it knows of processes and objects. All of it
 -- lasts; nothing in it tells how it is kept.
-use Rattle.std.specs.Prelude.{ℕ, ℤ, Bool, max, List, Option, [], ◌∷◌, ◌++◌, option_map}
+use Rattle.std.specs.Prelude.{ℕ, ℤ, Bool, max, List, Option, Some, None, [], ◌∷◌, ◌++◌, option_map}
 use Rattle.std.specs.Prelude.{is_some, unwrap_or, nat_eq}
 use Rattle.std.specs.List.{fold}
 use Rattle.std.specs.FinMap as fin
@@ -8,6 +8,7 @@ use Rattle.ipc_base.specs.declared.identity.Cred.{Cred}
 use Rattle.ipc_base.specs.declared.limits.Limits.{Limits}
 use Rattle.ipc_base.specs.Table.{value_at, with_value, seen_as, without as without_value}
 use Rattle.ipc_wait.specs.Waits.{call_of, calls_due, calls_left, without}
+use Rattle.posix_mq.specs.Queue.{Queue as Mq}
 use Rattle.sysv_msg.specs.Queue.{Queue, new_queue}
 use Rattle.sem_undo.specs.Undo.{Key, Undo, cleared}
 use Rattle.sysv_sem.specs.Set.{Set, new_set, after_exit}
@@ -16,6 +17,8 @@ use Rattle.ipc_perm.specs.declared.perm.Perm.{Perm}
 use Rattle.ipc_state.specs.declared.processes.Process.{Process}
 use Rattle.ipc_state.specs.Numbered.{Numbered, none_yet, entry_of, is_full, with_entry, with_new, without_entry}
 use Rattle.ipc_state.specs.Keyed.{Keyed, holding}
+use Rattle.ipc_state.specs.Named.{Named}
+use Rattle.ipc_state.specs.Opening.{is_by, still_open, without_registrations}
 use Rattle.ipc_state.specs.Waiting.{PlainWaiting}
 
 pub record State : Type 0 where
@@ -31,10 +34,21 @@ pub record State : Type 0 where
   pub msg : Keyed Queue
   -- the semaphore sets
   pub sem : Keyed Set
+  -- the POSIX message queues
+  pub mq : Named Mq
 
 -- nothing has happened yet
 abbrev pub start : State
-start = record { clock = 0; processes = none_yet; wait = []; undo = []; msg = none_yet; sem = none_yet }
+start =
+    record {
+      clock = 0;
+      processes = none_yet;
+      wait = [];
+      undo = [];
+      msg = none_yet;
+      sem = none_yet;
+      mq = none_yet;
+    }
 
 -- the state as the moment comes
 abbrev pub at_moment : State → ℕ → State
@@ -86,6 +100,16 @@ undone sets p = fold (adjusted p.0) sets (fin.entries p.1)
 abbrev pub without_adjustments : ℕ → Option ℕ → State → State
 without_adjustments set num s = record s { undo = seen_as (cleared set num) s.undo }
 
+-- ---- named objects
+
+-- without the registrations that this process made, or any, by this descriptor, or any
+abbrev pub deregistered_by : Option ℕ → Option ℕ → State → State
+deregistered_by pid fd s = record s { mq = without_registrations (is_by pid fd) s.mq }
+
+-- objects go that have no name and on which no descriptor is open
+abbrev pub swept : State → State
+swept s = record s { mq = still_open s.processes.entries s.mq }
+
 -- ---- processes
 
 -- whether a process has this number
@@ -104,29 +128,34 @@ has_all_processes limits s = is_full limits.processes s.processes
 abbrev pub with_process : State → Cred → State
 with_process s cred =
     record s {
-      processes = with_new s.processes (record { cred = cred });
+      processes = with_new s.processes (record { cred = cred; descriptors = [] });
       undo = s.undo ++ (s.processes.next, fin.empty) ∷ [];
     }
 
--- the process leaves, its adjustments are added, and its call that waits goes
-abbrev pub exit : State → ℕ → State
-exit s pid =
+-- without the process and its call that waits; its adjustments are added
+abbrev pub without_process : State → ℕ → State
+without_process s pid =
     without_waiting (record s {
       processes = without_entry s.processes pid;
       undo = without_value nat_eq s.undo pid;
       sem = undone s.sem (pid, undo_of s pid);
     }) pid
 
--- The server has stopped and begun anew: no call waits, the adjustments of all processes are added, and no process is
--- left. The clock, the next numbers and all else of the objects stay.
+-- the process leaves, with its descriptors and registrations
+abbrev pub exit : State → ℕ → State
+exit s pid = swept (deregistered_by (Some pid) None (without_process s pid))
+
+-- The server has stopped and begun anew: no call waits, nobody is registered, the adjustments of all processes are
+-- added, and no process is left, so that an object without a name goes. The clock, the next numbers and all else of the
+-- objects stay.
 abbrev pub restart : State → State
 restart s =
-    record s {
+    swept (deregistered_by None None (record s {
       processes = record { next = s.processes.next; entries = [] };
       wait = [];
       undo = [];
       sem = fold undone s.sem s.undo;
-    }
+    }))
 
 -- ---- message queues
 

@@ -1,12 +1,14 @@
 -- How the state is kept: each part of the tables as a value of the definitions.
-use Rattle.std.specs.Prelude.{◌≡◌, ◌≢◌, ℕ, ℤ, pos, Bool, true, nat_lt, map, None, vec_len, vec_capacity}
+use Rattle.std.specs.Prelude.{◌≡◌, ◌≢◌, ℕ, ℤ, pos, Bool, true, nat_lt, List, [], map, None, vec_len, vec_capacity}
 use Rattle.std.specs.FinMap.{FinMap}
-use Rattle.std.specs.Ordering.{int_cmp}
+use Rattle.std.specs.Cmp.Lexicographic.{slice_cmp}
+use Rattle.std.specs.Ordering.{int_cmp, nat_cmp}
 use Rattle.ipc_keys.specs.Directory.{is_vacant}
 use Rattle.ipc_state.specs.declared.numbered.Item.{Item}
 use Rattle.ipc_state.specs.declared.numbered.Numbered.{Numbered as Table}
 use Rattle.ipc_state.specs.Numbered.{Numbered}
 use Rattle.ipc_state.specs.Keyed.{Keyed, keyed}
+use Rattle.ipc_state.specs.Named.{Named, named}
 
 -- one with its number
 abbrev pub item_row : {T : Type 0} → Item T → ℕ × T
@@ -30,3 +32,15 @@ pub record HeldObjects (X : Type 0) : Type 0 where
 pub record HasPlaceFor {X : Type 0} (o : HeldObjects X) (key : ℤ) : Type 0 where
   pub place : o.place ≡ true
   pub vacant : key ≢ pos 0 → keyed o.objects key ≡ None → is_vacant o.keys key ≡ true
+
+-- what a contract sees of the named objects of one kind that are held: these, whether there is room for one more, and
+-- the directory of their names, with those that no object has and that have room
+pub record HeldNamed (X : Type 0) : Type 0 where
+  pub objects : Named X
+  pub place : Bool
+  pub names : FinMap (slice_cmp nat_cmp) ℕ
+
+-- an object of this name has room
+pub record HasPlaceForName {X : Type 0} (o : HeldNamed X) (name : List ℕ) : Type 0 where
+  pub place : o.place ≡ true
+  pub vacant : name ≢ [] → named o.objects name ≡ None → is_vacant o.names name ≡ true

@@ -1,14 +1,14 @@
 -- How it is told whether what was read is sound: a test for each part of soundness.
-use Rattle.std.specs.Prelude.{ℕ, ℤ, pos, Bool, ◌&&◌, length, nat_eq, nat_le, int_lt, Option, Some, None}
+use Rattle.std.specs.Prelude.{ℕ, pos, Bool, ◌&&◌, length, nat_eq, nat_le, nat_lt, int_lt, Option, Some, None}
 use Rattle.std.specs.List.{list_all}
-use Rattle.std.specs.Ordering.{int_eq}
 use Rattle.ipc_base.specs.declared.limits.Limits.{Limits}
+use Rattle.posix_mq.specs.Queue.{Queue as Mq, PlainMessage as MqMessage}
 use Rattle.sysv_msg.specs.Queue.{Queue, PlainMessage, byte_count}
 
--- the key names the identifier, by what it names; IPC_PRIVATE names none
-abbrev pub is_named : Option ℕ → ℤ → ℕ → Bool
-is_named (Some n) key id = nat_eq n id
-is_named None key id = int_eq key (pos 0)
+-- the key of an object names it, by the number that it names; or it names none
+abbrev pub is_named : Option ℕ → Bool → ℕ → Bool
+is_named (Some n) none number = nat_eq n number
+is_named None none number = none
 
 abbrev pub is_sound_message : Limits → PlainMessage → Bool
 is_sound_message limits m = int_lt (pos 0) m.mtype && nat_le (length m.text) limits.msgmax
@@ -17,3 +17,11 @@ abbrev pub is_sound_queue : Limits → Queue → Bool
 is_sound_queue limits q =
     nat_le (byte_count q.messages) limits.msgmnb && (nat_le (length q.messages) limits.msgmnb
     && (nat_le q.qbytes limits.msgmnb && list_all (is_sound_message limits) q.messages))
+
+abbrev pub is_sound_mq_message : ℕ → MqMessage → Bool
+is_sound_mq_message msgsize m = nat_lt m.priority 32768 && nat_le (length m.text) msgsize
+
+abbrev pub is_sound_mq : Limits → Mq → Bool
+is_sound_mq limits q =
+    nat_lt 0 q.maxmsg && (nat_le q.maxmsg limits.maxmsg && (nat_lt 0 q.msgsize && (nat_le q.msgsize limits.msgsize
+    && (nat_le (length q.messages) q.maxmsg && list_all (is_sound_mq_message q.msgsize) q.messages))))

@@ -4,7 +4,8 @@ ghost use Rattle.std.specs.Prelude.{◌≡◌, ◌<◌, ◌-ℤ◌, ◌↔◌, �
 ghost use Rattle.std.specs.FinMap as fin;
 ghost use Rattle.std.specs.List.{fold, list_all};
 ghost use Rattle.ipc_base.specs.Table.{keys_of, seen_as};
-ghost use Rattle.sem_undo.specs.Undo.{key_of, entry_of, cleared, IsKept, adjustment, subtracted, is_adjustment, most_rows};
+ghost use Rattle.sem_undo.specs.Undo.{key_of, entry_of, cleared, IsKept};
+ghost use Rattle.sem_undo.specs.Undo.{adjustment, subtracted, is_adjustment, most_rows};
 ghost use Rattle.ipc_state.specs.Restored.{with_adjustment, with_no_adjustments};
 ghost use Rattle.ipc_state.specs.Sound.{has_semaphore, AreAdjustments};
 ghost use Rattle.ipc_state.specs.State.{adjusted, undone, undo_of, with_undo, without_adjustments};

@@ -23,6 +23,7 @@ ghost use Rattle.std.specs.Prelude.{
   option_copied,
   nat_lt,
 };
+ghost use Rattle.std.specs.Ordering.{int_eq};
 ghost use Rattle.std.specs.Borrow.{sem};
 ghost use Rattle.std.specs.List.{list_all};
 ghost use Rattle.std.specs.Option.{option_copied_mut};
@@ -210,7 +211,8 @@ impl<T> Keyed<T> {
 
     /// Whether the key of an object names it, or is IPC_PRIVATE.
     fn names(&self, item: &Item<Entry<T>>) -> bool
-        ensures { result ≡ is_named (named_by self.now.keys item.now.value.key) item.now.value.key item.now.number }
+        ensures { result ≡ is_named (named_by self.now.keys item.now.value.key)
+            (int_eq item.now.value.key (pos 0)) item.now.number }
     {
         match self.of_key(item.value.key) {
             Some(id) => id.0 == item.number,
@@ -221,7 +223,7 @@ impl<T> Keyed<T> {
     /// Whether each object is named so.
     fn are_named(&self, items: &[Item<Entry<T>>]) -> bool
         ensures { result ≡ list_all
-            (λ e. is_named (named_by self.now.keys e.value.key) e.value.key e.number) items.now }
+            (λ e. is_named (named_by self.now.keys e.value.key) (int_eq e.value.key (pos 0)) e.number) items.now }
     {
         items.iter().all(|item| self.names(item))
     }
@@ -229,7 +231,7 @@ impl<T> Keyed<T> {
     /// Whether the keys and the modes of these are sound.
     fn are_named_with_modes(&self, items: &[Item<Entry<T>>]) -> bool
         ensures { result ≡ (list_all
-            (λ e. is_named (named_by self.now.keys e.value.key) e.value.key e.number) items.now
+            (λ e. is_named (named_by self.now.keys e.value.key) (int_eq e.value.key (pos 0)) e.number) items.now
             && list_all (λ e. nat_lt e.value.perm.mode 512) items.now) }
     {
         self.are_named(items) && have_modes(items)

@@ -65,6 +65,7 @@ pub(crate) fn bind(keys: &mut KeyDir, key: i32, id: u32)
 pub(crate) fn restore(keys: &mut KeyDir, key: i32, id: u32) -> Result<(), AllocError>
     ensures names { OnOk result (0 < id → (other : ℤ)
         → named_by keys.new other ≡ or_else (named_by keys.old other) (added key id other)) }
+    ensures zero { OnOk result (id ≡ 0 → (other : ℤ) → named_by keys.new other ≡ named_by keys.old other) }
     ensures err { OnErr result (keys.new ≡ keys.old) }
 {
     if key == IPC_PRIVATE {

@@ -1,10 +1,14 @@
-//! The state between two events: processes, calls that wait, and the objects of each kind with their keys. See
-//! sysvipc(7).
+//! The state between two events: processes, calls that wait, and the objects of each kind with their keys or names.
+//! See sysvipc(7).
 #![tactic(auto)]
 
 mod adjustments;
+mod descriptors;
 mod keyed;
 mod keys;
+mod mqs;
+mod named;
+mod names;
 mod numbered;
 mod operations;
 mod parked;
@@ -15,7 +19,11 @@ mod sound;
 mod state;
 mod waits;
 
+pub use descriptors::{
+    Descriptor, DescriptorRow, Descriptors, Opened, lowest_unused_is_so, opened_is_there,
+};
 pub use keyed::{Entry, IPC_PRIVATE, Keyed};
+pub use named::{Named, NamedEntry};
 pub use numbered::{Item, LAST_NUMBER};
 pub use operations::Operations;
 pub use parked::{Awaited, Parked, ParkedCall};

@@ -12,6 +12,8 @@ ghost use Rattle.std.specs.Prelude.{
   position,
   option_map,
   option_copied,
+  ℕ,
+  map,
   IsTrue,
   IsOk,
   OnOk,
@@ -39,6 +41,36 @@ use std::alloc::{AllocError, Global};
 pub struct Item<T> {
     pub number: u32,
     pub value: T,
+}
+
+/// What has a number.
+pub(crate) trait HasNumber {
+    ghost number_of: { Self → ℕ };
+
+    fn number(&self) -> u32
+        ensures { result ≡ number_of self.now };
+}
+
+impl<T> HasNumber for Item<T> {
+    ghost number_of = { λ e. e.number };
+
+    fn number(&self) -> u32 {
+        self.number
+    }
+}
+
+/// Whether the numbers of these rise, from `low` on and below `high`.
+pub(crate) fn rise<T: HasNumber>(items: &[T], low: u32, high: u32) -> bool
+    ensures { IsTrue result ↔ IsRising low (map T.number_of items.now) high }
+{
+    let mut least = u64::from(low);
+    for item in items {
+        if u64::from(item.number()) < least {
+            return false;
+        }
+        least = u64::from(item.number()) + 1;
+    }
+    least <= u64::from(high)
 }
 
 /// What has numbers, and the next number.
@@ -151,14 +183,7 @@ impl<T> Numbered<T> {
     fn rise(&self) -> bool
         ensures { IsTrue result ↔ IsRising 1 (keys_of (numbered_of self.now).entries) self.now.next }
     {
-        let mut least = 1;
-        for item in &self.items {
-            if u64::from(item.number) < least {
-                return false;
-            }
-            least = u64::from(item.number) + 1;
-        }
-        least <= u64::from(self.next)
+        rise(&self.items, 1, self.next)
     }
 
     /// Whether the numbers are in order, and there are no more than `most`.

@@ -7,21 +7,24 @@ ghost use Rattle.ipc_state.specs.State.{
   cred_of,
   has_all_processes,
   with_process,
+  without_process,
   exit,
   restart,
 };
 ghost use Rattle.ipc_state.specs.Tables.{item_row};
 
+use crate::descriptors::Descriptors;
 use crate::numbered::Item;
 use crate::state::State;
 use ipc_base::{Cred, Pid};
 use sem_undo::SemUndo;
 use std::alloc::AllocError;
 
-/// What a connected process has: its user and group.
-#[derive(Clone, Copy, Debug, PartialEq, Eq)]
+/// What a connected process has: its user and group, and its descriptors.
+#[derive(Drop)]
 pub struct Process {
     pub cred: Cred,
+    pub descriptors: Descriptors,
 }
 
 impl State {
@@ -76,6 +79,9 @@ impl State {
         if self.fresh_undo.is_none() {
             self.fresh_undo = Some(SemUndo::new(self.alloc)?);
         }
+        if self.fresh_descriptors.is_none() {
+            self.fresh_descriptors = Some(Descriptors::new(self.alloc)?);
+        }
         Ok(())
     }
 
@@ -88,16 +94,31 @@ impl State {
         ensures limits { self.new.limits ≡ self.old.limits }
         ensures waits { self.new.room.waits ≡ self.old.room.waits }
     {
-        let pid = self.processes.add(Process { cred });
+        let mut descriptors = self.fresh_descriptors.take().unwrap();
+        descriptors.clear();
+        let pid = self.processes.add(Process { cred, descriptors });
         let mut undo = self.fresh_undo.take().unwrap();
         undo.clear_all();
         self.undo.push(pid, undo);
         Pid(pid)
     }
 
-    /// Takes a process out, if it is there, and its call that waits; its adjustments are added.
+    /// Takes a process out, if it is there, with its descriptors, its registrations and its call that waits; its
+    /// adjustments are added. Objects without a name go that only it had open.
     pub fn remove_process(&mut self, pid: Pid)
         ensures state { self.new.state ≡ exit self.old.state pid.0 }
+        ensures limits { self.new.limits ≡ self.old.limits }
+        ensures waits { self.new.room.waits ≡ self.old.room.waits }
+        ensures keys { self.new.room.keys ≡ self.old.room.keys }
+    {
+        self.drop_process(pid);
+        self.deregister(Some(pid.0), None);
+        self.sweep();
+    }
+
+    /// Takes a process out, and its call that waits; its adjustments are added.
+    fn drop_process(&mut self, pid: Pid)
+        ensures state { self.new.state ≡ without_process self.old.state pid.0 }
         ensures limits { self.new.limits ≡ self.old.limits }
         ensures waits { self.new.room.waits ≡ self.old.room.waits }
         ensures keys { self.new.room.keys ≡ self.old.room.keys }
@@ -108,8 +129,8 @@ impl State {
         let _waiting = self.wait.leave(pid);
     }
 
-    /// The server has stopped and begun anew: no process is left, no call waits, and the adjustments are added.
-    /// It takes no memory.
+    /// The server has stopped and begun anew: no process is left, no call waits, nobody is registered, the adjustments
+    /// are added, and objects without a name go. It takes no memory.
     pub fn restart(&mut self)
         ensures state { self.new.state ≡ restart self.old.state }
         ensures limits { self.new.limits ≡ self.old.limits }
@@ -120,6 +141,8 @@ impl State {
         self.undo.clear();
         self.processes.clear();
         self.wait.clear();
+        self.deregister(None, None);
+        self.sweep();
     }
 
     /// Adds a process that was read, at the end. Refused for want of memory, all is as before.

@@ -1,10 +1,12 @@
-//! Whether the objects of one kind are sound: by their identifiers, keys and modes, and each by itself.
+//! Whether the objects of one kind are sound: by their numbers, keys or names, and modes, and each by itself.
 
 ghost use Rattle.std.specs.Prelude.{◌↔◌, All, IsTrue};
 ghost use Rattle.ipc_base.specs.declared.limits.Limits.{Limits};
 ghost use Rattle.ipc_state.specs.Keyed.{AreKeyed};
+ghost use Rattle.ipc_state.specs.Named.{AreNamedObjects};
 
 use crate::keyed::{Entry, Keyed};
+use crate::named::{Named, NamedEntry};
 use crate::numbered::Item;
 use ipc_base::Limits;
 
@@ -17,6 +19,22 @@ pub(crate) trait SoundAlone {
         ensures { IsTrue result ↔ IsSound limits.now self.now };
 }
 
+impl<T: SoundAlone> SoundAlone for Entry<T> {
+    ghost IsSound = { λ limits e. T.IsSound limits e.object };
+
+    fn is_sound(&self, limits: &Limits) -> bool {
+        self.object.is_sound(limits)
+    }
+}
+
+impl<T: SoundAlone> SoundAlone for NamedEntry<T> {
+    ghost IsSound = { λ limits e. T.IsSound limits e.object };
+
+    fn is_sound(&self, limits: &Limits) -> bool {
+        self.object.is_sound(limits)
+    }
+}
+
 impl<T: SoundAlone> Keyed<T> {
     /// Whether they are sound, and no more than `most`.
     pub(crate) fn are_sound(&self, most: u32, limits: &Limits) -> bool
@@ -26,12 +44,21 @@ impl<T: SoundAlone> Keyed<T> {
     }
 }
 
+impl<T: SoundAlone> Named<T> {
+    /// Whether they are sound, and no more than `most`.
+    pub(crate) fn are_sound(&self, most: u32, limits: &Limits) -> bool
+        ensures { IsTrue result ↔ AreNamedObjects most (T.IsSound limits.now) self.now.objects }
+    {
+        self.are_named_objects(most) && each_is_sound(self.items(), limits)
+    }
+}
+
 /// Whether each is sound by itself.
-fn each_is_sound<T: SoundAlone>(items: &[Item<Entry<T>>], limits: &Limits) -> bool
-    ensures { IsTrue result ↔ All (λ e. T.IsSound limits.now e.value.object) items.now }
+fn each_is_sound<T: SoundAlone>(items: &[Item<T>], limits: &Limits) -> bool
+    ensures { IsTrue result ↔ All (λ e. T.IsSound limits.now e.value) items.now }
 {
     for item in items {
-        if !item.value.object.is_sound(limits) {
+        if !item.value.is_sound(limits) {
             return false;
         }
     }

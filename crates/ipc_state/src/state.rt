@@ -6,12 +6,15 @@ ghost use Rattle.ipc_state.specs.Restored.{with_numbers};
 ghost use Rattle.ipc_state.specs.Sound.{HasSoundParts};
 ghost use Rattle.ipc_state.specs.State.{start, at_moment};
 
+use crate::descriptors::Descriptors;
 use crate::keyed::Keyed;
+use crate::named::Named;
 use crate::numbered::Numbered;
 use crate::parked::{Awaited, Parked};
 use crate::processes::Process;
 use ipc_base::{Limits, Moment};
 use ipc_wait::WaitList;
+use posix_mq::Mq;
 use sem_undo::SemUndo;
 use std::alloc::Global;
 use std::marker::Model;
@@ -26,6 +29,8 @@ pub struct State {
     pub(crate) limits: Limits,
     pub(crate) clock: Moment,
     pub(crate) processes: Numbered<Process>,
+    /// The descriptors of a process that comes, so that this takes no memory.
+    pub(crate) fresh_descriptors: Option<Descriptors>,
     pub(crate) wait: WaitList<Awaited, Parked>,
     /// The adjustments of each process.
     pub(crate) undo: Numbered<SemUndo>,
@@ -37,6 +42,7 @@ pub struct State {
     pub(crate) sem: Keyed<SemSet>,
     /// A set that is ready to be added.
     pub(crate) fresh_set: Option<SemSet>,
+    pub(crate) mq: Named<Mq>,
 }
 
 impl Model for State {
@@ -61,9 +67,11 @@ impl Model for State {
         undo = (numbered_of s.undo).entries;
         msg = s.msg.objects;
         sem = s.sem.objects;
+        mq = s.mq.objects;
       };
       room = record {
-        process = has_place s.processes && (has_place s.undo && is_some s.fresh_undo);
+        process = has_place s.processes
+            && (has_place s.undo && (is_some s.fresh_undo && is_some s.fresh_descriptors));
         queue = s.msg.place;
         keys = s.msg.keys;
         fresh = is_some s.fresh;
@@ -84,6 +92,7 @@ pub struct Numbers {
     pub next_pid: u32,
     pub next_queue: u32,
     pub next_set: u32,
+    pub next_mq: u32,
 }
 
 impl State {
@@ -98,6 +107,7 @@ impl State {
             limits,
             clock: Moment(0),
             processes: Numbered::new(alloc),
+            fresh_descriptors: None,
             wait: WaitList::new(alloc),
             undo: Numbered::new(alloc),
             fresh_undo: None,
@@ -105,6 +115,7 @@ impl State {
             fresh: None,
             sem: Keyed::new(alloc),
             fresh_set: None,
+            mq: Named::new(alloc),
         }
     }
 
@@ -114,6 +125,11 @@ impl State {
         ensures passed { ArePassed result.now }
     {
         &self.limits
+    }
+
+    /// Where its memory is from.
+    pub fn allocator(&self) -> Global {
+        self.alloc
     }
 
     /// A moment comes: the clock is the greatest so far.
@@ -139,16 +155,18 @@ impl State {
         self.processes.set_next(numbers.next_pid);
         self.msg.set_next(numbers.next_queue);
         self.sem.set_next(numbers.next_set);
+        self.mq.set_next(numbers.next_mq);
     }
 
     /// Whether each part is sound.
     pub fn is_sound(&self) -> bool
         ensures { IsTrue result ↔ HasSoundParts self.now.limits self.now.state }
     {
-        self.processes.are_numbered(self.limits.processes)
+        self.are_processes_sound()
             && self.are_waits_sound()
             && self.are_adjustments_sound()
             && self.are_queues_sound()
             && self.are_sets_sound()
+            && self.are_mqs_sound()
     }
 }

@@ -3,6 +3,7 @@ use Rattle.std.proofs.Common.{◌≡◌, inl, inr, ⊎_elim, ◌<◌, ◌^◌, L
 use Rattle.ipc_base.specs.declared.limits.Limits.{Limits}
 use Rattle.ipc_disk.specs.Medium.{Image, Medium, IsHonest}
 use Rattle.ipc_state.specs.State.{State, start, restart}
+use Rattle.ipc_state.proofs.CallerLemmas.{restart-twice}
 use Rattle.ipc_engine.specs.Event.{PlainEvent, Restart}
 use Rattle.ipc_engine.proofs.CallerLemmas.{run-parts}
 use Rattle.ipc_store.specs.Histories.{History, acknowledged, state_after, reopened, Keeps, Takes, OpensOn, StandsForPrefix}
@@ -75,7 +76,7 @@ reopens-either limits other acked others s was image fits opens stands either =
       stands = subst (λ (l : Limits). StandsFor l t image) one.0 is;
       same = so;
     } in
-    ⊎_elim (λ is. as_is s is same) (λ is. as_is (restart s) is same) either
+    ⊎_elim (λ is. as_is s is same) (λ is. as_is (restart s) is (restart-twice s ∙ same)) either
 
 -- what an open may leave
 reopens-opened : (limits : Limits) (acked others : List PlainEvent) (old : Medium) (image : Image) → length old.contents < 2 ^ 32

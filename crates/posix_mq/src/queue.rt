@@ -15,8 +15,10 @@ pub struct Registration {
     pub pid: Pid,
     /// The descriptor by which the process registered.
     pub descriptor: u32,
-    /// The cookie of the frame that is sent then; none if no frame is sent.
-    pub cookie: Option<u32>,
+    /// Whether a frame is sent then; none is to a null registration.
+    pub sends: bool,
+    /// What the frame has, for the process to know it by.
+    pub cookie: u32,
 }
 
 /// What mq_getattr(3) tells of a queue.

@@ -23,8 +23,8 @@ pub struct UndoRow {
 /// For so many adjustments a process has room: under any limits there are no more semaphores.
 const MOST_ROWS: usize = 512;
 
-/// The adjustments of a process that are not 0, from -32767 to 32767. There is room for one at each semaphore that there
-/// may be, from `new` on, which alone may be refused but for `restore`.
+/// The adjustments of a process that are not 0, from -32767 to 32767. There is room for one at each semaphore that
+/// there may be, from `new` on, which alone may be refused but for `restore`.
 #[derive(Drop)]
 pub struct SemUndo {
     rows: Vec<UndoRow>,

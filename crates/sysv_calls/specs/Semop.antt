@@ -1,8 +1,10 @@
 -- semop(2), in this server's profile: a list of operations is performed whole or not at all. Refusals stand in the
 -- order in which they are tested. A list of which an operation cannot proceed waits, and is tried again by all rules of
 -- a new one. And how many lists wait for a semaphore, which GETNCNT and GETZCNT of semctl(2) tell.
-use Rattle.std.specs.Prelude.{ℕ, ℤ, pos, ◌-ℤ◌, Bool, true, false, not, ◌&&◌, List, map, length, nat_eq, nat_lt, ◌==◌, int_lt}
-use Rattle.std.specs.Prelude.{◌≡◌, ◌<◌, ◌≤◌, slice_get, slice_index_or, take, if◌then◌else◌, Ok, Err, Option, Some, None, All}
+use Rattle.std.specs.Prelude.{ℕ, ℤ, pos, ◌-ℤ◌, Bool, true, false, not, ◌&&◌, List, map, length}
+use Rattle.std.specs.Prelude.{nat_eq, nat_lt, ◌==◌, int_lt}
+use Rattle.std.specs.Prelude.{◌≡◌, ◌<◌, ◌≤◌, slice_get, slice_index_or, take, if◌then◌else◌}
+use Rattle.std.specs.Prelude.{Ok, Err, Option, Some, None, All}
 use Rattle.std.specs.FinMap as fin
 use Rattle.std.specs.List.{fold, filter, list_all}
 use Rattle.std.specs.Ordering.{int_eq}

@@ -16,7 +16,8 @@ ghost use Rattle.ipc_state.specs.State.{cred_of, undo_of, with_undo};
 ghost use Rattle.ipc_state.specs.Waiting.{parked_kind};
 ghost use Rattle.sysv_calls.specs.Seen.{attempted, plain_halt, seen};
 ghost use Rattle.sysv_calls.specs.Semop as defined;
-ghost use Rattle.sysv_calls.specs.Semop.{operation_of, operations_of, held_by, noted, CanBeNoted, CanNote, IsReady, Passes};
+ghost use Rattle.sysv_calls.specs.Semop.{operation_of, operations_of, held_by, noted};
+ghost use Rattle.sysv_calls.specs.Semop.{CanBeNoted, CanNote, IsReady, Passes};
 
 use crate::access::gone;
 use crate::calls::Answer;

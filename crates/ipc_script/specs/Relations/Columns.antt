@@ -1,7 +1,8 @@
 -- The line of a listing, from the columns of the code.
 use Rattle.std.specs.Prelude.{ℕ, List}
-use Rattle.ipc_engine.specs.declared.listing.Row.TheVariants.{Msg, Sem}
+use Rattle.ipc_engine.specs.declared.listing.Row.TheVariants.{Msg, Sem, Pmq}
 use Rattle.ipc_script.specs.declared.listing.MsgLine.{MsgLine}
+use Rattle.ipc_script.specs.declared.listing.PmqLine.{PmqLine}
 use Rattle.ipc_script.specs.declared.listing.SemLine.{SemLine}
 use Rattle.ipc_script.specs.Dump.{row_line}
 
@@ -11,3 +12,7 @@ msg_text line =
 
 abbrev pub sem_text : SemLine → List ℕ
 sem_text line = row_line (Sem (record { 0 = line.id.0 }) line.key.0 line.mode.0 line.uid.0 line.gid.0 line.nsems.0)
+
+abbrev pub pmq_text : PmqLine → List ℕ
+pmq_text line =
+    row_line (Pmq line.mode.0 line.uid.0 line.gid.0 line.messages.0 line.maxmsg.0 line.msgsize.0 line.name.0.now)

@@ -1,12 +1,16 @@
 //! States rebuilt from what was read: sound ones go on, and of each part there is one with which none is sound.
 
-use super::{Answer, Ask, Line, small, talk};
+use super::{Answer, Ask, Line, small, take, talk};
 use ipc_base::{Cred, Errno, Id, Moment, MsgFlags, Pid};
-use ipc_engine::{Engine, Row, StateFault};
+use ipc_engine::{Engine, Event, Row, StateFault};
+use ipc_keys::Name;
 use ipc_perm::Perm;
-use ipc_state::{Awaited, Entry, Numbers, Parked, Process, State};
+use ipc_state::{
+    Awaited, Descriptor, Descriptors, Entry, NamedEntry, Numbers, Opened, Parked, Process, State,
+};
 use ipc_wait::{WaitList, Waiting};
 use ipc_wire::{Call, Request, RequestKind};
+use posix_mq::{Message as MqMessage, Mq, MqAttr, Registration};
 use sem_undo::UndoRow;
 use std::alloc::{AllocError, Global};
 use std::process::Abort;
@@ -42,12 +46,29 @@ type Sent = (i64, &'static [u8]);
 /// A semaphore: its value, and the pid that changed it last.
 type Changed = (u16, u32);
 
+/// A descriptor: its number, the POSIX queue on which it is open, and its flags.
+type Open = (u32, u32, u32);
+
+/// A POSIX queue: its name, its two limits, who is registered, and its messages.
+#[derive(Clone, Copy)]
+struct Posix {
+    name: &'static [u8],
+    mode: u32,
+    maxmsg: u32,
+    msgsize: u32,
+    registration: Option<Registration>,
+    sent: &'static [(u32, &'static [u8])],
+}
+
 /// A part of a state.
 #[derive(Clone, Copy)]
 enum Part {
-    /// The next process and the next queue; the next semaphore set is 3.
+    /// The next process and the next queue; the next semaphore set and the next POSIX queue are 3.
     Next(u32, u32),
     Process(u32),
+    /// A process with descriptors.
+    Opener(u32, &'static [Open]),
+    Posix(u32, Posix),
     Queue(u32, i32, Perm, QueueNumbers, &'static [Sent]),
     Set(u32, i32, Perm, &'static [Changed]),
     /// An adjustment of a process: the set, the number there, and how much.
@@ -74,6 +95,35 @@ fn set_with(alloc: Global, changed: &[Changed]) -> Result<SemSet, AllocError> {
     Ok(set)
 }
 
+fn process_with(alloc: Global, opened: &[Open]) -> Result<Process, AllocError> {
+    let mut descriptors = Descriptors::new(alloc)?;
+    for (fd, number, flags) in opened {
+        let descriptor = Descriptor {
+            on: Opened::Queue(*number),
+            flags: *flags,
+        };
+        descriptors.restore(*fd, descriptor)?;
+    }
+    Ok(Process {
+        cred: CRED,
+        descriptors,
+    })
+}
+
+fn posix_with(alloc: Global, posix: Posix) -> Result<NamedEntry<Mq>, AllocError> {
+    let mut object = Mq::restored(alloc, posix.maxmsg, posix.msgsize, posix.registration)?;
+    for (priority, text) in posix.sent {
+        let message = MqMessage::new(alloc, *priority, text)?;
+        object.restore(message)?;
+    }
+    Ok(NamedEntry {
+        name: Name::new(alloc, posix.name)?,
+        owner: CRED,
+        mode: posix.mode,
+        object,
+    })
+}
+
 fn add(alloc: Global, state: &mut State, part: Part) -> Result<(), AllocError> {
     match part {
         Part::Next(next_pid, next_queue) => {
@@ -82,10 +132,22 @@ fn add(alloc: Global, state: &mut State, part: Part) -> Result<(), AllocError> {
                 next_pid,
                 next_queue,
                 next_set: 3,
+                next_mq: 3,
             });
             Ok(())
         }
-        Part::Process(pid) => state.restore_process(Pid(pid), Process { cred: CRED }),
+        Part::Process(pid) => {
+            let process = process_with(alloc, &[])?;
+            state.restore_process(Pid(pid), process)
+        }
+        Part::Opener(pid, opened) => {
+            let process = process_with(alloc, opened)?;
+            state.restore_process(Pid(pid), process)
+        }
+        Part::Posix(number, posix) => {
+            let entry = posix_with(alloc, posix)?;
+            state.restore_mq(number, entry)
+        }
         Part::Queue(id, key, perm, numbers, sent) => {
             let object = queue_with(alloc, numbers, sent)?;
             state.restore_queue(Id(id), Entry { key, perm, object })
@@ -136,13 +198,32 @@ fn engine_of(alloc: Global, parts: &[Part]) -> Result<Engine, StateFault> {
     }
 }
 
-/// Two processes, a queue with one message, and a set of two semaphores.
-const SMALL: [Part; 5] = [
+/// Process 3 is registered with the queue on which its descriptor 2 is open.
+const REGISTERED: Registration = Registration {
+    pid: Pid(3),
+    descriptor: 2,
+    sends: true,
+    cookie: 4294967295,
+};
+
+/// A queue of one message.
+const POSIX: Posix = Posix {
+    name: b"/q",
+    mode: 0o600,
+    maxmsg: 2,
+    msgsize: 64,
+    registration: Some(REGISTERED),
+    sent: &[(7, b"ho")],
+};
+
+/// Two processes, of which one has a POSIX queue open, a queue with one message, and a set of two semaphores.
+const SMALL: [Part; 6] = [
     Part::Next(4, 2),
     Part::Process(1),
-    Part::Process(3),
+    Part::Opener(3, &[(0, 1, 0), (2, 1, 2)]),
     Part::Queue(1, 1234, PERM, NUMBERS, &[(5, b"hi")]),
     Part::Set(2, -9, PERM, &[(32767, 3), (0, 0)]),
+    Part::Posix(1, POSIX),
 ];
 
 const STAT: QueueStat = QueueStat {
@@ -215,6 +296,32 @@ fn has_the_set(state: &State) -> bool {
         && entry.object.semaphores() == SEMAPHORES.as_slice()
 }
 
+fn has_the_priority(queue: &Mq) -> bool {
+    let [message] = queue.messages() else {
+        return false;
+    };
+    message.priority == 7 && message.text.as_slice() == b"ho".as_slice()
+}
+
+fn has_the_posix_queue(state: &State) -> bool {
+    let [item] = state.mqs() else {
+        return false;
+    };
+    let attr = MqAttr {
+        maxmsg: 2,
+        msgsize: 64,
+        curmsgs: 1,
+    };
+    let entry = &item.value;
+    item.number == 1
+        && entry.name.bytes() == b"/q".as_slice()
+        && entry.owner == CRED
+        && entry.mode == 0o600
+        && entry.object.attr() == attr
+        && entry.object.registration() == Some(REGISTERED)
+        && has_the_priority(&entry.object)
+}
+
 #[test]
 fn reads_what_was_added(rt: HostRuntime) -> Result<(), Fail> {
     let engine = engine_of(rt.alloc(), &SMALL).ok().ok_or("no engine")?;
@@ -222,8 +329,133 @@ fn reads_what_was_added(rt: HostRuntime) -> Result<(), Fail> {
     assert!(rt; has_the_processes(engine.state()));
     assert!(rt; has_the_queue(engine.state()));
     assert!(rt; has_the_set(engine.state()));
+    assert!(rt; has_the_posix_queue(engine.state()));
     assert_eq!(rt; engine.state().next_set(), 3);
+    assert_eq!(rt; engine.state().next_mq(), 3);
+    let opened = Descriptor {
+        on: Opened::Queue(1),
+        flags: 2,
+    };
+    assert_eq!(rt; engine.state().descriptor(Pid(3), 2), Some(opened));
+    assert_eq!(rt; engine.state().descriptor(Pid(3), 1), None);
     Ok(())
+}
+
+/// Process 3 with a descriptor 2, and one queue.
+fn with(opened: &'static [Open], posix: Posix) -> [Part; 3] {
+    [
+        Part::Next(4, 1),
+        Part::Opener(3, opened),
+        Part::Posix(1, posix),
+    ]
+}
+
+/// What the queue cannot be, if all else is sound.
+const NO_POSIX: [Posix; 14] = [
+    Posix {
+        name: b"q",
+        ..POSIX
+    },
+    Posix {
+        name: b"/",
+        ..POSIX
+    },
+    Posix {
+        name: b"/a/b",
+        ..POSIX
+    },
+    Posix {
+        name: b"/a\0",
+        ..POSIX
+    },
+    Posix {
+        name: &[47; 256],
+        ..POSIX
+    },
+    Posix {
+        mode: 0o1000,
+        ..POSIX
+    },
+    Posix {
+        maxmsg: 0,
+        sent: &[],
+        ..POSIX
+    },
+    Posix { maxmsg: 3, ..POSIX },
+    Posix {
+        msgsize: 0,
+        sent: &[],
+        ..POSIX
+    },
+    Posix {
+        msgsize: 65,
+        ..POSIX
+    },
+    Posix {
+        maxmsg: 1,
+        sent: &[(0, b""), (0, b"")],
+        ..POSIX
+    },
+    Posix {
+        sent: &[(32768, b"")],
+        ..POSIX
+    },
+    Posix {
+        msgsize: 1,
+        ..POSIX
+    },
+    Posix {
+        registration: Some(Registration {
+            descriptor: 1,
+            ..REGISTERED
+        }),
+        ..POSIX
+    },
+];
+
+/// What the process cannot have open.
+const NO_OPENER: [&[Open]; 6] = [
+    // the queue is not there
+    &[(0, 2, 0), (2, 1, 2)],
+    // nobody has descriptor 2 by which somebody is registered
+    &[(1, 1, 0)],
+    &[(2, 1, 3)],
+    &[(2, 1, 2), (2, 1, 2)],
+    &[(2, 1, 2), (1, 1, 2)],
+    &[(2, 1, 2), (4, 1, 2)],
+];
+
+#[test]
+fn refuses_posix_queues_that_are_not_sound(rt: HostRuntime) {
+    for (line, posix) in NO_POSIX.iter().enumerate() {
+        assert!(rt;
+            is_unsound(rt.alloc(), &with(&[(2, 1, 2)], *posix)),
+            "at line {line}"
+        );
+    }
+    for (line, opened) in NO_OPENER.iter().enumerate() {
+        assert!(rt;
+            is_unsound(rt.alloc(), &with(opened, POSIX)),
+            "at line {line}"
+        );
+    }
+}
+
+/// At the edge of what they may be: an unlinked queue that is open, and the greatest priority with the most messages.
+const EDGE_POSIX: [Posix; 2] = [
+    Posix { name: b"", ..POSIX },
+    Posix {
+        sent: &[(32767, &[7; 64]), (0, b"")],
+        ..POSIX
+    },
+];
+
+#[test]
+fn takes_posix_queues_at_the_edge(rt: HostRuntime) {
+    for (line, posix) in EDGE_POSIX.iter().enumerate() {
+        let parts = with(&[(0, 1, 4294967292), (2, 1, 1), (3, 1, 2)], *posix);
+        assert!(rt; engine_of(rt.alloc(), &parts).is_ok(), "at line {line}");
+    }
 }
 
 const WIDE: Perm = Perm {
@@ -245,7 +477,43 @@ const LARGE: QueueNumbers = QueueNumbers {
 
 /// States that are not sound. The limits are 4 processes, 2 queues, 64 bytes a message and 128 a queue, 2 semaphore
 /// sets, and 4 semaphores a set.
-const NOT_SOUND: [&[Part]; 29] = [
+const NOT_SOUND: [&[Part]; 32] = [
+    // a POSIX queue that has no name and is not open
+    &[
+        Part::Next(4, 1),
+        Part::Posix(
+            1,
+            Posix {
+                name: b"",
+                registration: None,
+                ..POSIX
+            },
+        ),
+    ],
+    // its number is the next one
+    &[
+        Part::Next(4, 1),
+        Part::Posix(
+            3,
+            Posix {
+                registration: None,
+                ..POSIX
+            },
+        ),
+    ],
+    // two of one name
+    &[
+        Part::Next(4, 1),
+        Part::Opener(3, &[(2, 1, 2)]),
+        Part::Posix(1, POSIX),
+        Part::Posix(
+            2,
+            Posix {
+                registration: None,
+                ..POSIX
+            },
+        ),
+    ],
     &[
         Part::Next(4, 1),
         Part::Process(3),
@@ -494,10 +762,25 @@ fn a_call_that_waits_has_to(rt: HostRuntime) -> Result<(), Fail> {
     Ok(())
 }
 
-fn list(engine: &Engine, alloc: Global) -> Result<Vec<Row>, AllocError> {
-    match engine.list(alloc) {
-        Ok(rows) => Ok(rows),
-        Err(_) => engine.list(alloc),
+/// Whether a listing has these rows. One that was refused for memory is tried once more.
+fn lists(alloc: Global, engine: &Engine, wanted: &[Row<&[u8]>]) -> Result<bool, AllocError> {
+    let rows = match engine.list(alloc) {
+        Ok(rows) => rows,
+        Err(_) => engine.list(alloc)?,
+    };
+    Ok(rows.as_slice() == wanted)
+}
+
+/// The row of a POSIX queue of these tests that has so many messages.
+fn named_row(name: &[u8], messages: usize) -> Row<&[u8]> {
+    Row::Pmq {
+        mode: 0o600,
+        uid: 1000,
+        gid: 100,
+        messages,
+        maxmsg: 2,
+        msgsize: 64,
+        name,
     }
 }
 
@@ -523,9 +806,80 @@ fn goes_on_from_a_rebuilt_state(rt: HostRuntime) -> Result<(), Fail> {
         gid: 100,
         nsems: 2,
     };
-    let rows = list(&engine, rt.alloc())?;
-    assert_eq!(rt; rows.as_slice(), [row, set].as_slice());
+    let listed = lists(rt.alloc(), &engine, &[row, set, named_row(b"/q", 1)])?;
+    assert!(rt; listed);
     let lines: [Line; 1] = [(Ask::Receive(1, 8, 0), Answer::Message(5, b"hi"))];
     talk(&rt, &mut engine, Pid(3), &lines)?;
+    Ok(())
+}
+
+/// Queues without messages that nobody is registered with: one of the name /b, and one that was unlinked.
+const FREE: Posix = Posix {
+    name: b"/b",
+    registration: None,
+    sent: &[],
+    ..POSIX
+};
+
+const UNLINKED: Posix = Posix { name: b"", ..FREE };
+
+/// Two POSIX queues, of which the second was unlinked.
+const NAMED: [Part; 4] = [
+    Part::Next(4, 1),
+    Part::Opener(3, &[(0, 2, 0)]),
+    Part::Posix(1, FREE),
+    Part::Posix(2, UNLINKED),
+];
+
+#[test]
+fn lists_posix_queues_by_name(rt: HostRuntime) -> Result<(), Fail> {
+    let engine = engine_of(rt.alloc(), &NAMED).ok().ok_or("no engine")?;
+    let listed = lists(
+        rt.alloc(),
+        &engine,
+        &[named_row(b"", 0), named_row(b"/b", 0)],
+    )?;
+    assert!(rt; listed);
+    Ok(())
+}
+
+/// Process 3 is registered with the first queue; both have the second one open, which was unlinked.
+const SHARED: [Part; 5] = [
+    Part::Next(4, 1),
+    Part::Opener(1, &[(3, 2, 0)]),
+    Part::Opener(3, &[(0, 2, 1), (1, 2, 2), (2, 1, 0)]),
+    Part::Posix(1, POSIX),
+    Part::Posix(2, UNLINKED),
+];
+
+/// The process leaves.
+fn exit(rt: &impl Abort, engine: &mut Engine, pid: u32) -> Result<(), AllocError> {
+    let event = Event::Exit {
+        pid: Pid(pid),
+        moment: Moment(9),
+    };
+    assert!(rt; engine.is_for_process(&event));
+    take(rt, engine, event)
+}
+
+/// How many POSIX queues there are, and who is registered with the first.
+fn left(engine: &Engine) -> (usize, Option<Registration>) {
+    let mqs = engine.state().mqs();
+    let first = match mqs {
+        [item, ..] => item.value.object.registration(),
+        [] => None,
+    };
+    (mqs.len(), first)
+}
+
+/// Who leaves takes its registration along, and an unlinked queue goes with the last of those who have it open.
+#[test]
+fn an_exit_closes_descriptors(rt: HostRuntime) -> Result<(), Fail> {
+    let mut engine = engine_of(rt.alloc(), &SHARED).ok().ok_or("no engine")?;
+    assert_eq!(rt; left(&engine), (2, Some(REGISTERED)));
+    exit(&rt, &mut engine, 3)?;
+    assert_eq!(rt; left(&engine), (2, None));
+    exit(&rt, &mut engine, 1)?;
+    assert_eq!(rt; left(&engine), (1, None));
     Ok(())
 }

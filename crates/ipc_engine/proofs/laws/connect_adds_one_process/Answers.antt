@@ -10,7 +10,7 @@ use Rattle.ipc_engine.proofs.laws.connect_adds_one_process.Goals as goal
 
 pub returns-clause-fresh : goal.returns-clause-fresh
 returns-clause-fresh c limits s cred serial moment pid sound there =
-    let range = rising-found 1 s.processes.entries s.processes.next pid sound.parts.processes.numbers there in
+    let range = rising-found 1 s.processes.entries s.processes.next pid sound.parts.processes.numbered.numbers there in
     let d = due moment s in
     All-append (λ (o : PlainOutcome). o.errno ≡ None → o.pid ≢ pid) d.outcomes _
     (All-map (λ (o : PlainOutcome). o.errno ≡ None → o.pid ≢ pid) expired (due_calls (at_moment s moment)) (λ k e i none. cc))
@@ -27,7 +27,7 @@ returns-clause-there c limits s cred serial moment =
     (λ _. All-append (λ (o : PlainOutcome). o.errno ≡ None → is_process (with_process d.state cred) o.pid ≡ true) d.outcomes _
     (expired-there (with_process d.state cred))
     (All-cons (λ (o : PlainOutcome). o.errno ≡ None → is_process (with_process d.state cred) o.pid ≡ true) _ []
-    (λ e. is_some-push nat_eq nat_eq_equiv s.processes.entries s.processes.next (record { cred = cred })) (All-nil _)))
+    (λ e. is_some-push nat_eq nat_eq_equiv s.processes.entries s.processes.next (record { cred = cred; descriptors = [] })) (All-nil _)))
   where
     expired-there : (t : State) → All (λ o. o.errno ≡ None → is_process t o.pid ≡ true) (due moment s).outcomes
     expired-there t = All-map (λ (o : PlainOutcome). o.errno ≡ None → is_process t o.pid ≡ true) expired (due_calls (at_moment s moment)) (λ k e i none. cc)
@@ -36,4 +36,4 @@ pub returns-clause-others : goal.returns-clause-others
 returns-clause-others c limits s cred serial moment pid there =
     choice (λ (t : Step). is_process t.state pid ≡ true) (has_all_processes limits (due moment s).state) _ _
     (λ _. there)
-    (λ _. is_some-append nat_eq s.processes.entries ((s.processes.next, record { cred = cred }) ∷ []) pid there)
+    (λ _. is_some-append nat_eq s.processes.entries ((s.processes.next, record { cred = cred; descriptors = [] }) ∷ []) pid there)

@@ -16,4 +16,4 @@ returns c limits s pid moment sound is =
     let parts = (step-sound limits s (Exit pid moment) sound is tt).parts in
     same_keys t.undo t.processes.entries pid parts.undo.pids
     ∙ ap (λ (ps : Numbered Process). is_some (entry_of ps pid)) (settle-kept limits (exit (due moment s).state pid)).0
-    ∙ rising-gone 1 s.processes.entries s.processes.next pid sound.parts.processes.numbers
+    ∙ rising-gone 1 s.processes.entries s.processes.next pid sound.parts.processes.numbered.numbers

@@ -11,7 +11,7 @@ use Rattle.ipc_engine.proofs.laws.exit_removes_one_process.Goals as goal
 pub returns-clause-gone : goal.returns-clause-gone
 returns-clause-gone c limits s pid moment sound =
     ap (λ (ps : Numbered Process). is_some (entry_of ps pid)) (settle-kept limits (exit (due moment s).state pid)).0
-    ∙ rising-gone 1 s.processes.entries s.processes.next pid sound.parts.processes.numbers
+    ∙ rising-gone 1 s.processes.entries s.processes.next pid sound.parts.processes.numbered.numbers
 
 pub returns-clause-others : goal.returns-clause-others
 returns-clause-others c limits s pid other moment apart =

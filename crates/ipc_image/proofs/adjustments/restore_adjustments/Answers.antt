@@ -6,11 +6,12 @@ use Rattle.sem_undo.specs.Undo.{Undo}
 use Rattle.ipc_state.specs.State.{State}
 use Rattle.ipc_state.specs.declared.processes.Process.{Process}
 use Rattle.ipc_image.specs.declared.adjustments.Adjustment.{Adjustment as Read}
-use Rattle.ipc_image.specs.Relations.Adjustments.{plain_of, adjustment_known}
+use Rattle.ipc_image.specs.Relations.Adjustments.{plain_of}
+use Rattle.ipc_image.specs.Relations.Trees.{adjustment_one}
 use Rattle.ipc_image.specs.Saved.{Adjustment, adjustments_in, adjustment_bytes, adjustment_shape, adjustment_numbers, counted_bytes, FitsAdjustment}
-use Rattle.ipc_image.specs.SavedParts.{all_attached, adjustment_of}
+use Rattle.ipc_image.specs.SavedParts.{all_attached}
 use Rattle.ipc_image.proofs.Attaching.{none-same, none-keys_of, keys-attached, attached-all}
-use Rattle.ipc_image.proofs.Shapes.{plain_one, counted_one}
+use Rattle.ipc_image.specs.Relations.Shapes.{plain_one, counted_one}
 use Rattle.ipc_image.proofs.adjustments.restore_adjustments.Goals as goal
 
 pub returns-then-not-are_adjustments-clause-damaged : goal.returns-then-not-are_adjustments-clause-damaged
@@ -22,7 +23,7 @@ returns-then-not-are_adjustments-clause-damaged c is undo few fit keys distinct 
     let rows : map plain_of c.read_counted.new.into.items ≡ xs =
     read.4 ∙ ap (λ (l : List Read). map plain_of l ++ xs) c.new-rows.ensures.items in
     let all : adjustments_in undo ≡ xs =
-    counted_one adjustment_bytes FitsAdjustment (plain_one adjustment_shape adjustment_numbers adjustment_of FitsAdjustment adjustment_known)
+    counted_one adjustment_bytes FitsAdjustment (plain_one adjustment_shape adjustment_numbers FitsAdjustment (λ x fit. fit.1) adjustment_one)
     (adjustments_in undo) xs few read.1 fit read.2 (sym same ∙ read.3) in
     let made : c.attach_all.new.state.state.undo ≡ undo =
     ap (λ (s : State). s.undo) c.in_ok-attach_all.ensures.state

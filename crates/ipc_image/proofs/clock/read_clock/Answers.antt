@@ -22,7 +22,7 @@ both ns rest bytes s has found fit is =
     fields_one clock_sizes ns (clock_numbers s) rest [] has fit (sym found ∙ is ∙ sym (append-nil (fields_bytes clock_sizes (clock_numbers s))))
 
 listed_is : (ns : List ℕ) (s : State) → s.clock ≡ get_or ns 0 0 → s.processes.next ≡ get_or ns 1 0 → s.msg.next ≡ get_or ns 2 0
-    → s.sem.next ≡ get_or ns 3 0 → get_or ns 4 0 ≡ 1 → get_or ns 5 0 ≡ 1 → get_or ns 6 0 ≡ 1 → listed 7 0 ns ≡ clock_numbers s
+    → s.sem.next ≡ get_or ns 3 0 → s.mq.next ≡ get_or ns 4 0 → get_or ns 5 0 ≡ 1 → get_or ns 6 0 ≡ 1 → listed 7 0 ns ≡ clock_numbers s
 listed_is ns s a b c d e f g = cc
 
 pub returns-then-not-is_empty-clause-none : goal.returns-then-not-is_empty-clause-none
@@ -38,18 +38,18 @@ returns-then-not-is_empty-clause-none c s fit is =
           let test = c.is_empty.ensures in
           cc
       | then-not-is_empty-via-else-not-is_empty+then-not-are_to_come w ↦
-          let yes = w.are_to_come.ensures.1 (at 4, at 5, at 6) in
+          let yes = w.are_to_come.ensures.1 (at 5, at 6) in
           let no = w.if-not-are_to_come.true in
           cc
     ]
 
 pub returns-clause-some : goal.returns-clause-some
-returns-clause-some c s clock pid queue set =
+returns-clause-some c s clock pid queue set mq =
     let ns : List ℕ = c.in_ok-numbers.numbers in
     let rest : List ℕ = c.in_ok-numbers.rest.now in
     let found = c.in_ok-numbers.ensures.some in
     let ones = c.are_to_come.ensures.0 c.if-not-are_to_come.false in
-    let same : ns ≡ clock_numbers s = numbers_are clock_sizes ns found.0 ∙ listed_is ns s clock pid queue set ones.0 ones.1 ones.2 in
+    let same : ns ≡ clock_numbers s = numbers_are clock_sizes ns found.0 ∙ listed_is ns s clock pid queue set mq ones.0 ones.1 in
     let empty : rest ≡ [] = nil_from_length rest (eqb-true (length rest) 0 (sym c.if-not-is_empty.ensures)) in (
       subst (FitFields clock_sizes) same found.0,
       found.1 ∙ ap (λ (l : List ℕ). fields_bytes clock_sizes ns ++ l) empty ∙ append-nil (fields_bytes clock_sizes ns)

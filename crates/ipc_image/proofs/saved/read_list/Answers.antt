@@ -4,7 +4,7 @@ use Rattle.std.specs.List.{flat_map}
 use Rattle.std.proofs.lemmas.List.{append-nil}
 use Rattle.ipc_base.proofs.CallerLemmas.{spelled-same}
 use Rattle.ipc_image.specs.Shape.{bytes_in}
-use Rattle.ipc_image.proofs.Shapes.{plain_one}
+use Rattle.ipc_image.specs.Relations.Shapes.{plain_one}
 use Rattle.ipc_image.proofs.saved.read_list.Goals as goal
 
 pub returns-in_err-rest-clause-damaged : goal.returns-in_err-rest-clause-damaged
@@ -17,7 +17,7 @@ pub returns-then-not-is_empty-clause-damaged : goal.returns-then-not-is_empty-cl
 returns-then-not-is_empty-clause-damaged g c is xs long fit same =
     let t = g.T.Saved in
     let ok = c.in_ok-rest.ensures.ok in
-    let one = plain_one t.shape t.tree t.back t.Fits g.met.T.Saved.known in
+    let one = plain_one t.shape t.tree t.Fits g.met.T.Saved.known g.met.T.Saved.one in
     let none = (spelled-same (bytes_in t.shape t.tree) t.Fits one ok.0 xs c.in_ok-rest.rest.now [] ok.1 fit (ok.2 ∙ sym long)
     (sym ok.3 ∙ same ∙ sym (append-nil (flat_map (bytes_in t.shape t.tree) xs)))).1 in
     search (arith, c.if-not-is_empty.ensures, ap length none)

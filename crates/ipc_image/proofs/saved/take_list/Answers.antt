@@ -2,7 +2,7 @@ use Rattle.std.proofs.Common.{◌++◌, ◌∷◌, [], ap, sym, ◌∙◌, arith
 use Rattle.std.specs.Prelude.{Err}
 use Rattle.ipc_image.specs.Shape.{bytes_in}
 use Rattle.ipc_image.specs.SavedParts.{with_more}
-use Rattle.ipc_image.proofs.Shapes.{plain_one}
+use Rattle.ipc_image.specs.Relations.Shapes.{plain_one}
 use Rattle.ipc_image.proofs.ReadLists.{none-read, one-read, stuck, none-more, more-more}
 use Rattle.ipc_image.proofs.saved.take_list.Goals as goal
 
@@ -16,7 +16,7 @@ pub returns-in_err-left-clause-damaged : goal.returns-in_err-left-clause-damaged
 returns-in_err-left-clause-damaged g c is xs rest long fit same =
     let t = g.T.Saved in
     let why = rw is at c.from_residual.ensures in
-    let one = plain_one t.shape t.tree t.back t.Fits g.met.T.Saved.known in
+    let one = plain_one t.shape t.tree t.Fits g.met.T.Saved.known g.met.T.Saved.one in
     absurd (stuck (bytes_in t.shape t.tree) t.Fits one c.loop.invariant.items c.loop.counter c.args.bytes.now c.loop.left.now c.loop.invariant.so_far
     xs rest fit same (omega (arith, c.loop-test.true, long)) (c.in_err-left.ensures.damaged (ap (λ e. Err e) (sym why.1))))
 
@@ -24,7 +24,7 @@ pub loop-preserved : goal.loop-preserved
 loop-preserved g c =
     let t = g.T.Saved in
     let some = c.in_ok-left.ensures.ok in
-    let one = plain_one t.shape t.tree t.back t.Fits g.met.T.Saved.known in
+    let one = plain_one t.shape t.tree t.Fits g.met.T.Saved.known g.met.T.Saved.one in
     record {
       items = c.loop.invariant.items ++ some.0 ∷ [];
       so_far = one-read (bytes_in t.shape t.tree) t.Fits one c.loop.invariant.items c.loop.counter c.args.bytes.now c.loop.left.now

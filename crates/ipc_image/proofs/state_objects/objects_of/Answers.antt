@@ -12,8 +12,10 @@ invariant_of-result c =
       next_pid = c.next_pid.result;
       next_queue = c.next_queue.result;
       next_set = c.next_set.result;
-    }) c.processes.result.now c.waits.result.now c.adjustments.result.now c.queues.result.now c.sets.result.now c.state-state.result.now.state c.clock.ensures
-    c.next_pid.ensures c.next_queue.ensures c.next_set.ensures c.processes.ensures c.waits.ensures c.adjustments.ensures c.queues.ensures c.sets.ensures in
+      next_mq = c.next_mq.result;
+    }) c.processes.result.now c.waits.result.now c.adjustments.result.now c.queues.result.now c.sets.result.now c.mqs.result.now
+    c.state-state.result.now.state c.clock.ensures c.next_pid.ensures c.next_queue.ensures c.next_set.ensures c.next_mq.ensures c.processes.ensures
+    c.waits.ensures c.adjustments.ensures c.queues.ensures c.sets.ensures c.mqs.ensures in
     let objects = saved-are c.args.engine.now.limits c.args.engine.now.state c.state-state.ensures.passed c.state-state.ensures.sound in
     (subst HasAllPlaces (sym same) c.read_state.ensures, subst (λ (s : State). AreObjects (saved s)) (sym (same ∙ c.state-state.ensures.state)) objects)
 
@@ -24,8 +26,9 @@ returns-clause-objects c =
       next_pid = c.next_pid.result;
       next_queue = c.next_queue.result;
       next_set = c.next_set.result;
-    }) _ _ _ _ _ c.state-state.result.now.state c.clock.ensures c.next_pid.ensures c.next_queue.ensures c.next_set.ensures c.processes.ensures
-    c.waits.ensures c.adjustments.ensures c.queues.ensures c.sets.ensures ∙ c.state-state.ensures.state)
+      next_mq = c.next_mq.result;
+    }) _ _ _ _ _ _ c.state-state.result.now.state c.clock.ensures c.next_pid.ensures c.next_queue.ensures c.next_set.ensures c.next_mq.ensures
+    c.processes.ensures c.waits.ensures c.adjustments.ensures c.queues.ensures c.sets.ensures c.mqs.ensures ∙ c.state-state.ensures.state)
 
 pub returns-clause-fit : goal.returns-clause-fit
 returns-clause-fit c = saved-fit c.args.engine.now.limits c.args.engine.now.state c.state-state.ensures.passed c.state-state.ensures.sound

@@ -8,7 +8,7 @@ use Rattle.ipc_image.specs.SavedParts.{IsMarkIn}
 use Rattle.ipc_base.specs.Numbers.{fields_bytes}
 use Rattle.ipc_image.specs.Saved.{clock_sizes, clock_numbers, process_bytes, processes_bytes, waits_bytes, adjustments_bytes}
 use Rattle.ipc_image.specs.Window.{Shown, passed}
-use Rattle.ipc_image.proofs.SavedObjects.{saved-clock, saved-processes, saved-waits, saved-adjustments, waits-counted, length-processes}
+use Rattle.ipc_image.proofs.SavedObjects.{saved-clock, saved-processes, saved-waits, saved-adjustments, processes-counted, waits-counted}
 use Rattle.ipc_image.proofs.state_objects.put_object.Goals as goal
 
 module _ (w : Shown) where
@@ -24,12 +24,7 @@ returns-in-0-clause-passed c =
 
 pub put_counted-requires-clause-short : goal.put_counted-requires-clause-short
 put_counted-requires-clause-short c =
-    let ps = (map item_row c.objects.inside.processes.now) in
-    omega (
-      arith,
-      length-processes ps,
-      c.objects.invariant.0.count,
-    )
+    let o = c.objects.inside in omega (arith, processes-counted o.numbers o.processes.now _ _ _ _ _ c.objects.invariant.1)
 
 pub returns-in-1-clause-passed : goal.returns-in-1-clause-passed
 returns-in-1-clause-passed c =
@@ -39,7 +34,7 @@ returns-in-1-clause-passed c =
 
 pub put_counted-requires-in-2-clause-short : goal.put_counted-requires-in-2-clause-short
 put_counted-requires-in-2-clause-short c =
-    let o = c.objects.inside in omega (arith, waits-counted o.numbers _ o.waits.now _ _ _ c.objects.invariant.1)
+    let o = c.objects.inside in omega (arith, waits-counted o.numbers _ o.waits.now _ _ _ _ c.objects.invariant.1)
 
 pub returns-in-2-clause-passed : goal.returns-in-2-clause-passed
 returns-in-2-clause-passed c =

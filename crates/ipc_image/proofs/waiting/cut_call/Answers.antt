@@ -4,7 +4,7 @@ use Rattle.ipc_base.specs.Numbers.{fields_bytes, FitFields}
 use Rattle.ipc_base.proofs.CallerLemmas.{numbers_are}
 use Rattle.ipc_wire.specs.Spelling.{request_bytes}
 use Rattle.ipc_image.specs.Saved.{waiting_sizes, waiting_numbers}
-use Rattle.ipc_image.proofs.Shapes.{too_short}
+use Rattle.ipc_image.specs.Relations.Shapes.{too_short}
 use Rattle.ipc_image.proofs.waiting.cut_call.Goals as goal
 
 pub returns-in_err-numbers-clause-none : goal.returns-in_err-numbers-clause-none

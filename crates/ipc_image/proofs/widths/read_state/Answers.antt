@@ -9,11 +9,15 @@ use Rattle.ipc_state.specs.State.{State}
 use Rattle.ipc_state.specs.Tables.{item_row}
 use Rattle.ipc_state.specs.Waiting.{IsSoundWaiting}
 use Rattle.ipc_image.specs.Kind.{FitsIn}
-use Rattle.ipc_image.specs.Saved.{adjustments_of, FitsAdjustment, FitsProcess, FitsWaiting, FitsQueue, FitsSet}
+use Rattle.ipc_image.specs.Saved.{adjustments_of, FitsAdjustment, FitsProcess, FitsWaiting, FitsQueue, FitsSet, FitsMq}
 use Rattle.ipc_image.proofs.AdjustmentLists.{each-fit}
 use Rattle.ipc_image.proofs.Attaching.{rising-distinct}
-use Rattle.ipc_image.proofs.SavedObjects.{rows-numbers, sets-numbers, undo-counted}
+use Rattle.ipc_image.proofs.SavedObjects.{processes-numbers, rows-numbers, sets-numbers, mqs-numbers, undo-counted}
 use Rattle.ipc_image.proofs.widths.read_state.Goals as goal
+
+pub read_each-requires : goal.read_each-requires
+read_each-requires c =
+    processes-numbers c.args.state.now.limits c.args.state.now.state c.requires.passed c.requires.sound c.processes.result.now c.processes.ensures
 
 pub read_each-requires-2 : goal.read_each-requires-2
 read_each-requires-2 c = subst (All IsSoundWaiting) (sym c.waits.ensures) c.requires.sound.parts.wait.each
@@ -26,6 +30,10 @@ pub read_each-requires-5 : goal.read_each-requires-5
 read_each-requires-5 c =
     sets-numbers c.args.state.now.limits c.args.state.now.state c.requires.passed c.requires.sound c.sets.result.now c.sets.ensures
 
+pub read_each-requires-6 : goal.read_each-requires-6
+read_each-requires-6 c =
+    mqs-numbers c.args.state.now.limits c.args.state.now.state c.requires.passed c.requires.sound c.mqs.result.now c.mqs.ensures
+
 pub returns : goal.returns
 returns c =
     let b = passed-bounds c.args.state.now.limits c.requires.passed in
@@ -34,7 +42,7 @@ returns c =
     let pids : keys_of s.undo ≡ keys_of s.processes.entries = c.requires.sound.parts.undo.pids in
     record {
       clock = c.read_clock.ensures;
-      count = omega (arith, b.processes.1, c.requires.sound.parts.processes.count);
+      count = omega (arith, b.processes.1, c.requires.sound.parts.processes.numbered.count);
       processes = subst (All FitsProcess) c.processes.ensures (All-map FitsProcess item_row c.processes.result.now c.read_each.ensures);
       wait_count = omega (arith, b.processes.1, c.requires.sound.parts.wait.few);
       waits = subst (All FitsWaiting) c.waits.ensures c.read_each-2.ensures;
@@ -44,7 +52,8 @@ returns c =
           (All-map Fit item_row c.adjustments.result.now c.read_each-3.ensures));
       undo_pids = pids;
       distinct = subst (IsDistinct nat_eq) (sym pids) (rising-distinct 1 (keys_of s.processes.entries) s.processes.next
-          c.requires.sound.parts.processes.numbers);
+          c.requires.sound.parts.processes.numbered.numbers);
       queues = subst (All (FitsIn FitsQueue)) c.queues.ensures (All-map (FitsIn FitsQueue) item_row c.queues.result.now c.read_each-4.ensures);
       sets = subst (All (FitsIn FitsSet)) c.sets.ensures (All-map (FitsIn FitsSet) item_row c.sets.result.now c.read_each-5.ensures);
+      mqs = subst (All (FitsIn FitsMq)) c.mqs.ensures (All-map (FitsIn FitsMq) item_row c.mqs.result.now c.read_each-6.ensures);
     }

@@ -4,4 +4,4 @@ use Rattle.ipc_state.proofs.sound.each_is_sound.Given as goal
 
 -- those before this one are
 abbrev pub invariant-loop-item : goal.invariant-loop-item
-invariant-loop-item g l = All (λ e. g.T.SoundAlone.IsSound l.limits e.value.object) (take l.item-index l.items)
+invariant-loop-item g l = All (λ e. g.T.SoundAlone.IsSound l.limits e.value) (take l.item-index l.items)

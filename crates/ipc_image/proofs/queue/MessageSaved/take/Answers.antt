@@ -1,6 +1,6 @@
 use Rattle.std.proofs.Common.{◌∙◌, ◌++◌, refl, sym, arith}
 use Rattle.ipc_image.specs.Saved.{message_sizes, message_numbers}
-use Rattle.ipc_image.proofs.Shapes.{too_short}
+use Rattle.ipc_image.specs.Relations.Shapes.{too_short}
 use Rattle.ipc_image.proofs.queue.MessageSaved.take.Goals as goal
 
 pub returns-in_err-numbers-clause-damaged : goal.returns-in_err-numbers-clause-damaged

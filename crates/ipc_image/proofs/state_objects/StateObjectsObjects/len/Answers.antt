@@ -1,12 +1,12 @@
-use Rattle.std.proofs.Common.{ℕ, List, length, Some, ap, arith, ◌∙◌}
+use Rattle.std.proofs.Common.{ℕ, List, length, map, Some, ap, arith, ◌∙◌}
 use Rattle.std.specs.Prelude.{option_map}
 use Rattle.std.specs.List.{flat_map}
-use Rattle.std.proofs.lemmas.List.{length-map, map-id}
+use Rattle.std.proofs.lemmas.List.{map-id}
 use Rattle.ipc_state.specs.State.{State}
 use Rattle.ipc_state.specs.Tables.{item_row}
 use Rattle.ipc_state.specs.Waiting.{PlainWaiting}
-use Rattle.ipc_image.specs.Saved.{waiting_bytes, waits_bytes, adjustments_bytes}
-use Rattle.ipc_image.proofs.SavedObjects.{saved-clock, saved-processes, saved-waits, saved-adjustments, processes-long, waits-long, waits-counted}
+use Rattle.ipc_image.specs.Saved.{processes_bytes, waiting_bytes, waits_bytes, adjustments_bytes}
+use Rattle.ipc_image.proofs.SavedObjects.{saved-clock, saved-processes, saved-waits, saved-adjustments, processes-long, processes-counted, waits-long, waits-counted}
 use Rattle.ipc_image.proofs.state_objects.StateObjectsObjects.len.Goals as goal
 
 abbrev long : ℕ × List ℕ → ℕ
@@ -17,22 +17,31 @@ returns-in-0 c = rw c.in-0.is (ap (option_map long) (saved-clock c.args.self.now
 
 pub returns-in-1 : goal.returns-in-1
 returns-in-1 c =
-    let s : State = c.args.self.now in
     rw c.in-1.is
-    (ap (option_map long) (saved-processes s)
+    (ap (option_map long) (saved-processes c.args.self.now)
     ∙ ap Some (omega (
       arith,
-      processes-long s.processes.entries,
-      length-map c.self.inside.processes.now item_row,
-      ap (λ (t : State). length t.processes.entries) c.self.view_is,
+      processes-long (map item_row c.self.inside.processes.now),
+      c.list_len.ensures,
+      ap (λ (t : State). length (processes_bytes t.processes.entries)) c.self.view_is,
     )))
 
+-- the bytes of the processes and of the waiting calls can be counted
 pub list_len-requires-clause-short : goal.list_len-requires-clause-short
-list_len-requires-clause-short c = let o = c.self.inside in omega (arith, waits-counted o.numbers _ o.waits.now _ _ _ c.self.invariant.1)
+list_len-requires-clause-short c =
+    let o = c.self.inside in omega (arith, processes-counted o.numbers o.processes.now _ _ _ _ _ c.self.invariant.1)
+
+pub overflow_add-result : goal.overflow_add-result
+overflow_add-result c =
+    let o = c.self.inside in omega (arith, processes-counted o.numbers o.processes.now _ _ _ _ _ c.self.invariant.1, c.list_len.ensures)
+
+pub list_len-requires-in-2-clause-short : goal.list_len-requires-in-2-clause-short
+list_len-requires-in-2-clause-short c =
+    let o = c.self.inside in omega (arith, waits-counted o.numbers _ o.waits.now _ _ _ _ c.self.invariant.1)
 
 pub overflow_add-result-in-2 : goal.overflow_add-result-in-2
 overflow_add-result-in-2 c =
-    let o = c.self.inside in omega (arith, waits-counted o.numbers _ o.waits.now _ _ _ c.self.invariant.1, c.list_len.ensures)
+    let o = c.self.inside in omega (arith, waits-counted o.numbers _ o.waits.now _ _ _ _ c.self.invariant.1, c.list_len-in-2.ensures)
 
 pub returns-in-2 : goal.returns-in-2
 returns-in-2 c =
@@ -42,7 +51,7 @@ returns-in-2 c =
     ∙ ap Some (omega (
       arith,
       waits-long ws,
-      c.list_len.ensures,
+      c.list_len-in-2.ensures,
       ap (λ (l : List PlainWaiting). length (flat_map waiting_bytes l)) (map-id ws),
       ap (λ (t : State). length (waits_bytes t.wait)) c.self.view_is,
     )))

@@ -1,5 +1,5 @@
 use Rattle.std.proofs.Common.{◌-◌, refl}
-use Rattle.ipc_image.specs.SavedParts.{IsMarkOfQueue, IsMarkOfSet}
+use Rattle.ipc_image.specs.SavedParts.{IsMarkOfQueue, IsMarkOfSet, IsMarkOfMq}
 use Rattle.ipc_image.proofs.Marks.{mark-each}
 use Rattle.ipc_image.proofs.state_objects.StateObjectsObjects.start.Goals as goal
 
@@ -10,5 +10,6 @@ returns c =
       processes = λ one. refl;
       waits = λ two. refl;
       things = λ le. mark-each IsMarkOfQueue _ (record { parts = 0; bytes = 0 }) (λ e. refl)
-          (mark-each IsMarkOfSet _ (record { parts = 0; bytes = 0 }) (λ e. refl) (λ at. tt) s.sem.entries) s.msg.entries (c.args.i - 4);
+          (mark-each IsMarkOfSet _ (record { parts = 0; bytes = 0 }) (λ e. refl)
+          (mark-each IsMarkOfMq _ (record { parts = 0; bytes = 0 }) (λ e. refl) (λ at. tt) s.mq.entries) s.sem.entries) s.msg.entries (c.args.i - 4);
     }

@@ -1,4 +1,4 @@
-use Rattle.std.proofs.Common.{◌≡◌, ℕ, ℤ, ap, ◌∙◌}
+use Rattle.std.proofs.Common.{◌≡◌, ℕ, ℤ, ap, ◌<◌, ◌∙◌, subst, sym, arith}
 use Rattle.std.specs.Int.{w32, cast_signed as to_z, cast_unsigned as of_z}
 use Rattle.std.proofs.lemmas.Int.{to_z-of_z}
 use Rattle.ipc_keys.specs.Directory.{is_vacant}
@@ -6,6 +6,7 @@ use Rattle.ipc_state.specs.declared.keyed.Entry.{Entry}
 use Rattle.ipc_state.specs.Directory.{added, named_by, or_else}
 use Rattle.ipc_state.specs.Tables.{HeldObjects, numbered_of}
 use Rattle.ipc_state.proofs.Directories.{agree-last}
+use Rattle.ipc_state.proofs.Keying.{by_key}
 use Rattle.ipc_state.proofs.keyed.Keyed.add.Goals as goal
 
 pub invariant_of-self : goal.invariant_of-self
@@ -13,9 +14,11 @@ invariant_of-self g c =
     let old = c.self.inside in
     let key : ℤ = to_z w32 (of_z w32 c.args.key) in
     let e : Entry _ = record { key = key; perm = c.args.perm; object = c.args.object } in
-    agree-last old.keys c.bind.new.keys (numbered_of old.objects) _ (numbered_of old.objects).next e (numbered_of c.add-id.new.self)
+    let above = subst (λ (h : HeldObjects _). 0 < h.objects.next) (sym c.self.view_is) c.requires.number.0 in
+    agree-last by_key (named_by old.keys) (named_by c.bind.new.keys) (numbered_of old.objects) (numbered_of c.add-id.new.self)
+    _ (numbered_of old.objects).next e
     (λ _ k. c.bind.ensures.names k ∙ ap (λ (i : ℕ). or_else (named_by old.keys k) (added key i k)) c.add-id.ensures.number)
-    c.add-id.ensures.items c.self.invariant
+    (λ zero. absurd (omega (arith, zero, above))) c.add-id.ensures.items c.self.invariant
 
 pub returns-clause-others : goal.returns-clause-others
 returns-clause-others g c other apart =

@@ -2,7 +2,7 @@ use Rattle.std.proofs.Common.{sym, subst}
 use Rattle.std.specs.Prelude.{All}
 use Rattle.std.proofs.lemmas.List.Elements.{All-map}
 use Rattle.ipc_state.specs.Tables.{item_row}
-use Rattle.ipc_state.proofs.Keying.{All-seen}
+use Rattle.ipc_state.proofs.EntryKeys.{All-seen}
 use Rattle.ipc_state.proofs.keyed.Keyed.are_sound.Goals as goal
 
 pub returns-then-are_keyed : goal.returns-then-are_keyed

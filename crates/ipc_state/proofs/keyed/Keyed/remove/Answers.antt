@@ -5,9 +5,10 @@ use Rattle.std.specs.Prelude.{option_map, if◌then◌else◌}
 use Rattle.std.specs.Option.{option_copied}
 use Rattle.ipc_state.specs.declared.numbered.Item.{Item}
 use Rattle.ipc_state.specs.Directory.{HasNoSpareKey, named_by}
-use Rattle.ipc_state.specs.Keyed.{AreNamed}
+use Rattle.ipc_state.specs.Keyed.{Keyed, AreNamed, keyed}
 use Rattle.ipc_state.specs.Tables.{HeldObjects, numbered_of}
 use Rattle.ipc_state.proofs.Directories.{agree-without}
+use Rattle.ipc_state.proofs.Keying.{by_key}
 use Rattle.ipc_state.proofs.keyed.Keyed.remove.Goals as goal
 
 pub invariant_of-self : goal.invariant_of-self
@@ -19,8 +20,8 @@ invariant_of-self g c =
     let fits : FitsSigned w32 e.key = search rules in
     let names = subst (λ (z : ℤ). (k : ℤ) → named_by c.unbind.new.keys k ≡ (if int_eq z k then None else named_by old.keys k)) (to_z-of_z w32 e.key fits)
     c.unbind.ensures.names in
-    agree-without old.keys c.unbind.new.keys (numbered_of old.objects) c.args.id.0 e (numbered_of c.remove.new.self) named is
-    names c.remove.ensures c.self.invariant
+    agree-without by_key (named_by old.keys) (named_by c.unbind.new.keys) (numbered_of old.objects) (numbered_of c.remove.new.self) c.args.id.0 e
+    named.numbers named.keys is names (λ k. ap (λ (o : Keyed _). keyed o k) c.remove.ensures) c.self.invariant
 
 pub returns-clause-keys : goal.returns-clause-keys
 returns-clause-keys g c spare =

@@ -29,6 +29,7 @@ returns-in_default-clause-state c kept =
       undo = us;
       msg = t.msg.objects;
       sem = t.sem.objects;
+      mq = t.mq.objects;
     }) same
     ∙ ap (λ (m : Held). m.state) c.self.view_is
     ∙ ap (λ (us : List (ℕ × Undo)). record old { undo = us }) (sym (with (fin.insert (undo_of old c.args.pid.0) (key_of c.args.row) c.args.row.adjustment)))
@@ -48,9 +49,10 @@ returns-clause-err c =
         undo = us;
         msg = t.msg.objects;
         sem = t.sem.objects;
+        mq = t.mq.objects;
       };
       room = record {
-        process = has_place t.processes && (place && is_some t.fresh_undo);
+        process = has_place t.processes && (place && (is_some t.fresh_undo && is_some t.fresh_descriptors));
         queue = t.msg.place;
         keys = t.msg.keys;
         fresh = is_some t.fresh;

@@ -31,9 +31,10 @@ returns-in_default c =
         undo = (numbered_of o).entries;
         msg = t.msg.objects;
         sem = t.sem.objects;
+        mq = t.mq.objects;
       };
       room = record {
-        process = has_place t.processes && (has_place o && is_some t.fresh_undo);
+        process = has_place t.processes && (has_place o && (is_some t.fresh_undo && is_some t.fresh_descriptors));
         queue = t.msg.place;
         keys = t.msg.keys;
         fresh = is_some t.fresh;
@@ -88,9 +89,10 @@ returns c =
         undo = us;
         msg = t.msg.objects;
         sem = t.sem.objects;
+        mq = t.mq.objects;
       };
       room = record {
-        process = has_place t.processes && (place && is_some t.fresh_undo);
+        process = has_place t.processes && (place && (is_some t.fresh_undo && is_some t.fresh_descriptors));
         queue = t.msg.place;
         keys = t.msg.keys;
         fresh = is_some t.fresh;

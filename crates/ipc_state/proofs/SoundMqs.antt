@@ -1,0 +1,451 @@
+-- POSIX queues, and the descriptors that are open on them, stay sound as processes come and go.
+use Rattle.std.proofs.Common.{◌≡◌, ◌≢◌, ℕ, ◌+◌, ◌<◌, ◌≤◌, Bool, true, false, cond, List, [], ◌∷◌, ◌++◌, Option, Some, None, refl, sym, ap, subst, ◌∙◌, arith}
+use Rattle.std.specs.Prelude.{All, is_some, not, ◌||◌, ◌&&◌, nat_eq, nat_lt, nat_le, length, map, option_map, unwrap_or, if◌then◌else◌}
+use Rattle.std.specs.Int.RustNames.{bit_and}
+use Rattle.std.specs.Str.{bytes_eq}
+use Rattle.std.specs.Bool.{Decides}
+use Rattle.std.specs.List.{filter, list_all, list_any}
+use Rattle.std.proofs.lemmas.Bool.{leb-true, le-leb}
+use Rattle.std.proofs.lemmas.Bool.Decides.{nat_tests, Decides-by_and, Decides-and, Decides-ltb}
+use Rattle.std.proofs.lemmas.List.Elements.{All-nil, All-cons, All-head, All-tail, All-filter, All-map, All-push, All-weaker}
+use Rattle.std.proofs.lemmas.List.Folds.{list_any-append}
+use Rattle.std.proofs.lemmas.Slice.Eq.{bytes_eq-Decides}
+use Rattle.ipc_base.specs.declared.identity.Cred.{Cred}
+use Rattle.ipc_base.specs.declared.limits.Limits.{Limits}
+use Rattle.ipc_base.specs.Table.{value_at, without, seen_as}
+use Rattle.ipc_base.proofs.CallerLemmas.{at-map, value_at-without}
+use Rattle.ipc_keys.specs.Names.{is_none}
+use Rattle.posix_mq.specs.Queue.{Queue as Mq, PlainMessage}
+use Rattle.posix_mq.specs.declared.queue.Registration.{Registration}
+use Rattle.ipc_state.specs.declared.descriptors.Descriptor.{Descriptor}
+use Rattle.ipc_state.specs.declared.descriptors.Opened.{Opened}
+use Rattle.ipc_state.specs.declared.descriptors.Opened.TheVariants as opened
+use Rattle.std.proofs.lemmas.List.{length-map}
+use Rattle.ipc_state.specs.declared.named.NamedEntry.{NamedEntry}
+use Rattle.ipc_state.specs.declared.numbered.Item.{Item}
+use Rattle.ipc_state.specs.Tables.{item_row}
+use Rattle.ipc_state.specs.declared.processes.Process.{Process}
+use Rattle.ipc_state.specs.Descriptors.{Table}
+use Rattle.ipc_state.specs.Directory.{Agrees}
+use Rattle.ipc_state.specs.Named.{Named, name_row, named, kept_if, AreNamedObjects}
+use Rattle.ipc_state.specs.Numbered.{Numbered, none_yet, entry_of, is_full, with_new, without_entry}
+use Rattle.ipc_state.specs.Opening.{is_on_queue, is_open, stays, still_open, unless_so, deregistered, without_registrations, is_by, is_or_any}
+use Rattle.ipc_state.specs.Opening.{has_name, is_named_so, is_there_for, is_sound_descriptor, is_by_descriptor, is_registered}
+use Rattle.ipc_state.specs.Sound.{AreSoundDescriptors, AreSoundMqs, AreSoundProcesses, IsSoundMq, IsSoundMqMessage}
+use Rattle.ipc_state.specs.Tests.{is_sound_mq, is_sound_mq_message}
+use Rattle.ipc_state.proofs.EntryKeys.{each-decides}
+use Rattle.ipc_state.proofs.Naming.{none_yet-named, kept_if-named}
+use Rattle.ipc_state.proofs.Numbering.{seen-numbered, with_new-numbered, without_entry-numbered, cleared-numbered}
+
+-- ---- what is left of a table
+
+-- a value whose test stands is found as before
+at-filter : {X : Type 0} (test : ℕ × X → Bool) (es : List (ℕ × X)) (n : ℕ) (x : X) → value_at nat_eq es n ≡ Some x → test (n, x) ≡ true
+    → value_at nat_eq (filter test es) n ≡ Some x
+at-filter test [] n x is stands = is
+at-filter {X} test (e ∷ es) n x is stands = by_key (nat_eq e.0 n) refl is (λ later. at-filter test es n x later stands)
+  where
+    by_key : (b : Bool) → nat_eq e.0 n ≡ b → cond b (Some e.1) (value_at nat_eq es n) ≡ Some x
+        → (value_at nat_eq es n ≡ Some x → value_at nat_eq (filter test es) n ≡ Some x)
+        → value_at nat_eq (cond (test e) (e ∷ filter test es) (filter test es)) n ≡ Some x
+    by_key true same is later =
+        let key : e.0 ≡ n = grind (arith, nat_tests) in
+        let value : e.1 ≡ x = cc in
+        let here : test e ≡ true = ap (λ (k : ℕ). test (k, e.1)) key ∙ (ap (λ (v : X). test (n, v)) value ∙ stands) in
+        rw here (rw same (ap Some value))
+    by_key false apart is later = by_test (test e) (later is)
+      where
+        by_test : (b : Bool) → value_at nat_eq (filter test es) n ≡ Some x → value_at nat_eq (cond b (e ∷ filter test es) (filter test es)) n ≡ Some x
+        by_test true rest = rw apart rest
+        by_test false rest = rest
+
+-- each that is left passes the test
+All-passed : {X : Type 0} (test : X → Bool) (xs : List X) → All (λ x. test x ≡ true) (filter test xs)
+All-passed test [] = All-nil _
+All-passed {X} test (x ∷ xs) = by_test (test x) refl (All-passed test xs)
+  where
+    by_test : (b : Bool) → test x ≡ b → All (λ (y : X). test y ≡ true) (filter test xs) → All (λ (y : X). test y ≡ true) (cond b (x ∷ filter test xs) (filter test xs))
+    by_test true stands rest = All-cons (λ (y : X). test y ≡ true) x _ stands rest
+    by_test false fails rest = rest
+
+-- what is so of each entry as it was, is so of each without its registration
+All-seen_as : {X Y : Type 0} (P : ℕ × X → Type 0) (Q : ℕ × Y → Type 0) (f : X → Y) → ((e : ℕ × X) → P e → Q (e.0, f e.1)) → (es : List (ℕ × X)) → All P es
+    → All Q (seen_as f es)
+All-seen_as P Q f step [] all = All-nil Q
+All-seen_as P Q f step (e ∷ es) all =
+    All-cons Q (e.0, f e.1) (seen_as f es) (step e (All-head P e es all)) (All-seen_as P Q f step es (All-tail P e es all))
+
+-- ---- what descriptors are open on
+
+either : (a b : Bool) → b ≡ true → (a || b) ≡ true
+either true b h = refl
+either false b h = h
+
+first : (a b : Bool) → a ≡ true → (a || b) ≡ true
+first a b h = rw h refl
+
+or-more : (a b c : Bool) → (a || b) ≡ true → (a || (b || c)) ≡ true
+or-more true b c h = refl
+or-more false true c h = refl
+or-more false false c h = cc
+
+both_true : (a b : Bool) → (a && b) ≡ true → (a ≡ true) × (b ≡ true)
+both_true true b h = (refl, h)
+both_true false b h = cc
+
+-- the objects on which descriptors of these processes are open are there among others too
+abbrev AllThere : Named Mq → Named Mq → List (ℕ × Process) → Type 0
+AllThere old new processes = (n : ℕ) → is_open processes n ≡ true → is_some (entry_of old n) ≡ true → is_some (entry_of new n) ≡ true
+
+-- its descriptors are sound
+abbrev Has : Limits → Named Mq → ℕ × Process → Type 0
+Has limits o p = AreSoundDescriptors limits o p.1.descriptors
+
+module _ (limits : Limits) (old new : Named Mq) where
+  abbrev Good : Named Mq → ℕ × Descriptor → Type 0
+  Good o d = is_sound_descriptor o d.1 ≡ true
+
+  one-there : (d : Descriptor) → ((n : ℕ) → is_on_queue n d.on ≡ true → is_some (entry_of old n) ≡ true → is_some (entry_of new n) ≡ true)
+      → is_sound_descriptor old d ≡ true → is_sound_descriptor new d ≡ true
+  one-there d all good = by_kind d.on all (both_true _ _ good)
+    where
+      by_kind : (on : Opened) → ((n : ℕ) → is_on_queue n on ≡ true → is_some (entry_of old n) ≡ true → is_some (entry_of new n) ≡ true)
+          → (is_there_for old on ≡ true) × (not (nat_eq (bit_and d.flags 3) 3) ≡ true) → (is_there_for new on && not (nat_eq (bit_and d.flags 3) 3)) ≡ true
+      by_kind (opened.Queue m) all h = let there = all m (let same : nat_eq m m ≡ true = grind (arith, nat_tests) in same) h.0 in rw there h.1
+
+  table-there : (table : Table) → ((n : ℕ) → list_any (λ (d : ℕ × Descriptor). is_on_queue n d.1.on) table ≡ true → is_some (entry_of old n) ≡ true
+      → is_some (entry_of new n) ≡ true) → All (Good old) table → All (Good new) table
+  table-there [] all each = All-nil (Good new)
+  table-there (d ∷ ds) all each =
+      All-cons (Good new) d ds (one-there d.1 (λ n is. all n (first _ _ is)) (All-head (Good old) d ds each))
+      (table-there ds (λ n is. all n (either _ _ is)) (All-tail (Good old) d ds each))
+
+  each-there : (ps : List (ℕ × Process)) → AllThere old new ps → All (Has limits old) ps → All (Has limits new) ps
+  each-there [] all each = All-nil (Has limits new)
+  each-there (p ∷ ps) all each =
+      let h = All-head (Has limits old) p ps each in
+      All-cons (Has limits new) p ps (record { numbers = h.numbers; each = table-there p.1.descriptors (λ n is. all n (first _ _ is)) h.each })
+      (each-there ps (λ n is. all n (either _ _ is)) (All-tail (Has limits old) p ps each))
+
+-- ---- queues that stay
+
+module _ (goes : Registration → Bool) (ps : List (ℕ × Process)) (o : Named Mq) where
+  -- what is open stays there
+  pub open-stay : AllThere o (still_open ps (without_registrations goes o)) ps
+  open-stay n used there = by_entry (entry_of o n) refl there
+    where
+      by_entry : (r : Option (NamedEntry Mq)) → entry_of o n ≡ r → is_some r ≡ true → is_some (entry_of (still_open ps (without_registrations goes o)) n) ≡ true
+      by_entry None is some = cc
+      by_entry (Some e) is some =
+          let found : value_at nat_eq (seen_as (deregistered goes) o.entries) n ≡ Some (deregistered goes e) =
+          at-map (deregistered goes) o.entries n ∙ ap (option_map (deregistered goes)) is in
+          ap is_some (at-filter (stays ps) _ n (deregistered goes e) found (either _ _ used))
+
+  pub stay-left : All (λ (e : ℕ × NamedEntry Mq). stays ps e ≡ true) (still_open ps (without_registrations goes o)).entries
+  stay-left = All-passed (stays ps) (seen_as (deregistered goes) o.entries)
+
+-- ---- registrations
+
+-- what a descriptor of a process, if it is there, says of a registration with a queue
+abbrev told : ℕ → Registration → Option Process → Bool
+told n r p =
+    unwrap_or (option_map (λ (d : Descriptor). is_on_queue n d.on) (value_at nat_eq (unwrap_or (option_map (λ (q : Process). q.descriptors) p) []) r.descriptor)) false
+
+abbrev IsRegistered : List (ℕ × Process) → ℕ × NamedEntry Mq → Type 0
+IsRegistered ps e = is_registered ps e ≡ true
+
+-- after an exit, those of others are by descriptors that are open still
+pub registered-exit : (ps : List (ℕ × Process)) (pid : ℕ) (o : Named Mq) → All (IsRegistered ps) o.entries
+    → All (IsRegistered (without nat_eq ps pid)) (still_open (without nat_eq ps pid) (without_registrations (is_by (Some pid) None) o)).entries
+registered-exit ps pid o all =
+    All-filter (stays left) (IsRegistered left) _ (All-seen_as (IsRegistered ps) (IsRegistered left) (deregistered (is_by (Some pid) None)) one o.entries all)
+  where
+    left : List (ℕ × Process)
+    left = without nat_eq ps pid
+
+    one : (e : ℕ × NamedEntry Mq) → IsRegistered ps e → IsRegistered left (e.0, deregistered (is_by (Some pid) None) e.1)
+    one e h = by_registration e.1.object.registration h
+      where
+        by_registration : (r : Option Registration) → is_by_descriptor ps e.0 r ≡ true → is_by_descriptor left e.0 (unless_so (is_by (Some pid) None) r) ≡ true
+        by_registration None h = refl
+        by_registration (Some r) h = by_test (nat_eq pid r.pid.0) refl
+          where
+            by_test : (b : Bool) → nat_eq pid r.pid.0 ≡ b → is_by_descriptor left e.0 (if b && true then None else Some r) ≡ true
+            by_test true same = refl
+            by_test false apart =
+                let other : r.pid.0 ≢ pid = λ same. grind (arith, nat_tests) in
+                ap (told e.0 r) (value_at-without ps pid r.pid.0 other) ∙ h
+
+-- nobody is left registered
+pub registered-none : (ps : List (ℕ × Process)) (o : Named Mq) → All (IsRegistered ps) (still_open ps (without_registrations (is_by None None) o)).entries
+registered-none ps o =
+    All-filter (stays ps) (IsRegistered ps) _
+    (All-seen_as (λ (e : ℕ × NamedEntry Mq). Unit {0}) (IsRegistered ps) (deregistered (is_by None None)) one o.entries (λ k d i. tt))
+  where
+    one : (e : ℕ × NamedEntry Mq) → Unit {0} → IsRegistered ps (e.0, deregistered (is_by None None) e.1)
+    one e h = by_registration e.1.object.registration
+      where
+        by_registration : (r : Option Registration) → is_by_descriptor ps e.0 (unless_so (is_by None None) r) ≡ true
+        by_registration None = refl
+        by_registration (Some r) = refl
+
+-- ---- a process more
+
+module _ (ps more : List (ℕ × Process)) where
+  open-more : (n : ℕ) → is_open (ps ++ more) n ≡ (is_open ps n || is_open more n)
+  open-more n = list_any-append (λ (p : ℕ × Process). list_any (λ (d : ℕ × Descriptor). is_on_queue n d.1.on) p.1.descriptors) ps more
+
+  pub stays-more : (e : ℕ × NamedEntry Mq) → stays ps e ≡ true → stays (ps ++ more) e ≡ true
+  stays-more e stand = rw open-more (or-more (has_name e.1) (is_open ps e.0) (is_open more e.0) stand)
+
+  pub registered-more : (e : ℕ × NamedEntry Mq) → IsRegistered ps e → IsRegistered (ps ++ more) e
+  registered-more e h = by_registration e.1.object.registration h
+    where
+      by_registration : (r : Option Registration) → is_by_descriptor ps e.0 r ≡ true → is_by_descriptor (ps ++ more) e.0 r ≡ true
+      by_registration None h = refl
+      by_registration (Some r) h = found ps h
+        where
+          found : (qs : List (ℕ × Process)) → told e.0 r (value_at nat_eq qs r.pid.0) ≡ true → told e.0 r (value_at nat_eq (qs ++ more) r.pid.0) ≡ true
+          found [] is = cc
+          found (q ∷ qs) is = by_test (nat_eq q.0 r.pid.0) is (found qs)
+            where
+              by_test : (b : Bool) → told e.0 r (cond b (Some q.1) (value_at nat_eq qs r.pid.0)) ≡ true
+                  → (told e.0 r (value_at nat_eq qs r.pid.0) ≡ true → told e.0 r (value_at nat_eq (qs ++ more) r.pid.0) ≡ true)
+                  → told e.0 r (cond b (Some q.1) (value_at nat_eq (qs ++ more) r.pid.0)) ≡ true
+              by_test true is later = is
+              by_test false is later = later is
+
+-- ---- names
+
+-- without its registration an entry has the same name
+seen-names : (goes : Registration → Bool) (es : List (ℕ × NamedEntry Mq)) → map name_row (seen_as (deregistered goes) es) ≡ map name_row es
+seen-names goes [] = refl
+seen-names goes (e ∷ es) = ap (λ (ks : List (List ℕ × ℕ)). name_row e ∷ ks) (seen-names goes es)
+
+pub named-deregistered : (goes : Registration → Bool) (o : Named Mq) (name : List ℕ) → named (without_registrations goes o) name ≡ named o name
+named-deregistered goes o name = ap (λ (ks : List (List ℕ × ℕ)). if is_none name then None else value_at bytes_eq ks name) (seen-names goes o.entries)
+
+-- a name is named by what is left as before, if only those go that have no name
+named-kept : {X : Type 0} (test : ℕ × NamedEntry X → Bool) → ((e : ℕ × NamedEntry X) → e.1.name ≢ [] → test e ≡ true)
+    → (es : List (ℕ × NamedEntry X)) (name : List ℕ) → name ≢ []
+    → value_at bytes_eq (map name_row (filter test es)) name ≡ value_at bytes_eq (map name_row es) name
+named-kept test stands [] name some = refl
+named-kept {X} test stands (e ∷ es) name some = by_test (test e) refl (named-kept test stands es name some)
+  where
+    by_test : (b : Bool) → test e ≡ b → value_at bytes_eq (map name_row (filter test es)) name ≡ value_at bytes_eq (map name_row es) name
+        → value_at bytes_eq (map name_row (cond b (e ∷ filter test es) (filter test es))) name ≡ value_at bytes_eq (map name_row (e ∷ es)) name
+    by_test true stays rest = ap (λ (r : Option ℕ). cond (bytes_eq e.1.name name) (Some e.0) r) rest
+    by_test false goes rest = rest ∙ sym (by_name (bytes_eq e.1.name name) refl)
+      where
+        by_name : (b : Bool) → bytes_eq e.1.name name ≡ b
+            → cond b (Some e.0) (value_at bytes_eq (map name_row es) name) ≡ value_at bytes_eq (map name_row es) name
+        by_name true same =
+            let is : e.1.name ≡ name = (bytes_eq-Decides e.1.name name).0 same in
+            absurd (let yes = stands e (λ none. some (sym is ∙ none)) in cc)
+        by_name false apart = refl
+
+pub named-left : {X : Type 0} (test : ℕ × NamedEntry X → Bool) → ((e : ℕ × NamedEntry X) → e.1.name ≢ [] → test e ≡ true)
+    → (o : Named X) (name : List ℕ) → named (kept_if test o) name ≡ named o name
+named-left test stands o name = by_name (is_none name) refl
+  where
+    by_name : (b : Bool) → is_none name ≡ b → cond b None (value_at bytes_eq (map name_row (filter test o.entries)) name)
+        ≡ cond b None (value_at bytes_eq (map name_row o.entries) name)
+    by_name true none = refl
+    by_name false has = named-kept test stands o.entries name (λ none. let yes : is_none name ≡ true = (bytes_eq-Decides name []).1 none in cc)
+
+-- registrations are no matter of names
+pub deregistered-sound : (limits : Limits) (goes : Registration → Bool) (most : ℕ) (o : Named Mq)
+    → AreNamedObjects most (IsSoundMq limits) o → AreNamedObjects most (IsSoundMq limits) (without_registrations goes o)
+deregistered-sound limits goes most o h =
+    record {
+      numbered = seen-numbered most (deregistered goes) o h.numbered;
+      names = subst (λ (ks : List (List ℕ × ℕ)). All (λ (k : List ℕ × ℕ). k.0 ≢ [] → value_at bytes_eq ks k.0 ≡ Some k.1) ks) (sym (seen-names goes o.entries)) h.names;
+      modes = All-seen_as (λ e. e.1.mode < 512) (λ e. e.1.mode < 512) (deregistered goes) (λ e m. m) o.entries h.modes;
+      each = All-seen_as (λ e. IsSoundMq limits e.1.object) (λ e. IsSoundMq limits e.1.object) (deregistered goes)
+          (λ e g. record { maxmsg = g.maxmsg; msgsize = g.msgsize; count = g.count; messages = g.messages }) o.entries h.each;
+    }
+
+-- the directory that named them names them still
+pub agrees-again : (found new old : List ℕ → Option ℕ) → ((name : List ℕ) → new name ≡ old name) → Agrees found old → Agrees found new
+agrees-again found new old same agree = λ positive name. agree (λ key n is. positive key n (same key ∙ is)) name ∙ sym (same name)
+
+-- some of a list, by what its elements are
+pub filter-seen : {X Y : Type 0} (test : Y → Bool) (row : X → Y) (xs : List X) → map row (filter (λ x. test (row x)) xs) ≡ filter test (map row xs)
+filter-seen test row [] = refl
+filter-seen {X} {Y} test row (x ∷ xs) = by_test (test (row x)) (filter-seen test row xs)
+  where
+    by_test : (b : Bool) → map row (filter (λ x. test (row x)) xs) ≡ filter test (map row xs)
+        → map row (cond b (x ∷ filter (λ x. test (row x)) xs) (filter (λ x. test (row x)) xs)) ≡ cond b (row x ∷ filter test (map row xs)) (filter test (map row xs))
+    by_test true rest = ap (λ (ys : List Y). row x ∷ ys) rest
+    by_test false rest = rest
+
+-- ---- the parts of a state
+
+-- each object with a name stays
+pub named-stay : (ps : List (ℕ × Process)) (e : ℕ × NamedEntry Mq) → e.1.name ≢ [] → stays ps e ≡ true
+named-stay ps e some = first _ _ (by_name (is_none e.1.name) refl)
+  where
+    by_name : (b : Bool) → is_none e.1.name ≡ b → not b ≡ true
+    by_name true none = absurd (some ((bytes_eq-Decides e.1.name []).0 none))
+    by_name false has = refl
+
+-- what processes leave, of which some go, with their registrations
+module _ (limits : Limits) (ps left : List (ℕ × Process)) (goes : Registration → Bool) (o : Named Mq) (h : AreSoundMqs limits ps o) where
+  abbrev rest : Named Mq
+  rest = still_open left (without_registrations goes o)
+
+  pub mqs-left : All (IsRegistered left) rest.entries → AreSoundMqs limits left rest
+  mqs-left registered =
+      record {
+        named = kept_if-named limits.queues (IsSoundMq limits) (stays left) (named-stay left) (without_registrations goes o)
+            (deregistered-sound limits goes limits.queues o h.named);
+        forms = All-filter (stays left) (λ (e : ℕ × NamedEntry Mq). is_named_so e ≡ true) _
+            (All-seen_as (λ (e : ℕ × NamedEntry Mq). is_named_so e ≡ true) (λ (e : ℕ × NamedEntry Mq). is_named_so e ≡ true) (deregistered goes) (λ e f. f) o.entries h.forms);
+        stay = stay-left goes left o;
+        registered = registered;
+      }
+
+  -- those that are left have what they had
+  pub processes-left : All (Has limits o) left → All (Has limits rest) left
+  processes-left each = each-there limits o rest left (open-stay goes left o) each
+
+-- without a process
+All-without : {X : Type 0} (P : ℕ × X → Type 0) (es : List (ℕ × X)) (n : ℕ) → All P es → All P (without nat_eq es n)
+All-without P [] n all = all
+All-without {X} P (e ∷ es) n all = by_test (nat_eq e.0 n) (All-without P es n (All-tail P e es all))
+  where
+    by_test : (b : Bool) → All P (without nat_eq es n) → All P (cond b es (e ∷ without nat_eq es n))
+    by_test true rest = All-tail P e es all
+    by_test false rest = All-cons P e _ (All-head P e es all) rest
+
+module _ (limits : Limits) where
+  pub none-mqs : AreSoundMqs limits [] none_yet
+  none-mqs =
+      record {
+        named = none_yet-named limits.queues (IsSoundMq limits);
+        forms = All-nil _;
+        stay = All-nil _;
+        registered = All-nil _;
+      }
+
+  -- a process leaves
+  pub exit-mqs : (ps : Numbered Process) (pid : ℕ) (o : Named Mq) → AreSoundProcesses limits o ps → AreSoundMqs limits ps.entries o
+      → AreSoundProcesses limits (still_open (without nat_eq ps.entries pid) (without_registrations (is_by (Some pid) None) o)) (without_entry ps pid)
+      × AreSoundMqs limits (without nat_eq ps.entries pid) (still_open (without nat_eq ps.entries pid) (without_registrations (is_by (Some pid) None) o))
+  exit-mqs ps pid o processes mqs =
+      let left = without nat_eq ps.entries pid in (
+        record {
+          numbered = without_entry-numbered limits.processes ps pid processes.numbered;
+          descriptors = processes-left limits ps.entries left (is_by (Some pid) None) o mqs
+              (All-without (Has limits o) ps.entries pid processes.descriptors);
+        },
+        mqs-left limits ps.entries left (is_by (Some pid) None) o mqs (registered-exit ps.entries pid o mqs.registered),
+      )
+
+  -- all leave
+  pub restart-mqs : (ps : Numbered Process) (o : Named Mq) → AreSoundProcesses limits o ps → AreSoundMqs limits ps.entries o
+      → AreSoundProcesses limits (still_open [] (without_registrations (is_by None None) o)) (record { next = ps.next; entries = [] })
+      × AreSoundMqs limits [] (still_open [] (without_registrations (is_by None None) o))
+  restart-mqs ps o processes mqs = (
+    record { numbered = cleared-numbered limits.processes ps processes.numbered; descriptors = All-nil _ },
+    mqs-left limits ps.entries [] (is_by None None) o mqs (registered-none [] o),
+  )
+
+  -- one comes
+  pub with_process-mqs : (ps : Numbered Process) (cred : Cred) (o : Named Mq) → is_full limits.processes ps ≡ false → AreSoundProcesses limits o ps
+      → AreSoundMqs limits ps.entries o
+      → AreSoundProcesses limits o (with_new ps (record { cred = cred; descriptors = [] }))
+      × AreSoundMqs limits (with_new ps (record { cred = cred; descriptors = [] })).entries o
+  with_process-mqs ps cred o room processes mqs =
+      let p : Process = record { cred = cred; descriptors = [] } in
+      let more : List (ℕ × Process) = (ps.next, p) ∷ [] in (
+        record {
+          numbered = with_new-numbered limits.processes ps p room processes.numbered;
+          descriptors = All-push (Has limits o) ps.entries (ps.next, p) processes.descriptors (record { numbers = omega arith; each = All-nil _ });
+        },
+        record {
+          named = mqs.named;
+          forms = mqs.forms;
+          stay = All-weaker (λ (e : ℕ × NamedEntry Mq). stays ps.entries e ≡ true) (λ (e : ℕ × NamedEntry Mq). stays (ps.entries ++ more) e ≡ true)
+              (stays-more ps.entries more) o.entries mqs.stay;
+          registered = All-weaker (IsRegistered ps.entries) (IsRegistered (ps.entries ++ more)) (registered-more ps.entries more) o.entries mqs.registered;
+        },
+      )
+
+-- ---- how it is told
+
+-- some of a list, by what its elements are
+pub any-seen : {X Y : Type 0} (test : Y → Bool) (row : X → Y) (xs : List X) → list_any (λ x. test (row x)) xs ≡ list_any test (map row xs)
+any-seen test row [] = refl
+any-seen test row (x ∷ xs) = ap (λ (b : Bool). test (row x) || b) (any-seen test row xs)
+
+module _ (limits : Limits) where
+  message-decides : (msgsize : ℕ) (m : PlainMessage) → Decides (is_sound_mq_message msgsize m) (IsSoundMqMessage msgsize m)
+  message-decides msgsize m =
+      let both = Decides-and (nat_lt m.priority 32768) (nat_le (length m.text) msgsize) (Decides-ltb m.priority 32768) (leb-true _ _, le-leb _ _) in
+      (λ yes. let h = both.0 yes in record { priority = h.0; short = h.1 }, λ h. both.1 (h.priority, h.short))
+
+  pub mq-decides : (q : Mq) → Decides (is_sound_mq limits q) (IsSoundMq limits q)
+  mq-decides q =
+      let messages = Decides-by_and (is_sound_mq_message q.msgsize) (IsSoundMqMessage q.msgsize) (list_all (is_sound_mq_message q.msgsize))
+      (message-decides q.msgsize) refl (λ _ _. refl) q.messages in
+      let most : (n m : ℕ) → Decides (nat_le n m) (n ≤ m) = (λ n m. (leb-true n m, le-leb n m)) in
+      let all = Decides-and _ _ (Decides-ltb 0 q.maxmsg) (Decides-and _ _ (most q.maxmsg limits.maxmsg) (Decides-and _ _ (Decides-ltb 0 q.msgsize)
+      (Decides-and _ _ (most q.msgsize limits.msgsize) (Decides-and _ _ (most (length q.messages) q.maxmsg) messages)))) in (
+        λ yes. let h = all.0 yes in record {
+          maxmsg = (h.0, h.1.0);
+          msgsize = (h.1.1.0, h.1.1.1.0);
+          count = h.1.1.1.1.0;
+          messages = h.1.1.1.1.1;
+        },
+        λ h. all.1 (h.maxmsg.0, (h.maxmsg.1, (h.msgsize.0, (h.msgsize.1, (h.count, h.messages))))),
+      )
+
+-- a test of each of a list
+pub all-tests : {X Y : Type 0} (test : Y → Bool) (row : X → Y) (xs : List X) → Decides (list_all (λ x. test (row x)) xs) (All (λ y. test y ≡ true) (map row xs))
+all-tests test row xs = each-decides test (λ y. test y ≡ true) row xs (λ y. (λ yes. yes, λ yes. yes))
+
+-- there are as many of them without their registrations
+pub same-long : (f : NamedEntry Mq → NamedEntry Mq) (xs ys : List (Item (NamedEntry Mq))) → length (map item_row xs) ≡ length (seen_as f (map item_row ys))
+    → length xs ≡ length ys
+same-long f xs ys same =
+    omega (
+      arith,
+      length-map xs item_row,
+      length-map ys item_row,
+      length-map (map item_row ys) (λ (e : ℕ × NamedEntry Mq). let g : ℕ × NamedEntry Mq = (e.0, f e.1) in g),
+      same,
+    )
+
+-- ---- a restart twice
+
+module _ (f : NamedEntry Mq → NamedEntry Mq) (twice : (e : NamedEntry Mq) → f (f e) ≡ f e) (test : ℕ × NamedEntry Mq → Bool)
+    (same : (n : ℕ) (e : NamedEntry Mq) → test (n, f e) ≡ test (n, e)) where
+  left-again : (es : List (ℕ × NamedEntry Mq)) → filter test (seen_as f (filter test (seen_as f es))) ≡ filter test (seen_as f es)
+  left-again [] = refl
+  left-again (e ∷ es) = by_test (test (e.0, f e.1)) refl (left-again es)
+    where
+      by_test : (b : Bool) → test (e.0, f e.1) ≡ b → filter test (seen_as f (filter test (seen_as f es))) ≡ filter test (seen_as f es)
+          → filter test (seen_as f (cond b ((e.0, f e.1) ∷ filter test (seen_as f es)) (filter test (seen_as f es))))
+          ≡ cond b ((e.0, f e.1) ∷ filter test (seen_as f es)) (filter test (seen_as f es))
+      by_test true stands rest =
+          let again : test (e.0, f (f e.1)) ≡ true = same e.0 (f e.1) ∙ stands in
+          rw again (ap (λ (d : NamedEntry Mq). let g : ℕ × NamedEntry Mq = (e.0, d) in g ∷ filter test (seen_as f (filter test (seen_as f es)))) (twice e.1)
+          ∙ ap (λ (ds : List (ℕ × NamedEntry Mq)). let g : ℕ × NamedEntry Mq = (e.0, f e.1) in g ∷ ds) rest)
+      by_test false goes rest = rest
+
+none-again : (e : NamedEntry Mq) → deregistered (is_by None None) (deregistered (is_by None None) e) ≡ deregistered (is_by None None) e
+none-again e = by_registration e.object.registration
+  where
+    with_it : Option Registration → NamedEntry Mq
+    with_it r = record e { object = record e.object { registration = r } }
+
+    by_registration : (r : Option Registration) → with_it (unless_so (is_by None None) (unless_so (is_by None None) r)) ≡ with_it (unless_so (is_by None None) r)
+    by_registration None = refl
+    by_registration (Some r) = refl
+
+pub restarted-again : (o : Named Mq) → still_open [] (without_registrations (is_by None None) (still_open [] (without_registrations (is_by None None) o)))
+    ≡ still_open [] (without_registrations (is_by None None) o)
+restarted-again o =
+    ap (λ (es : List (ℕ × NamedEntry Mq)). let p : Named Mq = record { next = o.next; entries = es } in p)
+    (left-again (deregistered (is_by None None)) none-again (stays []) (λ n e. refl) o.entries)

@@ -1,0 +1,97 @@
+//! The names of the objects of one kind in their directory; no bytes are no name, and have no place there.
+
+ghost use Rattle.std.specs.Prelude.{◌≡◌, ◌≢◌, ◌<◌, ℕ, List, [], true, false, None, if◌then◌else◌, IsOk, OnOk, OnErr};
+ghost use Rattle.std.specs.Str.{bytes_eq};
+ghost use Rattle.ipc_keys.specs.Directory.{is_vacant};
+ghost use Rattle.ipc_state.specs.Directory.{HasNoSpareName, name_added, number_at, or_else};
+
+use ipc_keys::NameDir;
+use std::alloc::AllocError;
+
+/// The number of a name.
+pub(crate) fn number_at(names: &NameDir, name: &[u8]) -> Option<u32>
+    ensures { result ≡ number_at names.now name.now }
+{
+    if name.is_empty() {
+        return None;
+    }
+    names.find(name)
+}
+
+/// Makes room for a name that has no number, so that `bind` takes no memory; never refused if the room is there.
+pub(crate) fn reserve(names: &mut NameDir, name: &[u8]) -> Result<(), AllocError>
+    ensures names { (other : List ℕ) → number_at names.new other ≡ number_at names.old other }
+    ensures ok { OnOk result (name.now ≢ [] → number_at names.old name.now ≡ None
+        → is_vacant names.new name.now ≡ true) }
+    ensures succeeds { (name.now ≢ [] → number_at names.old name.now ≡ None
+        → is_vacant names.old name.now ≡ true) → IsOk result }
+    ensures others { (other : List ℕ) → other ≢ name.now
+        → is_vacant names.new other ≡ is_vacant names.old other }
+    ensures err { OnErr result (names.new ≡ names.old) }
+{
+    if name.is_empty() {
+        return Ok(());
+    }
+    if names.find(name).is_some() {
+        return Ok(());
+    }
+    names.reserve(name)
+}
+
+/// Gives back the room of a name that has no number.
+pub(crate) fn release(names: &mut NameDir, name: &[u8])
+    ensures names { (other : List ℕ) → number_at names.new other ≡ number_at names.old other }
+    ensures name { is_vacant names.new name.now ≡ false }
+    ensures others { (other : List ℕ) → other ≢ name.now
+        → is_vacant names.new other ≡ is_vacant names.old other }
+{
+    if names.find(name).is_none() {
+        names.unbind(name);
+    }
+}
+
+/// Gives a name, whose room is reserved, its number.
+pub(crate) fn bind(names: &mut NameDir, name: &[u8], number: u32)
+    requires vacant { name.now ≢ [] → is_vacant names.old name.now ≡ true }
+    requires number { 0 < number }
+    ensures names { (other : List ℕ) → number_at names.new other
+        ≡ or_else (number_at names.old other) (name_added name.now number other) }
+    ensures name { name.now ≢ [] → is_vacant names.new name.now ≡ false }
+    ensures others { (other : List ℕ) → other ≢ name.now
+        → is_vacant names.new other ≡ is_vacant names.old other }
+{
+    if name.is_empty() {
+        return;
+    }
+    names.bind(name, number);
+}
+
+/// Gives a name that was read its number, unless it has one; 0 is not given. Refused for want of memory.
+pub(crate) fn restore(names: &mut NameDir, name: &[u8], number: u32) -> Result<(), AllocError>
+    ensures names { OnOk result (0 < number → (other : List ℕ) → number_at names.new other
+        ≡ or_else (number_at names.old other) (name_added name.now number other)) }
+    ensures zero { OnOk result (number ≡ 0 → (other : List ℕ)
+        → number_at names.new other ≡ number_at names.old other) }
+    ensures err { OnErr result (names.new ≡ names.old) }
+{
+    if name.is_empty() {
+        return Ok(());
+    }
+    if names.find(name).is_some() {
+        return Ok(());
+    }
+    names.reserve(name)?;
+    if number > 0 {
+        names.bind(name, number);
+    }
+    Ok(())
+}
+
+/// Takes a name out.
+pub(crate) fn unbind(names: &mut NameDir, name: &[u8])
+    ensures names { (other : List ℕ) → number_at names.new other
+        ≡ if bytes_eq name.now other then None else number_at names.old other }
+    ensures spare { HasNoSpareName names.old → HasNoSpareName names.new }
+{
+    names.unbind(name);
+}
