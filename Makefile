@@ -23,8 +23,9 @@ help:
 	@echo "make serves the program as a server: clients by the dozen, crashes under load, what ends a connection, and what"
 	@echo "            docs/OPERATIONS.md says; the first sessions; examples/serve.sh, in which a message outlives a"
 	@echo "            crash; examples/users.sh, two users of a queue; examples/worker.sh, two who wait for jobs;"
-	@echo "            examples/lock.sh, a lock whose holder is killed; clients that wait by the dozen; semaphore sets; and"
-	@echo "            its calls of the system, watched, and each refused in turn. Two minutes, once built"
+	@echo "            examples/lock.sh, a lock whose holder is killed; examples/notify.sh, one who is told of a message;"
+	@echo "            clients that wait by the dozen; semaphore sets; POSIX queues; and its calls of the system, watched,"
+	@echo "            and each refused in turn. Two minutes, once built"
 	@echo "make memory the engine's tests and the program, with each allocation refused in turn"
 	@echo "make bench  processor time of runs, lines and ticks on both devices, peak memory, what a commit writes, and"
 	@echo "            commits a second on a file beside the same writes and syncs done bare; it ends with an error while"
@@ -79,9 +80,9 @@ runs: program
 SERVES = python3 tests/serve.py crates/ipcd/out/ipcd && python3 tests/operations.py crates/ipcd/out/ipcd && \
 	python3 tests/session.py crates/ipcd/out/ipcd && sh examples/serve.sh crates/ipcd/out/ipcd && \
 	sh examples/users.sh crates/ipcd/out/ipcd && sh examples/worker.sh crates/ipcd/out/ipcd && \
-	sh examples/lock.sh crates/ipcd/out/ipcd && \
+	sh examples/lock.sh crates/ipcd/out/ipcd && sh examples/notify.sh crates/ipcd/out/ipcd && \
 	python3 tests/waiting.py crates/ipcd/out/ipcd && python3 tests/waiting_load.py crates/ipcd/out/ipcd && \
-	python3 tests/semaphores.py crates/ipcd/out/ipcd && \
+	python3 tests/semaphores.py crates/ipcd/out/ipcd && python3 tests/posix_queues.py crates/ipcd/out/ipcd && \
 	python3 tests/calls.py crates/ipcd/out/ipcd && python3 tests/costs.py crates/ipcd/out/ipcd
 
 serves: program

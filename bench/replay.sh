@@ -1,7 +1,7 @@
 #!/bin/sh
-# What `replay` costs: a run without lines, a line and a request on the standard device and on the small one, beside other
-# queues and beside processes that wait, and a tick with many connections, in processor time; the peak memory; and what
-# a commit writes. The status is 1 if those that wait add more than they may.
+# What `replay` costs: a run without lines, a line and a request on the standard device and on the small one, beside
+# other queues, beside descriptors and beside processes that wait, and a tick with many connections, in processor time;
+# the peak memory; and what a commit writes. The status is 1 if those that wait add more than they may.
 #
 #     sh bench/replay.sh PROGRAM [GROUPS]
 #
@@ -190,6 +190,16 @@ lists() {
 	difference "$1 | $2 | $3" 120
 }
 
+# Lines of 16 requests on a POSIX queue on the standard device: of this kind, which the row names so, beside so many
+# other queues, with so many other processes that have 32 descriptors each.
+mqs() {
+	device standard
+	many=4
+	generate first kind="$1" count=0 size=0 together=16 others="$3" holding="$4"
+	generate whole kind="$1" count=$((16 * 120)) size=0 together=16 others="$3" holding="$4"
+	difference "$2 | $3 | $((32 * $4))" 120
+}
+
 # Lines of 16 requests on the standard device beside 31 other queues: with nobody who waits, with 63 processes that wait on
 # these, and with 63 that wait on the queue for other types. They take turns. Sets `ratio` to what the second is of the
 # first.
@@ -283,6 +293,16 @@ lists 1 0 0
 lists 64 0 0
 lists 64 31 0
 lists 64 31 63
+echo
+echo "| a line of 16 requests on a POSIX queue on the standard device | other queues, of names that differ in the last" \
+	"byte | descriptors of other processes | microseconds | range |"
+echo "|---|---|---|---|---|"
+mqs mqs "sends and receives, no byte" 0 0
+mqs mqs "sends and receives, no byte" 31 0
+mqs mqs "sends and receives, no byte" 31 63
+mqs opens "opens and closes" 0 0
+mqs opens "opens and closes" 31 0
+mqs opens "opens and closes" 31 63
 echo
 echo "| a line of 16 requests on the standard device, no byte, processes that wait | microseconds | range |"
 echo "|---|---|---|"

@@ -10,6 +10,10 @@
 # lists   COUNT lists of two operations with SEM_UNDO by one connection, TOGETHER of them in a line, on the last semaphore
 #         of a set of SIZE; OTHERS other sets, if there are any, have the rest of 512 semaphores; ADJUSTING other processes
 #         have an adjustment at each semaphore, which is saved before
+# mqs     COUNT requests by one connection on a POSIX queue: sends and receives in turn, of texts of SIZE bytes,
+#         TOGETHER of them in a line; OTHERS other queues have names of 255 bytes that differ from its own in the last,
+#         and HOLDING other processes have 32 descriptors each, on all queues in turn, which is saved before
+# opens   COUNT opens of the queue and closes in turn, beside the same
 # ticks   COUNT ticks while OPENED connections are open; then the last of these says HELLO
 #
 # A row of the table is a call: its opcode, its fields and what its reply brings. A field is its size in bytes, or
@@ -159,6 +163,72 @@ function perform(    number, piece, held) {
 	}
 }
 
+# The name of a POSIX queue: 254 bytes that all of them share, and one of its own.
+function name_of(number,    k) {
+	if (shared == "") {
+		shared = "2f"
+		for (k = 2; k <= 254; k++)
+			shared = shared "71"
+	}
+	return shared spelled(1, 65 + number)
+}
+
+# A call on the POSIX queue of this number, or on a descriptor, and its reply; the reply to an open brings a descriptor.
+function open_mq(conn, serial, number, descriptor) {
+	# O_CREAT is 0x40, O_RDWR 2
+	reply(conn, serial, "mq_open", descriptor)
+	return request(serial, "mq_open", 64 + 2 " " 6 * 64 " 0 0 0", name_of(number))
+}
+
+function close_mq(conn, serial, descriptor) {
+	reply(conn, serial, "close")
+	return request(serial, "close", descriptor)
+}
+
+# Connection 1 makes the other queues and then its own, whose descriptor is 0. The other processes come and open them.
+function make_mqs(    conn, number, requests, k) {
+	open(1)
+	data(1, request(1, "HELLO", "1000 100"))
+	reply(1, 1, "HELLO", 1)
+	for (number = 1; number <= others; number++)
+		data(1, open_mq(1, 2, number, 0) close_mq(1, 3, 0))
+	data(1, open_mq(1, 2, 0, 0))
+	for (conn = 2; conn <= 1 + holding; conn++) {
+		open(conn)
+		reply(conn, 1, "HELLO", conn)
+		requests = request(1, "HELLO", "1000 100")
+		for (k = 0; k < 32; k++)
+			requests = requests open_mq(conn, 2, k % (others + 1), k)
+		data(conn, requests)
+	}
+	print "save" > script
+}
+
+# Connection 1 sends and receives each text, or opens and closes the queue.
+function use_mq(    number, piece, held, text) {
+	piece = ""
+	held = 0
+	for (number = 1; number <= count; number++) {
+		if (kind == "opens")
+			piece = piece (number % 2 == 1 ? open_mq(1, number, 0, 1) : close_mq(1, number, 1))
+		else {
+			text = text_of(size, int((number + 1) / 2))
+			if (number % 2 == 1) {
+				piece = piece request(number, "mq_send", 0, endless spelled(4, 7) text)
+				reply(1, number, "mq_send")
+			} else {
+				piece = piece request(number, "mq_receive", 0, endless spelled(4, 8192))
+				reply(1, number, "mq_receive", 7, text)
+			}
+		}
+		if (++held == together || number == count) {
+			data(1, piece)
+			piece = ""
+			held = 0
+		}
+	}
+}
+
 # A text of so many bytes that begins with the number, where it has four.
 function text_of(bytes, number) {
 	while (length(filler) < 2 * bytes)
@@ -195,6 +265,11 @@ BEGIN {
 	row("semget", "14", "4 4 4", "4")
 	# Its text is the timeout and the operations.
 	row("semop", "15", "4 text", "")
+	row("mq_open", "28", "4 4 1 4 4 text", "4")
+	row("close", "03", "4", "")
+	# Their texts begin with the deadline; then comes the priority or the size.
+	row("mq_send", "2a", "4 text", "")
+	row("mq_receive", "2b", "4 text", "4 text")
 	endless = "ffffffffffffffff"
 	# IPC_CREAT is 0x200
 	create_0600 = 512 + 6 * 64
@@ -218,6 +293,9 @@ BEGIN {
 		make_sets()
 		adjust()
 		perform()
+	} else if (kind == "mqs" || kind == "opens") {
+		make_mqs()
+		use_mq()
 	} else if (kind == "ticks") {
 		for (conn = 1; conn <= opened; conn++)
 			open(conn)

@@ -48,6 +48,19 @@ connection has ended, in whatever way: SEM_UNDO gives back what a process has ta
 The server itself ends a list that waits after `timeout` seconds, as semtimedop(2) has it: that is a
 BlockingIOError (EAGAIN).
 
+POSIX message queues have names, and mq_open(3) answers a descriptor. `timeout` is in seconds: a send
+to a full queue, or a receive from an empty one, that waits longer is a TimeoutError (ETIMEDOUT).
+
+    jobs = connection.mq_open("/jobs", O_CREAT | O_RDWR, 0o600, MqAttr(maxmsg=4, msgsize=64))
+    connection.mq_send(jobs, b"sweep", priority=5)
+    priority, text = connection.mq_receive(jobs, 64, timeout=2.5)
+
+A process may be told once, by a notification, that a message has come to an empty queue. It comes
+unasked, maybe before the reply to a call, and is kept until `notification` hands it out.
+
+    connection.mq_notify(jobs, NOTIFY_FRAME, cookie=7)
+    descriptor, cookie = connection.notification()
+
 A client that need not wait for each reply sends some requests ahead, and then receives the replies,
 which come in the same order if no call waits.
 
@@ -69,6 +82,7 @@ import select
 import socket
 import struct
 import time
+from collections import deque
 from collections.abc import Sequence
 from typing import NamedTuple
 
@@ -79,9 +93,27 @@ IPC_NOWAIT = 0o4000
 MSG_NOERROR = 0o10000
 MSG_EXCEPT = 0o20000
 SEM_UNDO = 0o10000
+O_RDONLY = 0
+O_WRONLY = 1
+O_RDWR = 2
+O_CREAT = 0o100
+O_EXCL = 0o200
+O_NONBLOCK = 0o4000
+
+# What a process asks of mq_notify(3): no longer to be told, not to be told, or to be told by a frame.
+NOTIFY_NOT, NOTIFY_NULL, NOTIFY_FRAME = 0, 1, 2
 
 # A number of a semaphore, what is added to its value, or 0 to wait for 0, and maybe flags, as in semop(2).
 Operation = tuple[int, int] | tuple[int, int, int]
+
+
+class MqAttr(NamedTuple):
+    """What there is to know of a POSIX queue, see mq_getattr(3). Flags are 0 or O_NONBLOCK."""
+
+    flags: int = 0
+    maxmsg: int = 0
+    msgsize: int = 0
+    curmsgs: int = 0
 
 
 # Requests: an opcode, and the fields of the call.
@@ -124,10 +156,9 @@ def semget_request(key: int, nsems: int, semflg: int) -> bytes:
 
 
 def semop_request(semid: int, sops: Sequence[Operation], timeout: float | None = None) -> bytes:
-    """The timeout is in seconds; in the request it is in milliseconds, and the greatest number is none."""
-    wait = 2**64 - 1 if timeout is None else round(1000 * timeout)
+    """The timeout is in seconds."""
     operations = (struct.pack(">HhH", *sop, *(3 - len(sop)) * [0]) for sop in sops)
-    return struct.pack(">BIQ", 0x15, semid, wait) + b"".join(operations)
+    return struct.pack(">BIQ", 0x15, semid, _milliseconds(timeout)) + b"".join(operations)
 
 
 def semctl_getval_request(semid: int, semnum: int) -> bytes:
@@ -168,6 +199,47 @@ def semctl_set_request(semid: int, uid: int, gid: int, mode: int) -> bytes:
 
 def semctl_rmid_request(semid: int) -> bytes:
     return struct.pack(">BI", 0x1F, semid)
+
+
+def close_request(descriptor: int) -> bytes:
+    return struct.pack(">BI", 0x03, descriptor)
+
+
+def mq_open_request(name: str | bytes, oflag: int, mode: int = 0, attr: MqAttr | None = None) -> bytes:
+    """Without attributes a new queue has the greatest of the server. Of those given maxmsg and msgsize count."""
+    given = (0, 0, 0) if attr is None else (1, attr.maxmsg, attr.msgsize)
+    return struct.pack(">BIIBii", 0x28, oflag, mode, *given) + os.fsencode(name)
+
+
+def mq_unlink_request(name: str | bytes) -> bytes:
+    return b"\x29" + os.fsencode(name)
+
+
+def mq_send_request(mqdes: int, text: bytes, priority: int = 0, deadline: float | None = None) -> bytes:
+    """The deadline is in seconds, as time.time() has them."""
+    return struct.pack(">BIQI", 0x2A, mqdes, _milliseconds(deadline), priority) + text
+
+
+def mq_receive_request(mqdes: int, size: int, deadline: float | None = None) -> bytes:
+    """The deadline is in seconds, as time.time() has them."""
+    return struct.pack(">BIQI", 0x2B, mqdes, _milliseconds(deadline), size)
+
+
+def mq_notify_request(mqdes: int, kind: int, cookie: int = 0) -> bytes:
+    return struct.pack(">BIII", 0x2C, mqdes, kind, cookie)
+
+
+def mq_getattr_request(mqdes: int) -> bytes:
+    return struct.pack(">BI", 0x2D, mqdes)
+
+
+def mq_setattr_request(mqdes: int, flags: int) -> bytes:
+    return struct.pack(">BII", 0x2E, mqdes, flags)
+
+
+def _milliseconds(seconds: float | None) -> int:
+    """In a request a time is in milliseconds, and the greatest number is none."""
+    return 2**64 - 1 if seconds is None else round(1000 * seconds)
 
 
 class QueueStat(NamedTuple):
@@ -220,6 +292,8 @@ class Connection:
         self._read = bytearray()
         self._serial = 0
         self._interrupts: set[int] = set()
+        self._replies: deque[tuple[int, int, bytes]] = deque()
+        self._notifications: deque[tuple[int, int]] = deque()
 
     def __enter__(self) -> Connection:
         return self
@@ -320,6 +394,53 @@ class Connection:
         """Removes a semaphore set, IPC_RMID of semctl(2). Calls that wait for it are EIDRM."""
         self.call(semctl_rmid_request(semid))
 
+    def mq_open(self, name: str | bytes, oflag: int, mode: int = 0, attr: MqAttr | None = None) -> int:
+        """A descriptor of the POSIX queue with this name, see mq_open(3)."""
+        return _number(self.call(mq_open_request(name, oflag, mode, attr)))
+
+    def mq_close(self, mqdes: int) -> None:
+        """Closes a descriptor, see mq_close(3)."""
+        self.call(close_request(mqdes))
+
+    def mq_unlink(self, name: str | bytes) -> None:
+        """Takes the name off a queue, which goes with its last descriptor, see mq_unlink(3)."""
+        self.call(mq_unlink_request(name))
+
+    def mq_send(self, mqdes: int, text: bytes, priority: int = 0, timeout: float | None = None) -> None:
+        """Appends a message to the queue, see mq_send(3). It waits while the queue is full, `timeout` seconds at
+        most, if they are given: then it is ETIMEDOUT."""
+        self.call(mq_send_request(mqdes, text, priority, _deadline(timeout)))
+
+    def mq_receive(self, mqdes: int, size: int, timeout: float | None = None) -> tuple[int, bytes]:
+        """Takes the oldest message of the greatest priority off the queue: the priority and the text, see
+        mq_receive(3). It waits while the queue is empty, as mq_send does while it is full."""
+        body = self.call(mq_receive_request(mqdes, size, _deadline(timeout)))
+        return _number(body[:4]), body[4:]
+
+    def mq_notify(self, mqdes: int, kind: int, cookie: int = 0) -> None:
+        """Asks to be told of the next message that comes to the queue while it is empty, see mq_notify(3)."""
+        self.call(mq_notify_request(mqdes, kind, cookie))
+
+    def mq_getattr(self, mqdes: int) -> MqAttr:
+        """What there is to know of a queue, see mq_getattr(3)."""
+        return MqAttr(*struct.unpack(">IIII", self.call(mq_getattr_request(mqdes))))
+
+    def mq_setattr(self, mqdes: int, flags: int) -> MqAttr:
+        """Sets or clears O_NONBLOCK of a descriptor, see mq_setattr(3). Answers what was so before."""
+        return MqAttr(*struct.unpack(">IIII", self.call(mq_setattr_request(mqdes, flags))))
+
+    def notification(self, timeout: float | None = None) -> tuple[int, int]:
+        """The next notification: the descriptor that registered, and its cookie. Without one for `timeout`
+        seconds it raises TimeoutError. Replies that come meanwhile are kept for `receive`."""
+        end = self._end(timeout)
+        while not self._notifications:
+            reply = self._frame(end)
+            if reply is not None:
+                self._replies.append(reply)
+                if reply[0] == 0:
+                    raise OSError(reply[1], os.strerror(reply[1]))
+        return self._notifications.popleft()
+
     def call(self, request: bytes, timeout: float | None = None) -> bytes:
         """Sends a request, and answers the body of its reply. All earlier replies were received. After
         `timeout` seconds it is interrupted: the reply is EINTR then, or one that came first."""
@@ -345,16 +466,30 @@ class Connection:
         """The next reply: its serial, its error number, which is 0 for success, and its body. Without
         one for `timeout` seconds it raises TimeoutError; it may still come."""
         end = self._end(timeout)
-        while True:
-            self._fill(4, end)
-            size = 4 + int.from_bytes(self._read[:4], "big")
-            self._fill(size, end)
-            serial, error = struct.unpack(">IH", self._read[4:10])
-            body = bytes(self._read[10:size])
-            del self._read[:size]
-            if error or serial not in self._interrupts:
-                return serial, error, body
+        while not self._replies:
+            reply = self._frame(end)
+            if reply is not None:
+                return reply
+        return self._replies.popleft()
+
+    def _frame(self, end: float | None) -> tuple[int, int, bytes] | None:
+        """The next frame, if it is a reply that somebody wants. A notification, which is a frame of serial 0
+        and no error, is kept."""
+        self._fill(4, end)
+        size = 4 + int.from_bytes(self._read[:4], "big")
+        self._fill(size, end)
+        serial, error = struct.unpack(">IH", self._read[4:10])
+        body = bytes(self._read[10:size])
+        del self._read[:size]
+        if error:
+            return serial, error, body
+        if serial == 0:
+            self._notifications.append(struct.unpack(">II", body))
+        elif serial in self._interrupts:
             self._interrupts.remove(serial)
+        else:
+            return serial, error, body
+        return None
 
     def _write(self, data: bytes) -> None:
         """Writes all of this, and reads while the socket takes no more."""
@@ -391,6 +526,10 @@ class Connection:
         for _, came in ready.poll(None if end is None else 1000 * max(0, end - time.monotonic())):
             return came
         raise TimeoutError("the server does not answer")
+
+
+def _deadline(timeout: float | None) -> float | None:
+    return None if timeout is None else time.time() + timeout
 
 
 def _number(body: bytes) -> int:

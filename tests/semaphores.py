@@ -24,9 +24,11 @@ from server import (  # noqa: E402
     Client,
     Server,
     Worker,
+    as_user,
     check,
     frame,
     in_a_folder,
+    is_refused,
     printed,
     process,
     reply,
@@ -49,15 +51,6 @@ from client import (  # noqa: E402
 MODE = 0o600
 
 
-def is_refused(call: Callable[[], object], wanted: int) -> None:
-    try:
-        found = call()
-    except OSError as refusal:
-        check(refusal.errno == wanted, f"{refusal}, and not {errno.errorcode[wanted]}")
-        return
-    check(False, f"{found} is answered, and not {errno.errorcode[wanted]}")
-
-
 def has(client: Client, semid: int, values: list[int], pids: list[int]) -> None:
     """The set has these values, one by one and all together, and these processes have set them."""
     found = client.semctl_getall(semid)
@@ -66,12 +59,6 @@ def has(client: Client, semid: int, values: list[int], pids: list[int]) -> None:
     check(found == values, f"the semaphores of set {semid} have {found}, and not {values}")
     found = [client.semctl_getpid(semid, number) for number in range(len(pids))]
     check(found == pids, f"{found} have set them, and not {pids}")
-
-
-def as_user(uid: int, gid: int) -> Client:
-    client = Client()
-    client.hello(uid, gid)
-    return client
 
 
 # ---- each call

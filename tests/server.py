@@ -187,8 +187,12 @@ class Client(Connection):
 
 def process() -> Client:
     """A client that is a process."""
+    return as_user(1000, 100)
+
+
+def as_user(uid: int, gid: int) -> Client:
     client = Client()
-    client.hello(1000, 100)
+    client.hello(uid, gid)
     return client
 
 
@@ -199,6 +203,20 @@ def until_it_waits(client: Client, request: bytes) -> int:
     answer = client.receive()
     check(answer == (after, errno.EALREADY, b""), f"{answer} is answered while a call waits")
     return serial
+
+
+def is_refused(call: Callable[[], object], wanted: int) -> None:
+    try:
+        found = call()
+    except OSError as refusal:
+        check(refusal.errno == wanted, f"{refusal}, and not {errno.errorcode[wanted]}")
+        return
+    check(False, f"{found} is answered, and not {errno.errorcode[wanted]}")
+
+
+def is_answered(client: Client, serial: int, error: int = 0, body: bytes = b"") -> None:
+    answer = client.receive()
+    check(answer == (serial, error, body), f"{answer} is answered, and not {(serial, error, body)}")
 
 
 class Worker(threading.Thread):

@@ -31,6 +31,7 @@ from server import (  # noqa: E402
     frame,
     full_disk,
     in_a_folder,
+    is_answered,
     listing,
     printed,
     process,
@@ -57,11 +58,6 @@ Answer = tuple[int, int, bytes]
 def message(mtype: int, text: bytes) -> bytes:
     """The body of a receive's reply."""
     return struct.pack(">q", mtype) + text
-
-
-def is_answered(client: Client, serial: int, error: int = 0, body: bytes = b"") -> None:
-    answer = client.receive()
-    check(answer == (serial, error, body), f"{answer} is answered, and not {(serial, error, body)}")
 
 
 def has_messages(client: Client, queue: int, count: int) -> None:

@@ -1,7 +1,8 @@
 //! The flags of the calls, by their names in the manual pages. A bit that has no name here is kept
 //! and means nothing.
 
-ghost use Rattle.std.specs.Prelude.{⊤, [], ◌∷◌, codes};
+ghost use Rattle.std.specs.Prelude.{⊤, [], ◌∷◌, ◌≡◌, codes};
+ghost use Rattle.std.specs.Int.RustNames.{bit_and};
 
 use bitflags::{Flag, Flags, bitflag_items};
 
@@ -105,7 +106,8 @@ impl Flags for SemFlags {
     }
 }
 
-/// The flags of mq_open(3), sem_open(3) and shm_open(3). The low two bits are the access mode.
+/// The flags of mq_open(3), sem_open(3) and shm_open(3), as open(2) has them, and of mq_setattr(3). The low two bits
+/// are the access mode.
 #[derive(Clone, Copy, Debug, PartialEq, Eq)]
 pub struct OpenFlags(pub u32);
 
@@ -140,5 +142,14 @@ impl Flags for OpenFlags {
 
     fn from_bits_retain(bits: u32) -> OpenFlags {
         OpenFlags(bits)
+    }
+}
+
+impl OpenFlags {
+    /// The access mode of open(2): 0 is O_RDONLY, 1 O_WRONLY and 2 O_RDWR; 3 is none of them.
+    pub fn access_mode(self) -> u32
+        ensures { result ≡ bit_and self.0 3 }
+    {
+        self.0 & 3
     }
 }

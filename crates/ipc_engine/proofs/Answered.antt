@@ -1,10 +1,11 @@
 -- An event sends a process no more than it has asked for: of replies, and of bytes.
-use Rattle.std.proofs.Common.{◌≡◌, ◌≢◌, ℕ, ◌+◌, ◌<◌, ◌≤◌, Bool, true, false, not, List, [], ◌∷◌, ◌++◌, Option, Some}
+use Rattle.std.proofs.Common.{◌≡◌, ◌≢◌, ℕ, ◌+◌, ◌*◌, ◌<◌, ◌≤◌, Bool, true, false, not, List, [], ◌∷◌, ◌++◌, Option, Some}
 use Rattle.std.proofs.Common.{None, is_some, arith, refl, sym, ap, ◌∙◌, subst, inl, inr, length, map}
 use Rattle.std.specs.Prelude.{◌==◌, if◌then◌else◌, nat_eq}
 use Rattle.std.specs.Cmp.{nat_eq_equiv}
 use Rattle.std.proofs.lemmas.Bool.Decides.{nat_tests}
 use Rattle.ipc_base.specs.Limits.{longest_reply}
+use Rattle.ipc_base.specs.declared.errno.Errno.{Errno}
 use Rattle.ipc_base.specs.declared.errno.Errno.TheVariants.{EALREADY, EINTR, ENFILE, EPROTO}
 use Rattle.ipc_base.specs.declared.identity.Cred.{Cred}
 use Rattle.ipc_base.specs.declared.identity.Pid.{Pid}
@@ -13,27 +14,30 @@ use Rattle.ipc_base.proofs.CallerLemmas.{choice, is_some-push, rising-found}
 use Rattle.ipc_base.specs.declared.identity.Moment.{Moment}
 use Rattle.ipc_wait.specs.Waits.{call_of, calls_due, calls_left, without, is_due, is_of}
 use Rattle.ipc_wait.proofs.CallerLemmas.{call_of-without_same, call_of-without_other}
-use Rattle.ipc_wire.specs.Request.{PlainCall, PlainKind, PlainRequest, Hello, Interrupt as Interrupts, Calls}
+use Rattle.ipc_wire.specs.Request.{PlainKind, PlainRequest, Hello, Interrupt as Interrupts, Calls, Posix}
 use Rattle.ipc_wire.specs.declared.reply.Body.TheVariants.{Empty, Number}
 use Rattle.ipc_wire.specs.Reply.{reply_bytes}
 use Rattle.ipc_wire.proofs.CallerLemmas.{length-reply_bytes}
 use Rattle.ipc_state.specs.declared.parked.Awaited.{Awaited}
 use Rattle.ipc_state.specs.Finish.{Finish, Tried, Finishes, Waits, IfFinishes, has_to_wait, refused}
 use Rattle.ipc_state.specs.Sound.{HasSoundParts, FitsBody}
-use Rattle.ipc_state.specs.State.{State, has_all_processes, is_process, is_waiting, exit, with_waiting, without_waiting}
+use Rattle.ipc_state.specs.State.{State, has_all_processes, is_process, is_waiting, exit, restart, with_process, with_waiting, without_waiting}
 use Rattle.ipc_state.specs.Waiting.{PlainWaiting, awaited_by, expiry}
-use Rattle.ipc_state.proofs.CallerLemmas.{IsGood, exit-sound}
-use Rattle.sysv_calls.specs.Calls.{attempt, touched}
-use Rattle.sysv_calls.proofs.CallerLemmas.{attempt-good, never-waits}
-use Rattle.ipc_engine.specs.Bytes.{IsGreeted, allowed, asked_by, asks, bytes_to, most_owed, owed, replies_to, unanswered}
+use Rattle.ipc_state.proofs.CallerLemmas.{exit-sound}
+use Rattle.posix_calls.specs.Registrations.{may_make, own, registrations}
+use Rattle.posix_calls.proofs.CallerLemmas.{registrations-exited, registrations-few, registrations-none, registrations-restarted}
+use Rattle.ipc_engine.specs.Bytes.{IsGreeted, allowed, asked_by, asks, bytes_to, most_owed, notice_bytes, owed, replies_to, unanswered}
 use Rattle.ipc_engine.specs.Event.{PlainEvent, Connect, Call, Interrupt, Tick, Exit, Restart, PlainOutcome}
+use Rattle.ipc_engine.specs.Settling.{touched_by}
 use Rattle.ipc_engine.specs.Sound.{IsSound, HasToWait}
-use Rattle.ipc_engine.specs.Step.{Step, after, step, due, expired, waiting_on, asked, connect, told, joins, interrupt, interrupted, replied, settle}
+use Rattle.ipc_engine.specs.Step.{Step, after, step, due, expired, waiting_on, asked, called, connect, told, joins, tried}
+use Rattle.ipc_engine.specs.Step.{interrupt, interrupted, replied, settle}
 use Rattle.ipc_engine.specs.View.{reply_of}
 use Rattle.ipc_engine.proofs.Lists.{found-all, found-passes}
 use Rattle.ipc_engine.proofs.Settled.{settle-has}
 use Rattle.ipc_engine.proofs.Soundness.{due-sound}
-use Rattle.ipc_engine.proofs.Weights.{weight_to, weight_to-append, one-weighs, due-owes, held, IsLight}
+use Rattle.ipc_engine.proofs.Tries.{HasEnded, tried-ended, tried-never}
+use Rattle.ipc_engine.proofs.Weights.{weight_to, weight_to-append, one-weighs, replied-weighs, due-owes, held, notes, notes-less, notes-same, IsLight}
 use Rattle.ipc_engine.proofs.Weights.{one_each, size_of, one-light, size-light, replies-weigh, bytes-weigh}
 
 -- ---- what is owed
@@ -89,130 +93,141 @@ joined-owes most s w q = by_tests (is_waiting s q) (w.pid.0 == q) (is_waiting-pu
 
 -- ---- what an event sends
 
-module _ (limits : Limits) (weigh : PlainOutcome → ℕ) (most : ℕ) (light : IsLight limits weigh most) where
+-- what a process is owed, a reply and notifications
+abbrev debt : ℕ → ℕ → State → ℕ → ℕ
+debt most note s pid = held most s pid + notes note s pid
+
+module _ (limits : Limits) (weigh : PlainOutcome → ℕ) (most note : ℕ) (light : IsLight limits weigh most note) where
+  -- it is sent no more than it was owed, with what it is owed then, and so much
+  abbrev Owes : State → Step → ℕ → ℕ → Type 0
+  Owes s t pid n = weight_to weigh pid t.outcomes + debt most note t.state pid ≤ debt most note s pid + n
+
+  abbrev asking : ℕ → ℕ → ℕ
+  asking pid asker = if pid == asker then most else 0
+
   empty-fits : FitsBody limits Empty
   empty-fits = omega arith
 
-  -- one reply that fits, to who asks
-  one-owes : (s : State) (pid asker serial : ℕ) (f : Finish) → FitsBody limits f.body → f.state.wait ≡ s.wait
-      → weight_to weigh pid (replied asker serial f).outcomes + held most f.state pid ≤ held most s pid + (if pid == asker then most else 0)
-  one-owes s pid asker serial f fits same =
-      omega (
-        arith,
-        one-weighs weigh limits most light (record { pid = asker; serial = serial; errno = f.errno; body = f.body }) pid (pid == asker) fits refl,
-        same-waits most s f.state pid same,
-      )
+  -- one reply that fits, to who asks, and a notification that was owed
+  one-owes : (s : State) (pid asker serial : ℕ) (f : Finish) → own pid f.fired + registrations f.state pid ≤ registrations s pid + may_make asker f.body pid
+      → FitsBody limits f.body → f.state.wait ≡ s.wait → Owes s (replied asker serial f) pid (asking pid asker)
+  one-owes s pid asker serial f owed fits same =
+      omega (arith, replied-weighs weigh limits most note light s asker serial f pid fits owed, same-waits most s f.state pid same)
 
-  interrupt-owes : (s : State) (pid asker serial : ℕ)
-      → weight_to weigh pid (interrupt asker serial s).outcomes + held most (interrupt asker serial s).state pid
-      ≤ held most s pid + (if pid == asker then most else 0)
+  refused-owes : (s : State) (pid asker serial : ℕ) (e : Errno) → Owes s (replied asker serial (refused s e)) pid (asking pid asker)
+  refused-owes s pid asker serial e = one-owes s pid asker serial (refused s e) (omega arith) empty-fits refl
+
+  interrupt-owes : (s : State) (pid asker serial : ℕ) → Owes s (interrupt asker serial s) pid (asking pid asker)
   interrupt-owes s pid asker serial = by_call (call_of (record { 0 = asker }) s.wait) refl
     where
       last : PlainOutcome
       last = record { pid = asker; serial = serial; errno = None; body = Empty }
 
-      own : weight_to weigh pid (last ∷ []) ≤ (if pid == asker then most else 0)
-      own = one-weighs weigh limits most light last pid (pid == asker) empty-fits refl
+      own-one : weight_to weigh pid (last ∷ []) ≤ asking pid asker
+      own-one = one-weighs weigh limits most note light last pid (pid == asker) empty-fits refl
 
       by_call : (r : Option PlainWaiting) → call_of (record { 0 = asker }) s.wait ≡ r
-          → weight_to weigh pid ((interrupted s asker r).outcomes ++ last ∷ []) + held most (interrupted s asker r).state pid
-          ≤ held most s pid + (if pid == asker then most else 0)
-      by_call None is = omega (arith, own)
+          → weight_to weigh pid ((interrupted s asker r).outcomes ++ last ∷ []) + debt most note (interrupted s asker r).state pid
+          ≤ debt most note s pid + asking pid asker
+      by_call None is = omega (arith, own-one)
       by_call (Some w) is =
           let o : PlainOutcome = record { pid = asker; serial = w.call.serial; errno = Some EINTR; body = Empty } in
-          let first = one-weighs weigh limits most light o pid (pid == asker) empty-fits refl in
+          let first = one-weighs weigh limits most note light o pid (pid == asker) empty-fits refl in
           let both = weight_to-append weigh pid (o ∷ []) (last ∷ []) in
           let left = left-owes most s (without_waiting s asker) asker pid refl in
+          let told = notes-same note s (without_waiting s asker) pid refl in
           let before : (pid == asker) ≡ true → held most s pid ≡ most =
           (λ same. let one : pid ≡ asker = grind (arith, nat_tests) in
           let waits : is_waiting s pid ≡ true = ap (λ (q : ℕ). is_waiting s q) one ∙ ap is_some is in
           rw waits refl) in
-          by_test (pid == asker) refl o first both left before
+          by_test (pid == asker) refl o first both left told before
         where
-          by_test : (b : Bool) → (pid == asker) ≡ b → (o : PlainOutcome) → weight_to weigh pid (o ∷ []) ≤ (if pid == asker then most else 0)
+          by_test : (b : Bool) → (pid == asker) ≡ b → (o : PlainOutcome) → weight_to weigh pid (o ∷ []) ≤ asking pid asker
               → weight_to weigh pid ((o ∷ []) ++ last ∷ []) ≡ weight_to weigh pid (o ∷ []) + weight_to weigh pid (last ∷ [])
               → held most (without_waiting s asker) pid ≡ (if pid == asker then 0 else held most s pid)
+              → notes note (without_waiting s asker) pid ≡ notes note s pid
               → ((pid == asker) ≡ true → held most s pid ≡ most)
-              → weight_to weigh pid ((o ∷ []) ++ last ∷ []) + held most (without_waiting s asker) pid
-              ≤ held most s pid + (if pid == asker then most else 0)
-          by_test true same o first both left before =
-              let mine = rw same at own in
+              → weight_to weigh pid ((o ∷ []) ++ last ∷ []) + debt most note (without_waiting s asker) pid
+              ≤ debt most note s pid + asking pid asker
+          by_test true same o first both left told before =
+              let mine = rw same at own-one in
               let one = rw same at first in
               let gone = rw same at left in
-              rw same (omega (arith, mine, one, both, gone, before same))
-          by_test false other o first both left before =
-              let mine = rw other at own in
+              rw same (omega (arith, mine, one, both, gone, told, before same))
+          by_test false other o first both left told before =
+              let mine = rw other at own-one in
               let one = rw other at first in
               let stays = rw other at left in
-              rw other (omega (arith, mine, one, both, stays))
+              rw other (omega (arith, mine, one, both, stays, told))
 
-  joins-owes : (s : State) (pid asker : ℕ) (request : PlainRequest) (on : Option Awaited)
-      → weight_to weigh pid (joins s asker request on).outcomes + held most (joins s asker request on).state pid
-      ≤ held most s pid + (if pid == asker then most else 0)
+  joins-owes : (s : State) (pid asker : ℕ) (request : PlainRequest) (on : Option Awaited) → Owes s (joins s asker request on) pid (asking pid asker)
   joins-owes s pid asker request None = omega arith
   joins-owes s pid asker request (Some on) =
-      choice (λ (t : Step). weight_to weigh pid t.outcomes + held most t.state pid ≤ held most s pid + (if pid == asker then most else 0))
-      (is_due (record { 0 = s.clock }) (waiting_on s asker request on)) _ _
-      (λ _. one-owes s pid asker request.serial (refused s (expiry request.kind)) empty-fits refl)
-      (λ _. omega (arith, joined-owes most s (waiting_on s asker request on) pid))
+      let w = waiting_on s asker request on in
+      choice (λ (t : Step). Owes s t pid (asking pid asker)) (is_due (record { 0 = s.clock }) w) _ _
+      (λ _. refused-owes s pid asker request.serial (expiry request.kind))
+      (λ _. omega (arith, joined-owes most s w pid, notes-same note s (with_waiting s w) pid refl))
 
-  told-owes : (s : State) (pid asker : ℕ) (request : PlainRequest) (call : PlainCall) (t : Tried) → IsSound limits s
-      → IfFinishes (IsGood limits s (touched call)) t
-      → weight_to weigh pid (told limits asker request s t).outcomes + held most (told limits asker request s t).state pid
-      ≤ held most s pid + (if pid == asker then most else 0)
+  told-owes : (s : State) (pid asker : ℕ) (request : PlainRequest) (t : Tried) → IsSound limits s
+      → IfFinishes (HasEnded limits s asker (touched_by s asker request.kind)) t
+      → Owes s (told limits asker request s t) pid (asking pid asker)
   unfolding settle
-  told-owes s pid asker request call (Finishes f) h good =
-      let own = one-owes s pid asker request.serial f (good.body h.parts) good.wait in
-      let later = (settle-has limits (length f.state.wait) f.state (good.state h.parts)).owes weigh most light pid in
+  told-owes s pid asker request (Finishes f) h ended =
+      let good = ended.good in
+      let first = one-owes s pid asker request.serial f (ended.leaves pid).owed (good.body h.parts) good.wait in
+      let later = (settle-has limits (length f.state.wait) f.state (good.state h.parts)).owes weigh most note light pid in
       let both = weight_to-append weigh pid (replied asker request.serial f).outcomes (settle limits f.state).outcomes in
-      omega (arith, own, later, both)
-  told-owes s pid asker request call Waits h good = joins-owes s pid asker request (awaited_by request.kind)
+      omega (arith, first, later, both)
+  told-owes s pid asker request Waits h ended = joins-owes s pid asker request (awaited_by request.kind)
+
+  called-owes : (s : State) (pid asker : ℕ) (request : PlainRequest) → IsSound limits s
+      → Owes s (called limits asker request s) pid (asking pid asker)
+  called-owes s pid asker request h =
+      choice (λ (t : Step). Owes s t pid (asking pid asker)) (is_waiting s asker) _ _
+      (λ _. refused-owes s pid asker request.serial EALREADY)
+      (λ free. told-owes s pid asker request (tried limits s asker false request.kind) h (tried-ended limits s asker false request.kind free))
 
   asked-owes : (s : State) (pid asker : ℕ) (request : PlainRequest) (kind : PlainKind) → IsSound limits s
-      → weight_to weigh pid (asked limits asker request kind s).outcomes + held most (asked limits asker request kind s).state pid
-      ≤ held most s pid + (if pid == asker then most else 0)
-  asked-owes s pid asker request (Hello cred) h = one-owes s pid asker request.serial (refused s EPROTO) empty-fits refl
+      → Owes s (asked limits asker request kind s) pid (asking pid asker)
+  asked-owes s pid asker request (Hello cred) h = refused-owes s pid asker request.serial EPROTO
   asked-owes s pid asker request Interrupts h = interrupt-owes s pid asker request.serial
-  asked-owes s pid asker request (Calls call) h =
-      choice (λ (t : Step). weight_to weigh pid t.outcomes + held most t.state pid ≤ held most s pid + (if pid == asker then most else 0))
-      (is_waiting s asker) _ _
-      (λ _. one-owes s pid asker request.serial (refused s EALREADY) empty-fits refl)
-      (λ _. told-owes s pid asker request call (attempt limits s asker false call) h (attempt-good limits s asker false call))
+  asked-owes s pid asker request (Calls call) h = called-owes s pid asker request h
+  asked-owes s pid asker request (Posix call) h = called-owes s pid asker request h
 
   connect-owes : (s : State) (cred : Cred) (serial pid : ℕ) → 0 < pid
-      → weight_to weigh pid (connect limits cred serial s).outcomes + held most (connect limits cred serial s).state pid
-      ≤ held most s pid + (if pid == s.processes.next then most else 0)
+      → Owes s (connect limits cred serial s) pid (if pid == s.processes.next then most else 0)
   connect-owes s cred serial pid some =
-      choice (λ (t : Step). weight_to weigh pid t.outcomes + held most t.state pid ≤ held most s pid + (if pid == s.processes.next then most else 0))
-      (has_all_processes limits s) _ _
+      choice (λ (t : Step). Owes s t pid (if pid == s.processes.next then most else 0)) (has_all_processes limits s) _ _
       (λ _. let none : (pid == 0) ≡ false = grind (arith, nat_tests) in rw none (omega arith))
       (λ _. omega (
         arith,
-        one-weighs weigh limits most light (record { pid = s.processes.next; serial = serial; errno = None; body = Number s.processes.next }) pid
+        one-weighs weigh limits most note light (record { pid = s.processes.next; serial = serial; errno = None; body = Number s.processes.next }) pid
             (pid == s.processes.next) (omega arith) refl,
+        notes-same note s (with_process s cred) pid refl,
       ))
 
   -- first those are answered whose deadline has come
   then-owes : (s : State) (moment pid n : ℕ) (next : State → Step) → IsSound limits s
-      → weight_to weigh pid (next (due moment s).state).outcomes + held most (next (due moment s).state).state pid ≤ held most (due moment s).state pid + n
-      → weight_to weigh pid (after (due moment s) next).outcomes + held most (after (due moment s) next).state pid ≤ held most s pid + n
+      → Owes (due moment s).state (next (due moment s).state) pid n → Owes s (after (due moment s) next) pid n
   then-owes s moment pid n next h later =
       omega (
         arith,
         later,
-        due-owes weigh limits most light (record { 0 = (due moment s).state.clock }) pid s.wait h.parts.wait.pids,
+        due-owes weigh limits most note light (record { 0 = (due moment s).state.clock }) pid s.wait h.parts.wait.pids,
+        notes-same note s (due moment s).state pid refl,
         weight_to-append weigh pid (due moment s).outcomes (next (due moment s).state).outcomes,
       )
 
   -- those that go on after it are owed no more either
-  settled-owes : (t : State) → HasSoundParts limits t → (pid : ℕ) {n : ℕ} → held most t pid ≤ n
-      → weight_to weigh pid (settle limits t).outcomes + held most (settle limits t).state pid ≤ n + 0
+  settled-owes : (t : State) → HasSoundParts limits t → (pid : ℕ) {n : ℕ} → debt most note t pid ≤ n
+      → weight_to weigh pid (settle limits t).outcomes + debt most note (settle limits t).state pid ≤ n + 0
   unfolding settle
-  settled-owes t h pid less = omega (arith, less, (settle-has limits (length t.wait) t h).owes weigh most light pid)
+  settled-owes t h pid less = omega (arith, less, (settle-has limits (length t.wait) t h).owes weigh most note light pid)
 
   -- it is owed no more then, by so much
   pub step-weighs : (s : State) (e : PlainEvent) (pid : ℕ) → IsSound limits s → 0 < pid
-      → weight_to weigh pid (step limits s e).outcomes + held most (step limits s e).state pid ≤ held most s pid + (if asks s e pid then most else 0)
+      → weight_to weigh pid (step limits s e).outcomes + (held most (step limits s e).state pid + notes note (step limits s e).state pid)
+      ≤ held most s pid + notes note s pid + (if asks s e pid then most else 0)
   step-weighs s (Connect cred serial moment) pid h some =
       then-owes s moment pid _ (connect limits cred serial) h (connect-owes (due moment s).state cred serial pid some)
   step-weighs s (Call asker request moment) pid h some =
@@ -221,38 +236,62 @@ module _ (limits : Limits) (weigh : PlainOutcome → ℕ) (most : ℕ) (light : 
   step-weighs s (Interrupt asker serial moment) pid h some =
       then-owes s moment pid _ (interrupt asker serial) h (interrupt-owes (due moment s).state pid asker serial)
   step-weighs s (Tick moment) pid h some =
-      omega (arith, due-owes weigh limits most light (record { 0 = (due moment s).state.clock }) pid s.wait h.parts.wait.pids)
+      omega (
+        arith,
+        due-owes weigh limits most note light (record { 0 = (due moment s).state.clock }) pid s.wait h.parts.wait.pids,
+        notes-same note s (due moment s).state pid refl,
+      )
   step-weighs s (Exit gone moment) pid h some =
       let d = (due moment s).state in
       let t = exit d gone in
+      let fewer = notes-less note d t pid (registrations-exited d gone pid) in
+      let free = choice (λ (n : ℕ). n ≡ held most t pid → held most t pid ≤ held most d pid) (pid == gone) 0 (held most d pid)
+      (λ _ is. omega arith) (λ _ is. omega arith) (sym (left-owes most d t gone pid refl)) in
       then-owes s moment pid 0 (λ u. settle limits (exit u gone)) h
-      (settled-owes t (exit-sound limits d gone (due-sound limits s moment h).parts) pid
-      (choice (λ (n : ℕ). n ≡ held most t pid → held most t pid ≤ held most d pid) (pid == gone) 0 (held most d pid)
-      (λ _ is. omega arith) (λ _ is. omega arith) (sym (left-owes most d t gone pid refl))))
-  step-weighs s Restart pid h some = omega arith
+      (settled-owes t (exit-sound limits d gone (due-sound limits s moment h).parts) pid (omega (arith, fewer, free)))
+  step-weighs s Restart pid h some = omega (arith, notes-less note s (restart s) pid (registrations-restarted s pid))
 
 module _ (limits : Limits) where
+  -- a notification is no reply
+  no-notes : (s : State) (pid : ℕ) → notes 0 s pid ≡ 0
+  unfolding notes
+  no-notes s pid = omega arith
+
   -- each request is answered once at most
   pub step-once : (s : State) (e : PlainEvent) (pid : ℕ) → IsSound limits s → 0 < pid
       → replies_to pid (step limits s e).outcomes + unanswered (step limits s e).state pid ≤ unanswered s pid + asked_by s e pid
   step-once s e pid h some =
-      omega (arith, step-weighs limits one_each 1 (one-light limits) s e pid h some, replies-weigh pid (step limits s e).outcomes)
+      omega (
+        arith,
+        step-weighs limits one_each 1 0 (one-light limits) s e pid h some,
+        replies-weigh pid (step limits s e).outcomes,
+        no-notes s pid,
+        no-notes (step limits s e).state pid,
+      )
+
+  -- what is owed is a reply while a call waits, and the notifications
+  owed-debt : (s : State) (pid : ℕ) → owed limits s pid ≡ held (longest_reply limits) s pid + notes notice_bytes s pid
+  unfolding owed notes
+  owed-debt s pid = refl
 
   -- and its bytes are no more than a reply may have
   pub step-owes : (s : State) (e : PlainEvent) (pid : ℕ) → IsSound limits s → 0 < pid
       → bytes_to pid (step limits s e).outcomes + owed limits (step limits s e).state pid ≤ owed limits s pid + allowed limits s e pid
-  unfolding owed
   step-owes s e pid h some =
-      omega (arith, step-weighs limits size_of (longest_reply limits) (size-light limits) s e pid h some, bytes-weigh pid (step limits s e).outcomes)
+      omega (
+        arith,
+        step-weighs limits size_of (longest_reply limits) notice_bytes (size-light limits) s e pid h some,
+        bytes-weigh pid (step limits s e).outcomes,
+        owed-debt s pid,
+        owed-debt (step limits s e).state pid,
+      )
 
-  -- what is owed is a reply while a call waits
-  owed-held : (s : State) (pid : ℕ) → owed limits s pid ≡ held (longest_reply limits) s pid
+  pub owed-most : (s : State) (pid : ℕ) → HasSoundParts limits s → owed limits s pid ≤ most_owed limits
   unfolding owed
-  owed-held s pid = refl
-
-  pub owed-most : (s : State) (pid : ℕ) → owed limits s pid ≤ most_owed limits
-  unfolding owed
-  owed-most s pid = choice (λ (n : ℕ). n ≤ longest_reply limits) (is_waiting s pid) (longest_reply limits) 0 (λ _. omega arith) (λ _. omega arith)
+  owed-most s pid h =
+      let few = registrations-few limits s pid h in
+      choice (λ (n : ℕ). n + notice_bytes * registrations s pid ≤ most_owed limits) (is_waiting s pid) (longest_reply limits) 0
+      (λ _. omega (arith, few)) (λ _. omega (arith, few))
 
   -- who waits is a process
   waits-process : (s : State) (pid : ℕ) → IsSound limits s → is_process s pid ≡ false → is_waiting s pid ≡ false
@@ -268,7 +307,9 @@ module _ (limits : Limits) where
 
   pub owed-none : (s : State) (pid : ℕ) → IsSound limits s → is_process s pid ≡ false → owed limits s pid ≡ 0
   unfolding owed
-  owed-none s pid h gone = rw (waits-process s pid h gone) refl
+  owed-none s pid h gone =
+      let none = registrations-none limits s pid h.parts gone in
+      rw (waits-process s pid h gone) (omega (arith, none))
 
   -- ---- a request without a reply
 
@@ -291,43 +332,46 @@ module _ (limits : Limits) where
       let o : PlainOutcome = record { pid = asker; serial = serial; errno = None; body = Empty } in
       one-sent o [] pid same (bytes-parts (interrupted s asker (call_of (record { 0 = asker }) s.wait)).outcomes (o ∷ []) pid none).1
 
-  told-unanswered : (s : State) (asker : ℕ) (request : PlainRequest) (call : PlainCall) (t : Tried) → request.kind ≡ Calls call
-      → attempt limits s asker false call ≡ t
+  told-unanswered : (s : State) (asker : ℕ) (request : PlainRequest) (t : Tried) → tried limits s asker false request.kind ≡ t
       → is_waiting s asker ≡ false → bytes_to asker (told limits asker request s t).outcomes ≡ 0
-      → (owed limits s asker ≡ 0) × (0 < owed limits (told limits asker request s t).state asker)
-  unfolding owed
-  told-unanswered s asker request call (Finishes f) is tried free none =
+      → (unanswered s asker ≡ 0) × (unanswered (told limits asker request s t).state asker ≡ 1)
+  told-unanswered s asker request (Finishes f) is free none =
       absurd (one-sent (record { pid = asker; serial = request.serial; errno = f.errno; body = f.body }) _ asker (grind (arith, nat_tests)) none)
-  told-unanswered s asker request call Waits is tried free none = (rw free refl, by_awaited (awaited_by request.kind) refl none)
+  told-unanswered s asker request Waits is free none = (rw free refl, by_awaited (awaited_by request.kind) refl none)
     where
       by_awaited : (on : Option Awaited) → awaited_by request.kind ≡ on → bytes_to asker (joins s asker request on).outcomes ≡ 0
-          → 0 < (if is_waiting (joins s asker request on).state asker then longest_reply limits else 0)
+          → unanswered (joins s asker request on).state asker ≡ 1
       by_awaited None nothing quiet = absurd (
-          let never = never-waits limits s asker false call (ap awaited_by (sym is) ∙ nothing) in
-          let waits : has_to_wait (attempt limits s asker false call) ≡ true = ap has_to_wait tried in cc)
+          let never = tried-never limits s asker false request.kind nothing in
+          let waits : has_to_wait (tried limits s asker false request.kind) ≡ true = ap has_to_wait is in cc)
       by_awaited (Some on) there quiet =
           let w : PlainWaiting = waiting_on s asker request on in
           let same : (asker == asker) ≡ true = grind (arith, nat_tests) in
-          choice (λ (t : Step). bytes_to asker t.outcomes ≡ 0 → 0 < (if is_waiting t.state asker then longest_reply limits else 0))
+          choice (λ (t : Step). bytes_to asker t.outcomes ≡ 0 → unanswered t.state asker ≡ 1)
           (is_due (record { 0 = s.clock }) w) _ _
           (λ _ quiet. absurd (one-sent (record { pid = asker; serial = request.serial; errno = Some (expiry request.kind); body = Empty }) [] asker same quiet))
           (λ _ quiet.
           let now : is_waiting (with_waiting s w) asker ≡ true = is_waiting-push s.wait w asker
           ∙ (ap (λ (b : Bool). if b then true else asker == asker) free ∙ same) in
-          rw now (omega arith))
+          rw now refl)
           quiet
 
-  asked-unanswered : (s : State) (asker : ℕ) (request : PlainRequest) (kind : PlainKind) → request.kind ≡ kind
-      → bytes_to asker (asked limits asker request kind s).outcomes ≡ 0
-      → (owed limits s asker ≡ 0) × (0 < owed limits (asked limits asker request kind s).state asker)
-  asked-unanswered s asker request (Hello cred) is none =
-      absurd (one-sent (record { pid = asker; serial = request.serial; errno = Some EPROTO; body = Empty }) [] asker (grind (arith, nat_tests)) none)
-  asked-unanswered s asker request Interrupts is none = absurd (interrupt-sent s asker asker request.serial (grind (arith, nat_tests)) none)
-  asked-unanswered s asker request (Calls call) is none =
-      choice (λ (t : Step). bytes_to asker t.outcomes ≡ 0 → (owed limits s asker ≡ 0) × (0 < owed limits t.state asker)) (is_waiting s asker) _ _
+  called-unanswered : (s : State) (asker : ℕ) (request : PlainRequest) → bytes_to asker (called limits asker request s).outcomes ≡ 0
+      → (unanswered s asker ≡ 0) × (unanswered (called limits asker request s).state asker ≡ 1)
+  called-unanswered s asker request none =
+      choice (λ (t : Step). bytes_to asker t.outcomes ≡ 0 → (unanswered s asker ≡ 0) × (unanswered t.state asker ≡ 1)) (is_waiting s asker) _ _
       (λ _ no. absurd (one-sent (record { pid = asker; serial = request.serial; errno = Some EALREADY; body = Empty }) [] asker (grind
       (arith, nat_tests)) no))
-      (λ free no. told-unanswered s asker request call (attempt limits s asker false call) is refl free no) none
+      (λ free no. told-unanswered s asker request (tried limits s asker false request.kind) refl free no) none
+
+  asked-unanswered : (s : State) (asker : ℕ) (request : PlainRequest) (kind : PlainKind)
+      → bytes_to asker (asked limits asker request kind s).outcomes ≡ 0
+      → (unanswered s asker ≡ 0) × (unanswered (asked limits asker request kind s).state asker ≡ 1)
+  asked-unanswered s asker request (Hello cred) none =
+      absurd (one-sent (record { pid = asker; serial = request.serial; errno = Some EPROTO; body = Empty }) [] asker (grind (arith, nat_tests)) none)
+  asked-unanswered s asker request Interrupts none = absurd (interrupt-sent s asker asker request.serial (grind (arith, nat_tests)) none)
+  asked-unanswered s asker request (Calls call) none = called-unanswered s asker request none
+  asked-unanswered s asker request (Posix call) none = called-unanswered s asker request none
 
   -- who is sent nothing at a moment waits on, if it waited
   due-left : (now : Moment) (ws : List PlainWaiting) (pid : ℕ) → is_some (call_of (record { 0 = pid }) ws) ≡ true
@@ -348,38 +392,36 @@ module _ (limits : Limits) where
           rest is (omega (arith, no))
       by_test false false other is quiet rest = rw other (rest is quiet)
 
-  -- who is sent nothing at a moment, and owed nothing then, was owed nothing
-  due-unowed : (s : State) (moment pid : ℕ) → IsSound limits s → bytes_to pid (due moment s).outcomes ≡ 0 → owed limits (due moment s).state pid ≡ 0
-      → owed limits s pid ≡ 0
-  unfolding owed
-  due-unowed s moment pid h quiet none = by_test (is_waiting s pid) refl
+  -- of whom no call waits after a moment that sends it nothing, of that none waited
+  due-free : (s : State) (moment pid : ℕ) → bytes_to pid (due moment s).outcomes ≡ 0 → unanswered (due moment s).state pid ≡ 0 → unanswered s pid ≡ 0
+  due-free s moment pid quiet none = by_test (is_waiting s pid) refl
     where
-      by_test : (b : Bool) → is_waiting s pid ≡ b → (if b then longest_reply limits else 0) ≡ 0
+      by_test : (b : Bool) → is_waiting s pid ≡ b → ◌≡◌ {A = ℕ} (if b then 1 else 0) 0
       by_test true waits =
           let left = due-left (record { 0 = (due moment s).state.clock }) s.wait pid waits quiet in
-          absurd (let no : longest_reply limits ≡ 0 = rw left at none in omega (arith, no))
+          absurd (let no : ◌≡◌ {A = ℕ} 1 0 = rw left at none in omega (arith, no))
       by_test false free = refl
 
-  pub unanswered-owed : (s : State) (e : PlainEvent) (pid : ℕ) → IsSound limits s → is_process s pid ≡ true → asks s e pid ≡ true
-      → bytes_to pid (step limits s e).outcomes ≡ 0 → (owed limits s pid ≡ 0) × (0 < owed limits (step limits s e).state pid)
-  unanswered-owed s (Connect cred serial moment) pid sound is asking none =
+  pub unanswered-waits : (s : State) (e : PlainEvent) (pid : ℕ) → IsSound limits s → is_process s pid ≡ true → asks s e pid ≡ true
+      → bytes_to pid (step limits s e).outcomes ≡ 0 → (unanswered s pid ≡ 0) × (unanswered (step limits s e).state pid ≡ 1)
+  unanswered-waits s (Connect cred serial moment) pid sound is asking none =
       let below = (rising-found 1 s.processes.entries s.processes.next pid sound.parts.processes.numbered.numbers is).1 in
       absurd (grind (arith, nat_tests, below, asking))
-  unanswered-owed s (Call asker request moment) pid sound is asking none =
+  unanswered-waits s (Call asker request moment) pid sound is asking none =
       let t = (due moment s).state in
       let one : pid ≡ asker = grind (arith, nat_tests, asking) in
       let parts = bytes-parts (due moment s).outcomes (asked limits asker request request.kind t).outcomes pid none in
       let mine : bytes_to asker (asked limits asker request request.kind t).outcomes ≡ 0 =
       ap (λ (q : ℕ). bytes_to q (asked limits asker request request.kind t).outcomes) (sym one) ∙ parts.1 in
-      let has = asked-unanswered t asker request request.kind refl mine in
-      let has_here = subst (λ (q : ℕ). (owed limits t q ≡ 0) × (0 < owed limits (asked limits asker request request.kind t).state q)) (sym one) has in
-      (due-unowed s moment pid sound parts.0 has_here.0, has_here.1)
-  unanswered-owed s (Interrupt asker serial moment) pid sound is asking none =
+      let has = asked-unanswered t asker request request.kind mine in
+      let has_here = subst (λ (q : ℕ). (unanswered t q ≡ 0) × (unanswered (asked limits asker request request.kind t).state q ≡ 1)) (sym one) has in
+      (due-free s moment pid parts.0 has_here.0, has_here.1)
+  unanswered-waits s (Interrupt asker serial moment) pid sound is asking none =
       absurd (interrupt-sent (due moment s).state pid asker serial asking
       (bytes-parts (due moment s).outcomes (interrupt asker serial (due moment s).state).outcomes pid none).1)
-  unanswered-owed s (Tick moment) pid sound is asking none = cc
-  unanswered-owed s (Exit gone moment) pid sound is asking none = cc
-  unanswered-owed s Restart pid sound is asking none = cc
+  unanswered-waits s (Tick moment) pid sound is asking none = cc
+  unanswered-waits s (Exit gone moment) pid sound is asking none = cc
+  unanswered-waits s Restart pid sound is asking none = cc
 
 -- the last reply of a HELLO is its own
 pub hello-greets : (limits : Limits) (s : State) (cred : Cred) (serial moment : ℕ) → IsGreeted s (step limits s (Connect cred serial moment))

@@ -1,11 +1,12 @@
 -- The replies of an event, and the buffer for bodies, which is there again after each step.
 use Rattle.std.proofs.Common.{◌≡◌, ◌≤◌, ℕ, List, [], ◌∷◌, ◌++◌, map, max, vec_capacity, refl, sym, subst, ap, ◌∙◌, arith}
 use Rattle.std.proofs.lemmas.List.{map-append}
-use Rattle.std.specs.Prelude.{All, Result, Ok, Err}
+use Rattle.std.specs.Prelude.{All, Option, Result, Ok, Err}
 use Rattle.std.specs.Global.{Vec}
 use Rattle.ipc_base.specs.declared.errno.Errno.{Errno}
 use Rattle.ipc_wire.specs.declared.reply.Body.{Body}
-use Rattle.ipc_state.specs.Finish.{finish_of}
+use Rattle.posix_mq.specs.declared.queue.Registration.{Registration}
+use Rattle.ipc_state.specs.Finish.{finish_firing}
 use Rattle.ipc_state.specs.State.{State}
 use Rattle.ipc_engine.specs.declared.event.Outcome.{Outcome}
 use Rattle.ipc_engine.specs.Buffer.{room_in, HasBuffer}
@@ -29,13 +30,14 @@ pushed old new o xs is as_said =
     ap (map plain_outcome) is ∙ (map-append plain_outcome old (o ∷ []) ∙ ap (λ (ys : List PlainOutcome). map plain_outcome old ++ ys) as_said)
 
 -- an answer leaves the state that it was made of
-pub finish-state : (s : State) (r : Result (Body (Vec ℕ)) Errno) → (finish_of s r).state ≡ s
-finish-state s (Ok body) = refl
-finish-state s (Err e) = refl
+pub finish-state : (s : State) (r : Result (Body (Vec ℕ)) Errno) (fired : Option Registration) → (finish_firing s r fired).state ≡ s
+finish-state s (Ok body) fired = refl
+finish-state s (Err e) fired = refl
 
 -- an answer leaves those that wait as they were, if what it is made of does
-pub waits-kept : (t s : State) (r : Result (Body (Vec ℕ)) Errno) → (finish_of t r).state.wait ≡ s.wait → t.wait ≡ s.wait
-waits-kept t s r same = ap (λ (u : State). u.wait) (sym (finish-state t r)) ∙ same
+pub waits-kept : (t s : State) (r : Result (Body (Vec ℕ)) Errno) (fired : Option Registration) → (finish_firing t r fired).state.wait ≡ s.wait
+    → t.wait ≡ s.wait
+waits-kept t s r fired same = ap (λ (u : State). u.wait) (sym (finish-state t r fired)) ∙ same
 
 -- the buffer that was taken back is there whatever stands in the replies
 pub buffer-spare : (limits now : Limits) (old new : Vec ℕ) (os us : List Outcome) → now ≡ limits → HasBuffer limits old os

@@ -13,8 +13,8 @@ use Rattle.ipc_engine.specs.Sound.{IsSound, HasToWait}
 use Rattle.ipc_state.specs.Numbered.{Numbered, entry_of}
 use Rattle.ipc_state.specs.State.{State, start, has_all_processes, is_process, exit, restart}
 use Rattle.ipc_state.specs.declared.processes.Process.{Process}
-use Rattle.ipc_engine.specs.Step.{Step, step, due, run}
-use Rattle.ipc_state.proofs.CallerLemmas.{start-sound as start-parts}
+use Rattle.ipc_engine.specs.Step.{Step, asked, settle, step, due, run}
+use Rattle.ipc_state.proofs.CallerLemmas.{same-connected, start-sound as start-parts}
 use Rattle.ipc_engine.specs.Bytes.{IsGreeted, allowed, asked_by, asks, bytes_to, most_owed, owed, replies_to, unanswered}
 use Rattle.ipc_engine.proofs.Settled.{settle-kept}
 use Rattle.ipc_engine.proofs.Soundness as soundness
@@ -52,15 +52,15 @@ step-once = answered.step-once
 
 -- no process is owed more than that, and what is no process is owed nothing
 pub owed-most : (limits : Limits) (s : State) (pid : ℕ) → IsSound limits s → owed limits s pid ≤ most_owed limits
-owed-most limits s pid sound = answered.owed-most limits s pid
+owed-most limits s pid sound = answered.owed-most limits s pid sound.parts
 
 pub owed-none : (limits : Limits) (s : State) (pid : ℕ) → IsSound limits s → is_process s pid ≡ false → owed limits s pid ≡ 0
 owed-none = answered.owed-none
 
--- a request that is not answered is owed
-pub unanswered-owed : (limits : Limits) (s : State) (e : PlainEvent) (pid : ℕ) → IsSound limits s → is_process s pid ≡ true → asks s e pid ≡ true
-    → bytes_to pid (step limits s e).outcomes ≡ 0 → (owed limits s pid ≡ 0) × (0 < owed limits (step limits s e).state pid)
-unanswered-owed = answered.unanswered-owed
+-- a request that is not answered waits
+pub unanswered-waits : (limits : Limits) (s : State) (e : PlainEvent) (pid : ℕ) → IsSound limits s → is_process s pid ≡ true → asks s e pid ≡ true
+    → bytes_to pid (step limits s e).outcomes ≡ 0 → (unanswered s pid ≡ 0) × (unanswered (step limits s e).state pid ≡ 1)
+unanswered-waits = answered.unanswered-waits
 
 -- the last reply of a HELLO is its own
 pub hello-greets : (limits : Limits) (s : State) (cred : Cred) (serial moment : ℕ) → IsSound limits s
@@ -83,7 +83,8 @@ connect-stays limits s cred serial moment pid is =
 pub call-stays : (limits : Limits) (s : State) (asker : ℕ) (request : PlainRequest) (moment pid : ℕ) → is_process s pid ≡ true
     → is_process (step limits s (Call asker request moment)).state pid ≡ true
 call-stays limits s asker request moment pid is =
-    ap (λ (ps : Numbered Process). is_some (entry_of ps pid)) (asked-keeps limits (due moment s).state asker request request.kind).0 ∙ is
+    same-connected (due moment s).state (asked limits asker request request.kind (due moment s).state).state pid
+    (asked-keeps limits (due moment s).state asker request request.kind).0 ∙ is
 
 pub interrupt-stays : (limits : Limits) (s : State) (asker serial moment pid : ℕ) → is_process s pid ≡ true
     → is_process (step limits s (Interrupt asker serial moment)).state pid ≡ true
@@ -97,5 +98,6 @@ tick-stays limits s moment pid is = is
 pub exit-stays : (limits : Limits) (s : State) (gone moment pid : ℕ) → pid ≢ gone → is_process s pid ≡ true
     → is_process (step limits s (Exit gone moment)).state pid ≡ true
 exit-stays limits s gone moment pid apart is =
-    ap (λ (ps : Numbered Process). is_some (entry_of ps pid)) (settle-kept limits (exit (due moment s).state gone)).0
+    same-connected (exit (due moment s).state gone) (settle limits (exit (due moment s).state gone)).state pid
+    (settle-kept limits (exit (due moment s).state gone)).0
     ∙ (ap is_some (value_at-without s.processes.entries gone pid apart) ∙ is)

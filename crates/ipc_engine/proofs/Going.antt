@@ -1,75 +1,108 @@
 -- Which calls can go on when one object has changed: those that wait on it, and no other.
-use Rattle.std.proofs.Common.{◌≡◌, ◌≢◌, ℕ, zero, suc, ℤ, ◌⊎◌, inl, inr, Bool, true, false, not, List, ◌++◌}
-use Rattle.std.proofs.Common.{Option, Some, None, is_some, get_or, length, length-append, append_assoc, ◌+◌, ◌≤◌}
+use Rattle.std.proofs.Common.{◌≡◌, ◌≢◌, ℕ, zero, suc, ℤ, ◌⊎◌, inl, inr, Bool, true, false, not, List, [], ◌∷◌, ◌++◌}
+use Rattle.std.proofs.Common.{Option, Some, None, is_some, get_or, length, length-append, append_assoc, ◌+◌, ◌*◌, ◌≤◌}
 use Rattle.std.proofs.Common.{refl, sym, ap, subst, ◌∙◌, arith}
-use Rattle.std.specs.Prelude.{All, find, nat_eq}
+use Rattle.std.specs.Prelude.{All, find, nat_eq, if◌then◌else◌}
 use Rattle.std.proofs.lemmas.Bool.Decides.{nat_tests}
-use Rattle.std.proofs.lemmas.List.Elements.{All-filter}
+use Rattle.std.proofs.lemmas.List.Elements.{All-nil, All-cons, All-filter}
 use Rattle.ipc_base.specs.declared.limits.Limits.{Limits}
 use Rattle.ipc_base.specs.declared.identity.Id.{Id}
 use Rattle.ipc_base.proofs.CallerLemmas.{test_cases}
-use Rattle.ipc_wait.specs.Waits.{is_of}
+use Rattle.ipc_wait.specs.Waits.{call_of, is_of, without}
 use Rattle.ipc_wait.proofs.CallerLemmas.{found-in}
-use Rattle.ipc_wire.specs.Request.{PlainCall, PlainKind, Hello, Interrupt as Interrupts, Calls}
+use Rattle.ipc_wire.specs.Request.{PlainCall, PlainKind, Hello, Interrupt as Interrupts, Calls, Posix}
 use Rattle.ipc_wire.specs.Request as requests
-use Rattle.ipc_state.specs.declared.parked.Awaited.{Awaited}
-use Rattle.ipc_state.specs.declared.parked.Awaited.TheVariants as awaited
-use Rattle.ipc_state.specs.declared.processes.Process.{Process}
+use Rattle.ipc_state.specs.declared.parked.Object.{Object}
+use Rattle.ipc_state.specs.declared.parked.Object.TheVariants as object
 use Rattle.ipc_state.specs.Finish.{Finish, Finishes, IfFinishes, has_to_wait}
-use Rattle.ipc_state.specs.Numbered.{Numbered, entry_of}
 use Rattle.ipc_state.specs.Sound.{HasSoundParts}
-use Rattle.ipc_state.specs.State.{State, is_process}
-use Rattle.ipc_state.specs.Touching.{is_there}
-use Rattle.ipc_state.specs.Waiting.{PlainWaiting, IsSoundWaiting, awaited_by}
-use Rattle.ipc_state.proofs.CallerLemmas.{IsGood}
+use Rattle.ipc_state.specs.State.{State, is_process, is_waiting, without_waiting}
+use Rattle.ipc_state.specs.Touching.{object_of, is_there}
+use Rattle.ipc_state.specs.Waiting.{PlainWaiting, IsSoundWaiting}
+use Rattle.ipc_state.proofs.CallerLemmas.{IsGood, same-connected}
 use Rattle.sysv_calls.specs.Calls.{attempt, is_receive, touched}
-use Rattle.sysv_calls.proofs.CallerLemmas.{attempt-good, by-waiting, received-waits, waits-there}
+use Rattle.sysv_calls.proofs.CallerLemmas.{attempt-good, by-waiting, received-waits}
 use Rattle.ipc_engine.specs.Event.{PlainOutcome}
-use Rattle.ipc_engine.specs.Settling.{AreLinked, OthersWait, ReceivesWait, RestWaits}
+use Rattle.ipc_engine.specs.Settling.{AreLinked, HaveSameObjects, OthersWait, ReceivesWait, RestWaits}
 use Rattle.ipc_engine.specs.Sound.{IsSound}
-use Rattle.ipc_engine.specs.Step.{Step, silent, after, resumed, resumed_first, settle_within, settle, can_go_on, tried_again}
+use Rattle.ipc_engine.specs.Step.{Step, silent, after, resumed, resumed_first, settle_within, settle, can_go_on, tried}
 use Rattle.ipc_engine.proofs.Lists.{found-all, found-passes}
-use Rattle.ipc_engine.proofs.Settled.{resumed-has, settle-nothing}
-use Rattle.ipc_engine.proofs.Soundness.{still-waits, credited}
+use Rattle.ipc_engine.proofs.Settled.{left-free, resumed-has, settle-nothing}
+use Rattle.ipc_engine.proofs.Soundness.{still-waits}
+use Rattle.ipc_engine.proofs.Tries.{HasEnded, there-object, tried-there}
 
-same_object : (a b : Awaited) → (a ≡ b) ⊎ (Some a ≢ Some b)
-same_object (awaited.Queue a) (awaited.Set b) = inr (λ same. cc)
-same_object (awaited.Set a) (awaited.Queue b) = inr (λ same. cc)
-same_object (awaited.Set a) (awaited.Set b) = by_test (test_cases (nat_eq a.0 b.0))
+-- an object is the one that is named, or not
+abbrev IsOrNot : Object → Option Object → Type 0
+IsOrNot a o = (Some a ≡ o) ⊎ (Some a ≢ o)
+
+same_object : (a : Object) (o : Option Object) → IsOrNot a o
+same_object a None = inr (λ no. cc)
+same_object (object.Queue a) (Some (object.Queue b)) = by_test (test_cases (nat_eq a.0 b.0))
   where
-    by_test : (nat_eq a.0 b.0 ≡ true) ⊎ (nat_eq a.0 b.0 ≡ false) → (awaited.Set a ≡ awaited.Set b) ⊎ (Some (awaited.Set a) ≢ Some (awaited.Set b))
-    by_test (inl is) = inl (ap (λ (n : ℕ). awaited.Set (record { 0 = n })) (grind (arith, nat_tests)))
+    by_test : (nat_eq a.0 b.0 ≡ true) ⊎ (nat_eq a.0 b.0 ≡ false) → IsOrNot (object.Queue a) (Some (object.Queue b))
+    by_test (inl is) = inl (ap (λ (n : ℕ). Some (object.Queue (record { 0 = n }))) (grind (arith, nat_tests)))
     by_test (inr other) = inr (λ same. absurd (let one : a ≡ b = cc in let is : a.0 ≡ b.0 = ap (λ (k : Id). k.0) one in grind (arith, nat_tests)))
-same_object (awaited.Queue a) (awaited.Queue b) = by_test (test_cases (nat_eq a.0 b.0))
+same_object (object.Set a) (Some (object.Set b)) = by_test (test_cases (nat_eq a.0 b.0))
   where
-    by_test : (nat_eq a.0 b.0 ≡ true) ⊎ (nat_eq a.0 b.0 ≡ false) → (awaited.Queue a ≡ awaited.Queue b) ⊎ (Some (awaited.Queue a) ≢ Some (awaited.Queue b))
-    by_test (inl is) = inl (ap (λ (n : ℕ). awaited.Queue (record { 0 = n })) (grind (arith, nat_tests)))
+    by_test : (nat_eq a.0 b.0 ≡ true) ⊎ (nat_eq a.0 b.0 ≡ false) → IsOrNot (object.Set a) (Some (object.Set b))
+    by_test (inl is) = inl (ap (λ (n : ℕ). Some (object.Set (record { 0 = n }))) (grind (arith, nat_tests)))
     by_test (inr other) = inr (λ same. absurd (let one : a ≡ b = cc in let is : a.0 ≡ b.0 = ap (λ (k : Id). k.0) one in grind (arith, nat_tests)))
+same_object (object.Mq a) (Some (object.Mq b)) = by_test (test_cases (nat_eq a b))
+  where
+    by_test : (nat_eq a b ≡ true) ⊎ (nat_eq a b ≡ false) → IsOrNot (object.Mq a) (Some (object.Mq b))
+    by_test (inl is) = inl (ap (λ (n : ℕ). Some (object.Mq n)) (grind (arith, nat_tests)))
+    by_test (inr other) = inr (λ same. absurd (let one : a ≡ b = cc in grind (arith, nat_tests)))
+same_object (object.Queue a) (Some (object.Set b)) = inr (λ same. cc)
+same_object (object.Queue a) (Some (object.Mq b)) = inr (λ same. cc)
+same_object (object.Set a) (Some (object.Queue b)) = inr (λ same. cc)
+same_object (object.Set a) (Some (object.Mq b)) = inr (λ same. cc)
+same_object (object.Mq a) (Some (object.Queue b)) = inr (λ same. cc)
+same_object (object.Mq a) (Some (object.Set b)) = inr (λ same. cc)
+
+-- each call of a list is found there by its process
+all-waiting : (ws : List PlainWaiting) → All (λ (w : PlainWaiting). is_some (call_of w.pid ws) ≡ true) ws
+all-waiting [] = All-nil _
+all-waiting (w ∷ ws) =
+    All-cons (λ (v : PlainWaiting). is_some (call_of v.pid (w ∷ ws)) ≡ true) w ws (by_test (is_of w.pid w) (call_of w.pid ws) (inl (grind
+    (arith, nat_tests))))
+    (λ k d i. by_test (is_of (get_or ws k d).pid w) (call_of (get_or ws k d).pid ws) (inr (all-waiting ws k d i)))
+  where
+    by_test : (b : Bool) (r : Option PlainWaiting) → (b ≡ true) ⊎ (is_some r ≡ true) → is_some (if b then Some w else r) ≡ true
+    by_test true r is = refl
+    by_test false r (inl is) = cc
+    by_test false r (inr is) = is
 
 module _ (limits : Limits) where
   -- the object on which a call waits is there
-  there-of : (s : State) (w : PlainWaiting) → IsSoundWaiting w → can_go_on limits s w ≡ false → is_there w.on s ≡ true
-  there-of s w sound waits = by_kind w.call.kind sound.on waits
+  there-of : (s : State) (w : PlainWaiting) → IsSoundWaiting w → can_go_on limits s w ≡ false → is_there w.pid.0 w.on s ≡ true
+  there-of s w sound waits = tried-there limits s w.pid.0 true w.call.kind w.on sound.on (opposite _ waits)
     where
       opposite : (b : Bool) → not b ≡ false → b ≡ true
       opposite true is = refl
       opposite false is = cc
 
-      by_kind : (kind : PlainKind) → awaited_by kind ≡ Some w.on → not (has_to_wait (tried_again limits s w.pid.0 kind)) ≡ false → is_there w.on s ≡ true
-      by_kind (Calls call) on is = waits-there limits s w.pid.0 true call w.on on (opposite _ is)
-      by_kind (Hello cred) on is = cc
-      by_kind Interrupts on is = cc
+  -- one that waits on another object than the one that a call may have changed has to
+  after-waits : (s : State) (touches : Option Object) (f : Finish) (w : PlainWaiting) → IsGood limits s touches f → HasSoundParts limits s
+      → IsSoundWaiting w → is_waiting s w.pid.0 ≡ true → can_go_on limits s w ≡ false → touches ≢ object_of s w.pid.0 w.on
+      → can_go_on limits f.state w ≡ false
+  after-waits s touches f w good h sound waiting waits apart =
+      still-waits limits s f.state w sound (good.kept.creds w.pid.0) (good.others h w.pid.0 w.on waiting apart (there-of s w sound waits)) ∙ waits
 
-  -- what waits on another object than the one that a call may have changed has to
-  pub others-after : (s : State) (touches : Option Awaited) (f : Finish) → IsSound limits s → IsGood limits s touches f → OthersWait limits f.state touches
-  others-after s touches f h good =
-      subst (λ (ws : List PlainWaiting). All (λ (w : PlainWaiting). touches ≢ Some w.on → can_go_on limits f.state w ≡ false) ws) (sym good.wait)
-      (λ k d i apart.
+  pub others-after : (s : State) (touches : Option Object) (f : Finish) → IsSound limits s → IsGood limits s touches f → HaveSameObjects s f.state
+      → OthersWait limits f.state touches
+  others-after s None f h good same =
+      subst (λ (ws : List PlainWaiting). All (λ (w : PlainWaiting). can_go_on limits f.state w ≡ false) ws) (sym good.wait)
+      (λ k d i.
       let w = get_or s.wait k d in
       let sound = h.parts.wait.each k d i in
       let waits = (h.waits k d i).waits in
-      still-waits limits s f.state w sound (credited limits s f.state w.pid.0 (ap (λ (ps : Numbered Process). entry_of ps w.pid.0) good.kept))
-      (good.others w.on apart (there-of s w sound waits)) ∙ waits)
+      after-waits s None f w good h.parts sound (all-waiting s.wait k d i) waits (there-object s w.pid.0 w.on (there-of s w sound waits)))
+  others-after s (Some changed) f h good same =
+      subst (λ (ws : List PlainWaiting). All (λ (w : PlainWaiting). Some changed ≢ object_of f.state w.pid.0 w.on → can_go_on limits f.state w ≡ false) ws)
+      (sym good.wait)
+      (λ k d i apart.
+      after-waits s (Some changed) f (get_or s.wait k d) good h.parts (h.parts.wait.each k d i) (all-waiting s.wait k d i) (h.waits k d i).waits
+      (λ one. apart (one ∙ sym (same k d i))))
 
   -- after a receive the other receives have to wait on
   module _ (s : State) (pid : ℕ) (f : Finish) (h : IsSound limits s) where
@@ -78,8 +111,8 @@ module _ (limits : Limits) where
 
     -- one that had to wait, if it is a receive
     abbrev StillWaits : ℕ → PlainKind → Type 0
-    StillWaits other kind = is_receive kind ≡ true → not (has_to_wait (tried_again limits s other kind)) ≡ false
-        → not (has_to_wait (tried_again limits f.state other kind)) ≡ false
+    StillWaits other kind = is_receive kind ≡ true → not (has_to_wait (tried limits s other true kind)) ≡ false
+        → not (has_to_wait (tried limits f.state other true kind)) ≡ false
 
     after-receive : (id flags size : ℕ) (mtype : ℤ) → StillReceive (requests.Msgrcv id flags size mtype)
     after-receive id flags size mtype is receive =
@@ -98,6 +131,7 @@ module _ (limits : Limits) where
         by_kind other (Calls call) = by-waiting (λ (c : PlainCall). StillWaits other (Calls c)) (λ i fs mt text one. cc)
             (λ i fs sz mt one waits. ap not (received-waits limits s pid false id flags size mtype f is other i fs sz mt (opposite _ waits)))
             (λ i timeout operations one. cc) (λ c none one. let both = sym none.no_receive ∙ one in cc) call
+        by_kind other (Posix call) = λ one. cc
         by_kind other (Hello cred) = λ one. cc
         by_kind other Interrupts = λ one. cc
 
@@ -105,44 +139,73 @@ module _ (limits : Limits) where
     receives-after = by-waiting StillReceive (λ id flags mtype text is one. cc) after-receive (λ id timeout operations is one. cc)
         (λ call none is one. let both = sym none.no_receive ∙ one in cc)
 
-  pub linked-after : (s : State) (touches : Option Awaited) (f : Finish) → IsSound limits s → IsGood limits s touches f → AreLinked f.state
+  -- the same of any kind, told as the program tells it
+  pub receives-tried : (s : State) (pid : ℕ) (kind : PlainKind) (f : Finish) → IsSound limits s → tried limits s pid false kind ≡ Finishes f
+      → is_receive kind ≡ true → ReceivesWait limits f.state
+  receives-tried s pid (Calls call) f h is receive = receives-after s pid f h call is receive
+  receives-tried s pid (Posix call) f h is receive = cc
+  receives-tried s pid (Hello cred) f h is receive = cc
+  receives-tried s pid Interrupts f h is receive = cc
+
+  pub linked-after : (s : State) (touches : Option Object) (f : Finish) → IsSound limits s → IsGood limits s touches f → AreLinked f.state
   linked-after s touches f h good =
       subst (λ (ws : List PlainWaiting). All (λ (w : PlainWaiting). is_process f.state w.pid.0 ≡ true) ws) (sym good.wait)
-      (λ k d i. ap (λ (ps : Numbered Process). is_some (entry_of ps (get_or s.wait k d).pid.0)) good.kept ∙ (h.waits k d i).process)
+      (λ k d i. same-connected s f.state (get_or s.wait k d).pid.0 good.kept ∙ (h.waits k d i).process)
+
+  -- those that wait besides the process of a call that has ended are on their objects still
+  pub objects-after : (s : State) (pid : ℕ) (touches : Option Object) (f : Finish) → is_waiting s pid ≡ false → HasEnded limits s pid touches f
+      → HaveSameObjects s f.state
+  objects-after s pid touches f free ended = λ k d i.
+      let w = get_or s.wait k d in
+      (ended.leaves w.pid.0).objects
+      (λ same. absurd (let waits : is_waiting s pid ≡ true = subst (λ (p : ℕ). is_waiting s p ≡ true) same (all-waiting s.wait k d i) in cc)) w.on
 
   -- nothing has changed, and nobody goes on
   pub untouched-settled : (s : State) → OthersWait limits s None → settle limits s ≡ silent s
-  untouched-settled s others = settle-nothing limits s (λ k d i. others k d i (λ same. cc))
+  untouched-settled s others = settle-nothing limits s others
 
   -- ---- one after another
 
-  module _ (s : State) (on : Awaited) (h : HasSoundParts limits s) (others : OthersWait limits s (Some on)) (w : PlainWaiting)
+  -- who waits besides one that has left is another
+  left-apart : (s : State) (w : PlainWaiting) (pid : ℕ) → is_waiting (without_waiting s w.pid.0) pid ≡ true → pid ≢ w.pid.0
+  left-apart s w pid waiting same =
+      let yes : is_waiting (without_waiting s w.pid.0) w.pid.0 ≡ true =
+      subst (λ (p : ℕ). is_waiting (without_waiting s w.pid.0) p ≡ true) same waiting in
+      let no = left-free s w in
+      cc
+
+  module _ (s : State) (on : Object) (h : HasSoundParts limits s) (others : OthersWait limits s (Some on)) (w : PlainWaiting)
       (first : find (can_go_on limits s) s.wait ≡ Some w) where
     first-sound : IsSoundWaiting w
     first-sound = found-all (can_go_on limits s) IsSoundWaiting s.wait w h.wait.each first
 
     -- who goes on waited on the object
-    first-on : w.on ≡ on
-    first-on = by_object (same_object on w.on)
+    first-on : Some on ≡ object_of s w.pid.0 w.on
+    first-on = by_object (same_object on (object_of s w.pid.0 w.on))
       where
-        by_object : (on ≡ w.on) ⊎ (Some on ≢ Some w.on) → w.on ≡ on
-        by_object (inl same) = sym same
+        by_object : (Some on ≡ object_of s w.pid.0 w.on) ⊎ (Some on ≢ object_of s w.pid.0 w.on) → Some on ≡ object_of s w.pid.0 w.on
+        by_object (inl same) = same
         by_object (inr apart) =
-            let waits = found-all (can_go_on limits s) (λ (v : PlainWaiting). Some on ≢ Some v.on → can_go_on limits s v ≡ false) s.wait w others first in
+            let waits = found-all (can_go_on limits s) (λ (v : PlainWaiting). Some on ≢ object_of s v.pid.0 v.on → can_go_on limits s v ≡ false)
+            s.wait w others first in
             absurd (let no = waits apart in let yes = found-passes (can_go_on limits s) s.wait w first in cc)
 
     pub others-resumed : OthersWait limits (resumed limits s w).state (Some on)
     others-resumed =
         let r = resumed-has limits s w first-sound in
         let t = (resumed limits s w).state in
-        subst (λ (ws : List PlainWaiting). All (λ (v : PlainWaiting). Some on ≢ Some v.on → can_go_on limits t v ≡ false) ws) (sym r.wait)
-        (All-filter (λ (v : PlainWaiting). not (is_of w.pid v)) (λ (v : PlainWaiting). Some on ≢ Some v.on → can_go_on limits t v ≡ false) s.wait
+        let rest = without w.pid s.wait in
+        subst (λ (ws : List PlainWaiting). All (λ (v : PlainWaiting). Some on ≢ object_of t v.pid.0 v.on → can_go_on limits t v ≡ false) ws) (sym r.wait)
         (λ k d i apart.
-        let v = get_or s.wait k d in
-        let sound = h.wait.each k d i in
-        let waits = others k d i apart in
-        still-waits limits s t v sound (credited limits s t v.pid.0 (ap (λ (ps : Numbered Process). entry_of ps v.pid.0) r.kept))
-        (r.others v.on (λ same. apart (ap (λ (a : Awaited). Some a) (sym first-on ∙ same))) (there-of s v sound waits)) ∙ waits))
+        let v = get_or rest k d in
+        let waiting = all-waiting rest k d i in
+        let sound = All-filter (λ (v : PlainWaiting). not (is_of w.pid v)) IsSoundWaiting s.wait h.wait.each k d i in
+        let same = r.objects v.pid.0 v.on (left-apart s w v.pid.0 waiting) in
+        let other : Some on ≢ object_of s v.pid.0 v.on = λ one. apart (one ∙ sym same) in
+        let waits = All-filter (λ (v : PlainWaiting). not (is_of w.pid v))
+        (λ (v : PlainWaiting). Some on ≢ object_of s v.pid.0 v.on → can_go_on limits s v ≡ false) s.wait others k d i other in
+        still-waits limits s t v sound (r.kept.creds v.pid.0)
+        (r.others h v.pid.0 v.on waiting (λ one. other (first-on ∙ one)) (there-of s v sound waits)) ∙ waits)
 
   pub linked-resumed : (s : State) (w : PlainWaiting) → IsSoundWaiting w → AreLinked s → AreLinked (resumed limits s w).state
   linked-resumed s w sound linked =
@@ -150,7 +213,7 @@ module _ (limits : Limits) where
       let t = (resumed limits s w).state in
       subst (λ (ws : List PlainWaiting). All (λ (v : PlainWaiting). is_process t v.pid.0 ≡ true) ws) (sym r.wait)
       (All-filter (λ (v : PlainWaiting). not (is_of w.pid v)) (λ (v : PlainWaiting). is_process t v.pid.0 ≡ true) s.wait
-      (λ k d i. ap (λ (ps : Numbered Process). is_some (entry_of ps (get_or s.wait k d).pid.0)) r.kept ∙ linked k d i))
+      (λ k d i. same-connected s t (get_or s.wait k d).pid.0 r.kept ∙ linked k d i))
 
   pub within-none : (n : ℕ) (s : State) → find (can_go_on limits s) s.wait ≡ None → settle_within limits n s ≡ silent s
   unfolding settle_within
@@ -171,21 +234,21 @@ module _ (limits : Limits) where
   within-nothing s = refl
 
   -- one more has gone on: what is left to be done comes to the same
-  pub record GoesOn (s t : State) (among : Option Awaited) (n : ℕ) (old new : List PlainOutcome) : Type 0 where
+  pub record GoesOn (s t : State) (among : Option Object) (n : ℕ) (old new : List PlainOutcome) : Type 0 where
     pub parts : HasSoundParts limits t
     pub linked : AreLinked t
     pub rest : RestWaits limits t among
-    pub room : length new + length t.wait ≤ length old + length s.wait
+    pub room : length new + 2 * length t.wait ≤ length old + 2 * length s.wait
     pub state : (settle_within limits n t).state ≡ (settle_within limits (suc n) s).state
     pub outcomes : new ++ (settle_within limits n t).outcomes ≡ old ++ (settle_within limits (suc n) s).outcomes
 
   -- what waits on objects that have not changed has to wait on
-  rest-resumed : (s : State) (among : Option Awaited) (w : PlainWaiting) → HasSoundParts limits s → RestWaits limits s among
+  rest-resumed : (s : State) (among : Option Object) (w : PlainWaiting) → HasSoundParts limits s → RestWaits limits s among
       → find (can_go_on limits s) s.wait ≡ Some w → RestWaits limits (resumed limits s w).state among
   rest-resumed s None w h rest first = λ k d i no. absurd (no tt)
   rest-resumed s (Some on) w h rest first = others-resumed s on h rest w first
 
-  pub goes-on : (s t : State) (among : Option Awaited) (n : ℕ) (old new : List PlainOutcome) (w : PlainWaiting) → HasSoundParts limits s → AreLinked s
+  pub goes-on : (s t : State) (among : Option Object) (n : ℕ) (old new : List PlainOutcome) (w : PlainWaiting) → HasSoundParts limits s → AreLinked s
       → RestWaits limits s among
       → find (can_go_on limits s) s.wait ≡ Some w → t ≡ (resumed limits s w).state → new ≡ old ++ (resumed limits s w).outcomes → GoesOn s t among n old new
   goes-on s t among n old new w h linked rest-waits first is said =

@@ -2,6 +2,7 @@ mod Lists
 mod Sorting
 mod Weights
 mod Expiring
+pub mod Tries
 pub mod Settled
 pub mod Soundness
 pub mod Answered

@@ -1,22 +1,23 @@
 -- A call that goes on, as the program tries it.
-use Rattle.std.proofs.Common.{◌≡◌, ℕ, Bool, true, not, Option, Some, None, refl, sym, ap, subst, ◌∙◌}
+use Rattle.std.proofs.Common.{◌≡◌, ℕ, true, false, Option, Some, None, sym, ap, subst, ◌∙◌}
 use Rattle.std.specs.Prelude.{find}
 use Rattle.ipc_base.specs.declared.identity.Pid.{Pid}
 use Rattle.ipc_base.specs.declared.limits.Limits.{Limits}
 use Rattle.ipc_wait.specs.Waits.{call_of}
 use Rattle.ipc_wait.proofs.CallerLemmas.{found-in}
-use Rattle.ipc_wire.specs.Request.{PlainCall, PlainKind, Hello, Interrupt as Interrupts, Calls}
-use Rattle.ipc_state.specs.Finish.{Finish, Tried, Finishes, Waits, IfFinishes, has_to_wait}
+use Rattle.ipc_wire.specs.Request.{PlainKind}
+use Rattle.ipc_state.specs.Finish.{Finish, Tried, Finishes, Waits, IfFinishes}
 use Rattle.ipc_state.specs.Sound.{HasSoundParts}
-use Rattle.ipc_state.specs.State.{State, without_waiting}
-use Rattle.ipc_state.specs.Waiting.{PlainWaiting, IsSoundWaiting, awaited_by}
-use Rattle.ipc_state.specs.declared.parked.Awaited.{Awaited}
+use Rattle.ipc_state.specs.State.{State, is_waiting, without_waiting}
+use Rattle.ipc_state.specs.Waiting.{PlainWaiting, IsSoundWaiting}
+use Rattle.ipc_state.specs.declared.parked.Object.{Object}
 use Rattle.ipc_state.proofs.CallerLemmas.{IsGood}
-use Rattle.sysv_calls.specs.Calls.{attempt, touched}
-use Rattle.sysv_calls.proofs.CallerLemmas.{attempt-good}
+use Rattle.ipc_engine.specs.Settling.{HaveSameObjects, touched_by}
 use Rattle.ipc_engine.specs.Sound.{IsSound}
+use Rattle.ipc_engine.specs.Step.{answered, replied, silent, can_go_on, resumed, tried}
+use Rattle.ipc_engine.proofs.Going.{objects-after}
 use Rattle.ipc_engine.proofs.Lists.{found-all}
-use Rattle.ipc_engine.specs.Step.{answered, replied, silent, can_go_on, resumed, tried_again}
+use Rattle.ipc_engine.proofs.Tries.{HasEnded, tried-ended}
 
 module _ (limits : Limits) where
   -- what has left the list is the call that was found
@@ -40,18 +41,6 @@ module _ (limits : Limits) where
   pub first-sound : (s : State) (w : PlainWaiting) → HasSoundParts limits s → find (can_go_on limits s) s.wait ≡ Some w → IsSoundWaiting w
   first-sound s w h first = found-all (can_go_on limits s) IsSoundWaiting s.wait w h.wait.each first
 
-  -- what it comes to is what was tried
-  resumed-is : (s : State) (w : PlainWaiting) (t : Tried) → IsSoundWaiting w
-      → ((call : PlainCall) → w.call.kind ≡ Calls call → t ≡ attempt limits (without_waiting s w.pid.0) w.pid.0 true call)
-      → resumed limits s w ≡ answered w (without_waiting s w.pid.0) t
-  resumed-is s w t sound tried = by_kind w.call.kind refl sound.on
-    where
-      by_kind : (kind : PlainKind) → w.call.kind ≡ kind → awaited_by kind ≡ Some w.on
-          → answered w (without_waiting s w.pid.0) (tried_again limits (without_waiting s w.pid.0) w.pid.0 kind) ≡ answered w (without_waiting s w.pid.0) t
-      by_kind (Calls call) is on = ap (answered w (without_waiting s w.pid.0)) (sym (tried call is))
-      by_kind (Hello cred) is on = cc
-      by_kind Interrupts is on = cc
-
   -- the program has found one, and tried what has left the list
   module _ (s t : State) (now : Limits) (pid : Pid) (serial : ℕ) (first : PlainWaiting) (v w : PlainWaiting) (h : HasSoundParts limits s)
       (found : find (can_go_on limits s) s.wait ≡ Some first) (its : v ≡ first) (process : first.pid ≡ pid) (number : serial ≡ v.call.serial)
@@ -62,38 +51,31 @@ module _ (limits : Limits) where
     mine : v.pid ≡ pid
     mine = ap (λ (u : PlainWaiting). u.pid) its ∙ process
 
-    tried-here : (x : Tried) → ((call : PlainCall) → v.call.kind ≡ Calls call → x ≡ attempt now t pid.0 true call)
-        → resumed limits s v ≡ answered v (without_waiting s v.pid.0) x
-    tried-here x tried =
-        resumed-is s v x (subst IsSoundWaiting (sym its) (first-sound s first h found))
-        (λ call is. tried call is ∙ (λ i. attempt (same i) ((left ∙ ap (λ (p : Pid). without_waiting s p.0) (sym mine)) i) (sym mine i).0 true call))
+    tried-here : (x : Tried) → x ≡ tried now t pid.0 true v.call.kind → resumed limits s v ≡ answered v (without_waiting s v.pid.0) x
+    tried-here x comes =
+        ap (answered v (without_waiting s v.pid.0)) (sym (comes
+        ∙ (λ i. tried (same i) ((left ∙ ap (λ (p : Pid). without_waiting s p.0) (sym mine)) i) (sym mine i).0 true v.call.kind)))
 
-    pub resumed-finishes : (f : Finish) → ((call : PlainCall) → v.call.kind ≡ Calls call → Finishes f ≡ attempt now t pid.0 true call)
-        → resumed limits s w ≡ replied pid.0 serial f
-    resumed-finishes f tried =
-        ap (resumed limits s) (sym it_is) ∙ (tried-here (Finishes f) tried ∙ (λ i. replied (mine i).0 (sym number i) f))
+    pub resumed-finishes : (f : Finish) → Finishes f ≡ tried now t pid.0 true v.call.kind → resumed limits s w ≡ replied pid.0 serial f
+    resumed-finishes f comes =
+        ap (resumed limits s) (sym it_is) ∙ (tried-here (Finishes f) comes ∙ (λ i. replied (mine i).0 (sym number i) f))
 
-    pub resumed-waits : ((call : PlainCall) → v.call.kind ≡ Calls call → Waits ≡ attempt now t pid.0 true call) → resumed limits s w ≡ silent t
-    resumed-waits tried =
-        ap (resumed limits s) (sym it_is) ∙ (tried-here Waits tried ∙ ap silent (sym (left ∙ ap (λ (p : Pid). without_waiting s p.0) (sym mine))))
-
-  -- whether it can go on, as the program tells
-  pub goes-by_kind : (s : State) (w : PlainWaiting) (b : Bool) → IsSoundWaiting w
-      → ((call : PlainCall) → w.call.kind ≡ Calls call → b ≡ has_to_wait (attempt limits s w.pid.0 true call)) → not b ≡ can_go_on limits s w
-  goes-by_kind s w b sound told = by_kind w.call.kind refl sound.on
-    where
-      by_kind : (kind : PlainKind) → w.call.kind ≡ kind → awaited_by kind ≡ Some w.on → not b ≡ not (has_to_wait (tried_again limits s w.pid.0 kind))
-      by_kind (Calls call) is on = ap not (told call is)
-      by_kind (Hello cred) is on = cc
-      by_kind Interrupts is on = cc
+    pub resumed-waits : Waits ≡ tried now t pid.0 true v.call.kind → resumed limits s w ≡ silent t
+    resumed-waits comes =
+        ap (resumed limits s) (sym it_is) ∙ (tried-here Waits comes ∙ ap silent (sym (left ∙ ap (λ (p : Pid). without_waiting s p.0) (sym mine))))
 
   -- what a call that has come to its end leaves
-  pub good-of : (s : State) (pid : ℕ) (again : Bool) (call : PlainCall) (f : Finish) → Finishes f ≡ attempt limits s pid again call
-      → IsGood limits s (touched call) f
-  good-of s pid again call f is = subst (IfFinishes (IsGood limits s (touched call))) (sym is) (attempt-good limits s pid again call)
+  pub ended-of : (s : State) (pid : ℕ) (kind : PlainKind) (f : Finish) → is_waiting s pid ≡ false → Finishes f ≡ tried limits s pid false kind
+      → HasEnded limits s pid (touched_by s pid kind) f
+  ended-of s pid kind f free is = subst (IfFinishes (HasEnded limits s pid (touched_by s pid kind))) (sym is) (tried-ended limits s pid false kind free)
 
-  -- told of the limits that are there
-  pub good-here : (now : Limits) (s : State) (touches : Option Awaited) (f : Finish) → now ≡ limits → IsSound limits s → IsGood limits s touches f
-      → (t : State) × IsSound now t × IsGood now t touches f
-  good-here now s touches f same sound good =
-      (s, subst (λ (l : Limits). IsSound l s) (sym same) sound, subst (λ (l : Limits). IsGood l s touches f) (sym same) good)
+  -- told of the limits and the state that are there
+  pub good-here : (now : Limits) (s u : State) (pid : ℕ) (touches : Option Object) (f : Finish) → now ≡ limits → f.state ≡ u → IsSound limits s
+      → is_waiting s pid ≡ false → HasEnded limits s pid touches f
+      → (t : State) × IsSound now t × IsGood now t touches f × HaveSameObjects t u
+  good-here now s u pid touches f same is sound free ended = (
+    s,
+    subst (λ (l : Limits). IsSound l s) (sym same) sound,
+    subst (λ (l : Limits). IsGood l s touches f) (sym same) ended.good,
+    subst (λ (t : State). HaveSameObjects s t) is (objects-after limits s pid touches f free ended),
+  )

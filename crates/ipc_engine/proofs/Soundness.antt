@@ -2,39 +2,42 @@
 use Rattle.std.proofs.Common.{◌≡◌, ◌≢◌, ℕ, Bool, true, false, not, cond, List, [], ◌∷◌, length}
 use Rattle.std.proofs.Common.{get_or, Option, Some, None, is_some, unwrap_or}
 use Rattle.std.proofs.Common.{refl, sym, ap, subst, ◌∙◌, arith}
-use Rattle.std.specs.Prelude.{All, option_map, ◌==◌, nat_eq, ◌++◌}
+use Rattle.std.specs.Prelude.{All, option_map, ◌==◌, nat_eq, ◌++◌, if◌then◌else◌}
 use Rattle.std.specs.FinMap as fin
 use Rattle.ipc_base.specs.Table.{value_at}
 use Rattle.sem_undo.specs.Undo.{Key, Undo, adjustment}
 use Rattle.std.proofs.lemmas.Bool.Decides.{nat_tests}
 use Rattle.std.proofs.lemmas.List.Elements.{All-nil, All-cons, All-append, All-filter, All-map, All-push}
+use Rattle.ipc_base.specs.declared.errno.Errno.{Errno}
+use Rattle.ipc_base.specs.declared.errno.Errno.TheVariants.{EALREADY}
 use Rattle.ipc_base.specs.declared.limits.Limits.{Limits}
 use Rattle.ipc_base.specs.declared.identity.Cred.{Cred}
 use Rattle.ipc_base.proofs.CallerLemmas.{choice, other-push, rising-found, value_at-without}
 use Rattle.ipc_wait.specs.Waits.{call_of, without, is_of, is_due}
-use Rattle.ipc_wire.specs.Request.{PlainCall, PlainKind, PlainRequest, Hello, Interrupt as Interrupts, Calls}
+use Rattle.ipc_wire.specs.Request.{PlainKind, PlainRequest, Hello, Interrupt as Interrupts, Calls, Posix}
 use Rattle.ipc_wire.specs.Spelling.{HasFrame}
 use Rattle.ipc_wire.specs.declared.reply.Body.TheVariants.{Empty}
 use Rattle.ipc_state.specs.declared.parked.Awaited.{Awaited}
+use Rattle.ipc_state.specs.declared.parked.Object.{Object}
 use Rattle.ipc_state.specs.declared.processes.Process.{Process}
 use Rattle.ipc_state.specs.Finish.{Finish, Tried, Finishes, Waits, IfFinishes, has_to_wait, refused}
-use Rattle.ipc_state.specs.Numbered.{Numbered, entry_of}
+use Rattle.ipc_state.specs.Numbered.{entry_of}
 use Rattle.ipc_state.specs.Sound.{HasSoundParts, FitsBody}
 use Rattle.ipc_state.specs.State.{State, at_moment, cred_of, due_calls, has_all_processes, is_process, is_waiting, exit, undo_of}
 use Rattle.ipc_state.specs.State.{with_process, with_waiting, without_waiting}
 use Rattle.ipc_state.specs.Touching.{IsAsBefore}
 use Rattle.ipc_state.specs.Waiting.{PlainWaiting, IsSoundWaiting, awaited_by, expiry}
-use Rattle.ipc_state.proofs.CallerLemmas.{IsGood, begin-sound, exit-sound, restart-sound, with_process-sound, with_waiting-sound}
+use Rattle.ipc_state.proofs.CallerLemmas.{IsGood, same-connected, begin-sound, exit-sound, restart-sound, with_process-sound, with_waiting-sound}
 use Rattle.ipc_state.proofs.CallerLemmas.{deadline-sound, without_due-sound, without_waiting-sound}
-use Rattle.sysv_calls.specs.Calls.{attempt, touched}
-use Rattle.sysv_calls.proofs.CallerLemmas.{attempt-good, waits-alike}
 use Rattle.ipc_engine.specs.Engine.{IsForProcess, HasRequest}
 use Rattle.ipc_engine.specs.Event.{PlainEvent, Connect, Call, Interrupt, Tick, Exit, Restart, PlainOutcome}
-use Rattle.ipc_engine.specs.Settling.{AreLinked}
+use Rattle.ipc_engine.specs.Settling.{AreLinked, touched_by}
 use Rattle.ipc_engine.specs.Sound.{IsSound, HasToWait}
-use Rattle.ipc_engine.specs.Step.{Step, silent, step, due, expired, waiting_on, connect, asked, told, joins, interrupt, interrupted, replied, settle, can_go_on}
+use Rattle.ipc_engine.specs.Step.{Step, silent, step, due, expired, waiting_on, connect, asked, called, told, joins}
+use Rattle.ipc_engine.specs.Step.{interrupt, interrupted, replied, settle, can_go_on, tried}
 use Rattle.ipc_engine.proofs.Lists.{none-left}
-use Rattle.ipc_engine.proofs.Settled.{settle-has, settle-done, settle-nothing, as-before, HasSameUndo}
+use Rattle.ipc_engine.proofs.Settled.{settle-has, settle-done, settle-nothing, as-before, replied-fits, HasSameUndo}
+use Rattle.ipc_engine.proofs.Tries.{HasEnded, tried-alike, tried-ended}
 
 -- no adjustment
 abbrev none : Undo
@@ -47,19 +50,12 @@ module _ (limits : Limits) where
   -- ---- calls that still have to wait
 
   -- of the same caller, and with the same object
-  pub still-waits : (s t : State) (w : PlainWaiting) → IsSoundWaiting w → cred_of t w.pid.0 ≡ cred_of s w.pid.0 → IsAsBefore w.on s t
+  pub still-waits : (s t : State) (w : PlainWaiting) → IsSoundWaiting w → cred_of t w.pid.0 ≡ cred_of s w.pid.0 → IsAsBefore w.pid.0 w.on s t
       → can_go_on limits t w ≡ can_go_on limits s w
-  still-waits s t w sound cred before = by_kind w.call.kind sound.on
-    where
-      by_kind : (kind : PlainKind) → awaited_by kind ≡ Some w.on
-          → can_go_on limits t (record w { call = record { serial = w.call.serial; kind = kind } }) ≡ can_go_on limits s
-          (record w { call = record { serial = w.call.serial; kind = kind } })
-      by_kind (Calls call) is = ap not (waits-alike limits s t w.pid.0 true true call w.on is cred before)
-      by_kind (Hello cred) is = cc
-      by_kind Interrupts is = cc
+  still-waits s t w sound cred before = ap not (tried-alike limits s t w.pid.0 true true w.call.kind w.on sound.on cred before)
 
   -- the same process has the same user and group
-  pub credited : (s t : State) (pid : ℕ) → entry_of t.processes pid ≡ entry_of s.processes pid → cred_of t pid ≡ cred_of s pid
+  credited : (s t : State) (pid : ℕ) → entry_of t.processes pid ≡ entry_of s.processes pid → cred_of t pid ≡ cred_of s pid
   credited s t pid same = ap (λ (p : Option Process). unwrap_or (option_map (λ (q : Process). q.cred) p) (record { uid = 65534; gid = 65534 })) same
 
   -- the same process is there
@@ -71,17 +67,17 @@ module _ (limits : Limits) where
   IsEarly s w = is_due (record { 0 = s.clock }) w ≡ false
 
   -- those that waited do so still if the objects are the same, the adjustments and their processes, and no deadline has come
-  pub all-wait : (s t : State) (ws : List PlainWaiting) → All IsSoundWaiting ws → t.msg ≡ s.msg → t.sem ≡ s.sem → HasSameUndo s t
+  pub all-wait : (s t : State) (ws : List PlainWaiting) → All IsSoundWaiting ws → t.msg ≡ s.msg → t.sem ≡ s.sem → t.mq ≡ s.mq → HasSameUndo s t
       → All (IsSame s t) ws → All (IsEarly t) ws
       → All (HasToWait limits s) ws → All (HasToWait limits t) ws
-  all-wait s t ws sound queues sets undo same early waits = λ k d h.
+  all-wait s t ws sound queues sets mqs undo same early waits = λ k d h.
       let w = get_or ws k d in
       let process = same k d h in
       record {
         process = ap is_some process ∙ (waits k d h).process;
         early = early k d h;
         waits = still-waits s t w (sound k d h) (credited s t w.pid.0 process)
-            (as-before w.on s t queues sets undo) ∙ (waits k d h).waits;
+            (as-before w.pid.0 w.on s t queues sets mqs undo process) ∙ (waits k d h).waits;
       }
 
   -- settled, a state is sound whose parts are, and whose waiting calls are of its processes and not due
@@ -96,7 +92,7 @@ module _ (limits : Limits) where
       record {
         parts = has.parts;
         waits = λ k d i. record {
-          process = ap (λ (ps : Numbered Process). is_some (entry_of ps (get_or t.state.wait k d).pid.0)) has.kept ∙ process k d i;
+          process = same-connected s t.state (get_or t.state.wait k d).pid.0 has.kept ∙ process k d i;
           early = ap (λ (n : ℕ). is_due (record { 0 = n }) (get_or t.state.wait k d)) has.clock ∙ has.early (record { 0 = s.clock }) early k d i;
           waits = none k d i;
         };
@@ -118,7 +114,7 @@ module _ (limits : Limits) where
       record {
         parts = without_due-sound limits t (begin-sound limits s moment h.parts);
         waits = all-wait s (due moment s).state left
-            (All-filter (λ (w : PlainWaiting). not (test w)) IsSoundWaiting s.wait h.parts.wait.each) refl refl (λ pid k. refl)
+            (All-filter (λ (w : PlainWaiting). not (test w)) IsSoundWaiting s.wait h.parts.wait.each) refl refl refl (λ pid k. refl)
             (λ k d i. refl) (none-left test s.wait)
             (All-filter (λ (w : PlainWaiting). not (test w)) (HasToWait limits s) s.wait h.waits);
       }
@@ -149,7 +145,7 @@ module _ (limits : Limits) where
       choice (λ (t : Step). IsSound limits t.state) (has_all_processes limits s) _ _ (λ _. h)
       (λ room. record {
         parts = with_process-sound limits s cred room h.parts;
-        waits = all-wait s (with_process s cred) s.wait h.parts.wait.each refl refl (same-undo s)
+        waits = all-wait s (with_process s cred) s.wait h.parts.wait.each refl refl refl (same-undo s)
             (λ k d i.
             let pid = (get_or s.wait k d).pid.0 in
             let below = (rising-found 1 s.processes.entries s.processes.next pid h.parts.processes.numbered.numbers (h.waits k d i).process).1 in
@@ -191,7 +187,7 @@ module _ (limits : Limits) where
   left-waits s pid h =
       record {
         parts = without_waiting-sound limits s pid h.parts;
-        waits = all-wait s (without_waiting s pid) (without (record { 0 = pid }) s.wait) (sound-besides s pid h) refl refl (λ p k. refl) (λ k d i. refl)
+        waits = all-wait s (without_waiting s pid) (without (record { 0 = pid }) s.wait) (sound-besides s pid h) refl refl refl (λ p k. refl) (λ k d i. refl)
             (early-besides s pid h) (waits-besides s pid h);
       }
 
@@ -209,8 +205,7 @@ module _ (limits : Limits) where
   -- a call that has to wait joins those that do, unless its deadline has come
   pub joins-sound : (s : State) (pid : ℕ) (request : PlainRequest) (on : Option Awaited) → IsSound limits s → is_process s pid ≡ true
       → is_waiting s pid ≡ false
-      → HasFrame request → awaited_by request.kind ≡ on → ((call : PlainCall) → request.kind ≡ Calls call
-      → has_to_wait (attempt limits s pid false call) ≡ true)
+      → HasFrame request → awaited_by request.kind ≡ on → has_to_wait (tried limits s pid false request.kind) ≡ true
       → IsSound limits (joins s pid request on).state
   joins-sound s pid request None h process free frame is waits = h
   joins-sound s pid request (Some on) h process free frame is waits =
@@ -219,55 +214,67 @@ module _ (limits : Limits) where
       choice (λ (t : Step). IsSound limits t.state) (is_due (record { 0 = s.clock }) w) (replied pid request.serial (refused s (expiry request.kind)))
       (silent (with_waiting s w)) (λ _. h)
       (λ early.
-      let before = all-wait s (with_waiting s w) s.wait h.parts.wait.each refl refl (λ p k. refl) (λ k d i. refl) (all-early s h) h.waits in
+      let before = all-wait s (with_waiting s w) s.wait h.parts.wait.each refl refl refl (λ p k. refl) (λ k d i. refl) (all-early s h) h.waits in
       record {
         parts = with_waiting-sound limits s w h.parts sound free (linked s h) process;
         waits = All-push (HasToWait limits (with_waiting s w)) s.wait w before
-            (record { process = process; early = early; waits = by_kind w request.kind refl });
+            (record {
+              process = process;
+              early = early;
+              waits = ap not (tried-alike limits s (with_waiting s w) pid false true request.kind on is refl (as-before pid on s
+                  (with_waiting s w) refl refl refl (λ p k. refl) refl) ∙ waits);
+            });
       })
-    where
-      by_kind : (w : PlainWaiting) (kind : PlainKind) → request.kind ≡ kind
-          → can_go_on limits (with_waiting s w)
-          (record { pid = record { 0 = pid }; on = on; deadline = None; call = record { serial = request.serial; kind = kind } }) ≡ false
-      by_kind w (Calls call) same =
-          let t = with_waiting s w in
-          ap not (waits-alike limits s t pid false true call on (ap awaited_by (sym same) ∙ is) refl (as-before on s t refl refl (λ p k. refl))
-          ∙ waits call same)
-      by_kind w (Hello cred) same = absurd (let no = ap awaited_by (sym same) ∙ is in cc)
-      by_kind w Interrupts same = absurd (let no = ap awaited_by (sym same) ∙ is in cc)
 
   -- what a call leaves that came to its end
-  pub ended-waits : (s : State) (touches : Option Awaited) (f : Finish) → IsSound limits s → IsGood limits s touches f
+  pub ended-waits : (s : State) (touches : Option Object) (f : Finish) → IsSound limits s → IsGood limits s touches f
       → IsSound limits (settle limits f.state).state
   ended-waits s touches f h good =
       settled-sound f.state (good.state h.parts)
       (subst (λ (ws : List PlainWaiting). All (λ (w : PlainWaiting). is_process f.state w.pid.0 ≡ true) ws) (sym good.wait)
-      (λ k d i. ap (λ (ps : Numbered Process). is_some (entry_of ps (get_or s.wait k d).pid.0)) good.kept ∙ (h.waits k d i).process))
+      (λ k d i. same-connected s f.state (get_or s.wait k d).pid.0 good.kept ∙ (h.waits k d i).process))
       (subst (λ (ws : List PlainWaiting). All (IsEarly f.state) ws) (sym good.wait)
       (λ k d i. ap (λ (n : ℕ). is_due (record { 0 = n }) (get_or s.wait k d)) good.clock ∙ (h.waits k d i).early))
 
-  told-sound : (s : State) (pid : ℕ) (request : PlainRequest) (call : PlainCall) (t : Tried) → IsSound limits s → is_process s pid ≡ true
+  told-sound : (s : State) (pid : ℕ) (request : PlainRequest) (t : Tried) → IsSound limits s → is_process s pid ≡ true
       → is_waiting s pid ≡ false
-      → HasFrame request → request.kind ≡ Calls call → attempt limits s pid false call ≡ t → IfFinishes (IsGood limits s (touched call)) t
+      → HasFrame request → tried limits s pid false request.kind ≡ t → IfFinishes (HasEnded limits s pid (touched_by s pid request.kind)) t
       → IsSound limits (told limits pid request s t).state
-  told-sound s pid request call (Finishes f) h process free frame is tried good = ended-waits s (touched call) f h good
-  told-sound s pid request call Waits h process free frame is tried good =
-      joins-sound s pid request (awaited_by request.kind) h process free frame refl
-      (λ c same. let one : c ≡ call = (let both = sym same ∙ is in cc) in ap (λ (d : PlainCall). has_to_wait (attempt limits s pid false d)) one
-      ∙ ap has_to_wait tried)
+  told-sound s pid request (Finishes f) h process free frame is ended = ended-waits s (touched_by s pid request.kind) f h ended.good
+  told-sound s pid request Waits h process free frame is ended =
+      joins-sound s pid request (awaited_by request.kind) h process free frame refl (ap has_to_wait is)
+
+  called-sound : (s : State) (pid : ℕ) (request : PlainRequest) → IsSound limits s → is_process s pid ≡ true → HasFrame request
+      → IsSound limits (called limits pid request s).state
+  called-sound s pid request h process frame =
+      choice (λ (t : Step). IsSound limits t.state) (is_waiting s pid) _ _ (λ _. h)
+      (λ free. told-sound s pid request (tried limits s pid false request.kind) h process free frame refl (tried-ended limits s pid false request.kind free))
 
   asked-sound : (s : State) (pid : ℕ) (request : PlainRequest) (kind : PlainKind) → IsSound limits s → is_process s pid ≡ true → HasFrame request
-      → request.kind ≡ kind
       → IsSound limits (asked limits pid request kind s).state
-  asked-sound s pid request (Hello cred) h process frame is = h
-  asked-sound s pid request Interrupts h process frame is = interrupt-sound s pid request.serial h
-  asked-sound s pid request (Calls call) h process frame is =
-      choice (λ (t : Step). IsSound limits t.state) (is_waiting s pid) _ _ (λ _. h)
-      (λ free. told-sound s pid request call (attempt limits s pid false call) h process free frame is refl (attempt-good limits s pid false call))
+  asked-sound s pid request (Hello cred) h process frame = h
+  asked-sound s pid request Interrupts h process frame = interrupt-sound s pid request.serial h
+  asked-sound s pid request (Calls call) h process frame = called-sound s pid request h process frame
+  asked-sound s pid request (Posix call) h process frame = called-sound s pid request h process frame
+
+  -- a call that is refused changes nothing, and nobody goes on
+  pub refused-told : (s : State) (pid : ℕ) (request : PlainRequest) (e : Errno) → IsSound limits s
+      → told limits pid request s (Finishes (refused s e)) ≡ replied pid request.serial (refused s e)
+  refused-told s pid request e h =
+      ap (λ (t : Step). let u : Step = record { state = t.state; outcomes = (replied pid request.serial (refused s e)).outcomes ++ t.outcomes } in u)
+      (sound-settled s h)
+
+  -- so is a request of a process of which no call waits, if it is refused when it is tried
+  pub refused-called : (s : State) (pid : ℕ) (request : PlainRequest) (e : Errno) → IsSound limits s → is_waiting s pid ≡ false
+      → tried limits s pid false request.kind ≡ Finishes (refused s e) → called limits pid request s ≡ replied pid request.serial (refused s e)
+  refused-called s pid request e h free is =
+      ap (λ (b : Bool).
+      if b then replied pid request.serial (refused s EALREADY) else told limits pid request s (tried limits s pid false request.kind)) free
+      ∙ (ap (told limits pid request s) is ∙ refused-told s pid request e h)
 
   pub step-sound : (s : State) (e : PlainEvent) → IsSound limits s → IsForProcess s e → HasRequest e → IsSound limits (step limits s e).state
   step-sound s (Connect cred serial moment) h is has = connect-sound (due moment s).state cred serial (due-sound s moment h)
-  step-sound s (Call pid request moment) h is has = asked-sound (due moment s).state pid request request.kind (due-sound s moment h) is has refl
+  step-sound s (Call pid request moment) h is has = asked-sound (due moment s).state pid request request.kind (due-sound s moment h) is has
   step-sound s (Interrupt pid serial moment) h is has = interrupt-sound (due moment s).state pid serial (due-sound s moment h)
   step-sound s (Tick moment) h is has = due-sound s moment h
   step-sound s (Exit pid moment) h is has =
@@ -302,20 +309,27 @@ module _ (limits : Limits) where
   unfolding settle
   settled-fits s h = (settle-has limits (length s.wait) s h).fits
 
-  told-fits : (s : State) (pid : ℕ) (request : PlainRequest) (call : PlainCall) (t : Tried) → IsSound limits s → IfFinishes (IsGood limits s (touched call)) t
+  told-fits : (s : State) (pid : ℕ) (request : PlainRequest) (t : Tried) → IsSound limits s
+      → IfFinishes (HasEnded limits s pid (touched_by s pid request.kind)) t
       → All (λ (o : PlainOutcome). FitsBody limits o.body) (told limits pid request s t).outcomes
   unfolding settle
-  told-fits s pid request call (Finishes f) h good =
-      All-cons Fits _ _ (good.body h.parts) (settle-has limits (length f.state.wait) f.state (good.state h.parts)).fits
-  told-fits s pid request call Waits h good = joins-fits s pid request (awaited_by request.kind)
+  told-fits s pid request (Finishes f) h ended =
+      All-append Fits (replied pid request.serial f).outcomes _ (replied-fits limits pid request.serial f (ended.good.body h.parts))
+      (settle-has limits (length f.state.wait) f.state (ended.good.state h.parts)).fits
+  told-fits s pid request Waits h ended = joins-fits s pid request (awaited_by request.kind)
+
+  called-fits : (s : State) (pid : ℕ) (request : PlainRequest) → IsSound limits s
+      → All (λ (o : PlainOutcome). FitsBody limits o.body) (called limits pid request s).outcomes
+  called-fits s pid request h =
+      choice (λ (t : Step). All (λ (o : PlainOutcome). FitsBody limits o.body) t.outcomes) (is_waiting s pid) _ _ (λ _. one-fits _ empty-fits)
+      (λ free. told-fits s pid request (tried limits s pid false request.kind) h (tried-ended limits s pid false request.kind free))
 
   asked-fits : (s : State) (pid : ℕ) (request : PlainRequest) (kind : PlainKind) → IsSound limits s
       → All (λ (o : PlainOutcome). FitsBody limits o.body) (asked limits pid request kind s).outcomes
   asked-fits s pid request (Hello cred) h = one-fits _ empty-fits
   asked-fits s pid request Interrupts h = interrupt-fits s pid request.serial
-  asked-fits s pid request (Calls call) h =
-      choice (λ (t : Step). All (λ (o : PlainOutcome). FitsBody limits o.body) t.outcomes) (is_waiting s pid) _ _ (λ _. one-fits _ empty-fits)
-      (λ _. told-fits s pid request call (attempt limits s pid false call) h (attempt-good limits s pid false call))
+  asked-fits s pid request (Calls call) h = called-fits s pid request h
+  asked-fits s pid request (Posix call) h = called-fits s pid request h
 
   due-fits : (s : State) (moment : ℕ) → All (λ (o : PlainOutcome). FitsBody limits o.body) (due moment s).outcomes
   due-fits s moment = All-map Fits expired (due_calls (at_moment s moment)) (λ k d i. empty-fits)

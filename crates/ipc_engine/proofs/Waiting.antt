@@ -1,5 +1,5 @@
 -- The laws of waiting, and what an event leaves of the processes and of the clock.
-use Rattle.std.proofs.Common.{◌≡◌, ℕ, suc, ◌+◌, ◌≤◌, Bool, true, false, not, List, [], ◌∷◌, ◌++◌, length}
+use Rattle.std.proofs.Common.{◌≡◌, ℕ, suc, ◌+◌, ◌*◌, ◌≤◌, Bool, true, false, not, List, [], ◌∷◌, ◌++◌, length}
 use Rattle.std.proofs.Common.{length-append, map, max, Option, Some, None, refl, ap, subst, ◌∙◌, arith}
 use Rattle.std.specs.Prelude.{All, find, if◌then◌else◌}
 use Rattle.std.proofs.lemmas.List.{length-map}
@@ -12,23 +12,24 @@ use Rattle.ipc_base.proofs.CallerLemmas.{choice}
 use Rattle.ipc_base.specs.declared.identity.Moment.{Moment}
 use Rattle.ipc_wait.specs.Waits.{call_of, calls_due, calls_left, without, is_due, is_of, HaveDistinctPids}
 use Rattle.ipc_wait.proofs.CallerLemmas.{due-or-left, without-here}
-use Rattle.ipc_wire.specs.Request.{PlainCall, PlainKind, PlainRequest, Hello, Interrupt as Interrupts, Calls}
+use Rattle.ipc_wire.specs.Request.{PlainCall, PlainKind, PlainRequest, Hello, Interrupt as Interrupts, Calls, Posix}
 use Rattle.ipc_wire.specs.declared.reply.Body.TheVariants.{Empty}
 use Rattle.ipc_state.specs.declared.parked.Awaited.{Awaited}
 use Rattle.ipc_state.specs.Finish.{Tried, Finishes, Waits, IfFinishes, has_to_wait, done, refused}
 use Rattle.ipc_state.specs.Sound.{HasSoundParts}
 use Rattle.ipc_state.specs.State.{State, due_calls, has_all_processes, is_waiting, exit, without_due, without_waiting, with_waiting}
 use Rattle.ipc_state.specs.Waiting.{PlainWaiting, IsSoundWaiting, awaited_by, expiry}
-use Rattle.ipc_state.proofs.CallerLemmas.{IsGood, exit-sound}
-use Rattle.sysv_calls.specs.Calls.{attempt, touched}
-use Rattle.sysv_calls.proofs.CallerLemmas.{attempt-good, waits-alike}
+use Rattle.ipc_state.proofs.CallerLemmas.{HasSameProcesses, exit-sound, same-processes}
+use Rattle.sysv_calls.specs.Calls.{attempt}
 use Rattle.ipc_engine.specs.Bytes.{IsAnswered}
-use Rattle.ipc_engine.specs.Event.{PlainEvent, Connect, Call, Interrupt, Tick, Exit, Restart, moment_of}
+use Rattle.ipc_engine.specs.Event.{PlainEvent, Connect, Call, Interrupt, Tick, Exit, Restart, PlainOutcome, moment_of}
+use Rattle.ipc_engine.specs.Settling.{touched_by}
 use Rattle.ipc_engine.specs.Sound.{IsSound}
 use Rattle.ipc_engine.specs.Step.{Step, silent, after, step, due, expired, waiting_on, asked, called, told, joins, interrupt, interrupted}
-use Rattle.ipc_engine.specs.Step.{replied, connect, settle, settle_within, resumed, resumed_first, tried_again}
+use Rattle.ipc_engine.specs.Step.{replied, connect, settle, settle_within, resumed, resumed_first, tried}
 use Rattle.ipc_engine.specs.Step.{answered, can_go_on, most_replies}
-use Rattle.ipc_engine.proofs.Settled.{as-before, settle-has, settle-kept, resumed-has}
+use Rattle.ipc_engine.proofs.Settled.{as-before, left-free, replied-few, same-then, settle-has, settle-kept, resumed-has}
+use Rattle.ipc_engine.proofs.Tries.{HasEnded, tried-alike, tried-ended}
 use Rattle.ipc_engine.proofs.Soundness.{due-sound, sound-settled}
 use Rattle.ipc_engine.proofs.Lists.{found-here}
 
@@ -46,22 +47,35 @@ joins-keeps s pid request (Some on) =
     choice (λ (t : Step). (t.state.processes ≡ s.processes) × (t.state.clock ≡ s.clock)) (is_due (record { 0 = s.clock }) (waiting_on s pid request on)) _ _
     (λ _. (refl, refl)) (λ _. (refl, refl))
 
-module _ (limits : Limits) where
-  told-keeps : (s : State) (pid : ℕ) (request : PlainRequest) (call : PlainCall) (t : Tried) → IfFinishes (IsGood limits s (touched call)) t
-      → ((told limits pid request s t).state.processes ≡ s.processes) × ((told limits pid request s t).state.clock ≡ s.clock)
-  told-keeps s pid request call (Finishes f) good =
-      let later = settle-kept limits f.state in
-      (later.0 ∙ good.kept, later.1 ∙ good.clock)
-  told-keeps s pid request call Waits good = joins-keeps s pid request (awaited_by request.kind)
+joins-same : (s : State) (pid : ℕ) (request : PlainRequest) (on : Option Awaited)
+    → HasSameProcesses s (joins s pid request on).state × ((joins s pid request on).state.clock ≡ s.clock)
+joins-same s pid request on =
+    let kept = joins-keeps s pid request on in
+    (same-processes s (joins s pid request on).state kept.0, kept.1)
 
-  -- a request leaves both as they are
+module _ (limits : Limits) where
+  told-keeps : (s : State) (pid : ℕ) (request : PlainRequest) (t : Tried) → IfFinishes (HasEnded limits s pid (touched_by s pid request.kind)) t
+      → HasSameProcesses s (told limits pid request s t).state × ((told limits pid request s t).state.clock ≡ s.clock)
+  told-keeps s pid request (Finishes f) ended =
+      let later = settle-kept limits f.state in
+      (same-then s f.state (settle limits f.state).state ended.good.kept later.0, later.1 ∙ ended.good.clock)
+  told-keeps s pid request Waits ended = joins-same s pid request (awaited_by request.kind)
+
+  called-keeps : (s : State) (pid : ℕ) (request : PlainRequest)
+      → HasSameProcesses s (called limits pid request s).state × ((called limits pid request s).state.clock ≡ s.clock)
+  called-keeps s pid request =
+      choice (λ (t : Step). HasSameProcesses s t.state × (t.state.clock ≡ s.clock)) (is_waiting s pid) _ _ (λ _. (same-processes s s refl, refl))
+      (λ free. told-keeps s pid request (tried limits s pid false request.kind) (tried-ended limits s pid false request.kind free))
+
+  -- a request leaves the same processes, and the clock
   pub asked-keeps : (s : State) (pid : ℕ) (request : PlainRequest) (kind : PlainKind)
-      → ((asked limits pid request kind s).state.processes ≡ s.processes) × ((asked limits pid request kind s).state.clock ≡ s.clock)
-  asked-keeps s pid request (Hello cred) = (refl, refl)
-  asked-keeps s pid request Interrupts = interrupted-keeps s pid (call_of (record { 0 = pid }) s.wait)
-  asked-keeps s pid request (Calls call) =
-      choice (λ (t : Step). (t.state.processes ≡ s.processes) × (t.state.clock ≡ s.clock)) (is_waiting s pid) _ _ (λ _. (refl, refl))
-      (λ _. told-keeps s pid request call (attempt limits s pid false call) (attempt-good limits s pid false call))
+      → HasSameProcesses s (asked limits pid request kind s).state × ((asked limits pid request kind s).state.clock ≡ s.clock)
+  asked-keeps s pid request (Hello cred) = (same-processes s s refl, refl)
+  asked-keeps s pid request Interrupts =
+      let kept = interrupted-keeps s pid (call_of (record { 0 = pid }) s.wait) in
+      (same-processes s (interrupt pid request.serial s).state kept.0, kept.1)
+  asked-keeps s pid request (Calls call) = called-keeps s pid request
+  asked-keeps s pid request (Posix call) = called-keeps s pid request
 
   pub interrupt-keeps : (s : State) (pid serial : ℕ)
       → ((interrupt pid serial s).state.processes ≡ s.processes) × ((interrupt pid serial s).state.clock ≡ s.clock)
@@ -76,45 +90,53 @@ module _ (limits : Limits) where
   sets-clock s (Exit pid moment) = (settle-kept limits (exit (due moment s).state pid)).1
   sets-clock s Restart = omega arith
 
-  -- ---- how many replies there are: one, and one to each that waited
+  -- ---- how many replies there are: one, and one to each that waited, and a notification with each
 
-  joins-few : (s : State) (pid : ℕ) (request : PlainRequest) (on : Option Awaited) → length (joins s pid request on).outcomes ≤ length s.wait + 1
+  joins-few : (s : State) (pid : ℕ) (request : PlainRequest) (on : Option Awaited) → length (joins s pid request on).outcomes ≤ 2 * (length s.wait + 1)
   joins-few s pid request None = omega arith
   joins-few s pid request (Some on) =
-      choice (λ (t : Step). length t.outcomes ≤ length s.wait + 1) (is_due (record { 0 = s.clock }) (waiting_on s pid request on)) _ _
+      choice (λ (t : Step). length t.outcomes ≤ 2 * (length s.wait + 1)) (is_due (record { 0 = s.clock }) (waiting_on s pid request on)) _ _
       (λ _. omega arith) (λ _. omega arith)
 
-  told-few : (s : State) (pid : ℕ) (request : PlainRequest) (call : PlainCall) (t : Tried) → IsSound limits s → IfFinishes (IsGood limits s (touched call)) t
-      → length (told limits pid request s t).outcomes ≤ length s.wait + 1
+  told-few : (s : State) (pid : ℕ) (request : PlainRequest) (t : Tried) → IsSound limits s
+      → IfFinishes (HasEnded limits s pid (touched_by s pid request.kind)) t
+      → length (told limits pid request s t).outcomes ≤ 2 * (length s.wait + 1)
   unfolding settle
-  told-few s pid request call (Finishes f) h good =
+  told-few s pid request (Finishes f) h ended =
+      let good = ended.good in
       let later = (settle-has limits (length f.state.wait) f.state (good.state h.parts)).few in
-      omega (arith, later, ap length good.wait)
-  told-few s pid request call Waits h good = joins-few s pid request (awaited_by request.kind)
+      omega (
+        arith,
+        later,
+        ap length good.wait,
+        replied-few pid request.serial f,
+        length-append (replied pid request.serial f).outcomes (settle limits f.state).outcomes,
+      )
+  told-few s pid request Waits h ended = joins-few s pid request (awaited_by request.kind)
 
-  interrupt-few : (s : State) (pid serial : ℕ) → length (interrupt pid serial s).outcomes ≤ length s.wait + 1
+  interrupt-few : (s : State) (pid serial : ℕ) → length (interrupt pid serial s).outcomes ≤ 2 * (length s.wait + 1)
   interrupt-few s pid serial = by_call (call_of (record { 0 = pid }) s.wait) refl
     where
-      some : (ws : List PlainWaiting) (w : PlainWaiting) → call_of (record { 0 = pid }) ws ≡ Some w → 1 ≤ length ws
-      some [] w is = cc
-      some (v ∷ ws) w is = omega arith
-
       by_call : (r : Option PlainWaiting) → call_of (record { 0 = pid }) s.wait ≡ r
-          → length ((interrupted s pid r).outcomes ++ (replied pid serial (done (interrupted s pid r).state Empty)).outcomes) ≤ length s.wait + 1
+          → length ((interrupted s pid r).outcomes ++ (replied pid serial (done (interrupted s pid r).state Empty)).outcomes) ≤ 2 * (length s.wait + 1)
       by_call None is = omega arith
-      by_call (Some w) is = omega (arith, some s.wait w is)
+      by_call (Some w) is = omega arith
+
+  called-few : (s : State) (pid : ℕ) (request : PlainRequest) → IsSound limits s → length (called limits pid request s).outcomes ≤ 2 * (length s.wait + 1)
+  called-few s pid request h =
+      choice (λ (t : Step). length t.outcomes ≤ 2 * (length s.wait + 1)) (is_waiting s pid) _ _ (λ _. omega arith)
+      (λ free. told-few s pid request (tried limits s pid false request.kind) h (tried-ended limits s pid false request.kind free))
 
   asked-few : (s : State) (pid : ℕ) (request : PlainRequest) (kind : PlainKind) → IsSound limits s
-      → length (asked limits pid request kind s).outcomes ≤ length s.wait + 1
+      → length (asked limits pid request kind s).outcomes ≤ 2 * (length s.wait + 1)
   asked-few s pid request (Hello cred) h = omega arith
   asked-few s pid request Interrupts h = interrupt-few s pid request.serial
-  asked-few s pid request (Calls call) h =
-      choice (λ (t : Step). length t.outcomes ≤ length s.wait + 1) (is_waiting s pid) _ _ (λ _. omega arith)
-      (λ _. told-few s pid request call (attempt limits s pid false call) h (attempt-good limits s pid false call))
+  asked-few s pid request (Calls call) h = called-few s pid request h
+  asked-few s pid request (Posix call) h = called-few s pid request h
 
   -- those whose deadline has come, and then the others
   due-few : (s : State) (moment : ℕ) (next : State → Step) → IsSound limits s
-      → length (next (due moment s).state).outcomes ≤ length (due moment s).state.wait + 1
+      → length (next (due moment s).state).outcomes ≤ 2 * (length (due moment s).state.wait + 1)
       → length (after (due moment s) next).outcomes ≤ most_replies limits
   due-few s moment next h few =
       let now : Moment = record { 0 = max s.clock moment } in
@@ -127,14 +149,14 @@ module _ (limits : Limits) where
         length-append (due moment s).outcomes (next (due moment s).state).outcomes,
       )
 
-  settled-few : (t : State) → HasSoundParts limits t → {n : ℕ} → length t.wait ≤ n → length (settle limits t).outcomes ≤ n + 1
+  settled-few : (t : State) → HasSoundParts limits t → {n : ℕ} → length t.wait ≤ n → length (settle limits t).outcomes ≤ 2 * (n + 1)
   unfolding settle
   settled-few t h less = omega (arith, less, (settle-has limits (length t.wait) t h).few)
 
   pub step-few : (s : State) (e : PlainEvent) → IsSound limits s → length (step limits s e).outcomes ≤ most_replies limits
   step-few s (Connect cred serial moment) h =
       due-few s moment (connect limits cred serial) h
-      (choice (λ (t : Step). length t.outcomes ≤ length (due moment s).state.wait + 1) (has_all_processes limits (due moment s).state) _ _
+      (choice (λ (t : Step). length t.outcomes ≤ 2 * (length (due moment s).state.wait + 1)) (has_all_processes limits (due moment s).state) _ _
       (λ _. omega arith) (λ _. omega arith))
   step-few s (Call pid request moment) h =
       due-few s moment (asked limits pid request request.kind) h (asked-few (due moment s).state pid request request.kind (due-sound limits s moment h))
@@ -176,29 +198,22 @@ module _ (limits : Limits) where
         ∙ ap (λ (r : Option PlainWaiting). resumed_first limits s r (settle_within limits (length (resumed limits s w).state.wait))) found
 
     pub goes-answered : can_go_on limits s w ≡ true → IsAnswered w (resumed limits s w)
-    goes-answered goes = by_kind w.call.kind in_list.on goes
+    goes-answered goes =
+        by_tried (tried limits (without_waiting s w.pid.0) w.pid.0 true w.call.kind)
+        (tried-ended limits (without_waiting s w.pid.0) w.pid.0 true w.call.kind (left-free s w))
+        (tried-alike limits s (without_waiting s w.pid.0) w.pid.0 true true w.call.kind w.on in_list.on refl
+        (as-before w.pid.0 w.on s (without_waiting s w.pid.0) refl refl refl (λ p k. refl) refl) ∙ opposite _ goes)
       where
-        by_tried : (t : Tried) → has_to_wait t ≡ false → IsAnswered w (answered w (without_waiting s w.pid.0) t)
-        by_tried (Finishes f) never = record {
-          reply = record { pid = w.pid.0; serial = w.call.serial; errno = f.errno; body = f.body };
-          all = refl;
-          process = refl;
-          serial = refl;
-        }
-        by_tried Waits never = cc
+        by_tried : (t : Tried) → IfFinishes (HasEnded limits (without_waiting s w.pid.0) w.pid.0 (touched_by (without_waiting s w.pid.0) w.pid.0 w.call.kind)) t → has_to_wait t ≡ false
+            → IsAnswered w (answered w (without_waiting s w.pid.0) t)
+        by_tried (Finishes f) ended never =
+            let o : PlainOutcome = record { pid = w.pid.0; serial = w.call.serial; errno = f.errno; body = f.body } in
+            record { reply = o; fired = f.fired; all = refl; process = refl; serial = refl }
+        by_tried Waits ended never = cc
 
         opposite : (b : Bool) → not b ≡ true → b ≡ false
         opposite true never = cc
         opposite false never = refl
-
-        by_kind : (kind : PlainKind) → awaited_by kind ≡ Some w.on → not (has_to_wait (tried_again limits s w.pid.0 kind)) ≡ true
-            → IsAnswered w (answered w (without_waiting s w.pid.0) (tried_again limits (without_waiting s w.pid.0) w.pid.0 kind))
-        by_kind (Calls call) on goes =
-            by_tried (attempt limits (without_waiting s w.pid.0) w.pid.0 true call)
-            (waits-alike limits s (without_waiting s w.pid.0) w.pid.0 true true call w.on on refl (as-before w.on s
-            (without_waiting s w.pid.0) refl refl (λ p k. refl)) ∙ opposite _ goes)
-        by_kind (Hello cred) on goes = cc
-        by_kind Interrupts on goes = cc
 
   -- ---- a call that is refused, or waits
 
@@ -207,38 +222,41 @@ module _ (limits : Limits) where
     here = (due moment s).state
 
     -- what an event of this call comes to
-    as-called : step limits s (Call pid request moment) ≡ after (due moment s) (called limits pid request call)
+    as-called : step limits s (Call pid request moment) ≡ after (due moment s) (called limits pid request)
     as-called = ap (λ (kind : PlainKind). after (due moment s) (asked limits pid request kind)) is
 
-    by-waiting : (b : Bool) → is_waiting here pid ≡ b → called limits pid request call here
+    by-waiting : (b : Bool) → is_waiting here pid ≡ b → called limits pid request here
         ≡ (if b then replied pid request.serial (refused here EALREADY) else told limits pid request here (attempt limits here pid false call))
     by-waiting b same =
         ap (λ (w : Bool).
-        if w then replied pid request.serial (refused here EALREADY) else told limits pid request here (attempt limits here pid false call)) same
+        if w then replied pid request.serial (refused here EALREADY) else told limits pid request here (tried limits here pid false request.kind)) same
+        ∙ ap (λ (kind : PlainKind).
+        if b then replied pid request.serial (refused here EALREADY) else told limits pid request here (tried limits here pid false kind)) is
 
     -- with what it comes to at that moment
-    comes-to : (next : State → Step) → called limits pid request call here ≡ next here → step limits s (Call pid request moment) ≡ after (due moment s) next
+    comes-to : (next : State → Step) → called limits pid request here ≡ next here → step limits s (Call pid request moment) ≡ after (due moment s) next
     comes-to next same =
         as-called ∙ ap (λ (t : Step). let u : Step = record { state = t.state; outcomes = (due moment s).outcomes ++ t.outcomes } in u) same
 
     pub refused-same : (e : Errno) → IsSound limits s → attempt limits here pid false call ≡ Finishes (refused here e)
         → (step limits s (Call pid request moment)).state ≡ here
-    refused-same e h tried =
+    refused-same e h comes =
         ap (λ (t : Step). t.state) as-called
         ∙ choice (λ (u : Step). u.state ≡ here) (is_waiting here pid) _ _ (λ _. refl)
-        (λ _. ap (λ (r : Tried). (told limits pid request here r).state) tried
-        ∙ ap (λ (u : Step). u.state) (sound-settled limits here (due-sound limits s moment h)))
+        (λ _. ap (λ (kind : PlainKind). (told limits pid request here (tried limits here pid false kind)).state) is
+        ∙ (ap (λ (r : Tried). (told limits pid request here r).state) comes
+        ∙ ap (λ (u : Step). u.state) (sound-settled limits here (due-sound limits s moment h))))
 
     pub already-same : is_waiting here pid ≡ true
         → step limits s (Call pid request moment) ≡ after (due moment s) (λ t. replied pid request.serial (refused t EALREADY))
     already-same waits = comes-to (λ t. replied pid request.serial (refused t EALREADY)) (by-waiting true waits)
 
     module _ (on : Awaited) (awaits : awaited_by request.kind ≡ Some on) (free : is_waiting here pid ≡ false)
-        (tried : attempt limits here pid false call ≡ Waits) where
-      by-due : (b : Bool) → is_due (record { 0 = max s.clock moment }) (waiting_on here pid request on) ≡ b → called limits pid request call here
+        (comes : attempt limits here pid false call ≡ Waits) where
+      by-due : (b : Bool) → is_due (record { 0 = max s.clock moment }) (waiting_on here pid request on) ≡ b → called limits pid request here
           ≡ (if b then replied pid request.serial (refused here (expiry request.kind)) else silent (with_waiting here (waiting_on here pid request on)))
       by-due b same =
-          by-waiting false free ∙ (ap (told limits pid request here) tried ∙ (ap (λ (o : Option Awaited). joins here pid request o) awaits
+          by-waiting false free ∙ (ap (told limits pid request here) comes ∙ (ap (λ (o : Option Awaited). joins here pid request o) awaits
           ∙ ap (λ (d : Bool).
           if d then replied pid request.serial (refused here (expiry request.kind)) else silent
           (with_waiting here (waiting_on here pid request on))) same))

@@ -3,7 +3,7 @@ use Rattle.std.specs.Prelude.{ℕ, ◌≤◌, max, List, [], ◌∷◌, vec_capa
 use Rattle.std.specs.Global.{Vec}
 use Rattle.ipc_base.specs.declared.limits.Limits.{Limits}
 use Rattle.ipc_base.specs.Limits.{longest_body}
-use Rattle.sysv_calls.specs.Spare.{room_of}
+use Rattle.ipc_state.specs.Spare.{room_of}
 use Rattle.ipc_engine.specs.declared.event.Outcome.{Outcome}
 
 -- the most room that one of the replies brings

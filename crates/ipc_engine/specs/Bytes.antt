@@ -1,13 +1,16 @@
 -- How many replies an event sends a process, and how many bytes of frames these are: none but the replies to what the
--- process has asked for, and to each request one at most.
-use Rattle.std.specs.Prelude.{◌≡◌, ◌⊎◌, ℕ, ◌+◌, Bool, true, false, ◌==◌, if◌then◌else◌, List, [], ◌∷◌, ◌++◌, length}
+-- process has asked for, to each request one at most, and the notifications for which it has registered.
+use Rattle.std.specs.Prelude.{◌≡◌, ◌⊎◌, ℕ, ◌+◌, ◌*◌, Bool, true, false, not, ◌&&◌, ◌==◌, if◌then◌else◌}
+use Rattle.std.specs.Prelude.{List, [], ◌∷◌, ◌++◌, length, Option}
 use Rattle.ipc_base.specs.declared.limits.Limits.{Limits}
 use Rattle.ipc_base.specs.Limits.{longest_reply}
 use Rattle.ipc_wire.specs.Reply.{reply_bytes}
+use Rattle.posix_mq.specs.declared.queue.Registration.{Registration}
 use Rattle.ipc_state.specs.State.{State, is_process, is_waiting}
 use Rattle.ipc_state.specs.Waiting.{PlainWaiting}
+use Rattle.posix_calls.specs.Registrations.{registrations}
 use Rattle.ipc_engine.specs.Event.{PlainEvent, Connect, Call, Interrupt, Tick, Exit, Restart, PlainOutcome}
-use Rattle.ipc_engine.specs.Step.{Step}
+use Rattle.ipc_engine.specs.Step.{Step, notices}
 use Rattle.ipc_engine.specs.View.{reply_of}
 
 -- the bytes of those frames that are for a process
@@ -15,10 +18,10 @@ abbrev pub bytes_to : ℕ → List PlainOutcome → ℕ
 bytes_to pid [] = 0
 bytes_to pid (o ∷ os) = (if pid == o.pid then length (reply_bytes (reply_of o)) else 0) + bytes_to pid os
 
--- how many replies are for a process
+-- how many replies are for a process; a notification, which has no serial, is none
 abbrev pub replies_to : ℕ → List PlainOutcome → ℕ
 replies_to pid [] = 0
-replies_to pid (o ∷ os) = (if pid == o.pid then 1 else 0) + replies_to pid os
+replies_to pid (o ∷ os) = (if pid == o.pid && not (o.serial == 0) then 1 else 0) + replies_to pid os
 
 -- whether a process asks something by an event: it makes a request, an INTERRUPT too, or is the one that a HELLO makes
 abbrev pub asks : State → PlainEvent → ℕ → Bool
@@ -33,13 +36,18 @@ asks s Restart pid = false
 abbrev pub unanswered : State → ℕ → ℕ
 unanswered s pid = if is_waiting s pid then 1 else 0
 
--- how many bytes a process is still owed for what it asked by earlier events: one reply if a call of it waits
+-- the bytes of the frame of a notification
+abbrev pub notice_bytes : ℕ
+notice_bytes = 18
+
+-- how many bytes a process is still owed for what it asked by earlier events: one reply if a call of it waits, and a
+-- notification for each queue with which it is registered
 unfoldable pub owed : Limits → State → ℕ → ℕ
-owed limits s pid = if is_waiting s pid then longest_reply limits else 0
+owed limits s pid = (if is_waiting s pid then longest_reply limits else 0) + notice_bytes * registrations s pid
 
 -- no process is owed more
 abbrev pub most_owed : Limits → ℕ
-most_owed limits = longest_reply limits
+most_owed limits = longest_reply limits + notice_bytes * limits.queues
 
 -- how many requests an event brings of a process
 abbrev pub asked_by : State → PlainEvent → ℕ → ℕ
@@ -56,9 +64,11 @@ pub record IsGreeted (s : State) (now : Step) : Type 0 where
   pub last : now.outcomes ≡ front ++ reply ∷ []
   pub process : (reply.pid ≡ 0) ⊎ ((reply.pid ≡ s.processes.next) × (is_process now.state reply.pid ≡ true))
 
--- a call that waited has been answered: its process is sent one reply, to that call
+-- a call that waited has been answered: its process is sent one reply, to that call, and whoever was registered with the
+-- queue to which a message has come is told
 pub record IsAnswered (w : PlainWaiting) (now : Step) : Type 0 where
   pub reply : PlainOutcome
-  pub all : now.outcomes ≡ reply ∷ []
+  pub fired : Option Registration
+  pub all : now.outcomes ≡ reply ∷ notices fired
   pub process : reply.pid ≡ w.pid.0
   pub serial : reply.serial ≡ w.call.serial

@@ -4,8 +4,8 @@ use Rattle.ipc_base.specs.declared.limits.Limits.{Limits}
 use Rattle.ipc_wire.specs.Spelling.{HasFrame}
 use Rattle.ipc_state.specs.State.{State, is_process, is_waiting, has_all_processes}
 use Rattle.ipc_state.specs.Held.{Room}
-use Rattle.sysv_calls.specs.Needs.{takes_memory as kind_takes_memory}
 use Rattle.ipc_engine.specs.Event.{PlainEvent, Connect, Call, Interrupt, Tick, Exit, Restart, PlainOutcome}
+use Rattle.ipc_engine.specs.Reserved.{takes_memory as kind_takes_memory}
 use Rattle.ipc_engine.specs.Step.{due}
 
 -- the limits that it keeps, the state, and the replies of the last event

@@ -6,4 +6,6 @@ pub mod Engine
 pub mod Buffer
 pub mod Sound
 pub mod Settling
+pub mod Trial
+pub mod Reserved
 pub mod Listing

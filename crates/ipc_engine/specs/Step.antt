@@ -1,20 +1,22 @@
 -- One step of the server on one event: the state after it, and the replies in their order. First its moment comes, at
 -- which deadlines may end calls that wait; a restart has no moment and leaves the clock. Then it does what it says, and
 -- at its end those calls go on that waited for it.
-use Rattle.std.specs.Prelude.{ℕ, zero, suc, ◌+◌, List, [], ◌∷◌, ◌++◌, length, if◌then◌else◌, Bool, true, false, not}
-use Rattle.std.specs.Prelude.{Option, Some, None, find, map}
+use Rattle.std.specs.Prelude.{ℕ, zero, suc, ◌+◌, ◌*◌, List, [], ◌∷◌, ◌++◌, length, if◌then◌else◌, Bool, true, false}
+use Rattle.std.specs.Prelude.{not, Option, Some, None, find, map}
 use Rattle.ipc_base.specs.declared.errno.Errno.TheVariants.{EALREADY, EINTR, ENFILE, EPROTO}
 use Rattle.ipc_base.specs.declared.identity.Cred.{Cred}
 use Rattle.ipc_base.specs.declared.limits.Limits.{Limits}
 use Rattle.ipc_wait.specs.Waits.{call_of, is_due}
-use Rattle.ipc_wire.specs.Request.{PlainCall, PlainKind, PlainRequest, Hello, Interrupt as Interrupts, Calls}
-use Rattle.ipc_wire.specs.declared.reply.Body.TheVariants.{Empty, Number}
+use Rattle.ipc_wire.specs.Request.{PlainKind, PlainRequest, Hello, Interrupt as Interrupts, Calls, Posix}
+use Rattle.ipc_wire.specs.declared.reply.Body.TheVariants.{Empty, Notification, Number}
 use Rattle.ipc_state.specs.declared.parked.Awaited.{Awaited}
 use Rattle.ipc_state.specs.Finish.{Finish, Tried, Finishes, Waits, has_to_wait, done, refused}
 use Rattle.ipc_state.specs.State.{State, at_moment, has_all_processes, with_process, exit, restart}
 use Rattle.ipc_state.specs.State.{due_calls, is_waiting, with_waiting, without_due, without_waiting}
 use Rattle.ipc_state.specs.Waiting.{PlainWaiting, awaited_by, deadline_of, expiry}
-use Rattle.sysv_calls.specs.Calls.{attempt}
+use Rattle.posix_mq.specs.declared.queue.Registration.{Registration}
+use Rattle.sysv_calls.specs.Calls as sysv
+use Rattle.posix_calls.specs.Calls as posix
 use Rattle.ipc_engine.specs.Event.{PlainEvent, Connect, Call, Interrupt, Tick, Exit, Restart, PlainOutcome}
 
 pub record Step : Type 0 where
@@ -29,24 +31,31 @@ silent s = record { state = s; outcomes = [] }
 abbrev pub after : Step → (State → Step) → Step
 after now next = record { state = (next now.state).state; outcomes = now.outcomes ++ (next now.state).outcomes }
 
--- the reply to a call that has ended so
+-- the notification that a call has fired, if it has: no request has its serial
+abbrev pub notices : Option Registration → List PlainOutcome
+notices None = []
+notices (Some r) =
+    record { pid = r.pid.0; serial = 0; errno = None; body = Notification r.descriptor r.cookie } ∷ []
+
+-- the reply to a call that has ended so, and then the notification
 abbrev pub replied : ℕ → ℕ → Finish → Step
 replied pid serial f =
     record {
       state = f.state;
-      outcomes = record { pid = pid; serial = serial; errno = f.errno; body = f.body } ∷ [];
+      outcomes = record { pid = pid; serial = serial; errno = f.errno; body = f.body } ∷ notices f.fired;
     }
 
 -- ---- calls that wait
 
--- what comes of a call that waits, as the state is now; what is no call never waits
-abbrev pub tried_again : Limits → State → ℕ → PlainKind → Tried
-tried_again limits s pid (Calls call) = attempt limits s pid true call
-tried_again limits s pid kind = Finishes (refused s EPROTO)
+-- what comes of a call, as the state is now; again where it is one that waited; what is no call never waits
+abbrev pub tried : Limits → State → ℕ → Bool → PlainKind → Tried
+tried limits s pid again (Calls call) = sysv.attempt limits s pid again call
+tried limits s pid again (Posix call) = posix.attempt limits s pid call
+tried limits s pid again kind = Finishes (refused s EPROTO)
 
 -- it can go on now: it is done, or refused
 abbrev pub can_go_on : Limits → State → PlainWaiting → Bool
-can_go_on limits s w = not (has_to_wait (tried_again limits s w.pid.0 w.call.kind))
+can_go_on limits s w = not (has_to_wait (tried limits s w.pid.0 true w.call.kind))
 
 -- a call that goes on is answered
 abbrev pub answered : PlainWaiting → State → Tried → Step
@@ -56,7 +65,7 @@ answered w s Waits = silent s
 -- it leaves the list, and is done or refused
 abbrev pub resumed : Limits → State → PlainWaiting → Step
 resumed limits s w =
-    answered w (without_waiting s w.pid.0) (tried_again limits (without_waiting s w.pid.0) w.pid.0 w.call.kind)
+    answered w (without_waiting s w.pid.0) (tried limits (without_waiting s w.pid.0) w.pid.0 true w.call.kind)
 
 -- it does so, and the others after it; nothing, if there is none
 abbrev pub resumed_first : Limits → State → Option PlainWaiting → (State → Step) → Step
@@ -117,11 +126,11 @@ told limits pid request s (Finishes f) = after (replied pid request.serial f) (s
 told limits pid request s Waits = joins s pid request (awaited_by request.kind)
 
 -- a call of a process, which has one at a time
-abbrev pub called : Limits → ℕ → PlainRequest → PlainCall → State → Step
-called limits pid request call s =
+abbrev pub called : Limits → ℕ → PlainRequest → State → Step
+called limits pid request s =
     if is_waiting s pid
     then replied pid request.serial (refused s EALREADY)
-    else told limits pid request s (attempt limits s pid false call)
+    else told limits pid request s (tried limits s pid false request.kind)
 
 -- the call of a process that waits, if there is one, ends with EINTR
 abbrev pub interrupted : State → ℕ → Option PlainWaiting → Step
@@ -137,7 +146,7 @@ interrupt pid serial s =
 abbrev pub asked : Limits → ℕ → PlainRequest → PlainKind → State → Step
 asked limits pid request (Hello cred) s = replied pid request.serial (refused s EPROTO)
 asked limits pid request Interrupts s = interrupt pid request.serial s
-asked limits pid request (Calls call) s = called limits pid request call s
+asked limits pid request kind s = called limits pid request s
 
 abbrev pub step : Limits → State → PlainEvent → Step
 step limits s (Connect cred serial moment) = after (due moment s) (connect limits cred serial)
@@ -147,9 +156,10 @@ step limits s (Tick moment) = due moment s
 step limits s (Exit pid moment) = after (due moment s) (λ t. settle limits (exit t pid))
 step limits s Restart = silent (restart s)
 
--- the most replies that one event causes: its own, and one to each process of which a call waited
+-- the most frames that one event causes: its own reply, and one to each process of which a call waited; and with each a
+-- notification
 abbrev pub most_replies : Limits → ℕ
-most_replies limits = limits.processes + 1
+most_replies limits = 2 * (limits.processes + 1)
 
 -- a run: the state after a list of events, and all replies in order
 abbrev pub run : Limits → State → List PlainEvent → Step

@@ -1,32 +1,33 @@
 //! What a process asks: its calls, one at a time, and INTERRUPT; and that it leaves.
 
-ghost use Rattle.std.specs.Prelude.{◌≡◌, ◌+◌, ◌<◌, ◌≤◌, ◌++◌, true, false, length, map, max, vec_capacity};
+ghost use Rattle.std.specs.Prelude.{◌≡◌, ◌+◌, ◌*◌, ◌<◌, ◌≤◌, ◌++◌, true, false, length, map, max, vec_capacity};
 ghost use Rattle.ipc_base.specs.Limits.{longest_body};
 ghost use Rattle.ipc_wait.specs.Waits.{call_of};
-ghost use Rattle.ipc_wire.specs.Request.{Calls, PlainRequest, plain_call};
+ghost use Rattle.ipc_wire.specs.Request.{plain_kind};
 ghost use Rattle.ipc_wire.specs.View.{plain_request};
 ghost use Rattle.ipc_state.proofs.CallerLemmas.{IsGood};
-ghost use Rattle.ipc_state.specs.Finish.{finish_of, refused};
+ghost use Rattle.ipc_state.specs.Finish.{finish_firing, refused};
 ghost use Rattle.ipc_state.specs.State.{State as PlainState, exit, is_process, is_waiting};
 ghost use Rattle.ipc_state.specs.Waiting.{awaited_by, may_wait};
-ghost use Rattle.sysv_calls.specs.Calls.{attempt as attempt_of};
-ghost use Rattle.sysv_calls.specs.Needs.{Has, IsReserved, needs};
-ghost use Rattle.sysv_calls.specs.Spare.{IsSpare, room_in as room_in_answer};
+ghost use Rattle.ipc_state.specs.Spare.{IsSpare, room_in as room_in_answer};
 ghost use Rattle.ipc_engine.specs.Buffer.{HasBuffer, room_in};
-ghost use Rattle.ipc_engine.specs.Settling.{ReceivesWait};
+ghost use Rattle.ipc_engine.specs.Reserved.{Has, IsReserved};
+ghost use Rattle.ipc_engine.specs.Settling.{HaveSameObjects, ReceivesWait};
 ghost use Rattle.ipc_engine.specs.Sound.{IsSound};
 ghost use Rattle.ipc_engine.specs.Step.{after, asked, called, interrupt as interrupt_step, interrupted, joins};
-ghost use Rattle.ipc_engine.specs.Step.{replied, settle as settled, told};
+ghost use Rattle.ipc_engine.specs.Step.{replied, settle as settled, told, tried};
 ghost use Rattle.ipc_engine.specs.View.{plain_outcome};
 
 use crate::event::Outcome;
-use crate::replies::{push, reply_to};
+use crate::replies::{push, reply_to, tell};
 use crate::settling::{settle, settle_all};
+use crate::trying::{Trial, is_receive, touched_by, try_at_once, try_kept};
 use ipc_base::{Errno, Pid};
-use ipc_state::{Awaited, Parked, State};
+use ipc_state::{Object, Parked, State};
 use ipc_wait::Waiting;
-use ipc_wire::{Body, Call, Request, RequestKind};
-use sysv_calls::{Answer, Tried, attempt, receives, touched, try_parked};
+use ipc_wire::{Body, Request, RequestKind};
+use posix_mq::Registration;
+use sysv_calls::Answer;
 
 /// What a process is told at a request whose memory is reserved. It takes none.
 pub(crate) fn ask(
@@ -42,7 +43,7 @@ pub(crate) fn ask(
     requires room { is_waiting state.old.state pid.0 ≡ false
         → IsReserved state.old.state state.old.room (plain_request request.now) kept }
     requires waits { state.old.limits.processes ≤ state.old.room.waits }
-    requires places { length outcomes.old.items + length state.old.state.wait < vec_capacity outcomes.old }
+    requires places { length outcomes.old.items + 2 * (length state.old.state.wait + 1) ≤ vec_capacity outcomes.old }
     requires spare { IsSpare state.old.limits spare.old }
     ensures state { state.new.state ≡ (asked state.old.limits pid.0 (plain_request request.now)
         (plain_request request.now).kind state.old.state).state }
@@ -57,7 +58,9 @@ pub(crate) fn ask(
     match &request.kind {
         RequestKind::Hello(_) => refuse(outcomes, pid, request.serial, Errno::EPROTO),
         RequestKind::Interrupt => interrupt(state, outcomes, pid, request.serial),
-        RequestKind::Call(call) => make(state, outcomes, spare, pid, request, call, kept),
+        RequestKind::Call(_) | RequestKind::Posix(_) => {
+            make(state, outcomes, spare, pid, request, kept);
+        }
     }
 }
 
@@ -68,21 +71,19 @@ fn make(
     spare: &mut Vec<u8>,
     pid: Pid,
     request: &Request<'_>,
-    call: &Call<'_>,
     kept: Option<Parked>,
 )
     requires sound { IsSound state.old.limits state.old.state }
     requires process { is_process state.old.state pid.0 ≡ true }
-    requires call { (plain_request request.now).kind ≡ Calls (plain_call call.now) }
     requires room { is_waiting state.old.state pid.0 ≡ false
         → IsReserved state.old.state state.old.room (plain_request request.now) kept }
     requires waits { state.old.limits.processes ≤ state.old.room.waits }
-    requires places { length outcomes.old.items + length state.old.state.wait < vec_capacity outcomes.old }
+    requires places { length outcomes.old.items + 2 * (length state.old.state.wait + 1) ≤ vec_capacity outcomes.old }
     requires spare { IsSpare state.old.limits spare.old }
     ensures state { state.new.state
-        ≡ (called state.old.limits pid.0 (plain_request request.now) (plain_call call.now) state.old.state).state }
+        ≡ (called state.old.limits pid.0 (plain_request request.now) state.old.state).state }
     ensures outcomes { map plain_outcome outcomes.new.items ≡ map plain_outcome outcomes.old.items
-        ++ (called state.old.limits pid.0 (plain_request request.now) (plain_call call.now) state.old.state).outcomes }
+        ++ (called state.old.limits pid.0 (plain_request request.now) state.old.state).outcomes }
     ensures limits { state.new.limits ≡ state.old.limits }
     ensures waits { state.new.room.waits ≡ state.old.room.waits }
     ensures capacity { vec_capacity outcomes.old ≤ vec_capacity outcomes.new }
@@ -91,10 +92,10 @@ fn make(
     if state.is_waiting(pid) {
         return refuse(outcomes, pid, request.serial, Errno::EALREADY);
     }
-    match kept {
-        Some(parked) => try_once(state, outcomes, pid, call, parked),
-        None => at_once(state, outcomes, spare, pid, request.serial, call),
+    if let Some(parked) = kept {
+        return try_once(state, outcomes, pid, parked);
     }
+    at_once(state, outcomes, spare, pid, request);
 }
 
 /// A call that never waits.
@@ -103,66 +104,62 @@ fn at_once(
     outcomes: &mut Vec<Outcome>,
     spare: &mut Vec<u8>,
     pid: Pid,
-    serial: u32,
-    call: &Call<'_>,
+    request: &Request<'_>,
 )
     requires sound { IsSound state.old.limits state.old.state }
     requires process { is_process state.old.state pid.0 ≡ true }
-    requires never { may_wait (Calls (plain_call call.now)) ≡ false }
-    requires room { Has state.old.state state.old.room (needs (Calls (plain_call call.now))) }
-    requires places { length outcomes.old.items + length state.old.state.wait < vec_capacity outcomes.old }
+    requires free { is_waiting state.old.state pid.0 ≡ false }
+    requires never { may_wait (plain_kind request.now.kind) ≡ false }
+    requires room { Has (plain_kind request.now.kind) state.old.state state.old.room }
+    requires places { length outcomes.old.items + 2 * (length state.old.state.wait + 1) ≤ vec_capacity outcomes.old }
     requires spare { IsSpare state.old.limits spare.old }
-    ensures state { (request : PlainRequest) → request.serial ≡ serial
-        → state.new.state ≡ (told state.old.limits pid.0 request state.old.state
-        (attempt_of state.old.limits state.old.state pid.0 false (plain_call call.now))).state }
-    ensures outcomes { (request : PlainRequest) → request.serial ≡ serial
-        → map plain_outcome outcomes.new.items ≡ map plain_outcome outcomes.old.items
-        ++ (told state.old.limits pid.0 request state.old.state
-        (attempt_of state.old.limits state.old.state pid.0 false (plain_call call.now))).outcomes }
+    ensures state { state.new.state ≡ (told state.old.limits pid.0 (plain_request request.now) state.old.state
+        (tried state.old.limits state.old.state pid.0 false (plain_kind request.now.kind))).state }
+    ensures outcomes { map plain_outcome outcomes.new.items ≡ map plain_outcome outcomes.old.items
+        ++ (told state.old.limits pid.0 (plain_request request.now) state.old.state
+        (tried state.old.limits state.old.state pid.0 false (plain_kind request.now.kind))).outcomes }
     ensures limits { state.new.limits ≡ state.old.limits }
     ensures waits { state.new.room.waits ≡ state.old.room.waits }
     ensures capacity { vec_capacity outcomes.old ≤ vec_capacity outcomes.new }
     ensures buffer { HasBuffer state.old.limits spare.new outcomes.new.items }
 {
-    let answer = attempt(state, pid, call, spare);
-    finish(state, outcomes, pid, serial, answer, touched(call), false);
+    let (answer, touched) = try_at_once(state, pid, &request.kind, spare);
+    finish(
+        state,
+        outcomes,
+        pid,
+        request.serial,
+        answer,
+        None,
+        touched,
+        false,
+    );
 }
 
 /// A call that may wait is tried: it ends, and others go on, or it joins those that wait.
-fn try_once(
-    state: &mut State,
-    outcomes: &mut Vec<Outcome>,
-    pid: Pid,
-    call: &Call<'_>,
-    parked: Parked,
-)
+fn try_once(state: &mut State, outcomes: &mut Vec<Outcome>, pid: Pid, parked: Parked)
     requires sound { IsSound state.old.limits state.old.state }
     requires process { is_process state.old.state pid.0 ≡ true }
     requires free { is_waiting state.old.state pid.0 ≡ false }
-    requires call { parked.kind ≡ Calls (plain_call call.now) }
     requires waits { state.old.limits.processes ≤ state.old.room.waits }
-    requires places { length outcomes.old.items + length state.old.state.wait < vec_capacity outcomes.old }
+    requires places { length outcomes.old.items + 2 * (length state.old.state.wait + 1) ≤ vec_capacity outcomes.old }
     ensures state { state.new.state ≡ (told state.old.limits pid.0 parked state.old.state
-        (attempt_of state.old.limits state.old.state pid.0 false (plain_call call.now))).state }
+        (tried state.old.limits state.old.state pid.0 false parked.kind)).state }
     ensures outcomes { map plain_outcome outcomes.new.items ≡ map plain_outcome outcomes.old.items
         ++ (told state.old.limits pid.0 parked state.old.state
-        (attempt_of state.old.limits state.old.state pid.0 false (plain_call call.now))).outcomes }
+        (tried state.old.limits state.old.state pid.0 false parked.kind)).outcomes }
     ensures limits { state.new.limits ≡ state.old.limits }
     ensures waits { state.new.room.waits ≡ state.old.room.waits }
     ensures capacity { vec_capacity outcomes.old ≤ vec_capacity outcomes.new }
 {
     let serial = parked.serial();
-    match try_parked(state, pid, false, parked) {
-        Tried::Finishes(answer) => finish(
-            state,
-            outcomes,
-            pid,
-            serial,
-            answer,
-            touched(call),
-            receives(call),
+    let touched = touched_by(state, pid, &parked);
+    let received = is_receive(&parked);
+    match try_kept(state, pid, false, parked) {
+        Trial::Finishes { answer, fired } => finish(
+            state, outcomes, pid, serial, answer, fired, touched, received,
         ),
-        Tried::Waits(parked) => join(state, outcomes, pid, parked),
+        Trial::Waits(parked) => join(state, outcomes, pid, parked),
     }
 }
 
@@ -194,31 +191,34 @@ fn join(state: &mut State, outcomes: &mut Vec<Outcome>, pid: Pid, parked: Parked
     }
 }
 
-/// A call has ended so, and may have changed this object: it is answered, and then those go on that wait on the object
-/// and can. `received`, if it was a receive.
+/// A call has ended so, and may have changed this object: it is answered, then the process is told of the registration
+/// that it fired, if one, and then those go on that wait on the object and can. `received`, if it was a receive.
 fn finish(
     state: &mut State,
     outcomes: &mut Vec<Outcome>,
     pid: Pid,
     serial: u32,
     answer: Answer,
-    touched: Option<Awaited>,
+    fired: Option<Registration>,
+    touched: Option<Object>,
     received: bool,
 )
     requires good { (s : PlainState) × IsSound state.old.limits s
-        × IsGood state.old.limits s touched (finish_of state.old.state answer) }
+        × IsGood state.old.limits s touched (finish_firing state.old.state answer fired)
+        × HaveSameObjects s state.old.state }
     requires receives { received ≡ true → ReceivesWait state.old.limits state.old.state }
-    requires places { length outcomes.old.items + length state.old.state.wait < vec_capacity outcomes.old }
-    ensures state { state.new.state
-        ≡ (after (replied pid.0 serial (finish_of state.old.state answer)) (settled state.old.limits)).state }
+    requires places { length outcomes.old.items + 2 * (length state.old.state.wait + 1) ≤ vec_capacity outcomes.old }
+    ensures state { state.new.state ≡ (after (replied pid.0 serial (finish_firing state.old.state answer fired))
+        (settled state.old.limits)).state }
     ensures outcomes { map plain_outcome outcomes.new.items ≡ map plain_outcome outcomes.old.items
-        ++ (after (replied pid.0 serial (finish_of state.old.state answer)) (settled state.old.limits)).outcomes }
+        ++ (after (replied pid.0 serial (finish_firing state.old.state answer fired))
+        (settled state.old.limits)).outcomes }
     ensures limits { state.new.limits ≡ state.old.limits }
     ensures waits { state.new.room.waits ≡ state.old.room.waits }
     ensures capacity { vec_capacity outcomes.old ≤ vec_capacity outcomes.new }
     ensures room { room_in_answer answer ≤ room_in outcomes.new.items }
 {
-    push(outcomes, reply_to(pid, serial, answer));
+    tell(outcomes, pid, serial, answer, fired);
     settle(state, outcomes, touched, received);
 }
 
@@ -251,7 +251,7 @@ pub(crate) fn interrupt(state: &mut State, outcomes: &mut Vec<Outcome>, pid: Pid
 /// The process leaves, and then calls go on that wait for what its adjustments have changed. It takes no memory.
 pub(crate) fn leave(state: &mut State, outcomes: &mut Vec<Outcome>, pid: Pid)
     requires sound { IsSound state.old.limits state.old.state }
-    requires places { length outcomes.old.items + length state.old.state.wait ≤ vec_capacity outcomes.old }
+    requires places { length outcomes.old.items + 2 * length state.old.state.wait ≤ vec_capacity outcomes.old }
     ensures state { state.new.state ≡ (settled state.old.limits (exit state.old.state pid.0)).state }
     ensures outcomes { map plain_outcome outcomes.new.items
         ≡ map plain_outcome outcomes.old.items ++ (settled state.old.limits (exit state.old.state pid.0)).outcomes }

@@ -22,18 +22,19 @@ ghost use Rattle.std.specs.Prelude.{
   All,
   vec_capacity,
   max,
+  if◌then◌else◌,
 };
-ghost use Rattle.ipc_base.specs.Limits.{ArePassed, longest_body};
+ghost use Rattle.ipc_base.specs.Limits.{ArePassed, longest_body, longest_reply};
 ghost use Rattle.ipc_wire.specs.Request.{plain_kind};
 ghost use Rattle.ipc_wire.specs.View.{plain_request};
 ghost use Rattle.ipc_state.specs.Finish.{finish_of};
 ghost use Rattle.ipc_state.specs.Sound.{FitsBody, HasSoundParts};
 ghost use Rattle.ipc_state.specs.State.{State as PlainState, has_all_processes, is_process, is_waiting, start};
-ghost use Rattle.sysv_calls.specs.Needs.{IsReserved, takes_memory as kind_takes_memory};
-ghost use Rattle.sysv_calls.specs.Spare.{room_of, room_in as room_in_answer};
+ghost use Rattle.ipc_state.specs.Spare.{room_of, room_in as room_in_answer};
 ghost use Rattle.ipc_engine.specs.Buffer.{room_in, HasBuffer};
 ghost use Rattle.ipc_engine.specs.Bytes.{most_owed, owed};
 ghost use Rattle.ipc_engine.specs.Engine.{IsReadyForHello};
+ghost use Rattle.ipc_engine.specs.Reserved.{IsReserved, takes_memory as kind_takes_memory};
 ghost use Rattle.ipc_engine.specs.Step.{step as step_on, connect as connect_step, due, replied, most_replies};
 ghost use Rattle.ipc_engine.specs.Listing.{plain_row, rows_of};
 ghost use Rattle.ipc_engine.specs.Sound.{IsSound};
@@ -46,12 +47,13 @@ use crate::fault::StateFault;
 use crate::listing::{Row, list_objects};
 use crate::replies::{push, take_back};
 use crate::settling::all_have_to_wait;
+use crate::trying::reserve;
 use ipc_base::{Cred, Errno, Limits, Moment, Pid};
 use ipc_state::{Parked, State};
 use ipc_wire::{Body, Request};
+use posix_calls::registrations;
 use std::alloc::{AllocError, Global};
 use std::marker::Model;
-use sysv_calls::reserve;
 
 /// The machine. A contract sees its limits, its state, and the replies of the last event.
 #[derive(Drop)]
@@ -177,13 +179,20 @@ impl Engine {
         self.state.has_process(pid)
     }
 
-    /// How many bytes of replies a process is still owed for what it asked before: the longest reply if a call of it
-    /// waits.
+    /// How many bytes of frames a process is still owed for what it asked before: the longest reply if a call of it
+    /// waits, and a notification for each POSIX queue with which it is registered.
     pub fn owed(&self, pid: Pid) -> usize
         ensures { result ≡ owed self.now.limits self.now.state pid.0 }
     {
+        self.reply_owed(pid) + NOTICE_BYTES * registrations(&self.state, pid)
+    }
+
+    /// The bytes of the longest reply, if a call of the process waits.
+    fn reply_owed(&self, pid: Pid) -> usize
+        ensures { result ≡ (if is_waiting self.now.state pid.0 then longest_reply self.now.limits else 0) }
+    {
         if self.state.is_waiting(pid) {
-            self.most_owed()
+            self.limits().longest_reply() as usize
         } else {
             0
         }
@@ -193,7 +202,7 @@ impl Engine {
     pub fn most_owed(&self) -> usize
         ensures { result ≡ most_owed self.now.limits }
     {
-        self.limits().longest_reply() as usize
+        self.limits().longest_reply() as usize + NOTICE_BYTES * self.limits().queues as usize
     }
 
     /// Whether the process that an event names is connected: the condition of `step`.
@@ -214,8 +223,8 @@ impl Engine {
         &self.outcomes
     }
 
-    /// One step on an event: `outcomes` are its replies. Refused for want of memory, which only a HELLO that gets a
-    /// process, msgget(2) and msgsnd(2) take, nothing has changed, the clock included. A call that waits, and what is
+    /// One step on an event: `outcomes` are its replies and notifications. Refused for want of memory, which only a
+    /// HELLO that gets a process and a call that may make an object, or has a text or a list, take, nothing has changed, the clock included. A call that waits, and what is
     /// answered to one that waited, takes none. The state is sound before and after, and no body of a reply is longer
     /// than `Limits::longest_reply` says.
     pub fn step(&mut self, event: Event<'_>) -> Result<(), AllocError>
@@ -285,12 +294,15 @@ impl Engine {
     }
 }
 
-/// The most replies that one event causes: its own, and one to each process.
+/// The bytes of the frame of a notification.
+const NOTICE_BYTES: usize = 18;
+
+/// The most frames that one event causes: its own reply, and one to each process; and with each a notification.
 fn most_replies(limits: &Limits) -> usize
     requires { ArePassed limits.now }
     ensures { result ≡ most_replies limits.now }
 {
-    limits.processes as usize + 1
+    2 * (limits.processes as usize + 1)
 }
 
 /// An empty buffer that has room for any body of a reply.

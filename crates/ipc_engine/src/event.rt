@@ -59,7 +59,7 @@ impl Event<'_> {
 }
 
 /// A reply: `pid` is the process that gets it, or 0 for the HELLO that got none; `errno` is `None`
-/// for success.
+/// for success. Or the notification of mq_notify(3), which has serial 0 and no error.
 #[derive(Debug, Drop)]
 pub struct Outcome {
     pub pid: Pid,

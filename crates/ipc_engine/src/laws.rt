@@ -11,8 +11,13 @@ ghost use Rattle.ipc_base.specs.declared.limits.Limits.{Limits};
 ghost use Rattle.ipc_base.specs.declared.identity.Cred.{Cred};
 ghost use Rattle.ipc_wire.specs.Request.{PlainCall, PlainRequest, Calls, Interrupt as Interrupts};
 ghost use Rattle.ipc_state.specs.declared.parked.Awaited.{Awaited};
+ghost use Rattle.ipc_state.specs.declared.named.NamedEntry.{NamedEntry};
 ghost use Rattle.ipc_state.specs.Finish.{Finishes, Waits, refused};
-ghost use Rattle.ipc_state.specs.State.{State, start, is_process, is_waiting, restart, undone, with_waiting};
+ghost use Rattle.ipc_state.specs.Named.{with_object};
+ghost use Rattle.ipc_state.specs.Numbered.{entry_of};
+ghost use Rattle.ipc_state.specs.Opening.{has_name};
+ghost use Rattle.posix_mq.specs.Queue.{Queue as Mq, deregistered};
+ghost use Rattle.ipc_state.specs.State.{State, start, cred_of, is_process, is_waiting, restart, undone, with_waiting};
 ghost use Rattle.ipc_state.specs.Waiting.{PlainWaiting, awaited_by, expiry};
 ghost use Rattle.ipc_wait.specs.Waits.{calls_due, calls_left, is_due};
 ghost use Rattle.sysv_calls.specs.Calls.{attempt};
@@ -44,7 +49,8 @@ pub fn nobody_waits_who_could_go_on()
 {}
 
 /// If none of those before a call in the list can go on, and it can, then it is the first that is answered: it leaves
-/// the list, its process is sent one reply to it, and all are looked at again.
+/// the list, its process is sent one reply to it, then whoever is to be told of a message that it sent, and all are looked
+/// at again.
 pub fn the_earliest_goes_on_first()
     ensures first { (limits : Limits) (s : State) (before later : List PlainWaiting) (w : PlainWaiting)
         → HasSoundParts limits s → s.wait ≡ before ++ w ∷ later
@@ -64,14 +70,15 @@ pub fn replies_fit()
         → IsSound limits s → All (λ o. FitsBody limits o.body) (step limits s e).outcomes }
 {}
 
-/// No event causes more replies than `most_replies`.
+/// No event causes more frames than `most_replies`.
 pub fn replies_are_few()
     ensures { (limits : Limits) (s : State) (e : PlainEvent) → IsSound limits s
         → length (step limits s e).outcomes ≤ most_replies limits }
 {}
 
-/// A request is answered once at most, at once or later: what a process is sent by an event, and what it waits for
-/// then, are no more than what it waited for, and one more if it makes a request by it.
+/// A request is answered once at most, at once or later: the replies that a process is sent by an event, and what it
+/// waits for then, are no more than what it waited for, and one more if it makes a request by it. Notifications, which
+/// have serial 0, are no replies.
 pub fn a_request_is_answered_once()
     ensures { (limits : Limits) (s : State) (e : PlainEvent) (pid : ℕ) → IsSound limits s → 0 < pid
         → replies_to pid (step limits s e).outcomes + unanswered (step limits s e).state pid
@@ -79,7 +86,9 @@ pub fn a_request_is_answered_once()
 {}
 
 /// An event sends a process no more bytes of frames than it has asked for: what it is sent and what it is owed then are
-/// no more than what it was owed, and one longest reply if it makes a request, or is the one that a HELLO makes.
+/// no more than what it was owed, and one longest reply if it makes a request, or is the one that a HELLO makes. A
+/// process that has registered with a POSIX queue is owed the notification; the reply to its mq_notify(3) is so short
+/// that both are no more than the longest.
 pub fn replies_are_asked_for()
     ensures { (limits : Limits) (s : State) (e : PlainEvent) (pid : ℕ) → IsSound limits s → 0 < pid
         → bytes_to pid (step limits s e).outcomes + owed limits (step limits s e).state pid
@@ -93,11 +102,11 @@ pub fn debts_are_bounded()
         → owed limits s pid ≡ 0 }
 {}
 
-/// If a process makes a request and is sent nothing for it, then it was owed nothing before, and is owed something now.
-pub fn unanswered_request_is_owed()
+/// If a process makes a request and is sent nothing for it, then no call of it waited before, and one waits now.
+pub fn unanswered_request_waits()
     ensures { (limits : Limits) (s : State) (e : PlainEvent) (pid : ℕ) → IsSound limits s → is_process s pid ≡ true
         → asks s e pid ≡ true → bytes_to pid (step limits s e).outcomes ≡ 0
-        → (owed limits s pid ≡ 0) × (0 < owed limits (step limits s e).state pid) }
+        → (unanswered s pid ≡ 0) × (unanswered (step limits s e).state pid ≡ 1) }
 {}
 
 /// The last reply of a HELLO is its own.
@@ -230,7 +239,8 @@ pub fn restart_adds_adjustments()
     ensures added { (limits : Limits) (s : State) → (step limits s Restart).state.sem ≡ fold undone s.sem s.undo }
 {}
 
-/// A restart leaves the queues, the identifiers of the sets and the numbers of those to come as they are.
+/// A restart leaves the queues, the identifiers of the sets and the numbers of those to come as they are. Of POSIX queues
+/// those with a name are left, all as they were but for a registration, and no other.
 pub fn restart_keeps_objects()
     ensures next_pid { (limits : Limits) (s : State)
         → (step limits s Restart).state.processes.next ≡ s.processes.next }
@@ -238,6 +248,12 @@ pub fn restart_keeps_objects()
     ensures sets { (limits : Limits) (s : State)
         → keys_of (step limits s Restart).state.sem.entries ≡ keys_of s.sem.entries }
     ensures next_set { (limits : Limits) (s : State) → (step limits s Restart).state.sem.next ≡ s.sem.next }
+    ensures named { (limits : Limits) (s : State) (n : ℕ) (e : NamedEntry Mq) → entry_of s.mq n ≡ Some e
+        → has_name e ≡ true
+        → entry_of (step limits s Restart).state.mq n ≡ Some (with_object e (deregistered e.object)) }
+    ensures no_other { (limits : Limits) (s : State)
+        → All (λ e. has_name e.1 ≡ true) (step limits s Restart).state.mq.entries }
+    ensures next_mq { (limits : Limits) (s : State) → (step limits s Restart).state.mq.next ≡ s.mq.next }
 {}
 
 /// A restart twice is a restart once.
@@ -247,10 +263,15 @@ pub fn restart_twice_is_once()
         → step limits (step limits s Restart).state Restart ≡ step limits s Restart }
 {}
 
-/// A call, an interrupt and a tick leave the processes as they are.
+/// A call leaves the pids, the next one, and the user and the group of each process as they are, but not always the
+/// descriptors. An interrupt and a tick leave the processes as they are.
 pub fn call_interrupt_and_tick_keep_processes()
-    ensures call { (limits : Limits) (s : State) (pid moment : ℕ) (request : PlainRequest)
-        → (step limits s (Call pid request moment)).state.processes ≡ s.processes }
+    ensures next { (limits : Limits) (s : State) (pid moment : ℕ) (request : PlainRequest)
+        → (step limits s (Call pid request moment)).state.processes.next ≡ s.processes.next }
+    ensures pids { (limits : Limits) (s : State) (pid moment : ℕ) (request : PlainRequest)
+        → keys_of (step limits s (Call pid request moment)).state.processes.entries ≡ keys_of s.processes.entries }
+    ensures creds { (limits : Limits) (s : State) (pid other moment : ℕ) (request : PlainRequest)
+        → cred_of (step limits s (Call pid request moment)).state other ≡ cred_of s other }
     ensures interrupt { (limits : Limits) (s : State) (pid serial moment : ℕ)
         → (step limits s (Interrupt pid serial moment)).state.processes ≡ s.processes }
     ensures tick { (limits : Limits) (s : State) (moment : ℕ)

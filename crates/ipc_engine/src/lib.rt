@@ -10,6 +10,7 @@ mod laws;
 mod listing;
 mod replies;
 mod settling;
+mod trying;
 
 pub use engine::Engine;
 pub use event::{Event, Outcome};
@@ -22,6 +23,6 @@ pub use laws::{
     pid_is_below_next, refused_call_changes_nothing, replies_are_asked_for, replies_are_few,
     replies_fit, restart_adds_adjustments, restart_keeps_objects, restart_leaves_no_call,
     restart_leaves_no_process, restart_twice_is_once, run_of_parts, step_keeps_soundness,
-    the_earliest_goes_on_first, unanswered_request_is_owed,
+    the_earliest_goes_on_first, unanswered_request_waits,
 };
 pub use listing::Row;

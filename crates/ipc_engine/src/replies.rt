@@ -1,16 +1,17 @@
 //! Replies, and the buffer in which the body of one is made.
 
-ghost use Rattle.std.specs.Prelude.{◌≡◌, ◌<◌, ◌≤◌, ◌++◌, ◌∷◌, [], length, map, max, vec_capacity};
-ghost use Rattle.ipc_state.specs.Finish.{finish_of};
+ghost use Rattle.std.specs.Prelude.{◌≡◌, ◌+◌, ◌<◌, ◌≤◌, ◌++◌, ◌∷◌, [], length, map, max, vec_capacity};
+ghost use Rattle.ipc_state.specs.Finish.{finish_firing, finish_of};
 ghost use Rattle.ipc_state.specs.State.{State as PlainState};
-ghost use Rattle.sysv_calls.specs.Spare.{room_of, room_in as room_in_answer};
+ghost use Rattle.ipc_state.specs.Spare.{room_of, room_in as room_in_answer};
 ghost use Rattle.ipc_engine.specs.Buffer.{room_in};
-ghost use Rattle.ipc_engine.specs.Step.{replied};
-ghost use Rattle.ipc_engine.specs.View.{step_of};
+ghost use Rattle.ipc_engine.specs.Step.{notices, replied};
+ghost use Rattle.ipc_engine.specs.View.{plain_outcome, step_of};
 
 use crate::event::Outcome;
 use ipc_base::Pid;
 use ipc_wire::Body;
+use posix_mq::Registration;
 use sysv_calls::Answer;
 
 /// The reply that tells a process how its request ended.
@@ -40,6 +41,56 @@ pub(crate) fn push(outcomes: &mut Vec<Outcome>, outcome: Outcome)
     outcomes.push_reserved(outcome);
 }
 
+/// Tells a process how its call ended, and then the process of the registration that it fired, if one. A call that is
+/// refused fires none. Both have their places.
+pub(crate) fn tell(
+    outcomes: &mut Vec<Outcome>,
+    pid: Pid,
+    serial: u32,
+    ended: Answer,
+    fired: Option<Registration>,
+)
+    requires places { length outcomes.old.items + 2 ≤ vec_capacity outcomes.old }
+    ensures outcomes { (s : PlainState) → map plain_outcome outcomes.new.items ≡ map plain_outcome outcomes.old.items
+        ++ (replied pid.0 serial (finish_firing s ended fired)).outcomes }
+    ensures few { length outcomes.new.items ≤ length outcomes.old.items + 2 }
+    ensures capacity { vec_capacity outcomes.old ≤ vec_capacity outcomes.new }
+    ensures room { max (room_in outcomes.old.items) (room_in_answer ended) ≤ room_in outcomes.new.items }
+{
+    match ended {
+        Ok(body) => {
+            push(outcomes, reply_to(pid, serial, Ok(body)));
+            notify(outcomes, fired);
+        }
+        Err(errno) => push(outcomes, reply_to(pid, serial, Err(errno))),
+    }
+}
+
+/// The notification of a registration, if one was fired: no request has its serial. See mq_notify(3).
+fn notify(outcomes: &mut Vec<Outcome>, fired: Option<Registration>)
+    requires place { length outcomes.old.items < vec_capacity outcomes.old }
+    ensures outcomes { map plain_outcome outcomes.new.items ≡ map plain_outcome outcomes.old.items ++ notices fired }
+    ensures few { length outcomes.new.items ≤ length outcomes.old.items + 1 }
+    ensures capacity { vec_capacity outcomes.old ≤ vec_capacity outcomes.new }
+    ensures room { room_in outcomes.old.items ≤ room_in outcomes.new.items }
+{
+    let Some(registration) = fired else {
+        return;
+    };
+    push(
+        outcomes,
+        Outcome {
+            pid: registration.pid,
+            serial: 0,
+            errno: None,
+            body: Body::Notification {
+                fd: registration.descriptor,
+                cookie: registration.cookie,
+            },
+        },
+    );
+}
+
 /// The replies of the last event go, and the buffer that one of them has is spare again.
 pub(crate) fn take_back(outcomes: &mut Vec<Outcome>, spare: &mut Vec<u8>)
     ensures gone { outcomes.new.items ≡ [] }
@@ -59,8 +110,8 @@ fn give_back(body: Body<Vec<u8>>, spare: &mut Vec<u8>)
 {
     match body {
         Body::Record(bytes) => keep_larger(spare, bytes),
-        Body::Message { text: _text, .. } => {}
-        Body::Empty | Body::Number(_) => {}
+        Body::Message { text: _text, .. } | Body::MqMessage { text: _text, .. } => {}
+        Body::Empty | Body::Number(_) | Body::Notification { .. } => {}
     }
 }
 

@@ -1,9 +1,10 @@
 //! Calls that waited go on when what they wait for has changed.
 
-ghost use Rattle.std.specs.Prelude.{◌≡◌, ◌≢◌, ◌+◌, ◌≤◌, ◌<◌, ◌↔◌, ◌++◌, ◌∷◌, [], true, false, Some, All, IsTrue};
+ghost use Rattle.std.specs.Prelude.{◌≡◌, ◌+◌, ◌*◌, ◌≤◌, ◌↔◌, ◌++◌, ◌∷◌, [], true, false, Some, All, IsTrue};
 ghost use Rattle.std.specs.Prelude.{find, length, map, vec_capacity};
 ghost use Rattle.ipc_state.specs.Sound.{HasSoundParts};
 ghost use Rattle.ipc_state.specs.State.{is_process};
+ghost use Rattle.ipc_state.specs.Touching.{object_of};
 ghost use Rattle.ipc_state.specs.Waiting.{IsSoundWaiting, PlainWaiting};
 ghost use Rattle.ipc_engine.specs.Buffer.{room_in};
 ghost use Rattle.sysv_calls.specs.Calls.{is_receive};
@@ -13,11 +14,11 @@ ghost use Rattle.ipc_engine.specs.Step.{can_go_on, resumed, settle as settled};
 ghost use Rattle.ipc_engine.specs.View.{plain_outcome};
 
 use crate::event::Outcome;
-use crate::replies::{push, reply_to};
+use crate::replies::tell;
+use crate::trying::{Trial, has_to_wait, is_receive, try_kept};
 use ipc_base::Pid;
-use ipc_state::{Awaited, Parked, State};
+use ipc_state::{Awaited, Object, Parked, State};
 use ipc_wait::Waiting;
-use sysv_calls::{Tried, has_to_wait, is_receive, try_parked};
 
 /// Calls that wait on the object that has changed go on: the first that can, and after it all are looked at again. If
 /// nothing has changed, none can; if a receive has changed it (`received`), no receive is the first. It takes no
@@ -25,14 +26,14 @@ use sysv_calls::{Tried, has_to_wait, is_receive, try_parked};
 pub(crate) fn settle(
     state: &mut State,
     outcomes: &mut Vec<Outcome>,
-    touched: Option<Awaited>,
+    touched: Option<Object>,
     received: bool,
 )
     requires parts { HasSoundParts state.old.limits state.old.state }
     requires linked { AreLinked state.old.state }
     requires others { OthersWait state.old.limits state.old.state touched }
     requires receives { received ≡ true → ReceivesWait state.old.limits state.old.state }
-    requires room { length outcomes.old.items + length state.old.state.wait ≤ vec_capacity outcomes.old }
+    requires room { length outcomes.old.items + 2 * length state.old.state.wait ≤ vec_capacity outcomes.old }
     ensures state { state.new.state ≡ (settled state.old.limits state.old.state).state }
     ensures outcomes { map plain_outcome outcomes.new.items
         ≡ map plain_outcome outcomes.old.items ++ (settled state.old.limits state.old.state).outcomes }
@@ -52,7 +53,7 @@ pub(crate) fn settle(
 pub(crate) fn settle_all(state: &mut State, outcomes: &mut Vec<Outcome>)
     requires parts { HasSoundParts state.old.limits state.old.state }
     requires linked { AreLinked state.old.state }
-    requires room { length outcomes.old.items + length state.old.state.wait ≤ vec_capacity outcomes.old }
+    requires room { length outcomes.old.items + 2 * length state.old.state.wait ≤ vec_capacity outcomes.old }
     ensures state { state.new.state ≡ (settled state.old.limits state.old.state).state }
     ensures outcomes { map plain_outcome outcomes.new.items
         ≡ map plain_outcome outcomes.old.items ++ (settled state.old.limits state.old.state).outcomes }
@@ -68,14 +69,14 @@ pub(crate) fn settle_all(state: &mut State, outcomes: &mut Vec<Outcome>)
 fn settle_among(
     state: &mut State,
     outcomes: &mut Vec<Outcome>,
-    among: Option<Awaited>,
+    among: Option<Object>,
     mut received: bool,
 )
     requires parts { HasSoundParts state.old.limits state.old.state }
     requires linked { AreLinked state.old.state }
     requires rest { RestWaits state.old.limits state.old.state among }
     requires receives { received ≡ true → ReceivesWait state.old.limits state.old.state }
-    requires room { length outcomes.old.items + length state.old.state.wait ≤ vec_capacity outcomes.old }
+    requires room { length outcomes.old.items + 2 * length state.old.state.wait ≤ vec_capacity outcomes.old }
     ensures state { state.new.state ≡ (settled state.old.limits state.old.state).state }
     ensures outcomes { map plain_outcome outcomes.new.items
         ≡ map plain_outcome outcomes.old.items ++ (settled state.old.limits state.old.state).outcomes }
@@ -94,7 +95,7 @@ fn settle_among(
 }
 
 /// The process of the first call that can go on, which waits on this object, or on any.
-fn first_to_go(state: &State, among: Option<Awaited>, received: bool) -> Option<Pid>
+fn first_to_go(state: &State, among: Option<Object>, received: bool) -> Option<Pid>
     requires parts { HasSoundParts state.now.limits state.now.state }
     requires linked { AreLinked state.now.state }
     requires rest { RestWaits state.now.limits state.now.state among }
@@ -107,13 +108,14 @@ fn first_to_go(state: &State, among: Option<Awaited>, received: bool) -> Option<
 /// The same of these calls.
 fn first_among(
     state: &State,
-    among: Option<Awaited>,
+    among: Option<Object>,
     received: bool,
     calls: &[Waiting<Awaited, Parked>],
 ) -> Option<Pid>
     requires sound { All IsSoundWaiting calls.now }
     requires linked { All (λ w. is_process state.now.state w.pid.0 ≡ true) calls.now }
-    requires rest { All (λ w. ¬ MayBe among w.on → can_go_on state.now.limits state.now.state w ≡ false) calls.now }
+    requires rest { All (λ w. ¬ MayBe among (object_of state.now.state w.pid.0 w.on)
+        → can_go_on state.now.limits state.now.state w ≡ false) calls.now }
     requires receives { received ≡ true → All (λ w. is_receive w.call.kind ≡ true
         → can_go_on state.now.limits state.now.state w ≡ false) calls.now }
     ensures { IsFirst (can_go_on state.now.limits state.now.state) calls.now result }
@@ -130,29 +132,30 @@ fn first_among(
 /// another.
 fn can_go(
     state: &State,
-    among: Option<Awaited>,
+    among: Option<Object>,
     received: bool,
     waiting: &Waiting<Awaited, Parked>,
 ) -> bool
     requires sound { IsSoundWaiting waiting.now }
     requires process { is_process state.now.state waiting.now.pid.0 ≡ true }
-    requires other { ¬ MayBe among waiting.now.on → can_go_on state.now.limits state.now.state waiting.now ≡ false }
+    requires other { ¬ MayBe among (object_of state.now.state waiting.now.pid.0 waiting.now.on)
+        → can_go_on state.now.limits state.now.state waiting.now ≡ false }
     requires receive { received ≡ true → is_receive waiting.now.call.kind ≡ true
         → can_go_on state.now.limits state.now.state waiting.now ≡ false }
     ensures { result ≡ can_go_on state.now.limits state.now.state waiting.now }
 {
-    if !may_be(waiting, among) || received && is_receive(&waiting.call) {
+    if !may_be(state, waiting, among) || received && is_receive(&waiting.call) {
         return false;
     }
     !has_to_wait(state, waiting.pid, &waiting.call)
 }
 
 /// Whether a call waits on this object, or on any.
-fn may_be(waiting: &Waiting<Awaited, Parked>, among: Option<Awaited>) -> bool
-    ensures { IsTrue result ↔ MayBe among waiting.now.on }
+fn may_be(state: &State, waiting: &Waiting<Awaited, Parked>, among: Option<Object>) -> bool
+    ensures { IsTrue result ↔ MayBe among (object_of state.now.state waiting.now.pid.0 waiting.now.on) }
 {
     match among {
-        Some(on) => on == waiting.on,
+        Some(_) => among == state.object_of(waiting.pid, waiting.on),
         None => true,
     }
 }
@@ -162,7 +165,7 @@ fn resume(state: &mut State, outcomes: &mut Vec<Outcome>, pid: Pid)
     requires parts { HasSoundParts state.old.limits state.old.state }
     requires linked { AreLinked state.old.state }
     requires first { IsFirst (can_go_on state.old.limits state.old.state) state.old.state.wait (Some pid) }
-    requires room { length outcomes.old.items < vec_capacity outcomes.old }
+    requires room { length outcomes.old.items + 2 ≤ vec_capacity outcomes.old }
     ensures state { (w : PlainWaiting)
         → find (can_go_on state.old.limits state.old.state) state.old.state.wait ≡ Some w
         → state.new.state ≡ (resumed state.old.limits state.old.state w).state }
@@ -179,9 +182,9 @@ fn resume(state: &mut State, outcomes: &mut Vec<Outcome>, pid: Pid)
         return;
     };
     let serial = waiting.call.serial();
-    match try_parked(state, pid, true, waiting.call) {
-        Tried::Finishes(answer) => push(outcomes, reply_to(pid, serial, answer)),
-        Tried::Waits(_call) => {}
+    match try_kept(state, pid, true, waiting.call) {
+        Trial::Finishes { answer, fired } => tell(outcomes, pid, serial, answer, fired),
+        Trial::Waits(_parked) => {}
     }
 }
 

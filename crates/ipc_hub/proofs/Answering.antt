@@ -17,10 +17,10 @@ use Rattle.ipc_engine.specs.Sound.{IsSound}
 use Rattle.ipc_engine.specs.Step.{Step, step}
 use Rattle.ipc_engine.specs.View.{reply_of}
 use Rattle.ipc_wire.proofs.CallerLemmas.{length-reply_bytes}
-use Rattle.ipc_engine.proofs.CallerLemmas.{owed-none, unanswered-owed}
+use Rattle.ipc_engine.proofs.CallerLemmas.{owed-none, unanswered-waits}
 use Rattle.ipc_hub.specs.Clients.{accepted, Client, Clients, client_at, last_reply, welcomed, serve, accept, with_client, with_frame}
 use Rattle.ipc_hub.specs.View.{ConnectionView, HubView, kept}
-use Rattle.ipc_hub.specs.Relations.Delivery.{last_frames, owed_to, pushed, put_all, given, answered, with_answer, IsShort}
+use Rattle.ipc_hub.specs.Relations.Delivery.{last_frames, owed_to, unanswered_of, pushed, put_all, given, answered, with_answer, IsShort}
 use Rattle.ipc_hub.specs.Relations.Rows.{Table, process_in}
 use Rattle.ipc_hub.specs.Relations.Delivery.{HaveRoom, HasRoomToGreet, HasRoomToAnswer}
 use Rattle.ipc_hub.specs.Relations.Invariant.{AreApart, AreOwn, IsKept, IsKeptIn, HubInvariant, GoesOn}
@@ -127,12 +127,12 @@ module _ (h : HubView) (conn : ℕ) (v : ConnectionView) (e : PlainEvent) (inv :
       kept-owing h.limits (owed_to h.limits h.state) debt v v.process here live
       (omega (arith, asked-owes h.limits h.state e pid sound above, room, owes, less, owing-some now.outcomes (owed_to h.limits now.state) pid)))
 
-  -- If it keeps no frame after its replies, it kept none before, and is owed something that it was not owed before.
+  -- If it keeps no frame after its replies, it kept none before, and its request is the one that is not answered yet.
   pub told-none : kept (heard now.outcomes told).outbox ≡ []
-      → (length (kept v.outbox) ≡ 0) × (owed_to h.limits h.state v.process ≡ 0) × (0 < owed_to h.limits now.state told.process)
+      → (length (kept v.outbox) ≡ 0) × (unanswered_of h.state v.process ≡ 0) × (0 < unanswered_of now.state told.process)
   told-none =
       by-told (λ (w : ConnectionView). kept (heard now.outcomes w).outbox ≡ [] → (length (kept v.outbox) ≡ 0)
-      × (owed_to h.limits h.state v.process ≡ 0) × (0 < owed_to h.limits now.state w.process))
+      × (unanswered_of h.state v.process ≡ 0) × (0 < unanswered_of now.state w.process))
       (λ o none last empty.
       let w : ConnectionView = pushed (reply_of o) v in
       absurd (pushed-long o (omega (arith, ap length empty, length-heard now.outcomes w))))
@@ -143,10 +143,10 @@ module _ (h : HubView) (conn : ℕ) (v : ConnectionView) (e : PlainEvent) (inv :
       let long = length-heard now.outcomes v in
       let sent = ap (owing now.outcomes nothing) some ∙ owing-some now.outcomes nothing pid in
       let quiet : bytes_to pid now.outcomes ≡ 0 = omega (arith, ap length empty, long, sent) in
-      let owes = unanswered-owed h.limits h.state e pid sound (inv.own.connected conn pid (mine ∙ some)) (a.own pid some) quiet in (
+      let waits = unanswered-waits h.limits h.state e pid sound (inv.own.connected conn pid (mine ∙ some)) (a.own pid some) quiet in (
         omega (arith, ap length empty, long),
-        ap (owed_to h.limits h.state) some ∙ owes.0,
-        subst (λ (p : Option ℕ). 0 < owed_to h.limits now.state p) (sym some) owes.1,
+        ap (unanswered_of h.state) some ∙ waits.0,
+        subst (λ (p : Option ℕ). 0 < unanswered_of now.state p) (sym some) (omega (arith, waits.1)),
       ))
     where
       pushed-long : (o : PlainOutcome) → length (kept (pushed (reply_of o) v).outbox) ≡ 0 → ⊥

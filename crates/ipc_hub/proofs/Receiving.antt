@@ -19,7 +19,7 @@ use Rattle.ipc_hub.specs.declared.serving.Asked.TheVariants as asks
 use Rattle.ipc_hub.specs.Clients.{Client, Clients, last_reply, refusal, break_off, refuse, over as over-client, with_client}
 use Rattle.ipc_hub.specs.View.{ConnectionView, HubView, HasNoFrame, kept as outbox_kept}
 use Rattle.ipc_hub.specs.Relations.Rows.{Table, hub_view, changed, process_in, goes_on_in}
-use Rattle.ipc_hub.specs.Relations.Delivery.{last_frame, owed_to, pushed, put_all, answered as answered-by, with_answer, HasRoomToAnswer}
+use Rattle.ipc_hub.specs.Relations.Delivery.{last_frame, owed_to, unanswered_of, pushed, put_all, answered as answered-by, with_answer, HasRoomToAnswer}
 use Rattle.ipc_hub.specs.Relations.Invariant.{AreApart, IsKept, GoesOn}
 use Rattle.ipc_hub.specs.Relations.Matches.{IsAhead, SimulatesAt, Pends, Accepts}
 use Rattle.ipc_hub.specs.Relations.Requests.{Steps, ComesTo, exit_of, taken_off, Received, Took, Waits}
@@ -87,8 +87,8 @@ module _ {D : Type 0} {medium : D → Medium} {old new : StoreView D} {before af
           empty = rw r.found (rw (found' r) at none);
           event = inl (
             r.comes.1,
-            ap (owed_to old.machine.limits old.machine.state) (ap process_of r.found ∙ sym (ap process_of (found' r)))
-                ∙ ap (λ (s : StoreView D). owed_to s.machine.limits s.machine.state (process_in after conn)) (sym r.comes.1),
+            ap (unanswered_of old.machine.state) (ap process_of r.found ∙ sym (ap process_of (found' r)))
+                ∙ ap (λ (s : StoreView D). unanswered_of s.machine.state (process_in after conn)) (sym r.comes.1),
           );
         };
       }
@@ -139,18 +139,17 @@ module _ {D : Type 0} {medium : D → Medium} {old new : StoreView D} {before af
         ∙ ap (option_map (heard now.outcomes)) (at-changed (answered-by (last_reply now.outcomes)) conn after
         ∙ ap (option_map (answered-by (last_reply now.outcomes))) (found' r))
 
-    -- if it keeps no frame, its process is owed the reply
+    -- if it keeps no frame, the reply is still to come
     served-waits : HasNoFrame (hub_view new.machine last) conn → Waits old new before last conn
     served-waits none =
         let waits = told-none mid conn bare-now e r.still (found' r) r.live r.room r.passed steps.sound made (rw found-now at none) in
         let process : process_in last conn ≡ asked_one.process = ap process_of found-now ∙ (heard-same now.outcomes asked_one).0 in
-        let owes = subst (λ (s : State). 0 < owed_to new.machine.limits s asked_one.process) (sym steps.state)
-        (subst (λ (l : Limits). 0 < owed_to l now.state asked_one.process) (sym steps.limits) waits.2) in
+        let later = subst (λ (s : State). 0 < unanswered_of s asked_one.process) (sym steps.state) waits.2 in
         record {
           empty = rw r.found (none-of (outbox_kept r.was.outbox) waits.0);
           event = inr (
-            ap (owed_to old.machine.limits old.machine.state) (ap process_of r.found) ∙ waits.1,
-            subst (λ (p : Option ℕ). 0 < owed_to new.machine.limits new.machine.state p) (sym process) owes,
+            ap (unanswered_of old.machine.state) (ap process_of r.found) ∙ waits.1,
+            subst (λ (p : Option ℕ). 0 < unanswered_of new.machine.state p) (sym process) later,
             steps.less 1,
           );
         }

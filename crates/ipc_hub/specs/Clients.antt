@@ -6,7 +6,7 @@ use Rattle.std.specs.List.{flat_map}
 use Rattle.ipc_base.specs.declared.errno.Errno.TheVariants.{EIO, ENOMEM, EPROTO}
 use Rattle.ipc_base.specs.declared.errno.Errno.{Errno}
 use Rattle.ipc_base.specs.declared.limits.Limits.{Limits}
-use Rattle.ipc_wire.specs.Request.{PlainKind, PlainRequest, Hello, Interrupt as Interrupts, Calls}
+use Rattle.ipc_wire.specs.Request.{PlainKind, PlainRequest, Hello, Interrupt as Interrupts}
 use Rattle.ipc_wire.specs.declared.reply.Body.TheVariants.{Empty}
 use Rattle.ipc_wire.specs.Reply.{reply_bytes}
 use Rattle.ipc_engine.specs.Engine.{takes_memory}
@@ -121,11 +121,10 @@ event_of process request moment = by_kind process request.kind
   where
     by_kind : Option ℕ → PlainKind → Option PlainEvent
     by_kind None (Hello cred) = Some (Connect cred request.serial moment)
-    by_kind None Interrupts = None
-    by_kind None (Calls call) = None
+    by_kind None kind = None
     by_kind (Some pid) (Hello cred) = None
     by_kind (Some pid) Interrupts = Some (Interrupt pid request.serial moment)
-    by_kind (Some pid) (Calls call) = Some (Call pid request moment)
+    by_kind (Some pid) kind = Some (Call pid request moment)
 
 -- the reply to a request is the last one of its event
 abbrev pub last_reply : List PlainOutcome → Option PlainOutcome

@@ -59,13 +59,12 @@ fn event_of<'a>(process: Option<Pid>, request: &Request<'a>, moment: Moment) -> 
             serial: request.serial,
             moment,
         }),
-        (Some(pid), RequestKind::Call(_)) => Some(Event::Call {
+        (Some(pid), RequestKind::Call(_) | RequestKind::Posix(_)) => Some(Event::Call {
             pid,
             request: *request,
             moment,
         }),
-        (None, RequestKind::Interrupt)
-        | (None, RequestKind::Call(_))
+        (None, RequestKind::Interrupt | RequestKind::Call(_) | RequestKind::Posix(_))
         | (Some(_), RequestKind::Hello(_)) => None,
     }
 }
@@ -286,7 +285,7 @@ fn take<D: SectorDisk>(
 
 /// Takes bytes of a piece while a request has room for its event and, behind what its process is owed, for its reply,
 /// and serves each request that they complete; of a connection that has ended it takes and drops all. Answers how many
-/// bytes it took. A request of a process that is owed nothing may leave no frame, and the next one leaves one: so two
+/// bytes it took. A request of a process of which no call waits may leave no frame, and the next one leaves one: so two
 /// events have room.
 pub(crate) fn take_in<D: SectorDisk>(
     store: &mut Store<D>,

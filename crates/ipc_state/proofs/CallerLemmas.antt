@@ -1,17 +1,17 @@
 -- What the crates above cite: each change of the state leads from a sound state to a sound state, and so does a call
 -- whose steps do.
-use Rattle.std.proofs.Common.{◌≡◌, ◌≢◌, ℕ, ℤ, ◌+◌, ◌<◌, ◌≤◌, Bool, true, false, Option, Some, None, refl, arith, sym, ap, subst, ◌∙◌, List}
-use Rattle.std.proofs.Common.{[], ◌∷◌, ◌++◌, not, length, length-append}
+use Rattle.std.proofs.Common.{◌≡◌, ℕ, ℤ, ◌+◌, ◌<◌, ◌≤◌, Bool, true, false, Option, Some, None, refl, arith, sym, ap, subst, ◌∙◌, List}
+use Rattle.std.proofs.Common.{[], ◌∷◌, ◌++◌, not, suc, drop, take, length, length-append}
 use Rattle.std.proofs.lemmas.Nat.{and_le_r}
-use Rattle.std.specs.Prelude.{Ok, Err, option_map, unwrap_or, All, nat_eq, nat_lt, IfSome, if◌then◌else◌, ◌^◌, ◌-◌}
+use Rattle.std.specs.Prelude.{option_map, unwrap_or, All, nat_eq, nat_lt, IfSome, if◌then◌else◌, ◌^◌, ◌-◌}
 use Rattle.std.proofs.lemmas.Bool.Decides.{nat_tests}
-use Rattle.std.proofs.lemmas.List.Elements.{All-nil, All-filter, All-push}
-use Rattle.std.proofs.lemmas.List.{length-replicate}
+use Rattle.std.proofs.lemmas.List.Elements.{All-nil, All-append, All-drop, All-filter, All-push, All-take}
+use Rattle.std.proofs.lemmas.List.{length-drop, length-replicate, length-take}
 use Rattle.std.proofs.lemmas.List.Filters.{length-filter_both}
 use Rattle.sysv_sem.specs.declared.set.Semaphore.{Semaphore}
 use Rattle.std.specs.Borrow.{MutBor}
 use Rattle.std.specs.Option.{option_copied_mut, IsSome}
-use Rattle.ipc_base.specs.Table.{keys_of, value_at, EachValue}
+use Rattle.ipc_base.specs.Table.{keys_of, value_at, without as without_value, EachValue}
 use Rattle.std.specs.FinMap as fin
 use Rattle.sem_undo.specs.Undo.{Key, Undo, cleared}
 use Rattle.ipc_base.proofs.CallerLemmas.{nobody, own, rising-bounds, each-at, each-with, each-without, keys_of-with_value}
@@ -19,33 +19,42 @@ use Rattle.ipc_state.specs.Directory.{ArePositive}
 use Rattle.ipc_state.proofs.Directories.{named-positive}
 use Rattle.ipc_state.specs.Lends.{HasPutObject}
 use Rattle.ipc_state.specs.Tables.{HeldObjects}
-use Rattle.ipc_base.specs.declared.errno.Errno.{Errno}
 use Rattle.ipc_base.specs.declared.identity.Cred.{Cred}
 use Rattle.ipc_base.specs.declared.identity.Moment.{Moment}
 use Rattle.ipc_base.specs.declared.identity.Pid.{Pid}
 use Rattle.ipc_base.specs.declared.limits.Limits.{Limits}
 use Rattle.ipc_wait.specs.Waits.{is_of, is_due, call_of, without}
 use Rattle.ipc_wait.proofs.CallerLemmas.{without-distinct, left-distinct, due-or-left, HaveDistinctPids-enter}
-use Rattle.posix_mq.specs.Queue.{Queue as Mq}
+use Rattle.posix_mq.specs.Queue.{Queue as Mq, PlainMessage as MqMessage, empty_queue, is_full as is_full_mq, next_to_receive, received, with_message}
+use Rattle.std.specs.List.{remove}
+use Rattle.std.specs.Option.{option_map_or}
+use Rattle.std.specs.Result.{is_ok}
+use Rattle.std.specs.Int.RustNames.{bit_and}
+use Rattle.ipc_keys.specs.Names.{check_name}
+use Rattle.ipc_keys.specs.declared.check.NameKind.TheVariants as names
 use Rattle.sysv_msg.specs.Queue.{Queue, new_queue}
 use Rattle.sysv_sem.specs.Set.{Set, new_set, after_exit}
-use Rattle.ipc_wire.specs.Reply.{PlainBody}
-use Rattle.ipc_wire.specs.Request.{PlainKind, PlainRequest, Hello, Interrupt, Calls}
+use Rattle.ipc_wire.specs.Posix as posix
+use Rattle.ipc_wire.specs.Request.{PlainKind, PlainRequest, Hello, Interrupt, Calls, Posix}
 use Rattle.ipc_wire.specs.Request as requests
 use Rattle.ipc_state.specs.declared.keyed.Entry.{Entry}
 use Rattle.ipc_perm.specs.declared.perm.Perm.{Perm}
 use Rattle.ipc_perm.specs.Perm.{perm_of, owned_by}
-use Rattle.ipc_state.specs.Numbered.{entry_of, with_entry, without_entry, is_full}
-use Rattle.ipc_state.specs.Named.{Named}
+use Rattle.ipc_state.specs.declared.processes.Process.{Process}
+use Rattle.ipc_state.specs.Numbered.{Numbered, entry_of, with_entry, without_entry, is_full}
+use Rattle.ipc_state.specs.declared.descriptors.Descriptor.{Descriptor}
+use Rattle.ipc_state.specs.declared.named.NamedEntry.{NamedEntry}
+use Rattle.ipc_state.specs.Descriptors.{opened, with_flags}
+use Rattle.ipc_state.specs.Named.{Named, HaveNames, named, with_object}
+use Rattle.ipc_state.specs.Opening.{descriptors_of, descriptor_at, is_by_descriptor, is_registered, is_sound_descriptor}
 use Rattle.ipc_state.specs.Keyed.{Keyed, holding, permitting, keyed, AreKeyed, AreNamed}
 use Rattle.ipc_state.specs.State.{State, start, at_moment, has_all_processes, is_process, with_process, exit, restart}
 use Rattle.ipc_state.specs.State.{is_waiting, with_waiting, without_due, without_waiting, queue_of, with_queue, with_new_queue}
 use Rattle.ipc_state.specs.State.{set_of, with_set, with_new_set, adjusted, undone, undo_of, without_adjustments, with_undo}
-use Rattle.ipc_state.specs.Sound.{HasSoundParts, IsSoundQueue, IsSoundSet, AreSoundSets, AreAt, AreAdjustments, semaphore_count, FitsBody}
+use Rattle.ipc_state.specs.State.{has_all_descriptors, has_all_mqs, with_descriptor, with_descriptor_flags, closed, with_mq, with_new_mq, unlinked}
+use Rattle.ipc_state.specs.Sound.{AreSoundProcesses, AreSoundMqs, IsSoundMq, IsSoundMqMessage}
+use Rattle.ipc_state.specs.Sound.{HasSoundParts, IsSoundQueue, IsSoundSet, AreSoundSets, AreAt, AreAdjustments, semaphore_count}
 use Rattle.ipc_state.specs.Waiting.{PlainWaiting, AreSoundWaits, IsSoundWaiting, deadline_after, deadline_of, has_deadline}
-use Rattle.ipc_state.specs.Finish.{Finish, IfFinishes, Attempt, Halt, Fails, Blocks, Done, ended, done, answer, refuse, stop, ◌orstop◌, ◌>>◌, ◌>>=◌, if_some}
-use Rattle.ipc_state.specs.Touching.{is_there, IsAsBefore}
-use Rattle.ipc_state.specs.declared.parked.Awaited.{Awaited}
 use Rattle.ipc_state.specs.declared.parked.Awaited.TheVariants as awaited
 use Rattle.ipc_state.proofs.Numbering.{none_yet-numbered}
 use Rattle.ipc_state.proofs.Counting.{few-waiting}
@@ -54,9 +63,14 @@ use Rattle.ipc_state.proofs.Keying as keying
 use Rattle.ipc_state.proofs.SoundQueues as queues
 use Rattle.ipc_state.proofs.SoundSets as sets
 use Rattle.ipc_state.proofs.SoundMqs as mqs
+use Rattle.ipc_state.proofs.SoundOpening as opening
+use Rattle.ipc_state.proofs.Naming.{entry-named, have-names}
 use Rattle.ipc_state.proofs.Adjusting.{HasAll, moved, has-new, has-with, has-adjusted, adjusted-by, exit-length, undone-keeps, all-undone-keeps}
 use Rattle.ipc_state.proofs.Adjusting.{each-moved, each-cleared, each-dropped, none-at, without-same, push-same, each-pushed, seen-keys}
 pub use Rattle.ipc_state.proofs.EntryKeys.{All-seen}
+pub use Rattle.ipc_state.proofs.Ending.{HasSameProcesses, IsGood, Ends, same-processes, same-but-table, same-connected, after-stop, after-refuse, after-orstop}
+pub use Rattle.ipc_state.proofs.Ending.{after-attempt, by-if_some, answered, answered_firing, read, ended-good}
+pub use Rattle.ipc_state.proofs.Elsewhere.{before-then, elsewhere-closed, elsewhere-mq, elsewhere-new_mq, elsewhere-table, elsewhere-unlinked}
 pub use Rattle.ipc_state.proofs.Numbering.{neither}
 pub use Rattle.ipc_state.proofs.SoundQueues.{queue-numbers, sent-sound, taken-sound, changed-sound}
 pub use Rattle.ipc_state.proofs.SoundSets.{with_value-sound, with_values-sound, carried-sound, changed_set-sound}
@@ -321,6 +335,124 @@ module _ (limits : Limits) where
   pub set-sound : (s : State) (id : ℕ) (e : Entry Set) → set_of s id ≡ Some e → HasSoundParts limits s → IsSoundSet limits e.object
   set-sound s id e is h = keying.entry-sound limits.semmni (IsSoundSet limits) s.sem id e is h.sem.keyed
 
+  -- ---- POSIX queues and descriptors
+
+  set-opened : (s : State) (ps : Numbered Process) (o : Named Mq) → HasSoundParts limits s → keys_of ps.entries ≡ keys_of s.processes.entries
+      → AreSoundProcesses limits o ps × AreSoundMqs limits ps.entries o → HasSoundParts limits (record s { processes = ps; mq = o })
+  set-opened s ps o h same parts =
+      record {
+        processes = parts.0;
+        wait = h.wait;
+        undo = record { pids = h.undo.pids ∙ sym same; each = h.undo.each };
+        msg = h.msg;
+        sem = h.sem;
+        mq = parts.1;
+      }
+
+  -- a descriptor more of a process, open on what is there
+  pub with_descriptor-sound : (s : State) (pid : ℕ) (d : Descriptor) → has_all_descriptors limits s pid ≡ false → is_sound_descriptor s.mq d ≡ true
+      → HasSoundParts limits s → HasSoundParts limits (with_descriptor s pid d)
+  with_descriptor-sound s pid d room right h =
+      let table = descriptors_of s.processes.entries pid in
+      let fewer : length table < limits.descriptors = grind (arith, nat_tests) in
+      set-opened s _ s.mq h (opening.table-keys s.processes pid (opened table d))
+      (opening.opened-mqs limits s.processes pid s.mq h.processes h.mq d fewer right)
+
+  -- other flags of one, with a way in which it is open
+  pub with_descriptor_flags-sound : (s : State) (pid fd flags : ℕ) → not (nat_eq (bit_and flags 3) 3) ≡ true
+      → HasSoundParts limits s → HasSoundParts limits (with_descriptor_flags s pid fd flags)
+  with_descriptor_flags-sound s pid fd flags right h =
+      set-opened s _ s.mq h (opening.table-keys s.processes pid (with_flags (descriptors_of s.processes.entries pid) fd flags))
+      (opening.flags-mqs limits s.processes pid s.mq h.processes h.mq fd flags right)
+
+  pub closed-sound : (s : State) (pid fd : ℕ) → HasSoundParts limits s → HasSoundParts limits (closed s pid fd)
+  closed-sound s pid fd h =
+      set-opened s _ _ h (opening.table-keys s.processes pid (without_value nat_eq (descriptors_of s.processes.entries pid) fd))
+      (opening.closed-mqs limits s.processes pid s.mq h.processes h.mq fd)
+
+  -- what a descriptor of a process is, is sound
+  pub descriptor-sound : (s : State) (pid fd : ℕ) (d : Descriptor) → descriptor_at s.processes.entries pid fd ≡ Some d → HasSoundParts limits s
+      → is_sound_descriptor s.mq d ≡ true
+  descriptor-sound s pid fd d is h = opening.descriptor-sound limits s.mq s.processes.entries pid fd d h.processes.descriptors is
+
+  -- another queue at a number that is there, with a registration, if one, by a descriptor that is open on it
+  pub with_mq-sound : (s : State) (n : ℕ) (e : NamedEntry Mq) (q : Mq) → entry_of s.mq n ≡ Some e → IsSoundMq limits q
+      → is_by_descriptor s.processes.entries n q.registration ≡ true → HasSoundParts limits s → HasSoundParts limits (with_mq s n q)
+  with_mq-sound s n e q is good registered h =
+      let put : Named Mq = with_entry s.mq n (with_object e q) in
+      let same : put ≡ (with_mq s n q).mq =
+      sym (ap (λ (r : Option (NamedEntry Mq)). unwrap_or (option_map (λ (f : NamedEntry Mq). with_entry s.mq n (with_object f q)) r) s.mq) is) in
+      subst (λ (o : Named Mq). HasSoundParts limits (record s { mq = o })) same
+      (set-opened s s.processes put h refl (opening.with_mq-mqs limits s.processes s.mq h.processes h.mq n e q is good registered))
+
+  -- a new queue of a name that no queue has
+  pub with_new_mq-sound : (s : State) (name : List ℕ) (cred : Cred) (mode : ℕ) (q : Mq) → named s.mq name ≡ None → has_all_mqs limits s ≡ false → mode < 512
+      → is_ok (check_name names.Queue name) ≡ true → IsSoundMq limits q → q.registration ≡ None
+      → HasSoundParts limits s → HasSoundParts limits (with_new_mq s name cred mode q)
+  with_new_mq-sound s name cred mode q unused room few proper good free h =
+      set-opened s s.processes _ h refl
+      (opening.with_new_mq-mqs limits s.processes s.mq h.processes h.mq name cred mode q unused room few proper good free)
+
+  pub unlinked-sound : (s : State) (n : ℕ) → HasSoundParts limits s → HasSoundParts limits (unlinked s n)
+  unlinked-sound s n h = set-opened s s.processes _ h refl (opening.unlinked-mqs limits s.processes s.mq h.processes h.mq n)
+
+  -- what holds of a queue that is there
+  pub mq-sound : (s : State) (n : ℕ) (e : NamedEntry Mq) → entry_of s.mq n ≡ Some e → HasSoundParts limits s → IsSoundMq limits e.object
+  mq-sound s n e is h = (entry-named limits.queues (IsSoundMq limits) s.mq n e is h.mq.named).each
+
+  pub mq-registered : (s : State) (n : ℕ) (e : NamedEntry Mq) → entry_of s.mq n ≡ Some e → HasSoundParts limits s
+      → is_by_descriptor s.processes.entries n e.object.registration ≡ true
+  mq-registered s n e is h = opening.All-found (λ (d : ℕ × NamedEntry Mq). is_registered s.processes.entries d ≡ true) s.mq.entries n e h.mq.registered is
+
+  -- what is lent of it
+  pub mq-lent : (s : State) (n : ℕ) (e : NamedEntry Mq) (r : Option (MutBor Mq)) (q : MutBor Mq) → entry_of s.mq n ≡ Some e
+      → option_copied_mut r ≡ option_map (λ (f : NamedEntry Mq). f.object) (entry_of s.mq n) → r ≡ Some q → q.now ≡ e.object
+  mq-lent s n e r q there got is =
+      let same : option_copied_mut r ≡ Some e.object = got ∙ ap (option_map (λ (f : NamedEntry Mq). f.object)) there in cc
+
+  -- numbers are above 0, so that a directory of names tells them; and each name names the queue that has it
+  pub mq-positive : (s : State) → HasSoundParts limits s → ArePositive s.mq.entries
+  mq-positive s h = named-positive s.mq.entries s.mq.next h.mq.named.numbered.numbers
+
+  pub mq-next : (s : State) → HasSoundParts limits s → 0 < s.mq.next
+  mq-next s h = omega (arith, rising-bounds 1 (keys_of s.mq.entries) s.mq.next h.mq.named.numbered.numbers)
+
+  pub mq-names : (s : State) → HasSoundParts limits s → HaveNames s.mq
+  mq-names s h = have-names limits.queues (IsSoundMq limits) s.mq h.mq.named
+
+  -- a queue without messages, one with a message more, and one from which a message was received
+  pub empty_mq-sound : (maxmsg msgsize : ℕ) → 0 < maxmsg → maxmsg ≤ limits.maxmsg → 0 < msgsize → msgsize ≤ limits.msgsize
+      → IsSoundMq limits (empty_queue maxmsg msgsize None)
+  empty_mq-sound maxmsg msgsize some few any short =
+      record { maxmsg = (some, few); msgsize = (any, short); count = omega arith; messages = All-nil (IsSoundMqMessage msgsize) }
+
+  pub sent_mq-sound : (q : Mq) (m : MqMessage) → IsSoundMq limits q → is_full_mq q ≡ false → m.priority < 32768 → length m.text ≤ q.msgsize
+      → IsSoundMq limits (with_message q m)
+  sent_mq-sound q m good room priority short =
+      let fewer : length q.messages < q.maxmsg = grind (arith, nat_tests) in
+      record {
+        maxmsg = good.maxmsg;
+        msgsize = good.msgsize;
+        count = omega (arith, length-append q.messages (m ∷ []), fewer);
+        messages = All-push (IsSoundMqMessage q.msgsize) q.messages m good.messages (record { priority = priority; short = short });
+      }
+
+  pub received_mq-sound : (q : Mq) → IsSoundMq limits q → IsSoundMq limits (received q)
+  received_mq-sound q good = by_place (next_to_receive q.messages)
+    where
+      by_place : (r : Option ℕ) → IsSoundMq limits (record q { messages = option_map_or (remove q.messages) r q.messages })
+      by_place None = good
+      by_place (Some at) =
+          let P : MqMessage → Type 0 = IsSoundMqMessage q.msgsize in
+          let before : List MqMessage = take at q.messages in
+          let after : List MqMessage = drop (suc at) q.messages in
+          record {
+            maxmsg = good.maxmsg;
+            msgsize = good.msgsize;
+            count = omega (arith, length-append before after, length-take at q.messages, length-drop (suc at) q.messages, good.count);
+            messages = All-append P before after (All-take P at q.messages good.messages) (All-drop P (suc at) q.messages good.messages);
+          }
+
 -- a restart of what a restart has left leaves it
 pub restart-twice : (s : State) → restart (restart s) ≡ restart s
 restart-twice s = ap (λ (o : Named Mq). let t : State = record (restart s) { mq = o } in t) (mqs.restarted-again s.mq)
@@ -358,6 +490,14 @@ deadline-sound now (Calls (requests.SemctlSetAll id values)) = tt
 deadline-sound now (Calls (requests.SemctlStat id)) = tt
 deadline-sound now (Calls (requests.SemctlSet id uid gid mode)) = tt
 deadline-sound now (Calls (requests.SemctlRmid id)) = tt
+deadline-sound now (Posix (posix.MqSend fd deadline priority text)) = after-sound 0 deadline
+deadline-sound now (Posix (posix.MqReceive fd deadline size)) = after-sound 0 deadline
+deadline-sound now (Posix (posix.Close fd)) = tt
+deadline-sound now (Posix (posix.MqOpen flags mode attr maxmsg msgsize name)) = tt
+deadline-sound now (Posix (posix.MqUnlink name)) = tt
+deadline-sound now (Posix (posix.MqNotify fd kind cookie)) = tt
+deadline-sound now (Posix (posix.MqGetattr fd)) = tt
+deadline-sound now (Posix (posix.MqSetattr fd flags)) = tt
 
 -- ---- objects that are held, and those of the definitions
 
@@ -419,65 +559,3 @@ module _ {X : Type 0} (o : HeldObjects X) (s : Keyed X) (id : ℕ) (e : Entry X)
     -- the directory of the keys stays
     pub put-keys : new.keys ≡ o.keys
     put-keys = ap (λ (n : HeldObjects X). n.keys) (put e is-held)
-
--- ---- calls by their steps
-
-as_before : (on : Awaited) (s : State) → IsAsBefore on s s
-as_before (awaited.Queue id) s = refl
-as_before (awaited.Set id) s = (refl, λ pid num. refl)
-
--- What is to be shown of what a call that began in a state leaves and answers, if it may change this object alone: the
--- state stays sound, the body of the answer fits, and all else that others wait for is as it was.
-pub record IsGood (limits : Limits) (s : State) (touches : Option Awaited) (f : Finish) : Type 0 where
-  pub state : HasSoundParts limits s → HasSoundParts limits f.state
-  pub body : HasSoundParts limits s → FitsBody limits f.body
-  pub kept : f.state.processes ≡ s.processes
-  pub clock : f.state.clock ≡ s.clock
-  pub wait : f.state.wait ≡ s.wait
-  pub others : (on : Awaited) → touches ≢ Some on → is_there on s ≡ true → IsAsBefore on s f.state
-
-abbrev IfDone : (Finish → Type 0) → Attempt Done → Type 0
-IfDone P (Ok d) = P (done d.state d.body)
-IfDone P (Err h) = Unit {0}
-
--- it is shown, if the call is done
-pub record Ends (limits : Limits) (s : State) (touches : Option Awaited) (call : Attempt Done) : Type 0 where
-  pub good : IfDone (IsGood limits s touches) call
-
-module _ {limits : Limits} {s : State} {touches : Option Awaited} where
-  pub after-stop : (h : Halt) {b : Bool} {rest : Attempt Done} → (b ≡ false → Ends limits s touches rest) → Ends limits s touches (stop h b >> rest)
-  after-stop h {b = true} go = record { good = tt }
-  after-stop h {b = false} go = go refl
-
-  pub after-refuse : (e : Errno) {b : Bool} {rest : Attempt Done} → (b ≡ false → Ends limits s touches rest) → Ends limits s touches (refuse e b >> rest)
-  after-refuse e {b = true} go = record { good = tt }
-  after-refuse e {b = false} go = go refl
-
-  pub after-orstop : {X : Type 0} (h : Halt) {o : Option X} {rest : X → Attempt Done} → ((x : X) → o ≡ Some x → Ends limits s touches (rest x))
-      → Ends limits s touches (o orstop h >>= rest)
-  after-orstop h {o = None} go = record { good = tt }
-  after-orstop h {o = Some x} go = go x refl
-
-  pub after-attempt : {X : Type 0} {a : Attempt X} {rest : X → Attempt Done} → ((x : X) → a ≡ Ok x → Ends limits s touches (rest x))
-      → Ends limits s touches (a >>= rest)
-  after-attempt {a = Err h} go = record { good = tt }
-  after-attempt {a = Ok x} go = go x refl
-
-  pub by-if_some : {X : Type 0} {o : Option X} {there : X → Attempt Done} {missing : Attempt Done}
-      → ((x : X) → o ≡ Some x → Ends limits s touches (there x)) → (o ≡ None → Ends limits s touches missing) → Ends limits s touches (if_some o there missing)
-  by-if_some {o = None} h k = k refl
-  by-if_some {o = Some x} h k = h x refl
-
-  pub answered : (t : State) (body : PlainBody) → IsGood limits s touches (done t body) → Ends limits s touches (answer t body)
-  answered t body good = record { good = good }
-
-  -- a call that leaves the state as it is
-  pub read : (body : PlainBody) → (HasSoundParts limits s → FitsBody limits body) → Ends limits s touches (answer s body)
-  read body fits = record { good = record { state = λ h. h; body = fits; kept = refl; clock = refl; wait = refl; others = λ on apart there. as_before on s } }
-
-pub ended-good : (limits : Limits) (s : State) (touches : Option Awaited) (call : Attempt Done) → Ends limits s touches call
-    → IfFinishes (IsGood limits s touches) (ended s call)
-ended-good limits s touches (Ok d) ends = ends.good
-ended-good limits s touches (Err (Fails e)) ends =
-    record { state = λ h. h; body = λ h. omega arith; kept = refl; clock = refl; wait = refl; others = λ on apart there. as_before on s }
-ended-good limits s touches (Err Blocks) ends = tt

@@ -7,6 +7,9 @@ mod Keying
 mod SoundQueues
 mod SoundSets
 mod SoundMqs
+mod SoundOpening
+mod Elsewhere
+mod Ending
 mod Directories
 mod Naming
 mod Adjusting

@@ -1,5 +1,5 @@
 -- POSIX queues, and the descriptors that are open on them, stay sound as processes come and go.
-use Rattle.std.proofs.Common.{◌≡◌, ◌≢◌, ℕ, ◌+◌, ◌<◌, ◌≤◌, Bool, true, false, cond, List, [], ◌∷◌, ◌++◌, Option, Some, None, refl, sym, ap, subst, ◌∙◌, arith}
+use Rattle.std.proofs.Common.{◌≡◌, ◌≢◌, ℕ, ◌<◌, ◌≤◌, Bool, true, false, cond, List, [], ◌∷◌, ◌++◌, Option, Some, None, refl, sym, ap, subst, ◌∙◌, arith}
 use Rattle.std.specs.Prelude.{All, is_some, not, ◌||◌, ◌&&◌, nat_eq, nat_lt, nat_le, length, map, option_map, unwrap_or, if◌then◌else◌}
 use Rattle.std.specs.Int.RustNames.{bit_and}
 use Rattle.std.specs.Str.{bytes_eq}
@@ -7,7 +7,7 @@ use Rattle.std.specs.Bool.{Decides}
 use Rattle.std.specs.List.{filter, list_all, list_any}
 use Rattle.std.proofs.lemmas.Bool.{leb-true, le-leb}
 use Rattle.std.proofs.lemmas.Bool.Decides.{nat_tests, Decides-by_and, Decides-and, Decides-ltb}
-use Rattle.std.proofs.lemmas.List.Elements.{All-nil, All-cons, All-head, All-tail, All-filter, All-map, All-push, All-weaker}
+use Rattle.std.proofs.lemmas.List.Elements.{All-nil, All-cons, All-head, All-tail, All-filter, All-push, All-weaker}
 use Rattle.std.proofs.lemmas.List.Folds.{list_any-append}
 use Rattle.std.proofs.lemmas.Slice.Eq.{bytes_eq-Decides}
 use Rattle.ipc_base.specs.declared.identity.Cred.{Cred}
@@ -29,7 +29,7 @@ use Rattle.ipc_state.specs.Descriptors.{Table}
 use Rattle.ipc_state.specs.Directory.{Agrees}
 use Rattle.ipc_state.specs.Named.{Named, name_row, named, kept_if, AreNamedObjects}
 use Rattle.ipc_state.specs.Numbered.{Numbered, none_yet, entry_of, is_full, with_new, without_entry}
-use Rattle.ipc_state.specs.Opening.{is_on_queue, is_open, stays, still_open, unless_so, deregistered, without_registrations, is_by, is_or_any}
+use Rattle.ipc_state.specs.Opening.{is_on_queue, is_open, stays, still_open, unless_so, deregistered, without_registrations, is_by}
 use Rattle.ipc_state.specs.Opening.{has_name, is_named_so, is_there_for, is_sound_descriptor, is_by_descriptor, is_registered}
 use Rattle.ipc_state.specs.Sound.{AreSoundDescriptors, AreSoundMqs, AreSoundProcesses, IsSoundMq, IsSoundMqMessage}
 use Rattle.ipc_state.specs.Tests.{is_sound_mq, is_sound_mq_message}
@@ -40,7 +40,7 @@ use Rattle.ipc_state.proofs.Numbering.{seen-numbered, with_new-numbered, without
 -- ---- what is left of a table
 
 -- a value whose test stands is found as before
-at-filter : {X : Type 0} (test : ℕ × X → Bool) (es : List (ℕ × X)) (n : ℕ) (x : X) → value_at nat_eq es n ≡ Some x → test (n, x) ≡ true
+pub at-filter : {X : Type 0} (test : ℕ × X → Bool) (es : List (ℕ × X)) (n : ℕ) (x : X) → value_at nat_eq es n ≡ Some x → test (n, x) ≡ true
     → value_at nat_eq (filter test es) n ≡ Some x
 at-filter test [] n x is stands = is
 at-filter {X} test (e ∷ es) n x is stands = by_key (nat_eq e.0 n) refl is (λ later. at-filter test es n x later stands)
@@ -59,8 +59,23 @@ at-filter {X} test (e ∷ es) n x is stands = by_key (nat_eq e.0 n) refl is (λ 
         by_test true rest = rw apart rest
         by_test false rest = rest
 
+-- what was not there is not left
+pub none-filter : {X : Type 0} (test : ℕ × X → Bool) (es : List (ℕ × X)) (n : ℕ) → value_at nat_eq es n ≡ None → value_at nat_eq (filter test es) n ≡ None
+none-filter test [] n none = refl
+none-filter {X} test (e ∷ es) n none = by_key (nat_eq e.0 n) refl none (none-filter test es n)
+  where
+    by_key : (b : Bool) → nat_eq e.0 n ≡ b → cond b (Some e.1) (value_at nat_eq es n) ≡ None
+        → (value_at nat_eq es n ≡ None → value_at nat_eq (filter test es) n ≡ None)
+        → value_at nat_eq (cond (test e) (e ∷ filter test es) (filter test es)) n ≡ None
+    by_key true same none later = cc
+    by_key false apart none later = by_test (test e) (later none)
+      where
+        by_test : (b : Bool) → value_at nat_eq (filter test es) n ≡ None → value_at nat_eq (cond b (e ∷ filter test es) (filter test es)) n ≡ None
+        by_test true rest = rw apart rest
+        by_test false rest = rest
+
 -- each that is left passes the test
-All-passed : {X : Type 0} (test : X → Bool) (xs : List X) → All (λ x. test x ≡ true) (filter test xs)
+pub All-passed : {X : Type 0} (test : X → Bool) (xs : List X) → All (λ x. test x ≡ true) (filter test xs)
 All-passed test [] = All-nil _
 All-passed {X} test (x ∷ xs) = by_test (test x) refl (All-passed test xs)
   where
@@ -69,7 +84,7 @@ All-passed {X} test (x ∷ xs) = by_test (test x) refl (All-passed test xs)
     by_test false fails rest = rest
 
 -- what is so of each entry as it was, is so of each without its registration
-All-seen_as : {X Y : Type 0} (P : ℕ × X → Type 0) (Q : ℕ × Y → Type 0) (f : X → Y) → ((e : ℕ × X) → P e → Q (e.0, f e.1)) → (es : List (ℕ × X)) → All P es
+pub All-seen_as : {X Y : Type 0} (P : ℕ × X → Type 0) (Q : ℕ × Y → Type 0) (f : X → Y) → ((e : ℕ × X) → P e → Q (e.0, f e.1)) → (es : List (ℕ × X)) → All P es
     → All Q (seen_as f es)
 All-seen_as P Q f step [] all = All-nil Q
 All-seen_as P Q f step (e ∷ es) all =
@@ -77,11 +92,11 @@ All-seen_as P Q f step (e ∷ es) all =
 
 -- ---- what descriptors are open on
 
-either : (a b : Bool) → b ≡ true → (a || b) ≡ true
+pub either : (a b : Bool) → b ≡ true → (a || b) ≡ true
 either true b h = refl
 either false b h = h
 
-first : (a b : Bool) → a ≡ true → (a || b) ≡ true
+pub first : (a b : Bool) → a ≡ true → (a || b) ≡ true
 first a b h = rw h refl
 
 or-more : (a b c : Bool) → (a || b) ≡ true → (a || (b || c)) ≡ true
@@ -89,16 +104,16 @@ or-more true b c h = refl
 or-more false true c h = refl
 or-more false false c h = cc
 
-both_true : (a b : Bool) → (a && b) ≡ true → (a ≡ true) × (b ≡ true)
+pub both_true : (a b : Bool) → (a && b) ≡ true → (a ≡ true) × (b ≡ true)
 both_true true b h = (refl, h)
 both_true false b h = cc
 
 -- the objects on which descriptors of these processes are open are there among others too
-abbrev AllThere : Named Mq → Named Mq → List (ℕ × Process) → Type 0
+abbrev pub AllThere : Named Mq → Named Mq → List (ℕ × Process) → Type 0
 AllThere old new processes = (n : ℕ) → is_open processes n ≡ true → is_some (entry_of old n) ≡ true → is_some (entry_of new n) ≡ true
 
 -- its descriptors are sound
-abbrev Has : Limits → Named Mq → ℕ × Process → Type 0
+abbrev pub Has : Limits → Named Mq → ℕ × Process → Type 0
 Has limits o p = AreSoundDescriptors limits o p.1.descriptors
 
 module _ (limits : Limits) (old new : Named Mq) where
@@ -120,7 +135,7 @@ module _ (limits : Limits) (old new : Named Mq) where
       All-cons (Good new) d ds (one-there d.1 (λ n is. all n (first _ _ is)) (All-head (Good old) d ds each))
       (table-there ds (λ n is. all n (either _ _ is)) (All-tail (Good old) d ds each))
 
-  each-there : (ps : List (ℕ × Process)) → AllThere old new ps → All (Has limits old) ps → All (Has limits new) ps
+  pub each-there : (ps : List (ℕ × Process)) → AllThere old new ps → All (Has limits old) ps → All (Has limits new) ps
   each-there [] all each = All-nil (Has limits new)
   each-there (p ∷ ps) all each =
       let h = All-head (Has limits old) p ps each in
@@ -147,11 +162,11 @@ module _ (goes : Registration → Bool) (ps : List (ℕ × Process)) (o : Named 
 -- ---- registrations
 
 -- what a descriptor of a process, if it is there, says of a registration with a queue
-abbrev told : ℕ → Registration → Option Process → Bool
+abbrev pub told : ℕ → Registration → Option Process → Bool
 told n r p =
     unwrap_or (option_map (λ (d : Descriptor). is_on_queue n d.on) (value_at nat_eq (unwrap_or (option_map (λ (q : Process). q.descriptors) p) []) r.descriptor)) false
 
-abbrev IsRegistered : List (ℕ × Process) → ℕ × NamedEntry Mq → Type 0
+abbrev pub IsRegistered : List (ℕ × Process) → ℕ × NamedEntry Mq → Type 0
 IsRegistered ps e = is_registered ps e ≡ true
 
 -- after an exit, those of others are by descriptors that are open still
@@ -310,13 +325,13 @@ module _ (limits : Limits) (ps left : List (ℕ × Process)) (goes : Registratio
   processes-left each = each-there limits o rest left (open-stay goes left o) each
 
 -- without a process
-All-without : {X : Type 0} (P : ℕ × X → Type 0) (es : List (ℕ × X)) (n : ℕ) → All P es → All P (without nat_eq es n)
+pub All-without : {X : Type 0} (P : ℕ × X → Type 0) (es : List (ℕ × X)) (n : ℕ) → All P es → All P (without nat_eq es n)
 All-without P [] n all = all
 All-without {X} P (e ∷ es) n all = by_test (nat_eq e.0 n) (All-without P es n (All-tail P e es all))
   where
     by_test : (b : Bool) → All P (without nat_eq es n) → All P (cond b es (e ∷ without nat_eq es n))
-    by_test true rest = All-tail P e es all
-    by_test false rest = All-cons P e _ (All-head P e es all) rest
+    by_test true left = All-tail P e es all
+    by_test false left = All-cons P e _ (All-head P e es all) left
 
 module _ (limits : Limits) where
   pub none-mqs : AreSoundMqs limits [] none_yet

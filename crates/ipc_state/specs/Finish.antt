@@ -5,14 +5,17 @@ use Rattle.ipc_base.specs.declared.errno.Errno.{Errno}
 use Rattle.ipc_wire.specs.declared.reply.Body.{Body}
 use Rattle.ipc_wire.specs.declared.reply.Body.TheVariants.{Empty}
 use Rattle.ipc_wire.specs.Reply.{PlainBody, body_of}
+use Rattle.posix_mq.specs.declared.queue.Registration.{Registration}
 use Rattle.std.specs.Global.{Vec}
 use Rattle.ipc_state.specs.State.{State}
 
--- the state after the call, the error where it is refused, and the body of its reply
+-- the state after the call, the error where it is refused, the body of its reply, and the registration of which the
+-- process is told now (mq_notify(3)): one that was taken away because a message came, if a frame is sent to it
 pub record Finish : Type 0 where
   pub state : State
   pub errno : Option Errno
   pub body : PlainBody
+  pub fired : Option Registration
 
 -- a call that is tried comes to its end, or has to wait
 pub data Tried : Type 0 where
@@ -28,13 +31,17 @@ abbrev pub IfFinishes : (Finish → Type 0) → Tried → Type 0
 IfFinishes P (Finishes f) = P f
 IfFinishes P Waits = Unit {0}
 
--- it is done
+-- it is done, and fires this registration, if one
+abbrev pub done_firing : State → PlainBody → Option Registration → Finish
+done_firing s body fired = record { state = s; errno = None; body = body; fired = fired }
+
+-- it is done, and fires none
 abbrev pub done : State → PlainBody → Finish
-done s body = record { state = s; errno = None; body = body }
+done s body = done_firing s body None
 
 -- it is refused and changes nothing
 abbrev pub refused : State → Errno → Finish
-refused s e = record { state = s; errno = Some e; body = Empty }
+refused s e = record { state = s; errno = Some e; body = Empty; fired = None }
 
 -- why a call does not go on
 pub data Halt : Type 0 where
@@ -79,21 +86,30 @@ abbrev pub if_some : {X Y : Type 0} → Option X → (X → Attempt Y) → Attem
 if_some None there missing = missing
 if_some (Some x) there missing = there x
 
--- what a call that is done leaves and answers
+-- what a call that is done leaves and answers, and the registration that it fires
 pub record Done : Type 0 where
   pub state : State
   pub body : PlainBody
+  pub fired : Option Registration
 
+abbrev pub answer_firing : State → PlainBody → Option Registration → Attempt Done
+answer_firing s body fired = Ok (record { state = s; body = body; fired = fired })
+
+-- it fires none
 abbrev pub answer : State → PlainBody → Attempt Done
-answer s body = Ok (record { state = s; body = body })
+answer s body = answer_firing s body None
 
 -- what comes of the call that began in a state
 abbrev pub ended : State → Attempt Done → Tried
-ended s (Ok d) = Finishes (done d.state d.body)
+ended s (Ok d) = Finishes (done_firing d.state d.body d.fired)
 ended s (Err (Fails e)) = Finishes (refused s e)
 ended s (Err Blocks) = Waits
 
--- the same of the answer of a program's call, which left this state
+-- the same of the answer of a program's call, which left this state and fired this registration, if one
+abbrev pub finish_firing : State → Result (Body (Vec ℕ)) Errno → Option Registration → Finish
+finish_firing s (Ok body) fired = done_firing s (body_of (λ text. text.items) body) fired
+finish_firing s (Err e) fired = refused s e
+
+-- and fired none
 abbrev pub finish_of : State → Result (Body (Vec ℕ)) Errno → Finish
-finish_of s (Ok body) = done s (body_of (λ text. text.items) body)
-finish_of s (Err e) = refused s e
+finish_of s answer = finish_firing s answer None

@@ -1,19 +1,22 @@
 -- What a contract sees of the state that is held: its limits, the state itself, and the room that is reserved in it, so
 -- that a change takes no memory.
 use Rattle.std.specs.FinMap.{FinMap}
-use Rattle.std.specs.Ordering.{int_cmp}
-use Rattle.std.specs.Prelude.{◌≡◌, ◌≢◌, ℕ, ℤ, pos, Bool, true, Option, Some, None}
+use Rattle.std.specs.Cmp.Lexicographic.{slice_cmp}
+use Rattle.std.specs.Ordering.{int_cmp, nat_cmp}
+use Rattle.std.specs.Prelude.{◌≡◌, ◌≢◌, ℕ, ℤ, pos, Bool, true, List, [], Option, Some, None}
 use Rattle.ipc_base.specs.declared.limits.Limits.{Limits}
 use Rattle.ipc_keys.specs.Directory.{is_vacant}
 use Rattle.sysv_sem.specs.Set.{Set, new_set}
 use Rattle.ipc_state.specs.Directory.{HasNoSpareKey}
 use Rattle.ipc_state.specs.Keyed.{keyed}
+use Rattle.ipc_state.specs.Named.{named}
 use Rattle.ipc_state.specs.State.{State}
 
 -- whether there is room for one process more, with adjustments and descriptors of its own, and for one queue; the
 -- directory of the queues' keys, with those that have room there; whether a queue without messages is kept ready to be
 -- added; for how many calls that wait there is room; whether there is room for one semaphore set more; the directory of
--- the sets' keys; the set that is kept ready to be added
+-- the sets' keys; the set that is kept ready to be added; whether there is room for one POSIX queue more; the directory
+-- of their names; whether one without messages is kept ready to be added, and the name that is kept ready for it
 pub record Room : Type 0 where
   pub process : Bool
   pub queue : Bool
@@ -23,6 +26,10 @@ pub record Room : Type 0 where
   pub set : Bool
   pub set_keys : FinMap int_cmp ℕ
   pub fresh_set : Option Set
+  pub mq : Bool
+  pub names : FinMap (slice_cmp nat_cmp) ℕ
+  pub fresh_mq : Bool
+  pub fresh_name : Option (List ℕ)
 
 pub record Held : Type 0 where
   pub limits : Limits
@@ -44,6 +51,13 @@ pub record HasSetPlace (s : State) (room : Room) (key : ℤ) (nsems : ℕ) : Typ
   pub set : room.set ≡ true
   pub fresh : HasFreshSet room nsems
   pub vacant : key ≢ pos 0 → keyed s.sem key ≡ None → is_vacant room.set_keys key ≡ true
+
+-- there is room for one POSIX queue more of this name, and a queue and a name that are ready to be it
+pub record HasMqPlace (s : State) (room : Room) (name : List ℕ) : Type 0 where
+  pub place : room.mq ≡ true
+  pub fresh : room.fresh_mq ≡ true
+  pub called : room.fresh_name ≡ Some name
+  pub vacant : name ≢ [] → named s.mq name ≡ None → is_vacant room.names name ≡ true
 
 -- no key has room that no object has
 pub record HasNoSpareKeys (room : Room) : Type 0 where

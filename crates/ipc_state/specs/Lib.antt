@@ -14,5 +14,7 @@ pub mod Restored
 pub mod Lends
 pub mod LendsMsg
 pub mod LendsSem
+pub mod LendsMq
 pub mod Touching
 pub mod Finish
+pub mod Spare

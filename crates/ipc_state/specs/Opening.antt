@@ -17,7 +17,7 @@ use Rattle.ipc_state.specs.declared.named.NamedEntry.{NamedEntry}
 use Rattle.ipc_state.specs.declared.processes.Process.{Process}
 use Rattle.ipc_state.specs.Descriptors.{Table}
 use Rattle.ipc_state.specs.Named.{Named, kept_if}
-use Rattle.ipc_state.specs.Numbered.{entry_of}
+use Rattle.ipc_state.specs.Numbered.{Numbered, entry_of, with_entry}
 
 -- whether it is open on the queue of this number
 abbrev pub is_on_queue : ℕ → Opened → Bool
@@ -71,6 +71,12 @@ descriptors_of processes pid = unwrap_or (option_map (λ p. p.descriptors) (valu
 -- what a descriptor of a process is
 abbrev pub descriptor_at : List (ℕ × Process) → ℕ → ℕ → Option Descriptor
 descriptor_at processes pid fd = value_at nat_eq (descriptors_of processes pid) fd
+
+-- the processes with another table of descriptors of one, if it is there
+abbrev pub with_table : Numbered Process → ℕ → Table → Numbered Process
+with_table processes pid table =
+    unwrap_or (option_map (λ p. with_entry processes pid (record p { descriptors = table })) (entry_of processes pid))
+    processes
 
 -- what it is open on is there
 abbrev pub is_there_for : Named Mq → Opened → Bool

@@ -1,24 +1,29 @@
 -- The state of the server between two events (sysvipc(7)): what it knows of processes and objects. All of it
 -- lasts; nothing in it tells how it is kept.
 use Rattle.std.specs.Prelude.{ℕ, ℤ, Bool, max, List, Option, Some, None, [], ◌∷◌, ◌++◌, option_map}
-use Rattle.std.specs.Prelude.{is_some, unwrap_or, nat_eq}
-use Rattle.std.specs.List.{fold}
+use Rattle.std.specs.Prelude.{false, is_some, unwrap_or, nat_eq, nat_le, length}
+use Rattle.std.specs.List.{fold, list_any}
 use Rattle.std.specs.FinMap as fin
 use Rattle.ipc_base.specs.declared.identity.Cred.{Cred}
 use Rattle.ipc_base.specs.declared.limits.Limits.{Limits}
 use Rattle.ipc_base.specs.Table.{value_at, with_value, seen_as, without as without_value}
 use Rattle.ipc_wait.specs.Waits.{call_of, calls_due, calls_left, without}
+use Rattle.ipc_wire.specs.Posix as posix
+use Rattle.ipc_wire.specs.Request.{PlainKind, Posix}
 use Rattle.posix_mq.specs.Queue.{Queue as Mq}
 use Rattle.sysv_msg.specs.Queue.{Queue, new_queue}
 use Rattle.sem_undo.specs.Undo.{Key, Undo, cleared}
 use Rattle.sysv_sem.specs.Set.{Set, new_set, after_exit}
 use Rattle.ipc_state.specs.declared.keyed.Entry.{Entry}
 use Rattle.ipc_perm.specs.declared.perm.Perm.{Perm}
+use Rattle.ipc_state.specs.declared.descriptors.Descriptor.{Descriptor}
 use Rattle.ipc_state.specs.declared.processes.Process.{Process}
+use Rattle.ipc_state.specs.Descriptors.{Table, opened, with_flags}
 use Rattle.ipc_state.specs.Numbered.{Numbered, none_yet, entry_of, is_full, with_entry, with_new, without_entry}
 use Rattle.ipc_state.specs.Keyed.{Keyed, holding}
-use Rattle.ipc_state.specs.Named.{Named}
-use Rattle.ipc_state.specs.Opening.{is_by, still_open, without_registrations}
+use Rattle.ipc_state.specs.Named.{Named, unnamed, with_object}
+use Rattle.ipc_state.specs.Opening.{is_by, is_on_queue, still_open, without_registrations}
+use Rattle.ipc_state.specs.Opening.{descriptors_of, descriptor_at, with_table}
 use Rattle.ipc_state.specs.Waiting.{PlainWaiting}
 
 pub record State : Type 0 where
@@ -157,7 +162,65 @@ restart s =
       sem = fold undone s.sem s.undo;
     }))
 
--- ---- message queues
+-- ---- descriptors
+
+-- a process has as many descriptors as the limit says
+abbrev pub has_all_descriptors : Limits → State → ℕ → Bool
+has_all_descriptors limits s pid = nat_le limits.descriptors (length (descriptors_of s.processes.entries pid))
+
+-- with another table of descriptors of a process, if it is there
+abbrev pub with_descriptors : State → ℕ → Table → State
+with_descriptors s pid table = record s { processes = with_table s.processes pid table }
+
+-- with a descriptor more of a process, under the lowest number that it does not use
+abbrev pub with_descriptor : State → ℕ → Descriptor → State
+with_descriptor s pid d = with_descriptors s pid (opened (descriptors_of s.processes.entries pid) d)
+
+-- with other flags at a descriptor of a process, if the number is in use
+abbrev pub with_descriptor_flags : State → ℕ → ℕ → ℕ → State
+with_descriptor_flags s pid fd flags =
+    with_descriptors s pid (with_flags (descriptors_of s.processes.entries pid) fd flags)
+
+-- without a descriptor of a process
+abbrev pub without_descriptor : State → ℕ → ℕ → State
+without_descriptor s pid fd =
+    with_descriptors s pid (without_value nat_eq (descriptors_of s.processes.entries pid) fd)
+
+-- a descriptor is closed: the registration by it goes, and the object, if it has no name and is no longer open
+abbrev pub closed : State → ℕ → ℕ → State
+closed s pid fd = swept (deregistered_by (Some pid) (Some fd) (without_descriptor s pid fd))
+
+-- ---- POSIX message queues
+
+-- no queue can be added: there are as many as the limit says, or no number is left
+abbrev pub has_all_mqs : Limits → State → Bool
+has_all_mqs limits s = is_full limits.queues s.mq
+
+-- with another queue at a number, if it is there, under the same name
+abbrev pub with_mq : State → ℕ → Mq → State
+with_mq s n q =
+    record s { mq = unwrap_or (option_map (λ e. with_entry s.mq n (with_object e q)) (entry_of s.mq n)) s.mq }
+
+-- with a new queue of this name, owner and mode
+abbrev pub with_new_mq : State → List ℕ → Cred → ℕ → Mq → State
+with_new_mq s name cred mode q =
+    record s { mq = with_new s.mq (record { name = name; owner = cred; mode = mode; object = q }) }
+
+-- the name of a queue is unlinked, and the queue goes, if it is not open
+abbrev pub unlinked : State → ℕ → State
+unlinked s n = swept (record s { mq = unnamed s.mq n })
+
+-- what a process asks for is a receive from the queue of this number
+abbrev pub receives_from : State → ℕ → ℕ → PlainKind → Bool
+receives_from s n pid (Posix (posix.MqReceive fd deadline size)) =
+    unwrap_or (option_map (λ d. is_on_queue n d.on) (descriptor_at s.processes.entries pid fd)) false
+receives_from s n pid kind = false
+
+-- a receive from it waits
+abbrev pub receiver_waits : State → ℕ → Bool
+receiver_waits s n = list_any (λ (w : PlainWaiting). receives_from s n w.pid.0 w.call.kind) s.wait
+
+-- ---- message queues of msgget(2)
 
 -- the queue that an identifier has
 abbrev pub queue_of : State → ℕ → Option (Entry Queue)

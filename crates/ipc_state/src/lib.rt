@@ -17,6 +17,7 @@ mod queues;
 mod sets;
 mod sound;
 mod state;
+mod tables;
 mod waits;
 
 pub use descriptors::{
@@ -26,6 +27,6 @@ pub use keyed::{Entry, IPC_PRIVATE, Keyed};
 pub use named::{Named, NamedEntry};
 pub use numbered::{Item, LAST_NUMBER};
 pub use operations::Operations;
-pub use parked::{Awaited, Parked, ParkedCall};
+pub use parked::{Awaited, Object, Parked, ParkedCall, ParkedKind, ParkedPosix};
 pub use processes::Process;
 pub use state::{Numbers, State};

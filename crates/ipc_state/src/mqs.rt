@@ -1,26 +1,39 @@
 //! The POSIX message queues: which are still open, and who is registered with them. See mq_overview(7).
 
-ghost use Rattle.std.specs.Prelude.{◌≡◌, ◌↔◌, ◌&&◌, map, All, IsTrue, OnOk, OnErr};
+ghost use Rattle.std.specs.Prelude.{◌≡◌, ◌≢◌, ◌<◌, ◌↔◌, ◌&&◌, ℕ, List, [], true, false, map, is_some, All};
+ghost use Rattle.std.specs.Prelude.{IsTrue, OnOk, OnErr, Some, None, option_map};
+ghost use Rattle.std.specs.Borrow.{sem};
 ghost use Rattle.std.specs.List.{list_all, list_any};
+ghost use Rattle.std.specs.Option.{option_copied, option_copied_mut};
+ghost use Rattle.ipc_base.specs.Limits.{ArePassed};
 ghost use Rattle.ipc_base.specs.Table.{seen_as};
-ghost use Rattle.posix_mq.specs.Queue.{plain};
+ghost use Rattle.ipc_keys.specs.Directory.{is_vacant};
+ghost use Rattle.posix_mq.specs.Queue.{empty_queue, plain};
 ghost use Rattle.ipc_state.specs.Opening.{descriptor_at, is_on_queue, is_open, stays, still_open};
 ghost use Rattle.ipc_state.specs.Opening.{deregistered, is_by, is_or_any, unless_so, without_registrations};
 ghost use Rattle.ipc_state.specs.Opening.{is_named_so, is_registered, is_sound_descriptor};
+ghost use Rattle.ipc_state.specs.Directory.{ArePositive, HasNoSpareName};
+ghost use Rattle.ipc_state.specs.Held.{HasMqPlace};
+ghost use Rattle.ipc_state.specs.LendsMq.{lends_mq};
+ghost use Rattle.ipc_state.specs.Named.{HaveNames, named};
+ghost use Rattle.ipc_state.specs.Numbered.{entry_of};
 ghost use Rattle.ipc_state.specs.Restored.{with_last_mq};
 ghost use Rattle.ipc_state.specs.Sound.{AreSoundDescriptors, AreSoundMqs, AreSoundProcesses, IsSoundMq};
-ghost use Rattle.ipc_state.specs.State.{deregistered_by, swept};
+ghost use Rattle.ipc_state.specs.State.{deregistered_by, has_all_mqs, receives_from, receiver_waits, swept};
+ghost use Rattle.ipc_state.specs.State.{unlinked, with_new_mq};
 ghost use Rattle.ipc_state.specs.Tables.{item_row};
 ghost use Rattle.ipc_state.specs.Tests.{is_sound_mq, is_sound_mq_message};
+ghost use Rattle.ipc_state.specs.Waiting.{parked_kind};
 
 use crate::descriptors::{Descriptor, DescriptorRow, Opened};
 use crate::named::{Named, NamedEntry};
 use crate::numbered::Item;
+use crate::parked::{ParkedKind, ParkedPosix};
 use crate::processes::Process;
 use crate::sound::SoundAlone;
 use crate::state::State;
-use ipc_base::{Limits, Pid};
-use ipc_keys::{NameKind, check_name};
+use ipc_base::{Cred, Limits, Pid};
+use ipc_keys::{Name, NameKind, check_name};
 use posix_mq::{Message, Mq, Registration};
 use std::alloc::AllocError;
 
@@ -39,6 +52,158 @@ impl State {
         self.mq.items()
     }
 
+    /// What a number has.
+    pub fn mq(&self, number: u32) -> Option<&NamedEntry<Mq>>
+        ensures entry { option_copied result ≡ entry_of self.now.state.mq number }
+        ensures passed { ArePassed self.now.limits }
+    {
+        self.mq.get(number)
+    }
+
+    /// The number that a name names, if all numbers are above 0, as they are in a sound state; no bytes name none.
+    pub fn mq_of_name(&self, name: &[u8]) -> Option<u32>
+        ensures { ArePositive self.now.state.mq.entries → result ≡ named self.now.state.mq name.now }
+    {
+        self.mq.of_name(name)
+    }
+
+    /// Whether no queue can be added: there are as many as the limit says, or no number is left.
+    pub fn has_all_mqs(&self) -> bool
+        ensures { result ≡ has_all_mqs self.now.limits self.now.state }
+    {
+        self.mq.is_full(self.limits.queues)
+    }
+
+    /// The queue that a number has, to be changed.
+    pub fn mq_object_mut(&mut self, number: u32) -> Option<&mut Mq>
+        ensures* writes_back { sem 𝓛 (lends_mq self.entry number result) }
+        ensures object { option_copied_mut result ≡ option_map (λ e. e.object) (entry_of self.old.state.mq number) }
+    {
+        self.mq.get_mut(number)
+    }
+
+    /// Takes the memory for one queue more of this name, if no queue has it. Refused, no name has room that had none.
+    pub fn reserve_mq(&mut self, name: &[u8]) -> Result<(), AllocError>
+        ensures state { self.new.state ≡ self.old.state }
+        ensures limits { self.new.limits ≡ self.old.limits }
+        ensures waits { self.new.room.waits ≡ self.old.room.waits }
+        ensures keys { self.new.room.keys ≡ self.old.room.keys }
+        ensures set_keys { self.new.room.set_keys ≡ self.old.room.set_keys }
+        ensures ok { OnOk result (ArePositive self.old.state.mq.entries
+            → HasMqPlace self.new.state self.new.room name.now) }
+        ensures others { (other : List ℕ) → other ≢ name.now
+            → is_vacant self.new.room.names other ≡ is_vacant self.old.room.names other }
+        ensures err { OnErr result ((other : List ℕ)
+            → is_vacant self.new.room.names other ≡ is_vacant self.old.room.names other) }
+    {
+        self.reserve_fresh_mq(name)?;
+        self.mq.reserve(name)
+    }
+
+    /// Makes a queue that is ready to be added, if there is none, and its name.
+    fn reserve_fresh_mq(&mut self, name: &[u8]) -> Result<(), AllocError>
+        ensures state { self.new.state ≡ self.old.state }
+        ensures limits { self.new.limits ≡ self.old.limits }
+        ensures waits { self.new.room.waits ≡ self.old.room.waits }
+        ensures keys { self.new.room.keys ≡ self.old.room.keys }
+        ensures set_keys { self.new.room.set_keys ≡ self.old.room.set_keys }
+        ensures names { self.new.room.names ≡ self.old.room.names }
+        ensures fresh { OnOk result (self.new.room.fresh_mq ≡ true) }
+        ensures name { OnOk result (self.new.room.fresh_name ≡ Some name.now) }
+    {
+        if self.fresh_mq.is_none() {
+            self.fresh_mq = Some(Mq::new(self.alloc, self.limits.maxmsg, self.limits.msgsize)?);
+        }
+        self.fresh_name = Some(Name::new(self.alloc, name)?);
+        Ok(())
+    }
+
+    /// Gives back what was reserved for a name that no queue has. It takes no memory.
+    pub fn release_mq(&mut self, name: &[u8])
+        ensures state { self.new.state ≡ self.old.state }
+        ensures limits { self.new.limits ≡ self.old.limits }
+        ensures waits { self.new.room.waits ≡ self.old.room.waits }
+        ensures keys { self.new.room.keys ≡ self.old.room.keys }
+        ensures set_keys { self.new.room.set_keys ≡ self.old.room.set_keys }
+        ensures name { is_vacant self.new.room.names name.now ≡ false }
+        ensures others { (other : List ℕ) → other ≢ name.now
+            → is_vacant self.new.room.names other ≡ is_vacant self.old.room.names other }
+    {
+        self.mq.release(name);
+    }
+
+    /// Adds a queue without messages of the name that is ready, for at most `maxmsg` messages of at most `msgsize`
+    /// bytes each, under the next number, which it gives. It takes no memory.
+    pub fn add_mq(&mut self, cred: Cred, mode: u32, maxmsg: u32, msgsize: u32) -> u32
+        requires place { self.old.room.mq ≡ true }
+        requires fresh { self.old.room.fresh_mq ≡ true }
+        requires name { is_some self.old.room.fresh_name ≡ true }
+        requires vacant { (name : List ℕ) → self.old.room.fresh_name ≡ Some name → name ≢ []
+            → is_vacant self.old.room.names name ≡ true }
+        requires number { 0 < self.old.state.mq.next }
+        requires more { has_all_mqs self.old.limits self.old.state ≡ false }
+        ensures state { (name : List ℕ) → self.old.room.fresh_name ≡ Some name
+            → self.new.state ≡ with_new_mq self.old.state name cred mode (empty_queue maxmsg msgsize None) }
+        ensures number { result ≡ self.old.state.mq.next }
+        ensures limits { self.new.limits ≡ self.old.limits }
+        ensures waits { self.new.room.waits ≡ self.old.room.waits }
+        ensures keys { self.new.room.keys ≡ self.old.room.keys }
+        ensures set_keys { self.new.room.set_keys ≡ self.old.room.set_keys }
+        ensures name { (name : List ℕ) → self.old.room.fresh_name ≡ Some name → name ≢ []
+            → is_vacant self.new.room.names name ≡ false }
+        ensures others { (name : List ℕ) → self.old.room.fresh_name ≡ Some name → (other : List ℕ) → other ≢ name
+            → is_vacant self.new.room.names other ≡ is_vacant self.old.room.names other }
+    {
+        let mut object = self.fresh_mq.take().unwrap();
+        object.renew(maxmsg, msgsize);
+        let name = self.fresh_name.take().unwrap();
+        self.mq.add(NamedEntry {
+            name,
+            owner: cred,
+            mode,
+            object,
+        })
+    }
+
+    /// Takes the name of a queue, and the queue, if it is not open. It takes no memory. See mq_unlink(3).
+    pub fn unlink_mq(&mut self, number: u32)
+        requires named { HaveNames self.old.state.mq }
+        requires there { is_some (entry_of self.old.state.mq number) ≡ true }
+        ensures state { self.new.state ≡ unlinked self.old.state number }
+        ensures limits { self.new.limits ≡ self.old.limits }
+        ensures waits { self.new.room.waits ≡ self.old.room.waits }
+        ensures keys { self.new.room.keys ≡ self.old.room.keys }
+        ensures set_keys { self.new.room.set_keys ≡ self.old.room.set_keys }
+        ensures names { HasNoSpareName self.old.room.names → HasNoSpareName self.new.room.names }
+    {
+        self.mq.unname(number);
+        self.sweep();
+    }
+
+    /// Whether a receive from the queue of this number waits.
+    pub fn mq_receiver_waits(&self, number: u32) -> bool
+        ensures { result ≡ receiver_waits self.now.state number }
+    {
+        self.waits().iter().any(|waiting| self.receives_from(
+            number,
+            waiting.pid,
+            waiting.call.kind(),
+        ))
+    }
+
+    /// Whether what a process asks for is a receive from the queue of this number.
+    fn receives_from(&self, number: u32, pid: Pid, kind: &ParkedKind) -> bool
+        ensures { result ≡ receives_from self.now.state number pid.0 (parked_kind kind.now) }
+    {
+        let ParkedKind::Posix(ParkedPosix::MqReceive { fd, .. }) = kind else {
+            return false;
+        };
+        match self.descriptor(pid, *fd) {
+            Some(descriptor) => is_on_queue(descriptor.on, number),
+            None => false,
+        }
+    }
+
     /// Adds a queue that was read, at the end. Refused for want of memory, all is as before.
     pub fn restore_mq(&mut self, number: u32, entry: NamedEntry<Mq>) -> Result<(), AllocError>
         ensures state { OnOk result (self.new.state ≡ with_last_mq self.old.state number entry) }
@@ -50,7 +215,9 @@ impl State {
 
     /// Queues go that have no name and on which no descriptor is open. It takes no memory.
     pub(crate) fn sweep(&mut self)
-        ensures { self.new ≡ record self.old { state = swept self.old.state } }
+        ensures state { self.new.state ≡ swept self.old.state }
+        ensures limits { self.new.limits ≡ self.old.limits }
+        ensures room { self.new.room ≡ record self.old.room { mq = self.new.room.mq } }
     {
         self.mq.sweep(self.processes.items());
     }

@@ -1,28 +1,44 @@
 //! A request that is kept while its call waits, in memory of its own.
 
 ghost use Rattle.std.specs.Prelude.{◌≡◌, false, Some, IfOk, IfSome, IfNone, IsOk, None};
-ghost use Rattle.ipc_wire.specs.Request.{plain_kind};
+ghost use Rattle.ipc_wire.specs.Posix.{plain_posix};
+ghost use Rattle.ipc_wire.specs.Request.{Calls, Posix, plain_call, plain_kind};
 ghost use Rattle.ipc_wire.specs.Spelling.{HasFrame};
 ghost use Rattle.ipc_wire.specs.View.{plain_request};
-ghost use Rattle.ipc_state.specs.Waiting.{deadline_after};
+ghost use Rattle.ipc_state.specs.Waiting.{deadline_after, awaited_by, deadline_of, has_deadline, expiry, has_text};
+ghost use Rattle.ipc_state.specs.Waiting.{parked_call, parked_kind, parked_posix};
 
 use crate::operations::Operations;
 use ipc_base::{Errno, Id, Moment, MsgFlags};
-use ipc_wire::{Call, Request, RequestKind};
+use ipc_wire::{Call, PosixCall, Request, RequestKind};
+use posix_mq::Message as MqMessage;
 use std::alloc::{AllocError, Global};
 use std::marker::Model;
 use sysv_msg::Message;
 
-/// The object on which a call waits.
+/// What a call waits on, as its request names it.
 #[derive(Clone, Copy, Debug, PartialEq, Eq)]
 pub enum Awaited {
-    /// A message queue.
+    /// A message queue of msgget(2).
     Queue(Id),
     /// A semaphore set.
     Set(Id),
+    /// What that descriptor of the process is open on.
+    Descriptor(u32),
 }
 
-/// A call that waits, with its fields. See msgop(2) and semop(2).
+/// An object on which calls may wait.
+#[derive(Clone, Copy, Debug, PartialEq, Eq)]
+pub enum Object {
+    /// A message queue of msgget(2).
+    Queue(Id),
+    /// A semaphore set.
+    Set(Id),
+    /// A message queue of mq_overview(7), by its number.
+    Mq(u32),
+}
+
+/// A System V call that waits, with its fields. See msgop(2) and semop(2).
 #[derive(Drop)]
 pub enum ParkedCall {
     /// A send to a queue that is full for its text. The message is ready to be sent.
@@ -46,86 +62,56 @@ pub enum ParkedCall {
     },
 }
 
-/// The request of a call that waits, which has a frame. A contract sees the request.
-#[derive(Drop)]
-pub struct Parked {
-    serial: u32,
-    call: ParkedCall,
-}
-
-impl Model for Parked {
-    ghost use Rattle.ipc_wire.specs.Request.{PlainRequest};
-    ghost use Rattle.ipc_wire.specs.Spelling.{HasFrame};
-    ghost use Rattle.ipc_state.specs.Waiting.{parked_kind};
-
-    ghost Value = { PlainRequest };
-
-    ghost view = { λ p. record { serial = p.serial; kind = parked_kind p.call } };
-
-    ghost invariant = { λ p. HasFrame (record { serial = p.serial; kind = parked_kind p.call }) };
-}
-
-impl Parked {
-    ghost use Rattle.ipc_state.specs.Waiting.{awaited_by, deadline_of, has_deadline, expiry, has_text, parked_kind};
-
-    /// A request that may have to wait; none, if its call never waits. Refused for want of memory, which only a text
-    /// or a list of operations takes.
-    pub fn new(alloc: Global, request: &Request<'_>) -> Result<Option<Parked>, AllocError>
-        ensures some { IfOk result (λ r. IfSome r (λ p. p ≡ plain_request request.now)) }
-        ensures none { IfOk result (λ r. IfNone r (awaited_by (plain_kind request.now.kind) ≡ None)) }
-        ensures never { awaited_by (plain_kind request.now.kind) ≡ None → IfOk result (λ r. r ≡ None) }
-        ensures memory { has_text (plain_kind request.now.kind) ≡ false → IsOk result }
+impl ParkedCall {
+    /// A call that may have to wait; none, if it never waits. Refused for want of memory, which only a text or a list
+    /// of operations takes.
+    fn new(alloc: Global, call: &Call<'_>) -> Result<Option<ParkedCall>, AllocError>
+        ensures some { IfOk result (λ r. IfSome r (λ kept. parked_call kept ≡ plain_call call.now)) }
+        ensures none { IfOk result (λ r. IfNone r (awaited_by (Calls (plain_call call.now)) ≡ None)) }
+        ensures never { awaited_by (Calls (plain_call call.now)) ≡ None → IfOk result (λ r. r ≡ None) }
+        ensures memory { has_text (Calls (plain_call call.now)) ≡ false → IsOk result }
     {
-        let call = match request.kind {
-            RequestKind::Call(
-                Call::Msgsnd {
-                    id,
-                    flags,
-                    mtype,
-                    text,
-                },
-            ) => ParkedCall::Msgsnd {
+        let kept = match *call {
+            Call::Msgsnd {
+                id,
+                flags,
+                mtype,
+                text,
+            } => ParkedCall::Msgsnd {
                 id,
                 flags,
                 message: Message::new(alloc, mtype, text)?,
             },
-            RequestKind::Call(
-                Call::Msgrcv {
-                    id,
-                    flags,
-                    size,
-                    mtype,
-                },
-            ) => ParkedCall::Msgrcv {
+            Call::Msgrcv {
+                id,
+                flags,
+                size,
+                mtype,
+            } => ParkedCall::Msgrcv {
                 id,
                 flags,
                 size,
                 mtype,
             },
-            RequestKind::Call(
-                Call::Semop {
-                    id,
-                    timeout,
-                    operations,
-                },
-            ) => ParkedCall::Semop {
+            Call::Semop {
+                id,
+                timeout,
+                operations,
+            } => ParkedCall::Semop {
                 id,
                 timeout,
                 operations: Operations::new(alloc, &operations)?,
             },
             _ => return Ok(None),
         };
-        Ok(Some(Parked {
-            serial: request.serial,
-            call,
-        }))
+        Ok(Some(kept))
     }
 
-    /// The request.
-    pub fn request(&self) -> Request<'_>
-        ensures { plain_request result ≡ self.now }
+    /// The call.
+    pub fn lend(&self) -> Call<'_>
+        ensures { plain_call result ≡ parked_call self.now }
     {
-        let call = match &self.call {
+        match self {
             ParkedCall::Msgsnd { id, flags, message } => Call::Msgsnd {
                 id: *id,
                 flags: *flags,
@@ -152,10 +138,148 @@ impl Parked {
                 timeout: *timeout,
                 operations: operations.lend(),
             },
+        }
+    }
+}
+
+/// A POSIX call that waits, with its fields. See mq_send(3) and mq_receive(3).
+#[derive(Drop)]
+pub enum ParkedPosix {
+    /// A send to a full queue. The message is ready to be sent.
+    MqSend {
+        fd: u32,
+        deadline: u64,
+        message: MqMessage,
+    },
+    /// A receive from an empty queue.
+    MqReceive {
+        fd: u32,
+        deadline: u64,
+        size: u32,
+    },
+}
+
+impl ParkedPosix {
+    /// A call that may have to wait; none, if it never waits. Refused for want of memory, which only a text takes.
+    fn new(alloc: Global, call: &PosixCall<'_>) -> Result<Option<ParkedPosix>, AllocError>
+        ensures some { IfOk result (λ r. IfSome r (λ kept. parked_posix kept ≡ plain_posix call.now)) }
+        ensures none { IfOk result (λ r. IfNone r (awaited_by (Posix (plain_posix call.now)) ≡ None)) }
+        ensures never { awaited_by (Posix (plain_posix call.now)) ≡ None → IfOk result (λ r. r ≡ None) }
+        ensures memory { has_text (Posix (plain_posix call.now)) ≡ false → IsOk result }
+    {
+        let kept = match *call {
+            PosixCall::MqSend {
+                fd,
+                deadline,
+                priority,
+                text,
+            } => ParkedPosix::MqSend {
+                fd,
+                deadline,
+                message: MqMessage::new(alloc, priority, text)?,
+            },
+            PosixCall::MqReceive { fd, deadline, size } => {
+                ParkedPosix::MqReceive { fd, deadline, size }
+            }
+            _ => return Ok(None),
+        };
+        Ok(Some(kept))
+    }
+
+    /// The call.
+    pub fn lend(&self) -> PosixCall<'_>
+        ensures { plain_posix result ≡ parked_posix self.now }
+    {
+        match self {
+            ParkedPosix::MqSend {
+                fd,
+                deadline,
+                message,
+            } => PosixCall::MqSend {
+                fd: *fd,
+                deadline: *deadline,
+                priority: message.priority,
+                text: &message.text,
+            },
+            ParkedPosix::MqReceive { fd, deadline, size } => PosixCall::MqReceive {
+                fd: *fd,
+                deadline: *deadline,
+                size: *size,
+            },
+        }
+    }
+}
+
+/// A call that waits.
+#[derive(Drop)]
+pub enum ParkedKind {
+    /// A System V call.
+    Call(ParkedCall),
+    /// A POSIX call.
+    Posix(ParkedPosix),
+}
+
+/// The request of a call that waits, which has a frame. A contract sees the request.
+#[derive(Drop)]
+pub struct Parked {
+    serial: u32,
+    kind: ParkedKind,
+}
+
+impl Model for Parked {
+    ghost use Rattle.ipc_wire.specs.Request.{PlainRequest};
+    ghost use Rattle.ipc_wire.specs.Spelling.{HasFrame};
+    ghost use Rattle.ipc_state.specs.Waiting.{parked_kind};
+
+    ghost Value = { PlainRequest };
+
+    ghost view = { λ p. record { serial = p.serial; kind = parked_kind p.kind } };
+
+    ghost invariant = { λ p. HasFrame (record { serial = p.serial; kind = parked_kind p.kind }) };
+}
+
+impl Parked {
+    /// A request that may have to wait; none, if its call never waits. Refused for want of memory, which only a text
+    /// or a list of operations takes.
+    pub fn new(alloc: Global, request: &Request<'_>) -> Result<Option<Parked>, AllocError>
+        ensures some { IfOk result (λ r. IfSome r (λ p. p ≡ plain_request request.now)) }
+        ensures none { IfOk result (λ r. IfNone r (awaited_by (plain_kind request.now.kind) ≡ None)) }
+        ensures never { awaited_by (plain_kind request.now.kind) ≡ None → IfOk result (λ r. r ≡ None) }
+        ensures memory { has_text (plain_kind request.now.kind) ≡ false → IsOk result }
+    {
+        let kept = match &request.kind {
+            RequestKind::Call(call) => ParkedCall::new(alloc, call)?.map(ParkedKind::Call),
+            RequestKind::Posix(call) => ParkedPosix::new(alloc, call)?.map(ParkedKind::Posix),
+            RequestKind::Hello(_) | RequestKind::Interrupt => None,
+        };
+        let Some(kind) = kept else {
+            return Ok(None);
+        };
+        Ok(Some(Parked {
+            serial: request.serial,
+            kind,
+        }))
+    }
+
+    /// The request of this call and serial, which has a frame.
+    pub fn of_kind(serial: u32, kind: ParkedKind) -> Parked
+        requires { HasFrame (record { serial = serial; kind = parked_kind kind }) }
+        ensures { result ≡ record { serial = serial; kind = parked_kind kind } }
+    {
+        Parked { serial, kind }
+    }
+
+    /// The request.
+    pub fn request(&self) -> Request<'_>
+        ensures { plain_request result ≡ self.now }
+    {
+        let kind = match &self.kind {
+            ParkedKind::Call(call) => RequestKind::Call(call.lend()),
+            ParkedKind::Posix(call) => RequestKind::Posix(call.lend()),
         };
         Request {
             serial: self.serial,
-            kind: RequestKind::Call(call),
+            kind,
         }
     }
 
@@ -166,14 +290,18 @@ impl Parked {
         self.serial
     }
 
-    /// Until when it waits, if it comes at this moment; calls of message queues wait without end.
+    /// Until when it waits, if it comes at this moment: the System V calls of message queues wait without end, and
+    /// those of POSIX name a moment.
     #[tactic(auto, unfolding(crate::specs::Waiting::deadline_of))]
     pub fn deadline(&self, now: Moment) -> Option<Moment>
         ensures { result ≡ deadline_of now.0 self.now.kind }
     {
-        match &self.call {
-            ParkedCall::Msgsnd { .. } | ParkedCall::Msgrcv { .. } => None,
-            ParkedCall::Semop { timeout, .. } => deadline_after(now, *timeout),
+        match &self.kind {
+            ParkedKind::Call(ParkedCall::Msgsnd { .. } | ParkedCall::Msgrcv { .. }) => None,
+            ParkedKind::Call(ParkedCall::Semop { timeout, .. }) => deadline_after(now, *timeout),
+            ParkedKind::Posix(
+                ParkedPosix::MqSend { deadline, .. } | ParkedPosix::MqReceive { deadline, .. },
+            ) => deadline_after(Moment(0), *deadline),
         }
     }
 
@@ -181,9 +309,9 @@ impl Parked {
     pub fn has_deadline(&self) -> bool
         ensures { result ≡ has_deadline self.now.kind }
     {
-        match &self.call {
-            ParkedCall::Msgsnd { .. } | ParkedCall::Msgrcv { .. } => false,
-            ParkedCall::Semop { .. } => true,
+        match &self.kind {
+            ParkedKind::Call(ParkedCall::Msgsnd { .. } | ParkedCall::Msgrcv { .. }) => false,
+            ParkedKind::Call(ParkedCall::Semop { .. }) | ParkedKind::Posix(_) => true,
         }
     }
 
@@ -192,31 +320,39 @@ impl Parked {
     pub fn expiry(&self) -> Errno
         ensures { result ≡ expiry self.now.kind }
     {
-        Errno::EAGAIN
+        match &self.kind {
+            ParkedKind::Call(_) => Errno::EAGAIN,
+            ParkedKind::Posix(_) => Errno::ETIMEDOUT,
+        }
     }
 
     /// The call.
-    pub fn call(&self) -> &ParkedCall
+    pub fn kind(&self) -> &ParkedKind
         ensures { parked_kind result.now ≡ self.now.kind }
     {
-        &self.call
+        &self.kind
     }
 
-    /// The call, with all that is its own.
-    pub fn into_call(self) -> ParkedCall
-        ensures { parked_kind result ≡ self.kind }
+    /// The call, with all that is its own. Its request has a frame, so that `of_kind` puts it together again.
+    pub fn into_kind(self) -> ParkedKind
+        ensures kind { parked_kind result ≡ self.kind }
+        ensures frame { HasFrame self }
     {
-        self.call
+        self.kind
     }
 
-    /// The object on which it waits; its request has a frame.
+    /// What it waits on; its request has a frame.
     pub fn awaited(&self) -> Awaited
         ensures on { awaited_by self.now.kind ≡ Some result }
         ensures frame { HasFrame self.now }
     {
-        match &self.call {
-            ParkedCall::Msgsnd { id, .. } | ParkedCall::Msgrcv { id, .. } => Awaited::Queue(*id),
-            ParkedCall::Semop { id, .. } => Awaited::Set(*id),
+        match &self.kind {
+            ParkedKind::Call(ParkedCall::Msgsnd { id, .. } | ParkedCall::Msgrcv { id, .. }) => {
+                Awaited::Queue(*id)
+            }
+            ParkedKind::Call(ParkedCall::Semop { id, .. }) => Awaited::Set(*id),
+            ParkedKind::Posix(ParkedPosix::MqSend { fd, .. } | ParkedPosix::MqReceive { fd, .. }) =>
+                { Awaited::Descriptor(*fd) }
         }
     }
 }

@@ -13,6 +13,7 @@ use crate::numbered::Numbered;
 use crate::parked::{Awaited, Parked};
 use crate::processes::Process;
 use ipc_base::{Limits, Moment};
+use ipc_keys::Name;
 use ipc_wait::WaitList;
 use posix_mq::Mq;
 use sem_undo::SemUndo;
@@ -43,6 +44,10 @@ pub struct State {
     /// A set that is ready to be added.
     pub(crate) fresh_set: Option<SemSet>,
     pub(crate) mq: Named<Mq>,
+    /// A POSIX queue that is ready to be added.
+    pub(crate) fresh_mq: Option<Mq>,
+    /// The name that is ready for it.
+    pub(crate) fresh_name: Option<Name>,
 }
 
 impl Model for State {
@@ -50,13 +55,14 @@ impl Model for State {
     ghost use Rattle.std.specs.Coded.{codes};
     ghost use Rattle.std.specs.Prelude.{◌&&◌, is_some};
     ghost use Rattle.ipc_keys.specs.contracts.keys.KeyDir as directory;
+    ghost use Rattle.ipc_keys.specs.contracts.names.NameDir as names;
     ghost use Rattle.sem_undo.specs.Undo.{undo_code};
     ghost use Rattle.ipc_state.specs.Held.{Held};
     ghost use Rattle.ipc_state.specs.Tables.{numbered_of, has_place};
 
     ghost Value = { Held };
 
-    ghost coded = { Prim.hlevel (codes, directory.the_row.coded, undo_code) };
+    ghost coded = { Prim.hlevel (codes, directory.the_row.coded, names.the_row.coded, undo_code) };
 
     ghost view = { λ s. record {
       limits = s.limits;
@@ -79,6 +85,10 @@ impl Model for State {
         set = s.sem.place;
         set_keys = s.sem.keys;
         fresh_set = s.fresh_set;
+        mq = s.mq.place;
+        names = s.mq.names;
+        fresh_mq = is_some s.fresh_mq;
+        fresh_name = s.fresh_name;
       };
     } };
 
@@ -116,6 +126,8 @@ impl State {
             sem: Keyed::new(alloc),
             fresh_set: None,
             mq: Named::new(alloc),
+            fresh_mq: None,
+            fresh_name: None,
         }
     }
 

@@ -4,10 +4,12 @@ ghost use Rattle.std.specs.Prelude.{◌≡◌, ◌<◌, ◌≤◌, ◌-◌, ◌^
 ghost use Rattle.std.specs.Prelude.{IfSome, IfNone, length};
 ghost use Rattle.ipc_state.specs.Restored.{with_waits};
 ghost use Rattle.ipc_state.specs.State.{at_moment, due_calls, is_waiting, with_waiting, without_due, without_waiting};
+ghost use Rattle.ipc_state.specs.Touching.{object_of, object_on};
 ghost use Rattle.ipc_state.specs.Waiting.{AreSoundWaits, IsSoundWaiting, has_deadline};
 ghost use Rattle.ipc_wait.specs.Waits.{call_of};
 
-use crate::parked::{Awaited, Parked};
+use crate::descriptors::Opened;
+use crate::parked::{Awaited, Object, Parked};
 use crate::state::State;
 use ipc_base::{Moment, Pid};
 use ipc_wait::{WaitList, Waiting};
@@ -26,6 +28,21 @@ impl State {
         ensures { result ≡ is_waiting self.now.state pid.0 }
     {
         self.wait.is_waiting(pid)
+    }
+
+    /// The object that a request of the process names, if it names one: what its descriptor is open on, if the number
+    /// is in use. An identifier names an object, whether there is one or not.
+    pub fn object_of(&self, pid: Pid, awaited: Awaited) -> Option<Object>
+        ensures { result ≡ object_of self.now.state pid.0 awaited }
+    {
+        match awaited {
+            Awaited::Queue(id) => Some(Object::Queue(id)),
+            Awaited::Set(id) => Some(Object::Set(id)),
+            Awaited::Descriptor(fd) => match self.descriptor(pid, fd) {
+                Some(descriptor) => Some(object_on(descriptor.on)),
+                None => None,
+            },
+        }
     }
 
     /// Takes the memory for a call of each process that there may be; never refused if it is there already. Refused,
@@ -103,6 +120,15 @@ impl State {
         ensures { IsTrue result ↔ AreSoundWaits self.now.limits self.now.state.wait }
     {
         self.wait.len() <= self.limits.processes as usize && are_sound(self.wait.calls())
+    }
+}
+
+/// The object on which a descriptor is open.
+fn object_on(on: Opened) -> Object
+    ensures { result ≡ object_on on }
+{
+    match on {
+        Opened::Queue(number) => Object::Mq(number),
     }
 }
 

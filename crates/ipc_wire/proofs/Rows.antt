@@ -7,7 +7,8 @@ use Rattle.std.proofs.lemmas.Bool.{eqb-true, leb-true, le-leb, eq-eqb}
 use Rattle.std.proofs.lemmas.List.{length-append, length-drop, drop_at}
 use Rattle.ipc_base.specs.Numbers.{Values, total, values_of, values_bytes, AreInRange}
 use Rattle.ipc_wire.specs.Fields.{Rest, Nothing, Bytes, Units, MayHave, fits}
-use Rattle.ipc_wire.specs.Request.{PlainKind, Hello, Interrupt, Calls}
+use Rattle.ipc_wire.specs.Posix as posix
+use Rattle.ipc_wire.specs.Request.{PlainKind, Hello, Interrupt, Calls, Posix}
 use Rattle.ipc_wire.specs.Request as requests
 use Rattle.ipc_wire.specs.Spelling.{opcode_of, fields_of}
 use Rattle.ipc_wire.specs.Stream.{fits_row, made_by, made_by_some, kind_of}
@@ -30,6 +31,7 @@ record HasRow (kind : PlainKind) : Type 0 where
 has_row : (kind : PlainKind) → HasRow kind
 has_row (Hello cred) = record { row = refl; made = refl }
 has_row Interrupt = record { row = refl; made = refl }
+has_row (Posix (posix.Close fd)) = record { row = refl; made = refl }
 has_row (Calls (requests.Msgget key flags)) = record { row = refl; made = refl }
 has_row (Calls (requests.Msgsnd id flags mtype text)) = record { row = refl; made = refl }
 has_row (Calls (requests.Msgrcv id flags size mtype)) = record { row = refl; made = refl }
@@ -48,6 +50,13 @@ has_row (Calls (requests.SemctlSetAll id values)) = record { row = refl; made = 
 has_row (Calls (requests.SemctlStat id)) = record { row = refl; made = refl }
 has_row (Calls (requests.SemctlSet id uid gid mode)) = record { row = refl; made = refl }
 has_row (Calls (requests.SemctlRmid id)) = record { row = refl; made = refl }
+has_row (Posix (posix.MqOpen flags mode attr maxmsg msgsize name)) = record { row = refl; made = refl }
+has_row (Posix (posix.MqUnlink name)) = record { row = refl; made = refl }
+has_row (Posix (posix.MqSend fd deadline priority text)) = record { row = refl; made = refl }
+has_row (Posix (posix.MqReceive fd deadline size)) = record { row = refl; made = refl }
+has_row (Posix (posix.MqNotify fd kind cookie)) = record { row = refl; made = refl }
+has_row (Posix (posix.MqGetattr fd)) = record { row = refl; made = refl }
+has_row (Posix (posix.MqSetattr fd flags)) = record { row = refl; made = refl }
 
 -- the requests of a row are taken apart into what made them
 abbrev Undoes : Row → Type 0

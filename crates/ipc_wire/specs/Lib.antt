@@ -1,6 +1,7 @@
 pub mod Fields
 pub mod OneProof
 pub mod Pairs
+pub mod Posix
 pub mod Reply
 pub mod Sixes
 pub mod Request

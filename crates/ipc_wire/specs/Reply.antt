@@ -7,7 +7,7 @@ use Rattle.ipc_base.specs.declared.errno.Errno.{Errno}
 use Rattle.ipc_base.specs.Errno.{number_of}
 use Rattle.ipc_base.specs.Fields.{signed_bytes}
 use Rattle.ipc_wire.specs.declared.reply.Body.{Body}
-use Rattle.ipc_wire.specs.declared.reply.Body.TheVariants.{Empty, Number, Message, Record}
+use Rattle.ipc_wire.specs.declared.reply.Body.TheVariants.{Empty, Number, Message, MqMessage, Notification, Record}
 use Rattle.ipc_wire.specs.declared.reply.Reply.{Reply}
 
 -- a body whose bytes are a list
@@ -24,6 +24,8 @@ abbrev pub body_of : {T : Type 0} → (T → List ℕ) → Body T → PlainBody
 body_of bytes Empty = Empty
 body_of bytes (Number number) = Number number
 body_of bytes (Message mtype text) = Message mtype (bytes text)
+body_of bytes (MqMessage priority text) = MqMessage priority (bytes text)
+body_of bytes (Notification fd cookie) = Notification fd cookie
 body_of bytes (Record fields) = Record (bytes fields)
 
 abbrev pub plain_body : Body (Bor (List ℕ)) → PlainBody
@@ -40,6 +42,8 @@ abbrev pub body_bytes : PlainBody → List ℕ
 body_bytes Empty = []
 body_bytes (Number number) = to_be_bytes w32 number
 body_bytes (Message mtype text) = signed_bytes w64 mtype ++ text
+body_bytes (MqMessage priority text) = to_be_bytes w32 priority ++ text
+body_bytes (Notification fd cookie) = to_be_bytes w32 fd ++ to_be_bytes w32 cookie
 body_bytes (Record bytes) = bytes
 
 unfoldable pub reply_bytes : PlainReply → List ℕ

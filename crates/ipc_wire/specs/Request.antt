@@ -6,8 +6,10 @@ use Rattle.ipc_wire.specs.declared.request.Call.TheVariants as calls
 use Rattle.ipc_wire.specs.declared.request.RequestKind.{RequestKind}
 use Rattle.ipc_wire.specs.declared.request.RequestKind.TheVariants as kinds
 use Rattle.ipc_wire.specs.Pairs.{bytes_of}
+use Rattle.ipc_wire.specs.Posix.{PlainPosix, plain_posix}
 use Rattle.ipc_wire.specs.Sixes as sixes
 
+-- the System V calls
 pub data PlainCall : Type 0 where
   Msgget : (key : ℤ) → (flags : ℕ) → PlainCall
   Msgsnd : (id flags : ℕ) → (mtype : ℤ) → (text : List ℕ) → PlainCall
@@ -27,11 +29,12 @@ pub data PlainCall : Type 0 where
   SemctlSet : (id uid gid mode : ℕ) → PlainCall
   SemctlRmid : (id : ℕ) → PlainCall
 
--- HELLO, INTERRUPT, or a call of the process
+-- HELLO, INTERRUPT, or a call of the process: of System V or of POSIX
 pub data PlainKind : Type 0 where
   Hello : (cred : Cred) → PlainKind
   Interrupt : PlainKind
   Calls : (call : PlainCall) → PlainKind
+  Posix : (call : PlainPosix) → PlainKind
 
 pub record PlainRequest : Type 0 where
   pub serial : ℕ
@@ -61,3 +64,4 @@ abbrev pub plain_kind : RequestKind → PlainKind
 plain_kind (kinds.Hello cred) = Hello cred
 plain_kind kinds.Interrupt = Interrupt
 plain_kind (kinds.Call call) = Calls (plain_call call)
+plain_kind (kinds.Posix call) = Posix (plain_posix call)

@@ -1,8 +1,9 @@
 -- The table of requests: a row for each has its opcode, what follows it, and the request that this makes.
 use Rattle.std.specs.Prelude.{ℕ, List, [], ◌∷◌, ◌==◌, if◌then◌else◌, Option, Some, None}
-use Rattle.ipc_base.specs.Numbers.{Kind, U32, U64, I32, I64, Values}
+use Rattle.ipc_base.specs.Numbers.{Kind, U8, U32, U64, I32, I64, Values}
 use Rattle.ipc_wire.specs.Fields.{Rest, Nothing, Bytes, Units}
-use Rattle.ipc_wire.specs.Request.{PlainKind, Hello, Interrupt, Calls}
+use Rattle.ipc_wire.specs.Posix as posix
+use Rattle.ipc_wire.specs.Request.{PlainKind, Hello, Interrupt, Calls, Posix}
 use Rattle.ipc_wire.specs.Request as requests
 
 -- a row: the opcode, the fields, what the rest of the frame after them is, and the request
@@ -25,6 +26,16 @@ hello =
 -- nothing
 abbrev pub interrupt : Row
 interrupt = record { opcode = 0x02; fields = []; rest = Nothing; make = λ v rest. Interrupt }
+
+-- fd
+abbrev pub close : Row
+close =
+    record {
+      opcode = 0x03;
+      fields = U32 ∷ [];
+      rest = Nothing;
+      make = λ v rest. Posix (posix.Close v.0);
+    }
 
 -- key, flags
 abbrev pub msgget : Row
@@ -206,13 +217,78 @@ semctl_rmid =
       make = λ v rest. Calls (requests.SemctlRmid v.0);
     }
 
+-- flags, mode, attr, maxmsg, msgsize; the rest is the name
+abbrev pub mq_open : Row
+mq_open =
+    record {
+      opcode = 0x28;
+      fields = U32 ∷ U32 ∷ U8 ∷ I32 ∷ I32 ∷ [];
+      rest = Bytes;
+      make = λ v rest. Posix (posix.MqOpen v.0 v.1.0 v.1.1.0 v.1.1.1.0 v.1.1.1.1.0 rest);
+    }
+
+-- nothing; the rest is the name
+abbrev pub mq_unlink : Row
+mq_unlink = record { opcode = 0x29; fields = []; rest = Bytes; make = λ v rest. Posix (posix.MqUnlink rest) }
+
+-- fd, deadline, priority; the rest is the text
+abbrev pub mq_send : Row
+mq_send =
+    record {
+      opcode = 0x2a;
+      fields = U32 ∷ U64 ∷ U32 ∷ [];
+      rest = Bytes;
+      make = λ v rest. Posix (posix.MqSend v.0 v.1.0 v.1.1.0 rest);
+    }
+
+-- fd, deadline, size
+abbrev pub mq_receive : Row
+mq_receive =
+    record {
+      opcode = 0x2b;
+      fields = U32 ∷ U64 ∷ U32 ∷ [];
+      rest = Nothing;
+      make = λ v rest. Posix (posix.MqReceive v.0 v.1.0 v.1.1.0);
+    }
+
+-- fd, kind, cookie
+abbrev pub mq_notify : Row
+mq_notify =
+    record {
+      opcode = 0x2c;
+      fields = U32 ∷ U32 ∷ U32 ∷ [];
+      rest = Nothing;
+      make = λ v rest. Posix (posix.MqNotify v.0 v.1.0 v.1.1.0);
+    }
+
+-- fd
+abbrev pub mq_getattr : Row
+mq_getattr =
+    record {
+      opcode = 0x2d;
+      fields = U32 ∷ [];
+      rest = Nothing;
+      make = λ v rest. Posix (posix.MqGetattr v.0);
+    }
+
+-- fd, flags
+abbrev pub mq_setattr : Row
+mq_setattr =
+    record {
+      opcode = 0x2e;
+      fields = U32 ∷ U32 ∷ [];
+      rest = Nothing;
+      make = λ v rest. Posix (posix.MqSetattr v.0 v.1.0);
+    }
+
 abbrev pub rows : List Row
 rows =
-    hello ∷ interrupt
+    hello ∷ interrupt ∷ close
     ∷ msgget ∷ msgsnd ∷ msgrcv ∷ msgctl_stat ∷ msgctl_set ∷ msgctl_rmid
     ∷ semget ∷ semop ∷ semctl_get_val ∷ semctl_get_pid ∷ semctl_get_ncnt ∷ semctl_get_zcnt
     ∷ semctl_set_val ∷ semctl_get_all ∷ semctl_set_all
-    ∷ semctl_stat ∷ semctl_set ∷ semctl_rmid ∷ []
+    ∷ semctl_stat ∷ semctl_set ∷ semctl_rmid
+    ∷ mq_open ∷ mq_unlink ∷ mq_send ∷ mq_receive ∷ mq_notify ∷ mq_getattr ∷ mq_setattr ∷ []
 
 -- the row of an opcode among rows, if it has one
 abbrev pub row_among : List Row → ℕ → Option Row
@@ -231,6 +307,7 @@ pub record Parts : Type 0 where
 abbrev pub parts_of : PlainKind → Parts
 parts_of (Hello cred) = record { row = hello; values = (cred.uid, (cred.gid, tt)); rest = [] }
 parts_of Interrupt = record { row = interrupt; values = tt; rest = [] }
+parts_of (Posix (posix.Close fd)) = record { row = close; values = (fd, tt); rest = [] }
 parts_of (Calls (requests.Msgget key flags)) = record { row = msgget; values = (key, (flags, tt)); rest = [] }
 parts_of (Calls (requests.Msgsnd id flags mtype text)) =
     record { row = msgsnd; values = (id, (flags, (mtype, tt))); rest = text }
@@ -259,3 +336,14 @@ parts_of (Calls (requests.SemctlStat id)) = record { row = semctl_stat; values =
 parts_of (Calls (requests.SemctlSet id uid gid mode)) =
     record { row = semctl_set; values = (id, (uid, (gid, (mode, tt)))); rest = [] }
 parts_of (Calls (requests.SemctlRmid id)) = record { row = semctl_rmid; values = (id, tt); rest = [] }
+parts_of (Posix (posix.MqOpen flags mode attr maxmsg msgsize name)) =
+    record { row = mq_open; values = (flags, (mode, (attr, (maxmsg, (msgsize, tt))))); rest = name }
+parts_of (Posix (posix.MqUnlink name)) = record { row = mq_unlink; values = tt; rest = name }
+parts_of (Posix (posix.MqSend fd deadline priority text)) =
+    record { row = mq_send; values = (fd, (deadline, (priority, tt))); rest = text }
+parts_of (Posix (posix.MqReceive fd deadline size)) =
+    record { row = mq_receive; values = (fd, (deadline, (size, tt))); rest = [] }
+parts_of (Posix (posix.MqNotify fd kind cookie)) =
+    record { row = mq_notify; values = (fd, (kind, (cookie, tt))); rest = [] }
+parts_of (Posix (posix.MqGetattr fd)) = record { row = mq_getattr; values = (fd, tt); rest = [] }
+parts_of (Posix (posix.MqSetattr fd flags)) = record { row = mq_setattr; values = (fd, (flags, tt)); rest = [] }

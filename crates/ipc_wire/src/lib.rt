@@ -2,7 +2,9 @@
 #![tactic(auto)]
 
 mod laws;
+mod opcodes;
 mod pairs;
+mod posix;
 mod reading;
 mod record;
 mod reply;
@@ -16,6 +18,7 @@ pub use laws::{
     stream_begins, stream_in_pieces,
 };
 pub use pairs::Pairs;
+pub use posix::PosixCall;
 pub use reading::{
     GREATEST_FRAME, GREATEST_LENGTH, LEAST_LENGTH, bytes_missing, read_frame, read_request,
 };

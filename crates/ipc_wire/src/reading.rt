@@ -18,10 +18,17 @@ ghost use Rattle.ipc_wire.specs.Table as table;
 ghost use Rattle.ipc_wire.specs.View.{plain_request};
 ghost use Rattle.ipc_wire.specs.Stream.PlainFrame.{More, Whole};
 
+use crate::opcodes::{
+    CLOSE, HELLO, INTERRUPT, MQ_GETATTR, MQ_NOTIFY, MQ_OPEN, MQ_RECEIVE, MQ_SEND, MQ_SETATTR,
+    MQ_UNLINK, MSGCTL_RMID, MSGCTL_SET, MSGCTL_STAT, MSGGET, MSGRCV, MSGSND, SEMCTL_GET_ALL,
+    SEMCTL_GET_NCNT, SEMCTL_GET_PID, SEMCTL_GET_VAL, SEMCTL_GET_ZCNT, SEMCTL_RMID, SEMCTL_SET,
+    SEMCTL_SET_ALL, SEMCTL_SET_VAL, SEMCTL_STAT, SEMGET, SEMOP,
+};
 use crate::pairs::Pairs;
+use crate::posix::PosixCall;
 use crate::request::{Call, Frame, Request, RequestKind};
 use crate::sixes::Sixes;
-use ipc_base::{Cred, Cursor, GetFlags, Id, MsgFlags};
+use ipc_base::{Cred, Cursor, GetFlags, Id, MsgFlags, OpenFlags};
 
 /// The least length of a request, in bytes behind the length itself: a serial and an opcode.
 pub const LEAST_LENGTH: u32 = 5;
@@ -31,66 +38,6 @@ pub const GREATEST_LENGTH: u32 = 8448;
 
 /// The bytes of the longest whole frame, its length with it.
 pub const GREATEST_FRAME: usize = 4 + GREATEST_LENGTH as usize;
-
-/// The opcode of HELLO.
-pub(crate) const HELLO: u8 = 0x01;
-
-/// The opcode of INTERRUPT.
-pub(crate) const INTERRUPT: u8 = 0x02;
-
-/// The opcode of msgget(2).
-pub(crate) const MSGGET: u8 = 0x0a;
-
-/// The opcode of msgsnd(2).
-pub(crate) const MSGSND: u8 = 0x0b;
-
-/// The opcode of msgrcv(2).
-pub(crate) const MSGRCV: u8 = 0x0c;
-
-/// The opcode of IPC_STAT of msgctl(2).
-pub(crate) const MSGCTL_STAT: u8 = 0x0d;
-
-/// The opcode of IPC_SET of msgctl(2).
-pub(crate) const MSGCTL_SET: u8 = 0x0e;
-
-/// The opcode of IPC_RMID of msgctl(2).
-pub(crate) const MSGCTL_RMID: u8 = 0x0f;
-
-/// The opcode of semget(2).
-pub(crate) const SEMGET: u8 = 0x14;
-
-/// The opcode of semop(2).
-pub(crate) const SEMOP: u8 = 0x15;
-
-/// The opcode of GETVAL of semctl(2).
-pub(crate) const SEMCTL_GET_VAL: u8 = 0x16;
-
-/// The opcode of GETPID of semctl(2).
-pub(crate) const SEMCTL_GET_PID: u8 = 0x17;
-
-/// The opcode of GETNCNT of semctl(2).
-pub(crate) const SEMCTL_GET_NCNT: u8 = 0x18;
-
-/// The opcode of GETZCNT of semctl(2).
-pub(crate) const SEMCTL_GET_ZCNT: u8 = 0x19;
-
-/// The opcode of SETVAL of semctl(2).
-pub(crate) const SEMCTL_SET_VAL: u8 = 0x1a;
-
-/// The opcode of GETALL of semctl(2).
-pub(crate) const SEMCTL_GET_ALL: u8 = 0x1b;
-
-/// The opcode of SETALL of semctl(2).
-pub(crate) const SEMCTL_SET_ALL: u8 = 0x1c;
-
-/// The opcode of IPC_STAT of semctl(2).
-pub(crate) const SEMCTL_STAT: u8 = 0x1d;
-
-/// The opcode of IPC_SET of semctl(2).
-pub(crate) const SEMCTL_SET: u8 = 0x1e;
-
-/// The opcode of IPC_RMID of semctl(2).
-pub(crate) const SEMCTL_RMID: u8 = 0x1f;
 
 /// What stands at the front of the bytes. It takes no memory: the text of a message stays where it is.
 #[tactic(auto, unfolding(crate::specs::Stream::first, crate::specs::Stream::u32_at))]
@@ -180,6 +127,7 @@ fn read_kind(opcode: u8, fields: &[u8]) -> Option<RequestKind<'_>>
     match opcode {
         HELLO => read_hello(fields),
         INTERRUPT => read_interrupt(fields),
+        CLOSE => read_close(fields),
         MSGGET => read_msgget(fields),
         MSGSND => read_msgsnd(fields),
         MSGRCV => read_msgrcv(fields),
@@ -198,6 +146,13 @@ fn read_kind(opcode: u8, fields: &[u8]) -> Option<RequestKind<'_>>
         SEMCTL_STAT => read_semctl_stat(fields),
         SEMCTL_SET => read_semctl_set(fields),
         SEMCTL_RMID => read_semctl_rmid(fields),
+        MQ_OPEN => read_mq_open(fields),
+        MQ_UNLINK => read_mq_unlink(fields),
+        MQ_SEND => read_mq_send(fields),
+        MQ_RECEIVE => read_mq_receive(fields),
+        MQ_NOTIFY => read_mq_notify(fields),
+        MQ_GETATTR => read_mq_getattr(fields),
+        MQ_SETATTR => read_mq_setattr(fields),
         _ => None,
     }
 }
@@ -222,6 +177,13 @@ fn read_interrupt(fields: &[u8]) -> Option<RequestKind<'_>>
         return None;
     }
     Some(RequestKind::Interrupt)
+}
+
+fn read_close(fields: &[u8]) -> Option<RequestKind<'_>>
+    ensures { option_map plain_kind result ≡ made_by table.close fields.now }
+{
+    let fd = read_number(fields)?;
+    Some(RequestKind::Posix(PosixCall::Close { fd }))
 }
 
 #[tactic(auto, unfolding(ipc_base::specs::Numbers::number_of))]
@@ -277,7 +239,7 @@ fn read_msgrcv(fields: &[u8]) -> Option<RequestKind<'_>>
 fn read_msgctl_stat(fields: &[u8]) -> Option<RequestKind<'_>>
     ensures { option_map plain_kind result ≡ made_by table.msgctl_stat fields.now }
 {
-    let id = read_id(fields)?;
+    let id = Id(read_number(fields)?);
     Some(RequestKind::Call(Call::MsgctlStat { id }))
 }
 
@@ -306,7 +268,7 @@ fn read_msgctl_set(fields: &[u8]) -> Option<RequestKind<'_>>
 fn read_msgctl_rmid(fields: &[u8]) -> Option<RequestKind<'_>>
     ensures { option_map plain_kind result ≡ made_by table.msgctl_rmid fields.now }
 {
-    let id = read_id(fields)?;
+    let id = Id(read_number(fields)?);
     Some(RequestKind::Call(Call::MsgctlRmid { id }))
 }
 
@@ -342,28 +304,32 @@ fn read_semop(fields: &[u8]) -> Option<RequestKind<'_>>
 fn read_semctl_get_val(fields: &[u8]) -> Option<RequestKind<'_>>
     ensures { option_map plain_kind result ≡ made_by table.semctl_get_val fields.now }
 {
-    let (id, num) = read_id_and_num(fields)?;
+    let (id, num) = read_two_numbers(fields)?;
+    let id = Id(id);
     Some(RequestKind::Call(Call::SemctlGetVal { id, num }))
 }
 
 fn read_semctl_get_pid(fields: &[u8]) -> Option<RequestKind<'_>>
     ensures { option_map plain_kind result ≡ made_by table.semctl_get_pid fields.now }
 {
-    let (id, num) = read_id_and_num(fields)?;
+    let (id, num) = read_two_numbers(fields)?;
+    let id = Id(id);
     Some(RequestKind::Call(Call::SemctlGetPid { id, num }))
 }
 
 fn read_semctl_get_ncnt(fields: &[u8]) -> Option<RequestKind<'_>>
     ensures { option_map plain_kind result ≡ made_by table.semctl_get_ncnt fields.now }
 {
-    let (id, num) = read_id_and_num(fields)?;
+    let (id, num) = read_two_numbers(fields)?;
+    let id = Id(id);
     Some(RequestKind::Call(Call::SemctlGetNcnt { id, num }))
 }
 
 fn read_semctl_get_zcnt(fields: &[u8]) -> Option<RequestKind<'_>>
     ensures { option_map plain_kind result ≡ made_by table.semctl_get_zcnt fields.now }
 {
-    let (id, num) = read_id_and_num(fields)?;
+    let (id, num) = read_two_numbers(fields)?;
+    let id = Id(id);
     Some(RequestKind::Call(Call::SemctlGetZcnt { id, num }))
 }
 
@@ -384,7 +350,7 @@ fn read_semctl_set_val(fields: &[u8]) -> Option<RequestKind<'_>>
 fn read_semctl_get_all(fields: &[u8]) -> Option<RequestKind<'_>>
     ensures { option_map plain_kind result ≡ made_by table.semctl_get_all fields.now }
 {
-    let id = read_id(fields)?;
+    let id = Id(read_number(fields)?);
     Some(RequestKind::Call(Call::SemctlGetAll { id }))
 }
 
@@ -401,7 +367,7 @@ fn read_semctl_set_all(fields: &[u8]) -> Option<RequestKind<'_>>
 fn read_semctl_stat(fields: &[u8]) -> Option<RequestKind<'_>>
     ensures { option_map plain_kind result ≡ made_by table.semctl_stat fields.now }
 {
-    let id = read_id(fields)?;
+    let id = Id(read_number(fields)?);
     Some(RequestKind::Call(Call::SemctlStat { id }))
 }
 
@@ -423,37 +389,121 @@ fn read_semctl_set(fields: &[u8]) -> Option<RequestKind<'_>>
 fn read_semctl_rmid(fields: &[u8]) -> Option<RequestKind<'_>>
     ensures { option_map plain_kind result ≡ made_by table.semctl_rmid fields.now }
 {
-    let id = read_id(fields)?;
+    let id = Id(read_number(fields)?);
     Some(RequestKind::Call(Call::SemctlRmid { id }))
 }
 
-/// The identifier that is all of these fields, or `None` if they have another size.
 #[tactic(auto, unfolding(ipc_base::specs::Numbers::number_of))]
-fn read_id(fields: &[u8]) -> Option<Id>
-    ensures { option_map (λ id. id.0) result
-        ≡ if length fields.now == 4 then Some (number_of U32 fields.now) else None }
+fn read_mq_open(fields: &[u8]) -> Option<RequestKind<'_>>
+    ensures { option_map plain_kind result ≡ made_by table.mq_open fields.now }
 {
     let mut cursor = Cursor::new(fields);
-    let id = Id(cursor.u32()?);
+    let flags = OpenFlags(cursor.u32()?);
+    let mode = cursor.u32()?;
+    let attr = cursor.u8()?;
+    let maxmsg = cursor.i32()?;
+    let msgsize = cursor.i32()?;
+    let name = cursor.rest();
+    Some(RequestKind::Posix(PosixCall::MqOpen {
+        flags,
+        mode,
+        attr,
+        maxmsg,
+        msgsize,
+        name,
+    }))
+}
+
+fn read_mq_unlink(fields: &[u8]) -> Option<RequestKind<'_>>
+    ensures { option_map plain_kind result ≡ made_by table.mq_unlink fields.now }
+{
+    Some(RequestKind::Posix(PosixCall::MqUnlink { name: fields }))
+}
+
+#[tactic(auto, unfolding(ipc_base::specs::Numbers::number_of))]
+fn read_mq_send(fields: &[u8]) -> Option<RequestKind<'_>>
+    ensures { option_map plain_kind result ≡ made_by table.mq_send fields.now }
+{
+    let mut cursor = Cursor::new(fields);
+    let fd = cursor.u32()?;
+    let deadline = cursor.u64()?;
+    let priority = cursor.u32()?;
+    let text = cursor.rest();
+    Some(RequestKind::Posix(PosixCall::MqSend {
+        fd,
+        deadline,
+        priority,
+        text,
+    }))
+}
+
+#[tactic(auto, unfolding(ipc_base::specs::Numbers::number_of))]
+fn read_mq_receive(fields: &[u8]) -> Option<RequestKind<'_>>
+    ensures { option_map plain_kind result ≡ made_by table.mq_receive fields.now }
+{
+    let mut cursor = Cursor::new(fields);
+    let fd = cursor.u32()?;
+    let deadline = cursor.u64()?;
+    let size = cursor.u32()?;
     if !cursor.is_empty() {
         return None;
     }
-    Some(id)
+    Some(RequestKind::Posix(PosixCall::MqReceive { fd, deadline, size }))
 }
 
-/// The identifier of a set and the number of a semaphore in it that are all of these fields, or `None` if they
-/// have another size.
 #[tactic(auto, unfolding(ipc_base::specs::Numbers::number_of))]
-fn read_id_and_num(fields: &[u8]) -> Option<(Id, u32)>
-    ensures { option_map {U = ℕ × ℕ} (λ both. (both.0.0, both.1)) result
-        ≡ if length fields.now == 8
+fn read_mq_notify(fields: &[u8]) -> Option<RequestKind<'_>>
+    ensures { option_map plain_kind result ≡ made_by table.mq_notify fields.now }
+{
+    let mut cursor = Cursor::new(fields);
+    let fd = cursor.u32()?;
+    let kind = cursor.u32()?;
+    let cookie = cursor.u32()?;
+    if !cursor.is_empty() {
+        return None;
+    }
+    Some(RequestKind::Posix(PosixCall::MqNotify { fd, kind, cookie }))
+}
+
+fn read_mq_getattr(fields: &[u8]) -> Option<RequestKind<'_>>
+    ensures { option_map plain_kind result ≡ made_by table.mq_getattr fields.now }
+{
+    let fd = read_number(fields)?;
+    Some(RequestKind::Posix(PosixCall::MqGetattr { fd }))
+}
+
+fn read_mq_setattr(fields: &[u8]) -> Option<RequestKind<'_>>
+    ensures { option_map plain_kind result ≡ made_by table.mq_setattr fields.now }
+{
+    let (fd, flags) = read_two_numbers(fields)?;
+    let flags = OpenFlags(flags);
+    Some(RequestKind::Posix(PosixCall::MqSetattr { fd, flags }))
+}
+
+/// The number of four bytes that is all of these fields, or `None` if they have another size.
+#[tactic(auto, unfolding(ipc_base::specs::Numbers::number_of))]
+fn read_number(fields: &[u8]) -> Option<u32>
+    ensures { result ≡ if length fields.now == 4 then Some (number_of U32 fields.now) else None }
+{
+    let mut cursor = Cursor::new(fields);
+    let number = cursor.u32()?;
+    if !cursor.is_empty() {
+        return None;
+    }
+    Some(number)
+}
+
+/// The two numbers of four bytes that are all of these fields, or `None` if they have another size.
+#[tactic(auto, unfolding(ipc_base::specs::Numbers::number_of))]
+fn read_two_numbers(fields: &[u8]) -> Option<(u32, u32)>
+    ensures { result ≡ if length fields.now == 8
         then Some (number_of U32 fields.now, number_of U32 (drop 4 fields.now)) else None }
 {
     let mut cursor = Cursor::new(fields);
-    let id = Id(cursor.u32()?);
-    let num = cursor.u32()?;
+    let first = cursor.u32()?;
+    let second = cursor.u32()?;
     if !cursor.is_empty() {
         return None;
     }
-    Some((id, num))
+    Some((first, second))
 }

@@ -5,7 +5,7 @@ ghost use Rattle.ipc_wire.specs.Reply.{plain_body, body_of};
 
 use ipc_base::Errno;
 
-/// What the server answers to the request with this serial; 0 where no request has one.
+/// What the server answers to the request with this serial; 0 where no request has one, as in a notification.
 #[derive(Debug, Drop)]
 pub struct Reply<'a> {
     pub serial: u32,
@@ -19,10 +19,15 @@ pub struct Reply<'a> {
 #[derive(Debug, Drop)]
 pub enum Body<T> {
     Empty,
-    /// A pid or an identifier.
+    /// A pid, an identifier, a descriptor or a value.
     Number(u32),
     /// A message of msgrcv(2): its type and its text.
     Message { mtype: i64, text: T },
+    /// A message of mq_receive(3): its priority and its text.
+    MqMessage { priority: u32, text: T },
+    /// The notification of mq_notify(3), which has serial 0 and no error: the descriptor by which the process
+    /// registered, and its cookie.
+    Notification { fd: u32, cookie: u32 },
     /// Numbers of fixed sizes, or other bytes.
     Record(T),
 }
@@ -38,6 +43,14 @@ impl Body<Vec<u8>> {
             Body::Message { mtype, text } => Body::Message {
                 mtype: *mtype,
                 text: text.as_slice(),
+            },
+            Body::MqMessage { priority, text } => Body::MqMessage {
+                priority: *priority,
+                text: text.as_slice(),
+            },
+            Body::Notification { fd, cookie } => Body::Notification {
+                fd: *fd,
+                cookie: *cookie,
             },
             Body::Record(bytes) => Body::Record(bytes.as_slice()),
         }

@@ -5,6 +5,7 @@ ghost use Rattle.ipc_wire.specs.Request.{plain_kind};
 ghost use Rattle.ipc_wire.specs.Spelling.{HasFrame};
 
 use crate::pairs::Pairs;
+use crate::posix::PosixCall;
 use crate::reading::{GREATEST_LENGTH, LEAST_LENGTH};
 use crate::sixes::Sixes;
 use crate::spelling::request_parts;
@@ -46,11 +47,13 @@ pub enum RequestKind<'a> {
     Hello(Cred),
     /// INTERRUPT: the process waits no longer.
     Interrupt,
-    /// A call of the process.
+    /// A System V call of the process.
     Call(Call<'a>),
+    /// A POSIX call of the process.
+    Posix(PosixCall<'a>),
 }
 
-/// A call with its fields, as they stand in the frame: no value is tested.
+/// A System V call with its fields, as they stand in the frame: no value is tested.
 #[derive(Clone, Copy, Debug)]
 pub enum Call<'a> {
     /// msgget(2).

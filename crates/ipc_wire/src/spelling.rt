@@ -17,20 +17,23 @@ ghost use Rattle.std.specs.Bool.{OnTrue, OnFalse};
 ghost use Rattle.ipc_base.specs.Fields.{Puts};
 ghost use Rattle.ipc_base.specs.Numbers.{AreInRange, record_bytes};
 ghost use Rattle.ipc_wire.specs.Fields.{MayHave};
-ghost use Rattle.ipc_wire.specs.Request.{Calls, plain_call, plain_kind};
+ghost use Rattle.ipc_wire.specs.Posix.{plain_posix};
+ghost use Rattle.ipc_wire.specs.Request.{Calls, Posix, plain_call, plain_kind};
 ghost use Rattle.ipc_wire.specs.Spelling.{opcode_of, fields_of, request_bytes, frame};
 ghost use Rattle.ipc_wire.specs.Table.{parts_of};
 ghost use Rattle.ipc_wire.specs.View.{plain_request};
 
-use crate::reading::{
-    HELLO, INTERRUPT, MSGCTL_RMID, MSGCTL_SET, MSGCTL_STAT, MSGGET, MSGRCV, MSGSND, SEMCTL_GET_ALL,
+use crate::opcodes::{
+    CLOSE, HELLO, INTERRUPT, MQ_GETATTR, MQ_NOTIFY, MQ_OPEN, MQ_RECEIVE, MQ_SEND, MQ_SETATTR,
+    MQ_UNLINK, MSGCTL_RMID, MSGCTL_SET, MSGCTL_STAT, MSGGET, MSGRCV, MSGSND, SEMCTL_GET_ALL,
     SEMCTL_GET_NCNT, SEMCTL_GET_PID, SEMCTL_GET_VAL, SEMCTL_GET_ZCNT, SEMCTL_RMID, SEMCTL_SET,
     SEMCTL_SET_ALL, SEMCTL_SET_VAL, SEMCTL_STAT, SEMGET, SEMOP,
 };
+use crate::posix::PosixCall;
 use crate::record::Record;
 use crate::request::{Call, Request, RequestKind};
 use crate::writing::text_len;
-use ipc_base::Field::{I32, I64, U32, U64};
+use ipc_base::Field::{I32, I64, U8, U32, U64};
 use ipc_base::{Field, Put};
 
 /// A request taken apart, as it stands in its frame after its serial.
@@ -96,6 +99,7 @@ pub fn request_parts(kind: RequestKind<'_>) -> RequestParts<'_>
         RequestKind::Hello(cred) => spelled(HELLO, &[U32(cred.uid), U32(cred.gid)], &[]),
         RequestKind::Interrupt => spelled(INTERRUPT, &[], &[]),
         RequestKind::Call(call) => call_parts(call),
+        RequestKind::Posix(call) => posix_parts(call),
     }
 }
 
@@ -166,6 +170,50 @@ fn call_parts(call: Call<'_>) -> RequestParts<'_>
             &[],
         ),
         Call::SemctlRmid { id } => spelled(SEMCTL_RMID, &[U32(id.0)], &[]),
+    }
+}
+
+fn posix_parts(call: PosixCall<'_>) -> RequestParts<'_>
+    ensures opcode { result.opcode ≡ opcode_of (Posix (plain_posix call.entry)) }
+    ensures fields { result.fields ++ result.rest.now ≡ fields_of (Posix (plain_posix call.entry)) }
+    ensures numbers { AreInRange (parts_of (Posix (plain_posix call.entry))).row.fields
+        (parts_of (Posix (plain_posix call.entry))).values }
+    ensures rest { MayHave (parts_of (Posix (plain_posix call.entry))).row.rest
+        (length (parts_of (Posix (plain_posix call.entry))).rest) }
+{
+    match call {
+        PosixCall::Close { fd } => spelled(CLOSE, &[U32(fd)], &[]),
+        PosixCall::MqOpen {
+            flags,
+            mode,
+            attr,
+            maxmsg,
+            msgsize,
+            name,
+        } => spelled(
+            MQ_OPEN,
+            &[U32(flags.0), U32(mode), U8(attr), I32(maxmsg), I32(msgsize)],
+            name,
+        ),
+        PosixCall::MqUnlink { name } => spelled(MQ_UNLINK, &[], name),
+        PosixCall::MqSend {
+            fd,
+            deadline,
+            priority,
+            text,
+        } => spelled(MQ_SEND, &[U32(fd), U64(deadline), U32(priority)], text),
+        PosixCall::MqReceive { fd, deadline, size } => spelled(
+            MQ_RECEIVE,
+            &[U32(fd), U64(deadline), U32(size)],
+            &[],
+        ),
+        PosixCall::MqNotify { fd, kind, cookie } => spelled(
+            MQ_NOTIFY,
+            &[U32(fd), U32(kind), U32(cookie)],
+            &[],
+        ),
+        PosixCall::MqGetattr { fd } => spelled(MQ_GETATTR, &[U32(fd)], &[]),
+        PosixCall::MqSetattr { fd, flags } => spelled(MQ_SETATTR, &[U32(fd), U32(flags.0)], &[]),
     }
 }
 

@@ -3,10 +3,11 @@
 ghost use Rattle.std.specs.Prelude.{◌≡◌, ◌≤◌, ◌<◌, ◌+◌, ◌^◌, ◌++◌, ◌↔◌, IsTrue, true, length, drop};
 ghost use Rattle.std.specs.Bool.{OnTrue, OnFalse};
 ghost use Rattle.ipc_base.specs.Fields.{Puts};
+ghost use Rattle.ipc_base.specs.Numbers.{field_bytes};
 ghost use Rattle.ipc_wire.specs.Reply.{plain_body, plain_reply, body_bytes, reply_bytes, error_number};
 
 use crate::reply::{Body, Reply};
-use ipc_base::{Errno, Put};
+use ipc_base::{Errno, Field, Put};
 
 /// How many bytes the reply takes.
 #[tactic(auto, unfolding(crate::specs::Reply::reply_bytes))]
@@ -24,6 +25,8 @@ fn body_len(body: &Body<&[u8]>) -> usize
         Body::Empty => 0,
         Body::Number(_) => 4,
         Body::Message { text, .. } => 8 + text_len(text),
+        Body::MqMessage { text, .. } => 4 + text_len(text),
+        Body::Notification { .. } => 8,
         Body::Record(bytes) => text_len(bytes),
     }
 }
@@ -75,7 +78,20 @@ fn put_body(put: &mut Put, out: &mut [u8], body: &Body<&[u8]>) -> bool
     match body {
         Body::Empty => put.bytes(out, &[]),
         Body::Number(number) => put.u32(out, *number),
-        Body::Message { mtype, text } => put.i64(out, *mtype) && put.bytes(out, text),
+        Body::Message { mtype, text } => put_field(put, out, Field::I64(*mtype), text),
+        Body::MqMessage { priority, text } => put_field(put, out, Field::U32(*priority), text),
+        Body::Notification { fd, cookie } => {
+            put_field(put, out, Field::U32(*fd), &cookie.to_be_bytes())
+        }
         Body::Record(bytes) => put.bytes(out, bytes),
     }
+}
+
+/// Puts a field, and bytes after it, for which there is room.
+fn put_field(put: &mut Put, out: &mut [u8], field: Field, rest: &[u8]) -> bool
+    requires { put.old + length (field_bytes field ++ rest.now) ≤ length out.old }
+    ensures done { IsTrue result }
+    ensures bytes { Puts (field_bytes field ++ rest.now) put.old put.new out.old out.new true }
+{
+    put.field(out, field) && put.bytes(out, rest)
 }

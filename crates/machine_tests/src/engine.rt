@@ -5,6 +5,8 @@ ghost use Rattle.ipc_base.specs.Limits.{ArePassed};
 ghost use Rattle.ipc_engine.specs.Engine.{IsForProcess};
 ghost use Rattle.ipc_engine.specs.View.{plain_event};
 
+mod named;
+mod rebuilt;
 mod restored;
 mod waiting;
 

@@ -13,7 +13,7 @@ use Rattle.ipc_base.specs.declared.limits.Limits.{Limits}
 use Rattle.ipc_base.specs.declared.errno.Errno.TheVariants.{E2BIG, EPERM, EACCES, EFBIG, EINVAL, ENOSPC, EAGAIN, ENOMSG}
 use Rattle.ipc_base.specs.Numbers.{record_bytes}
 use Rattle.ipc_base.proofs.CallerLemmas.{message-is_bounded, other-with, value_at-without}
-use Rattle.ipc_wire.specs.Request.{PlainCall, PlainRequest, Calls}
+use Rattle.ipc_wire.specs.Request.{PlainCall, PlainKind, PlainRequest, Calls}
 use Rattle.ipc_wire.specs.Request as requests
 use Rattle.ipc_wire.specs.declared.reply.Body.TheVariants.{Empty, Number, Message, Record}
 use Rattle.sysv_msg.specs.Queue.{Queue, PlainMessage, pick, full, sent, taken, changed}
@@ -23,6 +23,7 @@ use Rattle.sysv_sem.specs.Set.{Set, values_of}
 use Rattle.ipc_state.specs.declared.keyed.Entry.{Entry}
 use Rattle.ipc_state.specs.declared.parked.Awaited.{Awaited}
 use Rattle.ipc_state.specs.declared.parked.Awaited.TheVariants as awaited
+use Rattle.ipc_state.specs.declared.parked.Object.TheVariants as object
 use Rattle.ipc_state.specs.Numbered.{entry_of, last_number, without_entry}
 use Rattle.ipc_state.specs.Keyed.{Keyed, holding, permitting, keyed}
 use Rattle.ipc_perm.specs.declared.perm.Perm.{Perm}
@@ -30,10 +31,10 @@ use Rattle.ipc_perm.specs.Perm.{perm_of, owned_by, asked_by, may, owns}
 use Rattle.ipc_state.specs.Finish.{Attempt, Done, Finish, Halt, Finishes, IfFinishes, has_to_wait}
 use Rattle.ipc_state.specs.Finish.{refuse, stop, ◌orelse◌, ◌>>◌, ◌>>=◌}
 use Rattle.ipc_state.specs.Sound.{HasSoundParts, IsSoundMessage, IsSoundQueue, FitsBody}
-use Rattle.ipc_state.specs.State.{State, cred_of, set_of, with_queue, with_new_queue}
-use Rattle.ipc_state.specs.Touching.{is_there, IsAsBefore}
+use Rattle.ipc_state.specs.State.{State, cred_of, is_waiting, set_of, with_queue, with_new_queue}
+use Rattle.ipc_state.specs.Touching.{object_of, is_there, IsAsBefore}
 use Rattle.ipc_state.specs.Waiting.{awaited_by, may_wait}
-use Rattle.ipc_state.proofs.CallerLemmas.{IsGood, Ends, after-refuse, after-attempt, by-if_some, answered, read, ended-good}
+use Rattle.ipc_state.proofs.CallerLemmas.{IsGood, Ends, same-processes, after-refuse, after-attempt, by-if_some, answered, read, ended-good}
 use Rattle.ipc_state.proofs.CallerLemmas.{perm_of-mode, owned_by-mode, with_new_queue-sound, with_queue-sound, queue-sound, sent-sound, taken-sound}
 use Rattle.ipc_state.proofs.CallerLemmas.{changed-sound, permitted-sound, without_queue-sound}
 use Rattle.sysv_calls.specs.Access.{write, has, accessible, gone, removed, sought}
@@ -42,7 +43,7 @@ use Rattle.sysv_calls.specs.Semop.{are_within, asked, decided, held_by, operated
 use Rattle.sysv_calls.specs.Calls.{touched, call_of, attempt}
 use Rattle.sysv_calls.specs.Records.{perm_fields, queue_fields, set_fields}
 use Rattle.sysv_calls.specs.Seen.{place_in}
-use Rattle.sysv_calls.specs.Needs.{IsReserved}
+use Rattle.sysv_calls.specs.Needs.{IsReserved, is_kept}
 use Rattle.ipc_state.specs.Held.{Room}
 use Rattle.sysv_calls.proofs.Received.{receive_steps, left, after-receive, blocked-left}
 use Rattle.sysv_calls.proofs.Reaching.{reached-there, removed-is, sought-none, sends, receives, there-append}
@@ -51,6 +52,7 @@ use Rattle.sysv_calls.proofs.SetEnds.{semctl_stat-ends, semctl_set-ends, semctl_
 use Rattle.sysv_calls.proofs.Running.{waits-blocked, blocked-then, blocked-seen, listed-runs, msgget-runs, msgctl_set-runs, msgctl_rmid-runs, semget-runs}
 use Rattle.sysv_calls.proofs.Running.{semctl_getval-runs, semctl_getpid-runs, semctl_setval-runs, semctl_getall-runs, semctl_setall-runs, semctl_set-runs}
 use Rattle.sysv_calls.proofs.Running.{semctl_getcnt-runs, semctl_rmid-runs}
+pub use Rattle.sysv_calls.proofs.Apart.{IsApart, attempt-apart}
 pub use Rattle.sysv_calls.proofs.Families.{IsOther, by-waiting}
 pub use Rattle.sysv_calls.proofs.Running.{is_blocked}
 use Rattle.sysv_calls.specs.Msg as defined
@@ -64,8 +66,8 @@ not_false true h = refl
 not_false false h = cc
 
 -- another object than the one of this identifier
-other_id : (id n : ℕ) → Some (awaited.Queue (record { 0 = id })) ≢ Some (awaited.Queue (record { 0 = n })) → n ≢ id
-other_id id n apart same = apart (ap (λ k. Some (awaited.Queue (record { 0 = k }))) (sym same))
+other_id : (id n : ℕ) → Some (object.Queue (record { 0 = id })) ≢ Some (object.Queue (record { 0 = n })) → n ≢ id
+other_id id n apart same = apart (ap (λ k. Some (object.Queue (record { 0 = k }))) (sym same))
 
 own_id : (id : ℕ) (n : Id) → Some (awaited.Queue (record { 0 = id })) ≡ Some (awaited.Queue n) → id ≡ n.0
 own_id id n is = let same : record { 0 = id } ≡ n = cc in ap (λ (k : Id). k.0) same
@@ -82,10 +84,11 @@ no_queue n k is = cc
 
 module _ (limits : Limits) (s : State) where
   -- the object of this identifier alone is another one
-  others-with : (id : ℕ) (e : Entry Queue) (on : Awaited) → Some (awaited.Queue (record { 0 = id })) ≢ Some on → is_there on s ≡ true
-      → IsAsBefore on s (with_queue s id e)
-  others-with id e (awaited.Queue n) apart there = other-with s.msg.entries id n.0 e (other_id id n.0 apart)
-  others-with id e (awaited.Set n) apart there = (refl, λ pid num. refl)
+  others-with : (id : ℕ) (e : Entry Queue) (pid : ℕ) (on : Awaited) → is_waiting s pid ≡ true → Some (object.Queue (record { 0 = id })) ≢ object_of s pid on
+      → is_there pid on s ≡ true → IsAsBefore pid on s (with_queue s id e)
+  others-with id e pid (awaited.Queue n) waits apart there = other-with s.msg.entries id n.0 e (other_id id n.0 apart)
+  others-with id e pid (awaited.Set n) waits apart there = (refl, λ pid num. refl)
+  others-with id e pid (awaited.Descriptor fd) waits apart there = (refl, λ n is. refl)
 
   msgget-ends : (cred : Cred) (key : ℤ) (flags : ℕ) → Ends limits s None (defined.msgget limits s cred key flags)
   msgget-ends cred key flags =
@@ -96,18 +99,19 @@ module _ (limits : Limits) (s : State) where
       answered (with_new_queue limits s key (perm_of cred flags)) (Number s.msg.next) (record {
         state = λ h. with_new_queue-sound limits s key (perm_of cred flags) unused room (perm_of-mode cred flags) h;
         body = λ _. omega arith;
-        kept = refl;
+        kept = same-processes s _ refl;
         clock = refl;
         wait = refl;
-        others = λ on apart there. as_added on there;
+        others = λ h pid on waits apart there. as_added pid on there;
       }))))
     where
-      as_added : (on : Awaited) → is_there on s ≡ true → IsAsBefore on s (with_new_queue limits s key (perm_of cred flags))
-      as_added (awaited.Queue n) there = there-append s.msg.entries _ n.0 there
-      as_added (awaited.Set n) there = (refl, λ pid num. refl)
+      as_added : (pid : ℕ) (on : Awaited) → is_there pid on s ≡ true → IsAsBefore pid on s (with_new_queue limits s key (perm_of cred flags))
+      as_added pid (awaited.Queue n) there = there-append s.msg.entries _ n.0 there
+      as_added pid (awaited.Set n) there = (refl, λ pid num. refl)
+      as_added pid (awaited.Descriptor fd) there = (refl, λ n is. refl)
 
   msgsnd-ends : (cred : Cred) (pid : ℕ) (again : Bool) (id flags : ℕ) (mtype : ℤ) (text : List ℕ)
-      → Ends limits s (Some (awaited.Queue (record { 0 = id }))) (defined.msgsnd limits s cred pid again id flags mtype text)
+      → Ends limits s (Some (object.Queue (record { 0 = id }))) (defined.msgsnd limits s cred pid again id flags mtype text)
   msgsnd-ends cred pid again id flags mtype text =
       after-attempt {a = sendable limits s cred again id flags mtype text} (λ e is.
       let m : PlainMessage = record { mtype = mtype; text = text } in
@@ -119,10 +123,10 @@ module _ (limits : Limits) (s : State) where
             let good : IsSoundMessage limits m = record { above = above; short = ltb-false limits.msgmax (length text) ok.short } in
             with_queue-sound limits s id e new ok.there (sent-sound limits e.object m pid s.clock ok.room good (queue-sound limits s id e ok.there h)) h;
         body = λ _. omega arith;
-        kept = refl;
+        kept = same-processes s _ refl;
         clock = refl;
         wait = refl;
-        others = others-with id (holding e new);
+        others = λ _. others-with id (holding e new);
       }))
 
   -- a text of a message of a queue, cut
@@ -136,7 +140,7 @@ module _ (limits : Limits) (s : State) where
       omega (arith, message-is_bounded limits (length (take size (message_at q at).text)) (omega (arith, cut, short)))
 
   msgrcv-ends : (cred : Cred) (pid : ℕ) (again : Bool) (id flags size : ℕ) (mtype : ℤ)
-      → Ends limits s (Some (awaited.Queue (record { 0 = id }))) (defined.msgrcv s cred pid again id flags size mtype)
+      → Ends limits s (Some (object.Queue (record { 0 = id }))) (defined.msgrcv s cred pid again id flags size mtype)
   msgrcv-ends cred pid again id flags size mtype =
       after-attempt {a = receivable s cred again id flags size mtype} (λ found is.
       let e : Entry Queue = found.0 in
@@ -147,17 +151,17 @@ module _ (limits : Limits) (s : State) where
       answered (with_queue s id (holding e new)) (Message (message_at q at).mtype (take size (message_at q at).text)) (record {
         state = λ h. with_queue-sound limits s id e new ok.there (taken-sound limits q at pid s.clock ok.inside (queue-sound limits s id e ok.there h)) h;
         body = λ h. message_at-fits q at size ok.inside (queue-sound limits s id e ok.there h);
-        kept = refl;
+        kept = same-processes s _ refl;
         clock = refl;
         wait = refl;
-        others = others-with id (holding e new);
+        others = λ _. others-with id (holding e new);
       }))
 
   msgctl_stat-ends : (cred : Cred) (id : ℕ) → Ends limits s None (defined.msgctl_stat s cred id)
   msgctl_stat-ends cred id = after-attempt (λ e _. read (Record (record_bytes (perm_fields e ++ queue_fields e.object))) (λ _. omega arith))
 
   msgctl_set-ends : (cred : Cred) (id uid gid mode qbytes : ℕ)
-      → Ends limits s (Some (awaited.Queue (record { 0 = id }))) (defined.msgctl_set limits s cred id uid gid mode qbytes)
+      → Ends limits s (Some (object.Queue (record { 0 = id }))) (defined.msgctl_set limits s cred id uid gid mode qbytes)
   msgctl_set-ends cred id uid gid mode qbytes =
       after-attempt (λ e is. after-refuse EPERM {b = nat_lt limits.msgmnb qbytes} (λ within.
       let perm : Perm = owned_by e.perm uid gid mode in
@@ -167,28 +171,31 @@ module _ (limits : Limits) (s : State) where
         state = λ h. permitted-sound limits s id e perm new is (owned_by-mode e.perm uid gid mode)
             (changed-sound limits e.object qbytes s.clock (ltb-false limits.msgmnb qbytes within) (queue-sound limits s id e is h)) h;
         body = λ _. omega arith;
-        kept = refl;
+        kept = same-processes s _ refl;
         clock = refl;
         wait = refl;
-        others = others-with id (holding (permitting e perm) new);
+        others = λ _. others-with id (holding (permitting e perm) new);
       })))
 
-  msgctl_rmid-ends : (cred : Cred) (id : ℕ) → Ends limits s (Some (awaited.Queue (record { 0 = id }))) (defined.msgctl_rmid s cred id)
+  msgctl_rmid-ends : (cred : Cred) (id : ℕ) → Ends limits s (Some (object.Queue (record { 0 = id }))) (defined.msgctl_rmid s cred id)
   msgctl_rmid-ends cred id =
       after-attempt {a = removed s.msg cred id} (λ queues is.
       answered (record s { msg = queues }) Empty (record {
         state = λ h. subst (λ (m : Keyed Queue). HasSoundParts limits (record s { msg = m })) (removed-is s.msg cred id queues is)
             (without_queue-sound limits s id h);
         body = λ _. omega arith;
-        kept = refl;
+        kept = same-processes s _ refl;
         clock = refl;
         wait = refl;
-        others = λ on apart there. subst (λ (m : Keyed Queue). IsAsBefore on s (record s { msg = m })) (removed-is s.msg cred id queues is) (as_left on apart);
+        others = λ h pid on waits apart there. subst (λ (m : Keyed Queue). IsAsBefore pid on s (record s { msg = m })) (removed-is s.msg cred id queues is)
+            (as_left pid on apart);
       }))
     where
-      as_left : (on : Awaited) → Some (awaited.Queue (record { 0 = id })) ≢ Some on → IsAsBefore on s (record s { msg = without_entry s.msg id })
-      as_left (awaited.Queue n) apart = value_at-without s.msg.entries id n.0 (other_id id n.0 apart)
-      as_left (awaited.Set n) apart = (refl, λ pid num. refl)
+      as_left : (pid : ℕ) (on : Awaited) → Some (object.Queue (record { 0 = id })) ≢ object_of s pid on
+          → IsAsBefore pid on s (record s { msg = without_entry s.msg id })
+      as_left pid (awaited.Queue n) apart = value_at-without s.msg.entries id n.0 (other_id id n.0 apart)
+      as_left pid (awaited.Set n) apart = (refl, λ pid num. refl)
+      as_left pid (awaited.Descriptor fd) apart = (refl, λ n is. refl)
 
   call-ends : (pid : ℕ) (again : Bool) (call : PlainCall) → Ends limits s (touched call) (call_of limits s pid again call)
   call-ends pid again (requests.Msgget key flags) = msgget-ends (cred_of s pid) key flags
@@ -226,6 +233,7 @@ module _ (limits : Limits) (s : State) (pid : ℕ) (again : Bool) where
       (λ (e : Entry Queue). let d : Done = record {
         state = with_queue s id (holding e (sent e.object (record { mtype = mtype; text = text }) pid s.clock));
         body = Empty;
+        fired = None;
       } in d)
 
   waits-receive : (id flags size : ℕ) (mtype : ℤ) → has_to_wait (attempt limits s pid again (requests.Msgrcv id flags size mtype))
@@ -236,6 +244,7 @@ module _ (limits : Limits) (s : State) (pid : ℕ) (again : Bool) where
       (λ (found : Entry Queue × ℕ). let d : Done = record {
         state = with_queue s id (holding found.0 (taken found.0.object found.1 pid s.clock));
         body = Message (message_at found.0.object found.1).mtype (take size (message_at found.0.object found.1).text);
+        fired = None;
       } in d)
 
   waits-semop : (id timeout : ℕ) (operations : List ℕ) → has_to_wait (attempt limits s pid again (requests.Semop id timeout operations))
@@ -243,7 +252,11 @@ module _ (limits : Limits) (s : State) (pid : ℕ) (again : Bool) where
   waits-semop id timeout operations =
       waits-blocked s (semop limits s (cred_of s pid) pid again id operations)
       ∙ blocked-then (performable limits s (cred_of s pid) pid again id (operations_of operations))
-      (λ (found : Entry Set × List ℕ). let d : Done = record { state = operated s pid id (operations_of operations) found; body = Empty } in d)
+      (λ (found : Entry Set × List ℕ). let d : Done = record {
+        state = operated s pid id (operations_of operations) found;
+        body = Empty;
+        fired = None;
+      } in d)
 
 -- the tests of a send by what they say
 abbrev send_steps : Bool → Bool → Bool → Option (Entry Queue) → (Perm → Bool) → Halt → (Queue → Bool) → Attempt (Entry Queue)
@@ -295,7 +308,7 @@ operates-alike limits cred again other false (Some e) held ops = refl
 -- two states that have the same caller and the same object make the same call wait, whether it waited before or not
 module _ (limits : Limits) (s t : State) (pid : ℕ) (again other : Bool) where
   abbrev IsAlike : PlainCall → Type 0
-  IsAlike call = (on : Awaited) → awaited_by (Calls call) ≡ Some on → cred_of t pid ≡ cred_of s pid → IsAsBefore on s t
+  IsAlike call = (on : Awaited) → awaited_by (Calls call) ≡ Some on → cred_of t pid ≡ cred_of s pid → IsAsBefore pid on s t
       → has_to_wait (attempt limits t pid other call) ≡ has_to_wait (attempt limits s pid again call)
 
   alike-send : (id flags : ℕ) (mtype : ℤ) (text : List ℕ) → IsAlike (requests.Msgsnd id flags mtype text)
@@ -312,6 +325,7 @@ module _ (limits : Limits) (s t : State) (pid : ℕ) (again other : Bool) where
       ∙ (sends-alike other again b1 b2 (entry_of s.msg id) mine h fills
       ∙ sym (waits-send limits s pid again id flags mtype text))))
   alike-send id flags mtype text (awaited.Set n) is cred alike = absurd (no_set (record { 0 = id }) n is)
+  alike-send id flags mtype text (awaited.Descriptor fd) is cred alike = cc
 
   alike-receive : (id flags size : ℕ) (mtype : ℤ) → IsAlike (requests.Msgrcv id flags size mtype)
   alike-receive id flags size mtype (awaited.Queue n) is cred alike =
@@ -327,14 +341,16 @@ module _ (limits : Limits) (s t : State) (pid : ℕ) (again other : Bool) where
       ∙ (receives-alike other again b1 (entry_of s.msg id) mine h picks long
       ∙ sym (waits-receive limits s pid again id flags size mtype))))
   alike-receive id flags size mtype (awaited.Set n) is cred alike = absurd (no_set (record { 0 = id }) n is)
+  alike-receive id flags size mtype (awaited.Descriptor fd) is cred alike = cc
 
   alike-semop : (id timeout : ℕ) (operations : List ℕ) → IsAlike (requests.Semop id timeout operations)
   alike-semop id timeout operations (awaited.Queue n) is cred alike = absurd (no_queue (record { 0 = id }) n is)
+  alike-semop id timeout operations (awaited.Descriptor fd) is cred alike = cc
   alike-semop id timeout operations (awaited.Set n) is cred alike =
       let ops = operations_of operations in
       let b1 = length ops == 0 in
-      let same : IsAsBefore (awaited.Set (record { 0 = id })) s t =
-      subst (λ (k : ℕ). IsAsBefore (awaited.Set (record { 0 = k })) s t) (sym (own_set id n is)) alike in
+      let same : IsAsBefore pid (awaited.Set (record { 0 = id })) s t =
+      subst (λ (k : ℕ). IsAsBefore pid (awaited.Set (record { 0 = k })) s t) (sym (own_set id n is)) alike in
       let held : held_by t pid id ≡ held_by s pid id = λ i num. same.1 pid num i in
       waits-semop limits t pid other id timeout operations
       ∙ (ap (λ (c : Cred). is_blocked (operate_steps limits c other b1 (set_of t id) (held_by t pid id) ops)) cred
@@ -368,7 +384,7 @@ operates-there limits cred again false (Some e) held ops is = refl
 -- what waits on an object finds it there
 module _ (limits : Limits) (s : State) (pid : ℕ) (again : Bool) where
   abbrev IsThere : PlainCall → Type 0
-  IsThere call = (on : Awaited) → awaited_by (Calls call) ≡ Some on → has_to_wait (attempt limits s pid again call) ≡ true → is_there on s ≡ true
+  IsThere call = (on : Awaited) → awaited_by (Calls call) ≡ Some on → has_to_wait (attempt limits s pid again call) ≡ true → is_there pid on s ≡ true
 
   there-send : (id flags : ℕ) (mtype : ℤ) (text : List ℕ) → IsThere (requests.Msgsnd id flags mtype text)
   there-send id flags mtype text (awaited.Queue n) is waits =
@@ -377,6 +393,7 @@ module _ (limits : Limits) (s : State) (pid : ℕ) (again : Bool) where
       (waits_or flags EAGAIN) (λ q. full q (length text)) (sym (waits-send limits s pid again id flags mtype text) ∙ waits) in
       subst (λ (k : ℕ). is_some (entry_of s.msg k) ≡ true) (own_id id n is) there
   there-send id flags mtype text (awaited.Set n) is waits = absurd (no_set (record { 0 = id }) n is)
+  there-send id flags mtype text (awaited.Descriptor fd) is waits = cc
 
   there-receive : (id flags size : ℕ) (mtype : ℤ) → IsThere (requests.Msgrcv id flags size mtype)
   there-receive id flags size mtype (awaited.Queue n) is waits =
@@ -386,9 +403,11 @@ module _ (limits : Limits) (s : State) (pid : ℕ) (again : Bool) where
       (sym (waits-receive limits s pid again id flags size mtype) ∙ waits) in
       subst (λ (k : ℕ). is_some (entry_of s.msg k) ≡ true) (own_id id n is) there
   there-receive id flags size mtype (awaited.Set n) is waits = absurd (no_set (record { 0 = id }) n is)
+  there-receive id flags size mtype (awaited.Descriptor fd) is waits = cc
 
   there-semop : (id timeout : ℕ) (operations : List ℕ) → IsThere (requests.Semop id timeout operations)
   there-semop id timeout operations (awaited.Queue n) is waits = absurd (no_queue (record { 0 = id }) n is)
+  there-semop id timeout operations (awaited.Descriptor fd) is waits = cc
   there-semop id timeout operations (awaited.Set n) is waits =
       let ops = operations_of operations in
       let there : is_some (entry_of s.sem id) ≡ true =
@@ -455,9 +474,9 @@ waits-as-tested limits s pid again =
 -- ---- what is reserved
 
 module _ (s : State) (room : Room) (request : PlainRequest) where
-  -- a request of which nothing was kept never waits
-  pub never-kept : IsReserved s room request None → may_wait request.kind ≡ false
-  never-kept has = by_test (may_wait request.kind) has.call
+  -- a System V call of which nothing was kept never waits
+  pub never-kept : (call : PlainCall) → request.kind ≡ Calls call → IsReserved s room request None → may_wait (Calls call) ≡ false
+  never-kept call kind has = by_test (may_wait (Calls call)) (subst (λ (k : PlainKind). None ≡ (if is_kept k then Some request else None)) kind has.call)
     where
       by_test : (b : Bool) → None ≡ (if b then Some request else None) → b ≡ false
       by_test true is = cc
@@ -465,7 +484,7 @@ module _ (s : State) (room : Room) (request : PlainRequest) where
 
   -- what was kept is the request
   pub kept-is : (kept : PlainRequest) → IsReserved s room request (Some kept) → kept ≡ request
-  kept-is kept has = by_test (may_wait request.kind) has.call
+  kept-is kept has = by_test (is_kept request.kind) has.call
     where
       by_test : (b : Bool) → Some kept ≡ (if b then Some request else None) → kept ≡ request
       by_test true is = cc

@@ -6,3 +6,4 @@ mod Semops
 mod SetEnds
 pub mod Reaching
 pub mod Trying
+mod Apart

@@ -19,7 +19,6 @@ use Rattle.ipc_base.proofs.CallerLemmas.{at-with, each-at, each-with, keys_of-wi
 use Rattle.sem_undo.specs.Undo.{Key, Undo, adjustment, subtracted, most_rows}
 use Rattle.sem_undo.proofs.CallerLemmas.{key_total, key_other}
 use Rattle.sysv_sem.specs.declared.operation.Operation.{Operation}
-use Rattle.sysv_sem.specs.declared.operation.Verdict.{Verdict}
 use Rattle.sysv_sem.specs.declared.operation.Verdict.TheVariants.{Passes as Goes, Waits, OutOfRange}
 use Rattle.sysv_sem.specs.declared.operation.Trial.{Trial}
 use Rattle.sysv_sem.specs.declared.operation.Trial.TheVariants as trial

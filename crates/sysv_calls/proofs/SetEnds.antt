@@ -33,13 +33,15 @@ use Rattle.sysv_sem.proofs.CallerLemmas.{length-carried}
 use Rattle.ipc_state.specs.declared.keyed.Entry.{Entry}
 use Rattle.ipc_state.specs.declared.parked.Awaited.{Awaited}
 use Rattle.ipc_state.specs.declared.parked.Awaited.TheVariants as awaited
+use Rattle.ipc_state.specs.declared.parked.Object.{Object}
+use Rattle.ipc_state.specs.declared.parked.Object.TheVariants as object
 use Rattle.ipc_state.specs.Keyed.{Keyed, holding, keyed, permitting}
 use Rattle.ipc_state.specs.Numbered.{entry_of, is_full, with_new}
-use Rattle.ipc_state.specs.Finish.{Attempt, Done}
+use Rattle.ipc_state.specs.Finish.{Attempt, Done, answer}
 use Rattle.ipc_state.specs.Sound.{HasSoundParts, AreAt, FitsBody, has_semaphore, semaphore_count}
 use Rattle.ipc_state.specs.State.{State, set_of, undo_of, with_set, without_adjustments}
-use Rattle.ipc_state.specs.Touching.{is_there, IsAsBefore}
-use Rattle.ipc_state.proofs.CallerLemmas.{Ends, after-refuse, after-attempt, after-orstop, by-if_some, answered}
+use Rattle.ipc_state.specs.Touching.{object_of, is_there, IsAsBefore}
+use Rattle.ipc_state.proofs.CallerLemmas.{Ends, same-processes, after-refuse, after-attempt, after-orstop, by-if_some, answered}
 use Rattle.ipc_state.proofs.CallerLemmas as ends
 use Rattle.ipc_state.proofs.CallerLemmas.{perm_of-mode, owned_by-mode, with_new_set-sound, permitted_set-sound}
 use Rattle.ipc_state.proofs.CallerLemmas.{with_set-sound, without_set-sound, without_adjustments-sound}
@@ -56,8 +58,8 @@ use Rattle.sysv_calls.proofs.Reaching.{semaphore-there, settable-there, values-l
 abbrev EndsWell : Limits → State → Attempt Done → Type 0
 EndsWell limits s call = Ends limits s None call
 
-abbrev of : ℕ → Option Awaited
-of id = Some (awaited.Set (record { 0 = id }))
+abbrev of : ℕ → Option Object
+of id = Some (object.Set (record { 0 = id }))
 
 other_id : (id n : ℕ) → of id ≢ of n → n ≢ id
 other_id id n apart same = apart (ap of (sym same))
@@ -129,29 +131,45 @@ has-within sets id num e there within =
 module _ (limits : Limits) (s : State) where
   -- a new set changes none that is there
   good-more : (e : Entry Set) → (HasSoundParts limits s → HasSoundParts limits (record s { sem = with_new s.sem e })) → (body : PlainBody)
-      → (HasSoundParts limits s → FitsBody limits body) → EndsWell limits s (Ok (record { state = record s { sem = with_new s.sem e }; body = body }))
+      → (HasSoundParts limits s → FitsBody limits body) → EndsWell limits s (answer (record s { sem = with_new s.sem e }) body)
   good-more e sound body fits =
       answered (record s { sem = with_new s.sem e }) body
-      (record { state = sound; body = fits; kept = refl; clock = refl; wait = refl; others = λ on apart there. same on there })
+      (record {
+        state = sound;
+        body = fits;
+        kept = same-processes s _ refl;
+        clock = refl;
+        wait = refl;
+        others = λ h pid on waits apart there. same pid on there;
+      })
     where
-      same : (on : Awaited) → is_there on s ≡ true → IsAsBefore on s (record s { sem = with_new s.sem e })
-      same (awaited.Queue n) there = refl
-      same (awaited.Set n) there = (there-append s.sem.entries _ n.0 there, λ pid num. refl)
+      same : (pid : ℕ) (on : Awaited) → is_there pid on s ≡ true → IsAsBefore pid on s (record s { sem = with_new s.sem e })
+      same pid (awaited.Queue n) there = refl
+      same pid (awaited.Set n) there = (there-append s.sem.entries _ n.0 there, λ pid num. refl)
+      same pid (awaited.Descriptor fd) there = (refl, λ n is. refl)
 
   -- another set in its place, or none, and other adjustments there change no other set on which others wait
   good-sets : (id : ℕ) (sem : Keyed Set) (undo : List (ℕ × Undo)) → (HasSoundParts limits s → HasSoundParts limits (record s { sem = sem; undo = undo }))
       → ((n : ℕ) → n ≢ id → entry_of sem n ≡ entry_of s.sem n)
       → ((pid : ℕ) (k : Key) → k.0 ≢ id → adjustment (those undo pid) k ≡ adjustment (those s.undo pid) k)
-      → Ends limits s (of id) (Ok (record { state = record s { sem = sem; undo = undo }; body = Empty }))
+      → Ends limits s (of id) (answer (record s { sem = sem; undo = undo }) Empty)
   good-sets id sem undo sound others elsewhere =
       answered (record s { sem = sem; undo = undo }) Empty
-      (record { state = sound; body = λ _. omega arith; kept = refl; clock = refl; wait = refl; others = λ on apart there. same on apart })
+      (record {
+        state = sound;
+        body = λ _. omega arith;
+        kept = same-processes s _ refl;
+        clock = refl;
+        wait = refl;
+        others = λ h pid on waits apart there. same pid on apart;
+      })
     where
-      same : (on : Awaited) → of id ≢ Some on → IsAsBefore on s (record s { sem = sem; undo = undo })
-      same (awaited.Queue n) apart = refl
-      same (awaited.Set n) apart =
+      same : (pid : ℕ) (on : Awaited) → of id ≢ object_of s pid on → IsAsBefore pid on s (record s { sem = sem; undo = undo })
+      same pid (awaited.Queue n) apart = refl
+      same pid (awaited.Set n) apart =
           let other = other_id id n.0 apart in
           (others n.0 other, λ pid num. elsewhere pid (n.0, num) other)
+      same pid (awaited.Descriptor fd) apart = (refl, λ n is. refl)
 
   value-fits : (value : ℤ) (v : ℕ) → value_of value ≡ Some v → v ≤ most_value
   value-fits (pos k) v is = by_test (nat_le k most_value) refl is

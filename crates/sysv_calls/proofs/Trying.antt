@@ -6,19 +6,17 @@ use Rattle.ipc_base.specs.declared.identity.Cred.{Cred}
 use Rattle.ipc_base.specs.declared.limits.Limits.{Limits}
 use Rattle.ipc_base.specs.Limits.{ArePassed}
 use Rattle.ipc_base.proofs.CallerLemmas.{passed-bounds}
-use Rattle.ipc_wire.specs.Request.{PlainCall, PlainKind, Calls}
+use Rattle.ipc_wire.specs.Request.{PlainCall}
 use Rattle.ipc_wire.specs.Request as requests
 use Rattle.ipc_wire.specs.Reply.{PlainBody}
 use Rattle.ipc_wire.specs.declared.reply.Body.TheVariants.{Empty, Message}
 use Rattle.sysv_msg.specs.Queue.{Queue, byte_count, full, most_messages, sent, taken}
 use Rattle.sysv_sem.specs.Set.{Set}
 use Rattle.ipc_state.specs.declared.keyed.Entry.{Entry}
-use Rattle.ipc_state.specs.declared.parked.ParkedCall.{ParkedCall}
 use Rattle.ipc_state.specs.Keyed.{holding}
 use Rattle.ipc_state.specs.Finish.{Attempt, Done, Halt, Finishes, answer, done, ended, has_to_wait, ◌>>=◌}
 use Rattle.ipc_state.specs.Sound.{HasSoundParts}
 use Rattle.ipc_state.specs.State.{State, cred_of, is_process, queue_of, with_queue}
-use Rattle.ipc_state.specs.Waiting.{parked_kind}
 use Rattle.ipc_state.proofs.CallerLemmas.{queue-sound}
 use Rattle.sysv_calls.specs.Calls.{attempt, call_of}
 use Rattle.sysv_calls.specs.Msg.{message_at, receivable, sendable}
@@ -51,27 +49,30 @@ stopped limits s pid again call h =
     stays-stopped (λ (found : Entry Set × List ℕ). 0) _ (performable limits s (cred_of s pid) pid again id (operations_of operations)) h is)
     (λ c other is. let both = sym (other.untested limits s (cred_of s pid) pid again) ∙ is in cc) call
 
--- the tests of a call of this kind answered so
-pub record Tested (limits : Limits) (s : State) (pid : ℕ) (again : Bool) (kind : PlainKind) (r : Result ℕ Stops) : Type 0 where
-  pub place : (wanted : PlainCall) → kind ≡ Calls wanted → place_in limits s (cred_of s pid) pid again wanted ≡ attempted r
+-- the tests of a call answered so
+pub record Tested (limits : Limits) (s : State) (pid : ℕ) (again : Bool) (call : PlainCall) (r : Result ℕ Stops) : Type 0 where
+  pub place : place_in limits s (cred_of s pid) pid again call ≡ attempted r
 
-pub tested : (limits : Limits) (s : State) (pid : ℕ) (again : Bool) (cred : Cred) → cred ≡ cred_of s pid → (kind : PlainKind) (call : ParkedCall)
-    → parked_kind call ≡ kind → (r : Result ℕ Stops)
-    → ((wanted : PlainCall) → parked_kind call ≡ Calls wanted → attempted r ≡ place_in limits s cred pid again wanted) → Tested limits s pid again kind r
-tested limits s pid again cred same kind call shown r answers =
-    record { place = λ wanted is. sym (answers wanted (shown ∙ is) ∙ ap (λ (c : Cred). place_in limits s c pid again wanted) same) }
+pub tested : (limits : Limits) (s : State) (pid : ℕ) (again : Bool) (cred : Cred) → cred ≡ cred_of s pid → (call : PlainCall) (r : Result ℕ Stops)
+    → attempted r ≡ place_in limits s cred pid again call → Tested limits s pid again call r
+tested limits s pid again cred same call r answers =
+    record { place = sym (answers ∙ ap (λ (c : Cred). place_in limits s c pid again call) same) }
 
-module _ {limits : Limits} {s : State} {pid : ℕ} {again : Bool} {kind : PlainKind} {r : Result ℕ Stops} (tests : Tested limits s pid again kind r) where
-  pub waits-on : (wanted : PlainCall) → kind ≡ Calls wanted → is_blocked (attempted r) ≡ has_to_wait (attempt limits s pid again wanted)
-  waits-on wanted is = sym (waits-as-tested limits s pid again wanted ∙ ap is_blocked (tests.place wanted is))
+module _ {limits : Limits} {s : State} {pid : ℕ} {again : Bool} {call : PlainCall} {r : Result ℕ Stops} (tests : Tested limits s pid again call r) where
+  pub waits-on : is_blocked (attempted r) ≡ has_to_wait (attempt limits s pid again call)
+  waits-on = sym (waits-as-tested limits s pid again call ∙ ap is_blocked tests.place)
 
-  pub ends-stopped : (h : Stops) → r ≡ Err h → (wanted : PlainCall) → kind ≡ Calls wanted → ended s (Err (plain_halt h)) ≡ attempt limits s pid again wanted
-  ends-stopped h was wanted is = sym (ap (ended s) (stopped limits s pid again wanted (plain_halt h) (tests.place wanted is ∙ ap attempted was)))
+  pub ends-stopped : (h : Stops) → r ≡ Err h → ended s (Err (plain_halt h)) ≡ attempt limits s pid again call
+  ends-stopped h was = sym (ap (ended s) (stopped limits s pid again call (plain_halt h) (tests.place ∙ ap attempted was)))
+
+  -- what the tests found of a call that may go on
+  passed-place : {at : ℕ} → r ≡ Ok at → (c : PlainCall) → c ≡ call → place_in limits s (cred_of s pid) pid again c ≡ Ok at
+  passed-place was c is = ap (place_in limits s (cred_of s pid) pid again) is ∙ (tests.place ∙ ap attempted was)
 
   -- a send that may go on
-  module _ {at : ℕ} (was : r ≡ Ok at) {id flags : ℕ} {mtype : ℤ} {text : List ℕ} (is : Calls (requests.Msgsnd id flags mtype text) ≡ kind) where
+  module _ {at : ℕ} (was : r ≡ Ok at) {id flags : ℕ} {mtype : ℤ} {text : List ℕ} (is : requests.Msgsnd id flags mtype text ≡ call) where
     shown-send : Shows (λ (e : Entry Queue). 0) (sendable limits s (cred_of s pid) again id flags mtype text) at
-    shown-send = shows (λ (e : Entry Queue). 0) _ at (tests.place (requests.Msgsnd id flags mtype text) (sym is) ∙ ap attempted was)
+    shown-send = shows (λ (e : Entry Queue). 0) _ at (passed-place was (requests.Msgsnd id flags mtype text) is)
 
     may_send : Sends limits s id mtype text shown-send.value
     may_send = sends limits s (cred_of s pid) again id flags mtype text shown-send.value shown-send.was
@@ -88,20 +89,19 @@ module _ {limits : Limits} {s : State} {pid : ℕ} {again : Bool} {kind : PlainK
 
     pub sends-finish : (t : State)
         → ((e : Entry Queue) → queue_of s id ≡ Some e → t ≡ with_queue s id (holding e (sent e.object (record { mtype = mtype; text = text }) pid s.clock)))
-        → (wanted : PlainCall) → kind ≡ Calls wanted → Finishes (done t Empty) ≡ attempt limits s pid again wanted
-    sends-finish t left wanted wants =
-        let one : requests.Msgsnd id flags mtype text ≡ wanted = cc in
+        → Finishes (done t Empty) ≡ attempt limits s pid again call
+    sends-finish t left =
         let next : Entry Queue → Attempt Done =
         λ (e : Entry Queue). answer (with_queue s id (holding e (sent e.object (record { mtype = mtype; text = text }) pid s.clock))) Empty in
         let ends : ended s (next shown-send.value) ≡ attempt limits s pid again (requests.Msgsnd id flags mtype text) =
         sym (ap (λ (a : Attempt (Entry Queue)). ended s (a >>= next)) shown-send.was) in
-        subst (λ (w : PlainCall). Finishes (done t Empty) ≡ attempt limits s pid again w) one
+        subst (λ (w : PlainCall). Finishes (done t Empty) ≡ attempt limits s pid again w) is
         (ap (λ (u : State). Finishes (done u Empty)) (left shown-send.value may_send.there) ∙ ends)
 
   -- a receive that may go on
-  module _ {at : ℕ} (was : r ≡ Ok at) {id flags size : ℕ} {mtype : ℤ} (is : Calls (requests.Msgrcv id flags size mtype) ≡ kind) where
+  module _ {at : ℕ} (was : r ≡ Ok at) {id flags size : ℕ} {mtype : ℤ} (is : requests.Msgrcv id flags size mtype ≡ call) where
     shown-receive : Shows (λ (found : Entry Queue × ℕ). found.1) (receivable s (cred_of s pid) again id flags size mtype) at
-    shown-receive = shows (λ (found : Entry Queue × ℕ). found.1) _ at (tests.place (requests.Msgrcv id flags size mtype) (sym is) ∙ ap attempted was)
+    shown-receive = shows (λ (found : Entry Queue × ℕ). found.1) _ at (passed-place was (requests.Msgrcv id flags size mtype) is)
 
     may_receive : Receives s id shown-receive.value
     may_receive = receives s (cred_of s pid) again id flags size mtype shown-receive.value shown-receive.was
@@ -118,24 +118,23 @@ module _ {limits : Limits} {s : State} {pid : ℕ} {again : Bool} {kind : PlainK
     pub receives-finish : (t : State) (body : PlainBody)
         → ((e : Entry Queue) → queue_of s id ≡ Some e → t ≡ with_queue s id (holding e (taken e.object at pid s.clock)))
         → ((e : Entry Queue) → queue_of s id ≡ Some e → body ≡ Message (message_at e.object at).mtype (take size (message_at e.object at).text))
-        → (wanted : PlainCall) → kind ≡ Calls wanted → Finishes (done t body) ≡ attempt limits s pid again wanted
-    receives-finish t body left says wanted wants =
-        let one : requests.Msgrcv id flags size mtype ≡ wanted = cc in
+        → Finishes (done t body) ≡ attempt limits s pid again call
+    receives-finish t body left says =
         let e : Entry Queue = shown-receive.value.0 in
         let next : Entry Queue × ℕ → Attempt Done =
         λ (found : Entry Queue × ℕ). answer (with_queue s id (holding found.0 (taken found.0.object found.1 pid s.clock)))
         (Message (message_at found.0.object found.1).mtype (take size (message_at found.0.object found.1).text)) in
         let ends : ended s (next shown-receive.value) ≡ attempt limits s pid again (requests.Msgrcv id flags size mtype) =
         sym (ap (λ (a : Attempt (Entry Queue × ℕ)). ended s (a >>= next)) shown-receive.was) in
-        subst (λ (w : PlainCall). Finishes (done t body) ≡ attempt limits s pid again w) one
+        subst (λ (w : PlainCall). Finishes (done t body) ≡ attempt limits s pid again w) is
         ((λ i. Finishes (done (left e may_receive.there i) (says e may_receive.there i)))
         ∙ (ap (λ (n : ℕ). ended s (next (e, n))) (sym shown-receive.is) ∙ ends))
 
   -- a list of operations that may be performed
-  module _ {at : ℕ} (was : r ≡ Ok at) {id timeout : ℕ} {operations : List ℕ} (is : Calls (requests.Semop id timeout operations) ≡ kind)
+  module _ {at : ℕ} (was : r ≡ Ok at) {id timeout : ℕ} {operations : List ℕ} (is : requests.Semop id timeout operations ≡ call)
       (checked : ArePassed limits) where
     shown-operate : Shows (λ (found : Entry Set × List ℕ). 0) (performable limits s (cred_of s pid) pid again id (operations_of operations)) at
-    shown-operate = shows (λ (found : Entry Set × List ℕ). 0) _ at (tests.place (requests.Semop id timeout operations) (sym is) ∙ ap attempted was)
+    shown-operate = shows (λ (found : Entry Set × List ℕ). 0) _ at (passed-place was (requests.Semop id timeout operations) is)
 
     may_operate : Passes limits s pid id (operations_of operations) shown-operate.value
     may_operate =
@@ -151,9 +150,8 @@ module _ {limits : Limits} {s : State} {pid : ℕ} {again : Bool} {kind : PlainK
 
       pub operates-finish : (t : State)
           → ((found : Entry Set × List ℕ) → Passes limits s pid id (operations_of bytes) found → t ≡ operated s pid id (operations_of bytes) found)
-          → (wanted : PlainCall) → kind ≡ Calls wanted → Finishes (done t Empty) ≡ attempt limits s pid again wanted
-      operates-finish t left wanted wants =
-          let one : requests.Semop id timeout operations ≡ wanted = cc in
+          → Finishes (done t Empty) ≡ attempt limits s pid again call
+      operates-finish t left =
           let found : Entry Set × List ℕ = shown-operate.value in
           let next : Entry Set × List ℕ → Attempt Done = λ f. answer (operated s pid id (operations_of operations) f) Empty in
           let ends : ended s (next found) ≡ attempt limits s pid again (requests.Semop id timeout operations) =
@@ -161,4 +159,4 @@ module _ {limits : Limits} {s : State} {pid : ℕ} {again : Bool} {kind : PlainK
           let leaves : t ≡ operated s pid id (operations_of operations) found =
           subst (λ (l : List ℕ). Passes limits s pid id (operations_of l) found → t ≡ operated s pid id (operations_of l) found) same (left found)
           may_operate in
-          subst (λ (w : PlainCall). Finishes (done t Empty) ≡ attempt limits s pid again w) one (ap (λ (u : State). Finishes (done u Empty)) leaves ∙ ends)
+          subst (λ (w : PlainCall). Finishes (done t Empty) ≡ attempt limits s pid again w) is (ap (λ (u : State). Finishes (done u Empty)) leaves ∙ ends)

@@ -3,8 +3,8 @@ use Rattle.std.specs.Prelude.{ℕ, Bool, true, false, Option, Some, None}
 use Rattle.ipc_base.specs.declared.limits.Limits.{Limits}
 use Rattle.ipc_wire.specs.Request.{PlainCall, PlainKind, Calls}
 use Rattle.ipc_wire.specs.Request as requests
-use Rattle.ipc_state.specs.declared.parked.Awaited.{Awaited}
-use Rattle.ipc_state.specs.declared.parked.Awaited.TheVariants as awaited
+use Rattle.ipc_state.specs.declared.parked.Object.{Object}
+use Rattle.ipc_state.specs.declared.parked.Object.TheVariants as object
 use Rattle.ipc_state.specs.State.{State, cred_of}
 use Rattle.ipc_state.specs.Finish.{Tried, Attempt, Done, ended}
 use Rattle.sysv_calls.specs.Msg.{msgget, msgsnd, msgrcv, msgctl_stat, msgctl_set, msgctl_rmid}
@@ -38,25 +38,25 @@ call_of limits s pid again (requests.SemctlSet id uid gid mode) = semctl_set s (
 call_of limits s pid again (requests.SemctlRmid id) = semctl_rmid s (cred_of s pid) id
 
 -- the object that a call may change, so that those that wait on it may go on
-abbrev pub touched : PlainCall → Option Awaited
+abbrev pub touched : PlainCall → Option Object
 touched (requests.Msgget key flags) = None
-touched (requests.Msgsnd id flags mtype text) = Some (awaited.Queue (record { 0 = id }))
-touched (requests.Msgrcv id flags size mtype) = Some (awaited.Queue (record { 0 = id }))
+touched (requests.Msgsnd id flags mtype text) = Some (object.Queue (record { 0 = id }))
+touched (requests.Msgrcv id flags size mtype) = Some (object.Queue (record { 0 = id }))
 touched (requests.MsgctlStat id) = None
-touched (requests.MsgctlSet id uid gid mode qbytes) = Some (awaited.Queue (record { 0 = id }))
-touched (requests.MsgctlRmid id) = Some (awaited.Queue (record { 0 = id }))
+touched (requests.MsgctlSet id uid gid mode qbytes) = Some (object.Queue (record { 0 = id }))
+touched (requests.MsgctlRmid id) = Some (object.Queue (record { 0 = id }))
 touched (requests.Semget key nsems flags) = None
-touched (requests.Semop id timeout operations) = Some (awaited.Set (record { 0 = id }))
+touched (requests.Semop id timeout operations) = Some (object.Set (record { 0 = id }))
 touched (requests.SemctlGetVal id num) = None
 touched (requests.SemctlGetPid id num) = None
 touched (requests.SemctlGetNcnt id num) = None
 touched (requests.SemctlGetZcnt id num) = None
-touched (requests.SemctlSetVal id num value) = Some (awaited.Set (record { 0 = id }))
+touched (requests.SemctlSetVal id num value) = Some (object.Set (record { 0 = id }))
 touched (requests.SemctlGetAll id) = None
-touched (requests.SemctlSetAll id values) = Some (awaited.Set (record { 0 = id }))
+touched (requests.SemctlSetAll id values) = Some (object.Set (record { 0 = id }))
 touched (requests.SemctlStat id) = None
-touched (requests.SemctlSet id uid gid mode) = Some (awaited.Set (record { 0 = id }))
-touched (requests.SemctlRmid id) = Some (awaited.Set (record { 0 = id }))
+touched (requests.SemctlSet id uid gid mode) = Some (object.Set (record { 0 = id }))
+touched (requests.SemctlRmid id) = Some (object.Set (record { 0 = id }))
 
 -- whether it is a receive from a queue: one takes a message away, so that no other receive goes on by it
 abbrev pub is_receive : PlainKind → Bool

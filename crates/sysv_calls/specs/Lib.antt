@@ -5,5 +5,4 @@ pub mod Sem
 pub mod Semop
 pub mod Calls
 pub mod Needs
-pub mod Spare
 pub mod Seen

@@ -1,5 +1,5 @@
--- What a request may need of memory. It is taken before the call is tried, so that nothing that is answered takes any:
--- neither the call itself, nor one that waited.
+-- What a System V request may need of memory. It is taken before the call is tried, so that nothing that is answered
+-- takes any: neither the call itself, nor one that waited.
 use Rattle.std.specs.Prelude.{◌≡◌, ◌≢◌, ℤ, pos, ℕ, suc, nat_lt, Bool, true, false, if◌then◌else◌, Option, None, Some}
 use Rattle.ipc_keys.specs.Directory.{is_vacant}
 use Rattle.ipc_wire.specs.Request.{PlainKind, PlainRequest, Calls}
@@ -27,7 +27,7 @@ abbrev pub set_place : ℤ → ℤ → Needs
 set_place key (pos (suc n)) = if nat_lt n 64 then SetPlace key (suc n) else Nothing
 set_place key _ = Nothing
 
--- the table: a request that it does not name needs nothing
+-- the table: a request that it does not name needs nothing here; what a POSIX request needs, the POSIX calls tell
 abbrev pub needs : PlainKind → Needs
 needs (Calls (requests.Msgget key flags)) = Place key
 needs (Calls (requests.Msgsnd id flags mtype text)) = Text
@@ -48,9 +48,14 @@ is_place _ = false
 abbrev pub takes_memory : PlainKind → Bool
 takes_memory kind = is_something (needs kind)
 
--- what is kept of a request: it is, if its call may wait
+-- whether a request is kept while its call waits: one of System V is, if it may wait
+abbrev pub is_kept : PlainKind → Bool
+is_kept (Calls call) = may_wait (Calls call)
+is_kept _ = false
+
+-- what is kept of a request
 abbrev pub kept_of : PlainRequest → Option PlainRequest
-kept_of request = if may_wait request.kind then Some request else None
+kept_of request = if is_kept request.kind then Some request else None
 
 -- what is needed is there; of a text it is what was kept
 abbrev pub Has : State → Room → Needs → Type 0

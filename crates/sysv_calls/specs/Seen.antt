@@ -5,11 +5,12 @@ use Rattle.ipc_base.specs.declared.errno.Errno.{Errno}
 use Rattle.ipc_base.specs.declared.identity.Cred.{Cred}
 use Rattle.ipc_base.specs.declared.identity.Id.{Id}
 use Rattle.ipc_base.specs.declared.limits.Limits.{Limits}
-use Rattle.ipc_wire.specs.Request.{PlainCall, PlainRequest}
+use Rattle.ipc_wire.specs.Request.{PlainCall}
 use Rattle.ipc_wire.specs.Request as requests
 use Rattle.ipc_state.specs.Finish.{Attempt, Halt, Fails, Blocks, Tried, Finishes, Waits, finish_of}
 use Rattle.ipc_state.specs.Held.{Held}
 use Rattle.ipc_state.specs.State.{State}
+use Rattle.ipc_state.specs.Waiting.{parked_call}
 use Rattle.sysv_calls.specs.Msg.{sendable, receivable}
 use Rattle.sysv_calls.specs.Semop.{operations_of, performable}
 use Rattle.sysv_calls.specs.declared.msg.Halt.{Halt as Stops}
@@ -69,6 +70,6 @@ tried_of s (comes.Finishes answer) = Finishes (finish_of s answer)
 tried_of s (comes.Waits call) = Waits
 
 -- if it waits, it is the same call as before, and the state is as it was
-abbrev pub IsKeptIn : Held → PlainRequest → Held → Comes → Type 0
-IsKeptIn before request after (comes.Finishes answer) = Unit {0}
-IsKeptIn before request after (comes.Waits call) = (call ≡ request) × (after ≡ before)
+abbrev pub IsKeptIn : Held → PlainCall → Held → Comes → Type 0
+IsKeptIn before call after (comes.Finishes answer) = Unit {0}
+IsKeptIn before call after (comes.Waits kept) = (parked_call kept ≡ call) × (after ≡ before)

@@ -8,10 +8,10 @@ ghost use Rattle.ipc_state.specs.Held.{HasNoSpareKeys};
 ghost use Rattle.ipc_state.specs.Sound.{HasSoundParts};
 ghost use Rattle.ipc_state.specs.State.{is_process};
 ghost use Rattle.sysv_calls.specs.Calls as defined;
-ghost use Rattle.ipc_state.specs.Waiting.{may_wait};
+ghost use Rattle.ipc_state.specs.Waiting.{has_text, may_wait};
 ghost use Rattle.sysv_calls.specs.Needs.{Has, HasSpareKeysOf, IsReserved, is_place, needs, plain_needs};
-ghost use Rattle.sysv_calls.specs.Needs.{takes_memory};
-ghost use Rattle.sysv_calls.specs.Spare.{IsSpare, IsKept};
+ghost use Rattle.sysv_calls.specs.Needs.{is_kept, kept_of, takes_memory};
+ghost use Rattle.ipc_state.specs.Spare.{IsSpare, IsKept};
 
 use crate::memory::{Needs, needed_by};
 use crate::msg::{msgctl_rmid, msgctl_set, msgctl_stat, msgget};
@@ -22,14 +22,15 @@ use crate::sem::{
 use crate::semop::semctl_getcnt;
 use ipc_base::{Errno, Pid};
 use ipc_state::{Parked, State};
-use ipc_wire::{Body, Call, Request};
+use ipc_wire::{Body, Call, Request, RequestKind};
 use std::alloc::{AllocError, Global};
 
 /// How a call ends: the body of its reply, or the error.
 pub type Answer = Result<Body<Vec<u8>>, Errno>;
 
-/// Takes the memory that a request may need, which one that grows nothing never does. A call that may wait is kept, its
-/// text in memory of its own. Refused, the state is as before.
+/// Takes the memory that a System V request may need, which one that grows nothing never does. A call that may wait is
+/// kept, its text in memory of its own. Any other request needs nothing here, and nothing is kept of it. Refused, the
+/// state is as before.
 pub fn reserve(
     state: &mut State,
     alloc: Global,
@@ -46,7 +47,20 @@ pub fn reserve(
     ensures no_key { OnErr result (HasNoSpareKeys state.old.room → HasNoSpareKeys state.new.room) }
 {
     reserve_place(state, needed_by(&request.kind))?;
-    Parked::new(alloc, request)
+    keep(alloc, request)
+}
+
+/// Keeps a System V request that may have to wait. Refused for want of memory, which only a text or a list of
+/// operations takes.
+fn keep(alloc: Global, request: &Request<'_>) -> Result<Option<Parked>, AllocError>
+    ensures kept { IfOk result (λ kept. kept ≡ kept_of (plain_request request.now)) }
+    ensures memory { has_text (plain_kind request.now.kind) ≡ false → IsOk result }
+    ensures others { is_kept (plain_kind request.now.kind) ≡ false → IsOk result }
+{
+    match &request.kind {
+        RequestKind::Call(_) => Parked::new(alloc, request),
+        RequestKind::Hello(_) | RequestKind::Interrupt | RequestKind::Posix(_) => Ok(None),
+    }
 }
 
 /// Takes the memory of a new object, if one is needed. Refused, the state is as before.

@@ -11,4 +11,4 @@ mod semop;
 mod waiting;
 
 pub use calls::{Answer, attempt, reserve};
-pub use waiting::{Tried, has_to_wait, is_receive, receives, touched, try_parked};
+pub use waiting::{Tried, has_to_wait, is_receive, touched, try_parked};

@@ -18,7 +18,7 @@ ghost use Rattle.sysv_calls.specs.Msg as defined;
 ghost use Rattle.sysv_calls.specs.Needs.{HasNoSpareKeyBut};
 ghost use Rattle.sysv_calls.specs.Records.{queue_fields};
 ghost use Rattle.sysv_calls.specs.Seen.{attempted, plain_halt, seen};
-ghost use Rattle.sysv_calls.specs.Spare.{IsSpare, IsKept};
+ghost use Rattle.ipc_state.specs.Spare.{IsSpare, IsKept};
 ghost use Rattle.sysv_msg.specs.Queue.{Queue, most_messages, plain, sent, taken};
 
 use crate::access::{accessible, owned, push_perm, remove, seek, take_spare};

@@ -17,7 +17,7 @@ ghost use Rattle.sysv_calls.specs.Needs.{Has, HasNoSpareKeyBut, set_place};
 ghost use Rattle.sysv_calls.specs.Records.{set_fields};
 ghost use Rattle.sysv_calls.specs.Seen.{result_of, seen};
 ghost use Rattle.sysv_calls.specs.Sem as defined;
-ghost use Rattle.sysv_calls.specs.Spare.{IsSpare, IsKept};
+ghost use Rattle.ipc_state.specs.Spare.{IsSpare, IsKept};
 
 use crate::access::{accessible, owned, push_perm, remove, seek, take_spare};
 use crate::calls::Answer;

@@ -26,7 +26,7 @@ use crate::sem::semaphore;
 use bitflags::Flags;
 use ipc_base::{Cred, Errno, Id, Pid, SemFlags};
 use ipc_perm::{Access, Perm, may};
-use ipc_state::{ParkedCall, State};
+use ipc_state::{ParkedCall, ParkedKind, State};
 use ipc_wire::{Body, SemBuf, Sixes};
 use sem_undo::subtracted_adds_up;
 use sysv_sem::{Operation, Trial};
@@ -245,22 +245,24 @@ fn count_stopped(state: &State, zero: bool, id: Id, num: u16) -> u32
 {
     let mut count = 0;
     for waiting in state.waits() {
-        let is_one = is_stopped(state, zero, id, num, waiting.pid, waiting.call.call());
+        let is_one = is_stopped(state, zero, id, num, waiting.pid, waiting.call.kind());
         count += u32::from(is_one);
     }
     count
 }
 
 /// Whether a call that waits is a list on this set that such an operation stops now.
-fn is_stopped(state: &State, zero: bool, id: Id, num: u16, pid: Pid, call: &ParkedCall) -> bool
+fn is_stopped(state: &State, zero: bool, id: Id, num: u16, pid: Pid, call: &ParkedKind) -> bool
     ensures { result ≡ defined.is_stopped state.now.limits state.now.state zero id.0 num pid.0
         (parked_kind call.now) }
 {
-    let ParkedCall::Semop {
-        id: other,
-        operations,
-        ..
-    } = call
+    let ParkedKind::Call(
+        ParkedCall::Semop {
+            id: other,
+            operations,
+            ..
+        },
+    ) = call
     else {
         return false;
     };

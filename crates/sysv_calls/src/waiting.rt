@@ -2,11 +2,11 @@
 
 ghost use Rattle.std.specs.Prelude.{◌≡◌, true, OnOk};
 ghost use Rattle.ipc_base.specs.Limits.{ArePassed};
-ghost use Rattle.ipc_wire.specs.Request.{Calls, PlainCall, plain_call};
+ghost use Rattle.ipc_wire.specs.Request.{Calls, plain_call};
 ghost use Rattle.ipc_state.specs.Finish as finish;
 ghost use Rattle.ipc_state.specs.Sound.{HasSoundParts};
 ghost use Rattle.ipc_state.specs.State.{is_process};
-ghost use Rattle.ipc_state.specs.Waiting.{parked_kind};
+ghost use Rattle.ipc_state.specs.Waiting.{parked_call};
 ghost use Rattle.sysv_calls.specs.Calls as defined;
 ghost use Rattle.sysv_calls.specs.Seen.{IsKeptIn, attempted, place_in, tried_of};
 
@@ -14,7 +14,7 @@ use crate::calls::Answer;
 use crate::msg::{Halt, ready_to_receive, ready_to_send, receive, send};
 use crate::semop::{operate, ready_to_operate};
 use ipc_base::{Cred, Pid};
-use ipc_state::{Awaited, Parked, ParkedCall, State};
+use ipc_state::{Object, ParkedCall, State};
 use ipc_wire::{Body, Call};
 
 /// What comes of a call that may wait.
@@ -23,28 +23,28 @@ pub enum Tried {
     /// It ends so.
     Finishes(Answer),
     /// It has to wait, and is given back.
-    Waits(Parked),
+    Waits(ParkedCall),
 }
 
 /// Tries a call by a process; `again`, if it has waited. It takes no memory.
-pub fn try_parked(state: &mut State, pid: Pid, again: bool, call: Parked) -> Tried
+pub fn try_parked(state: &mut State, pid: Pid, again: bool, call: ParkedCall) -> Tried
     requires sound { HasSoundParts state.old.limits state.old.state }
     requires process { is_process state.old.state pid.0 ≡ true }
-    ensures finish { (wanted : PlainCall) → call.kind ≡ Calls wanted
-        → tried_of state.new.state result ≡ defined.attempt state.old.limits state.old.state pid.0 again wanted }
-    ensures kept { IsKeptIn state.old call state.new result }
+    ensures finish { tried_of state.new.state result
+        ≡ defined.attempt state.old.limits state.old.state pid.0 again (parked_call call) }
+    ensures kept { IsKeptIn state.old (parked_call call) state.new result }
     ensures limits { state.new.limits ≡ state.old.limits }
     ensures keys { state.new.room.keys ≡ state.old.room.keys }
     ensures set_keys { state.new.room.set_keys ≡ state.old.room.set_keys }
     ensures waits { state.new.room.waits ≡ state.old.room.waits }
 {
     let cred = state.cred(pid);
-    let at = match ready(state, cred, pid, again, call.call()) {
+    let at = match ready(state, cred, pid, again, &call) {
         Ok(at) => at,
         Err(Halt::Fails(e)) => return Tried::Finishes(Err(e)),
         Err(Halt::Blocks) => return Tried::Waits(call),
     };
-    match call.into_call() {
+    match call {
         ParkedCall::Msgsnd { id, message, .. } => {
             send(state, pid, id, message);
             Tried::Finishes(Ok(Body::Empty))
@@ -60,12 +60,12 @@ pub fn try_parked(state: &mut State, pid: Pid, again: bool, call: Parked) -> Tri
 }
 
 /// Whether a call of a process that has waited has to wait on.
-pub fn has_to_wait(state: &State, pid: Pid, call: &Parked) -> bool
+pub fn has_to_wait(state: &State, pid: Pid, call: &ParkedCall) -> bool
     requires process { is_process state.now.state pid.0 ≡ true }
-    ensures { (wanted : PlainCall) → call.now.kind ≡ Calls wanted
-        → result ≡ finish.has_to_wait (defined.attempt state.now.limits state.now.state pid.0 true wanted) }
+    ensures { result ≡ finish.has_to_wait
+        (defined.attempt state.now.limits state.now.state pid.0 true (parked_call call.now)) }
 {
-    match ready(state, state.cred(pid), pid, true, call.call()) {
+    match ready(state, state.cred(pid), pid, true, call) {
         Ok(_) => false,
         Err(Halt::Fails(_)) => false,
         Err(Halt::Blocks) => true,
@@ -74,8 +74,8 @@ pub fn has_to_wait(state: &State, pid: Pid, call: &Parked) -> bool
 
 /// Whether a call may go on now, and then the place of the message that a receive takes; for a send that is 0.
 fn ready(state: &State, cred: Cred, pid: Pid, again: bool, call: &ParkedCall) -> Result<usize, Halt>
-    ensures tests { (wanted : PlainCall) → parked_kind call.now ≡ Calls wanted
-        → attempted result ≡ place_in state.now.limits state.now.state cred pid.0 again wanted }
+    ensures tests { attempted result
+        ≡ place_in state.now.limits state.now.state cred pid.0 again (parked_call call.now) }
     ensures passed { OnOk result (ArePassed state.now.limits) }
 {
     match call {
@@ -96,40 +96,30 @@ fn ready(state: &State, cred: Cred, pid: Pid, again: bool, call: &ParkedCall) ->
     }
 }
 
-/// Whether a call is a receive from a queue: one takes a message away, so that no other receive goes on by it.
-pub fn receives(call: &Call<'_>) -> bool
-    ensures { result ≡ defined.is_receive (Calls (plain_call call.now)) }
+/// Whether a call that waits is a receive from a queue: one takes a message away, so that no other receive goes on by it.
+pub fn is_receive(call: &ParkedCall) -> bool
+    ensures { result ≡ defined.is_receive (Calls (parked_call call.now)) }
 {
     match call {
-        Call::Msgrcv { .. } => true,
-        _ => false,
-    }
-}
-
-/// The same of a call that waits.
-pub fn is_receive(call: &Parked) -> bool
-    ensures { result ≡ defined.is_receive call.now.kind }
-{
-    match call.call() {
         ParkedCall::Msgrcv { .. } => true,
         ParkedCall::Msgsnd { .. } | ParkedCall::Semop { .. } => false,
     }
 }
 
 /// The object that a call may change, so that those that wait on it may go on.
-pub fn touched(call: &Call<'_>) -> Option<Awaited>
+pub fn touched(call: &Call<'_>) -> Option<Object>
     ensures { result ≡ defined.touched (plain_call call.now) }
 {
     match call {
         Call::Msgsnd { id, .. }
         | Call::Msgrcv { id, .. }
         | Call::MsgctlSet { id, .. }
-        | Call::MsgctlRmid { id } => Some(Awaited::Queue(*id)),
+        | Call::MsgctlRmid { id } => Some(Object::Queue(*id)),
         Call::Semop { id, .. }
         | Call::SemctlSetVal { id, .. }
         | Call::SemctlSetAll { id, .. }
         | Call::SemctlSet { id, .. }
-        | Call::SemctlRmid { id } => Some(Awaited::Set(*id)),
+        | Call::SemctlRmid { id } => Some(Object::Set(*id)),
         Call::Msgget { .. }
         | Call::MsgctlStat { .. }
         | Call::Semget { .. }

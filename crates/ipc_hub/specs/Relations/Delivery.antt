@@ -8,7 +8,7 @@ use Rattle.ipc_base.specs.Table.{seen_as, value_at, EachValue}
 use Rattle.ipc_base.specs.declared.limits.Limits.{Limits}
 use Rattle.ipc_wire.specs.Reply.{PlainReply, reply_bytes, body_bytes}
 use Rattle.ipc_state.specs.State.{State}
-use Rattle.ipc_engine.specs.Bytes.{bytes_to, owed}
+use Rattle.ipc_engine.specs.Bytes.{bytes_to, owed, unanswered}
 use Rattle.ipc_engine.specs.Event.{PlainOutcome}
 use Rattle.ipc_engine.specs.View.{reply_of}
 use Rattle.ipc_hub.specs.Clients.{is_for, last_reply, refusal}
@@ -123,14 +123,19 @@ pub record HasRoomToAnswer (os : List PlainOutcome) (conn : ℕ) (table : Table)
   pub own : IfSome (value_at nat_eq table conn) (λ c. c.process ≡ None → HasRoomToGreet (last_reply os) c)
   pub all : HaveRoom os (with_answer os conn table)
 
--- how many bytes of replies a process, if there is one, is owed
+-- how many bytes of frames a process, if there is one, is owed
 abbrev pub owed_to : Limits → State → Option ℕ → ℕ
 owed_to limits s None = 0
 owed_to limits s (Some pid) = owed limits s pid
 
+-- how many requests of a process, if there is one, are not answered yet
+abbrev pub unanswered_of : State → Option ℕ → ℕ
+unanswered_of s None = 0
+unanswered_of s (Some pid) = unanswered s pid
+
 -- the same of the process of a connection
-abbrev pub owed_at : HubView → ℕ → ℕ
-owed_at h conn = owed_to h.limits h.state (process_in h.connections conn)
+abbrev pub unanswered_at : HubView → ℕ → ℕ
+unanswered_at h conn = unanswered_of h.state (process_in h.connections conn)
 
 -- in a connection that goes on, what its process is owed has room, and behind it a reply of so many bytes and the last
 -- frames

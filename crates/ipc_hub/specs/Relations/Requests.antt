@@ -17,7 +17,7 @@ use Rattle.ipc_hub.specs.declared.serving.Asked.TheVariants as asked
 use Rattle.ipc_hub.specs.Clients.{event_of}
 use Rattle.ipc_hub.specs.View.{ConnectionView, HasNoFrame}
 use Rattle.ipc_hub.specs.Relations.Rows.{Table, hub_view, stored_view}
-use Rattle.ipc_hub.specs.Relations.Delivery.{last_frames, owed_at, owed_to}
+use Rattle.ipc_hub.specs.Relations.Delivery.{last_frames, unanswered_at, owed_to}
 use Rattle.ipc_hub.specs.Relations.Invariant.{HubInvariant, GoesOn}
 use Rattle.ipc_hub.specs.Relations.Matches.{Pends, TakesIn}
 
@@ -98,11 +98,11 @@ pub record Received {D : Type 0} (medium : D → Medium) (old new : StoreView D)
   pub still : HubInvariant (hub_view old.machine after)
 
 -- The connection with a number keeps no frame after it has taken bytes. It kept none before, and no event came of them,
--- or one event whose reply its process is owed now, and it was owed nothing before.
+-- or one event to which the reply is still to come, and no request of its process was unanswered before.
 pub record Waits {D : Type 0} (old new : StoreView D) (before after : Table) (conn : ℕ) : Type 0 where
   pub empty : HasNoFrame (hub_view old.machine before) conn
-  pub event : ((new ≡ old) × (owed_at (hub_view old.machine before) conn ≡ owed_at (hub_view new.machine after) conn))
-      ⊎ ((owed_at (hub_view old.machine before) conn ≡ 0) × (0 < owed_at (hub_view new.machine after) conn)
+  pub event : ((new ≡ old) × (unanswered_at (hub_view old.machine before) conn ≡ unanswered_at (hub_view new.machine after) conn))
+      ⊎ ((unanswered_at (hub_view old.machine before) conn ≡ 0) × (0 < unanswered_at (hub_view new.machine after) conn)
       × (IsReadyFor old 2 → IsReadyFor new 1))
 
 -- The connection with a number has taken bytes, and what they complete was served.

@@ -1,19 +1,14 @@
 //! States rebuilt from what was read: sound ones go on, and of each part there is one with which none is sound.
 
-use super::{Answer, Ask, Line, small, take, talk};
-use ipc_base::{Cred, Errno, Id, Moment, MsgFlags, Pid};
-use ipc_engine::{Engine, Event, Row, StateFault};
+use super::small;
+use ipc_base::{Cred, Id, Moment, Pid};
+use ipc_engine::{Engine, StateFault};
 use ipc_keys::Name;
 use ipc_perm::Perm;
-use ipc_state::{
-    Awaited, Descriptor, Descriptors, Entry, NamedEntry, Numbers, Opened, Parked, Process, State,
-};
-use ipc_wait::{WaitList, Waiting};
-use ipc_wire::{Call, Request, RequestKind};
+use ipc_state::{Descriptor, Descriptors, Entry, NamedEntry, Numbers, Opened, Process, State};
 use posix_mq::{Message as MqMessage, Mq, MqAttr, Registration};
 use sem_undo::UndoRow;
 use std::alloc::{AllocError, Global};
-use std::process::Abort;
 use std::test::Fail;
 use sysv_msg::{Message, MsgQueue, QueueNumbers, QueueStat};
 use sysv_sem::{MOST_VALUE, SemSet, SemStat, Semaphore};
@@ -51,18 +46,18 @@ type Open = (u32, u32, u32);
 
 /// A POSIX queue: its name, its two limits, who is registered, and its messages.
 #[derive(Clone, Copy)]
-struct Posix {
-    name: &'static [u8],
-    mode: u32,
-    maxmsg: u32,
-    msgsize: u32,
-    registration: Option<Registration>,
-    sent: &'static [(u32, &'static [u8])],
+pub(super) struct Posix {
+    pub(super) name: &'static [u8],
+    pub(super) mode: u32,
+    pub(super) maxmsg: u32,
+    pub(super) msgsize: u32,
+    pub(super) registration: Option<Registration>,
+    pub(super) sent: &'static [(u32, &'static [u8])],
 }
 
 /// A part of a state.
 #[derive(Clone, Copy)]
-enum Part {
+pub(super) enum Part {
     /// The next process and the next queue; the next semaphore set and the next POSIX queue are 3.
     Next(u32, u32),
     Process(u32),
@@ -160,7 +155,7 @@ fn add(alloc: Global, state: &mut State, part: Part) -> Result<(), AllocError> {
     }
 }
 
-fn state_of(alloc: Global, parts: &[Part]) -> Result<State, AllocError> {
+pub(super) fn state_of(alloc: Global, parts: &[Part]) -> Result<State, AllocError> {
     let mut state = State::new(alloc, small());
     for part in parts {
         add(alloc, &mut state, *part)?;
@@ -191,7 +186,7 @@ fn begin(alloc: Global, parts: &[Part]) -> Result<Engine, StateFault> {
 }
 
 /// The machine that has these parts. What was refused for memory is tried once more.
-fn engine_of(alloc: Global, parts: &[Part]) -> Result<Engine, StateFault> {
+pub(super) fn engine_of(alloc: Global, parts: &[Part]) -> Result<Engine, StateFault> {
     match begin(alloc, parts) {
         Err(StateFault::NoMemory) => begin(alloc, parts),
         made => made,
@@ -199,7 +194,7 @@ fn engine_of(alloc: Global, parts: &[Part]) -> Result<Engine, StateFault> {
 }
 
 /// Process 3 is registered with the queue on which its descriptor 2 is open.
-const REGISTERED: Registration = Registration {
+pub(super) const REGISTERED: Registration = Registration {
     pid: Pid(3),
     descriptor: 2,
     sends: true,
@@ -207,7 +202,7 @@ const REGISTERED: Registration = Registration {
 };
 
 /// A queue of one message.
-const POSIX: Posix = Posix {
+pub(super) const POSIX: Posix = Posix {
     name: b"/q",
     mode: 0o600,
     maxmsg: 2,
@@ -217,7 +212,7 @@ const POSIX: Posix = Posix {
 };
 
 /// Two processes, of which one has a POSIX queue open, a queue with one message, and a set of two semaphores.
-const SMALL: [Part; 6] = [
+pub(super) const SMALL: [Part; 6] = [
     Part::Next(4, 2),
     Part::Process(1),
     Part::Opener(3, &[(0, 1, 0), (2, 1, 2)]),
@@ -341,123 +336,6 @@ fn reads_what_was_added(rt: HostRuntime) -> Result<(), Fail> {
     Ok(())
 }
 
-/// Process 3 with a descriptor 2, and one queue.
-fn with(opened: &'static [Open], posix: Posix) -> [Part; 3] {
-    [
-        Part::Next(4, 1),
-        Part::Opener(3, opened),
-        Part::Posix(1, posix),
-    ]
-}
-
-/// What the queue cannot be, if all else is sound.
-const NO_POSIX: [Posix; 14] = [
-    Posix {
-        name: b"q",
-        ..POSIX
-    },
-    Posix {
-        name: b"/",
-        ..POSIX
-    },
-    Posix {
-        name: b"/a/b",
-        ..POSIX
-    },
-    Posix {
-        name: b"/a\0",
-        ..POSIX
-    },
-    Posix {
-        name: &[47; 256],
-        ..POSIX
-    },
-    Posix {
-        mode: 0o1000,
-        ..POSIX
-    },
-    Posix {
-        maxmsg: 0,
-        sent: &[],
-        ..POSIX
-    },
-    Posix { maxmsg: 3, ..POSIX },
-    Posix {
-        msgsize: 0,
-        sent: &[],
-        ..POSIX
-    },
-    Posix {
-        msgsize: 65,
-        ..POSIX
-    },
-    Posix {
-        maxmsg: 1,
-        sent: &[(0, b""), (0, b"")],
-        ..POSIX
-    },
-    Posix {
-        sent: &[(32768, b"")],
-        ..POSIX
-    },
-    Posix {
-        msgsize: 1,
-        ..POSIX
-    },
-    Posix {
-        registration: Some(Registration {
-            descriptor: 1,
-            ..REGISTERED
-        }),
-        ..POSIX
-    },
-];
-
-/// What the process cannot have open.
-const NO_OPENER: [&[Open]; 6] = [
-    // the queue is not there
-    &[(0, 2, 0), (2, 1, 2)],
-    // nobody has descriptor 2 by which somebody is registered
-    &[(1, 1, 0)],
-    &[(2, 1, 3)],
-    &[(2, 1, 2), (2, 1, 2)],
-    &[(2, 1, 2), (1, 1, 2)],
-    &[(2, 1, 2), (4, 1, 2)],
-];
-
-#[test]
-fn refuses_posix_queues_that_are_not_sound(rt: HostRuntime) {
-    for (line, posix) in NO_POSIX.iter().enumerate() {
-        assert!(rt;
-            is_unsound(rt.alloc(), &with(&[(2, 1, 2)], *posix)),
-            "at line {line}"
-        );
-    }
-    for (line, opened) in NO_OPENER.iter().enumerate() {
-        assert!(rt;
-            is_unsound(rt.alloc(), &with(opened, POSIX)),
-            "at line {line}"
-        );
-    }
-}
-
-/// At the edge of what they may be: an unlinked queue that is open, and the greatest priority with the most messages.
-const EDGE_POSIX: [Posix; 2] = [
-    Posix { name: b"", ..POSIX },
-    Posix {
-        sent: &[(32767, &[7; 64]), (0, b"")],
-        ..POSIX
-    },
-];
-
-#[test]
-fn takes_posix_queues_at_the_edge(rt: HostRuntime) {
-    for (line, posix) in EDGE_POSIX.iter().enumerate() {
-        let parts = with(&[(0, 1, 4294967292), (2, 1, 1), (3, 1, 2)], *posix);
-        assert!(rt; engine_of(rt.alloc(), &parts).is_ok(), "at line {line}");
-    }
-}
-
 const WIDE: Perm = Perm {
     uid: 1000,
     gid: 100,
@@ -477,43 +355,7 @@ const LARGE: QueueNumbers = QueueNumbers {
 
 /// States that are not sound. The limits are 4 processes, 2 queues, 64 bytes a message and 128 a queue, 2 semaphore
 /// sets, and 4 semaphores a set.
-const NOT_SOUND: [&[Part]; 32] = [
-    // a POSIX queue that has no name and is not open
-    &[
-        Part::Next(4, 1),
-        Part::Posix(
-            1,
-            Posix {
-                name: b"",
-                registration: None,
-                ..POSIX
-            },
-        ),
-    ],
-    // its number is the next one
-    &[
-        Part::Next(4, 1),
-        Part::Posix(
-            3,
-            Posix {
-                registration: None,
-                ..POSIX
-            },
-        ),
-    ],
-    // two of one name
-    &[
-        Part::Next(4, 1),
-        Part::Opener(3, &[(2, 1, 2)]),
-        Part::Posix(1, POSIX),
-        Part::Posix(
-            2,
-            Posix {
-                registration: None,
-                ..POSIX
-            },
-        ),
-    ],
+const NOT_SOUND: [&[Part]; 29] = [
     &[
         Part::Next(4, 1),
         Part::Process(3),
@@ -662,224 +504,4 @@ fn takes_states_at_the_edge(rt: HostRuntime) {
     for (line, parts) in AT_THE_EDGE.iter().enumerate() {
         assert!(rt; engine_of(rt.alloc(), parts).is_ok(), "at line {line}");
     }
-}
-
-/// A receive that waits: of which process, under which serial, on which queue, and its fields.
-#[derive(Clone, Copy)]
-struct Wait {
-    pid: u32,
-    serial: u32,
-    on: u32,
-    id: u32,
-    flags: u32,
-    mtype: i64,
-}
-
-fn receive(rt: &impl Abort, wait: Wait) -> Request<'static> {
-    let call = Call::Msgrcv {
-        id: Id(wait.id),
-        flags: MsgFlags(wait.flags),
-        size: 64,
-        mtype: wait.mtype,
-    };
-    Request::new(wait.serial, RequestKind::Call(call)).expect(rt, "a frame")
-}
-
-/// The small state, in which a receive waits.
-fn waiting_state(rt: &impl Abort, alloc: Global, wait: Wait) -> Result<State, AllocError> {
-    let mut state = state_of(alloc, &SMALL)?;
-    let call = Parked::new(alloc, &receive(rt, wait))?.expect(rt, "a receive may wait");
-    let mut calls = Vec::new(alloc);
-    calls.push(Waiting {
-        pid: Pid(wait.pid),
-        on: Awaited::Queue(Id(wait.on)),
-        deadline: None,
-        call,
-    })?;
-    let waits = WaitList::from_calls(alloc, calls)?.expect(rt, "one call is of one process");
-    state.restore_waits(waits);
-    Ok(state)
-}
-
-fn begin_waiting(rt: &impl Abort, alloc: Global, wait: Wait) -> Result<Engine, StateFault> {
-    let state = waiting_state(rt, alloc, wait)?;
-    Engine::from_state(alloc, state)
-}
-
-/// The machine with the small state, in which a receive waits. What was refused for memory is tried once more.
-fn engine_waiting(rt: &impl Abort, alloc: Global, wait: Wait) -> Result<Engine, StateFault> {
-    match begin_waiting(rt, alloc, wait) {
-        Err(StateFault::NoMemory) => begin_waiting(rt, alloc, wait),
-        made => made,
-    }
-}
-
-/// The queue has a message of type 5 and none of type 4.
-const HAS_TO_WAIT: Wait = Wait {
-    pid: 3,
-    serial: 7,
-    on: 1,
-    id: 1,
-    flags: 0,
-    mtype: 4,
-};
-
-/// It could go on, is not of a connected process, or waits on another object.
-const NEED_NOT_WAIT: [Wait; 5] = [
-    Wait {
-        mtype: 5,
-        ..HAS_TO_WAIT
-    },
-    Wait {
-        flags: 0x800,
-        ..HAS_TO_WAIT
-    },
-    Wait {
-        on: 2,
-        id: 2,
-        ..HAS_TO_WAIT
-    },
-    Wait {
-        pid: 2,
-        ..HAS_TO_WAIT
-    },
-    Wait {
-        on: 2,
-        ..HAS_TO_WAIT
-    },
-];
-
-#[test]
-fn a_call_that_waits_has_to(rt: HostRuntime) -> Result<(), Fail> {
-    for (line, wait) in NEED_NOT_WAIT.iter().enumerate() {
-        let made = engine_waiting(&rt, rt.alloc(), *wait);
-        assert!(rt; matches!(made, Err(StateFault::Unsound)), "at line {line}");
-    }
-    let made = engine_waiting(&rt, rt.alloc(), HAS_TO_WAIT);
-    let mut engine = made.ok().ok_or("no engine")?;
-    let lines: [Line; 1] = [(Ask::Receive(1, 8, 4), Answer::Refused(Errno::EALREADY))];
-    talk(&rt, &mut engine, Pid(3), &lines)?;
-    Ok(())
-}
-
-/// Whether a listing has these rows. One that was refused for memory is tried once more.
-fn lists(alloc: Global, engine: &Engine, wanted: &[Row<&[u8]>]) -> Result<bool, AllocError> {
-    let rows = match engine.list(alloc) {
-        Ok(rows) => rows,
-        Err(_) => engine.list(alloc)?,
-    };
-    Ok(rows.as_slice() == wanted)
-}
-
-/// The row of a POSIX queue of these tests that has so many messages.
-fn named_row(name: &[u8], messages: usize) -> Row<&[u8]> {
-    Row::Pmq {
-        mode: 0o600,
-        uid: 1000,
-        gid: 100,
-        messages,
-        maxmsg: 2,
-        msgsize: 64,
-        name,
-    }
-}
-
-#[test]
-fn goes_on_from_a_rebuilt_state(rt: HostRuntime) -> Result<(), Fail> {
-    let mut engine = engine_of(rt.alloc(), &SMALL).ok().ok_or("no engine")?;
-    assert!(rt; engine.outcomes().is_empty());
-    assert_eq!(rt; engine.state().next_pid(), 4);
-    let row = Row::Msg {
-        id: Id(1),
-        key: 1234,
-        mode: 0o600,
-        uid: 1000,
-        gid: 100,
-        bytes: 2,
-        messages: 1,
-    };
-    let set = Row::Sem {
-        id: Id(2),
-        key: -9,
-        mode: 0o600,
-        uid: 1000,
-        gid: 100,
-        nsems: 2,
-    };
-    let listed = lists(rt.alloc(), &engine, &[row, set, named_row(b"/q", 1)])?;
-    assert!(rt; listed);
-    let lines: [Line; 1] = [(Ask::Receive(1, 8, 0), Answer::Message(5, b"hi"))];
-    talk(&rt, &mut engine, Pid(3), &lines)?;
-    Ok(())
-}
-
-/// Queues without messages that nobody is registered with: one of the name /b, and one that was unlinked.
-const FREE: Posix = Posix {
-    name: b"/b",
-    registration: None,
-    sent: &[],
-    ..POSIX
-};
-
-const UNLINKED: Posix = Posix { name: b"", ..FREE };
-
-/// Two POSIX queues, of which the second was unlinked.
-const NAMED: [Part; 4] = [
-    Part::Next(4, 1),
-    Part::Opener(3, &[(0, 2, 0)]),
-    Part::Posix(1, FREE),
-    Part::Posix(2, UNLINKED),
-];
-
-#[test]
-fn lists_posix_queues_by_name(rt: HostRuntime) -> Result<(), Fail> {
-    let engine = engine_of(rt.alloc(), &NAMED).ok().ok_or("no engine")?;
-    let listed = lists(
-        rt.alloc(),
-        &engine,
-        &[named_row(b"", 0), named_row(b"/b", 0)],
-    )?;
-    assert!(rt; listed);
-    Ok(())
-}
-
-/// Process 3 is registered with the first queue; both have the second one open, which was unlinked.
-const SHARED: [Part; 5] = [
-    Part::Next(4, 1),
-    Part::Opener(1, &[(3, 2, 0)]),
-    Part::Opener(3, &[(0, 2, 1), (1, 2, 2), (2, 1, 0)]),
-    Part::Posix(1, POSIX),
-    Part::Posix(2, UNLINKED),
-];
-
-/// The process leaves.
-fn exit(rt: &impl Abort, engine: &mut Engine, pid: u32) -> Result<(), AllocError> {
-    let event = Event::Exit {
-        pid: Pid(pid),
-        moment: Moment(9),
-    };
-    assert!(rt; engine.is_for_process(&event));
-    take(rt, engine, event)
-}
-
-/// How many POSIX queues there are, and who is registered with the first.
-fn left(engine: &Engine) -> (usize, Option<Registration>) {
-    let mqs = engine.state().mqs();
-    let first = match mqs {
-        [item, ..] => item.value.object.registration(),
-        [] => None,
-    };
-    (mqs.len(), first)
-}
-
-/// Who leaves takes its registration along, and an unlinked queue goes with the last of those who have it open.
-#[test]
-fn an_exit_closes_descriptors(rt: HostRuntime) -> Result<(), Fail> {
-    let mut engine = engine_of(rt.alloc(), &SHARED).ok().ok_or("no engine")?;
-    assert_eq!(rt; left(&engine), (2, Some(REGISTERED)));
-    exit(&rt, &mut engine, 3)?;
-    assert_eq!(rt; left(&engine), (2, None));
-    exit(&rt, &mut engine, 1)?;
-    assert_eq!(rt; left(&engine), (1, None));
-    Ok(())
 }

@@ -1,66 +1,76 @@
-use Rattle.std.proofs.Common.{◌<◌, false, ◌++◌, map, length, sym, subst, ap, ◌∙◌, arith}
-use Rattle.ipc_wire.specs.Request.{plain_call}
-use Rattle.ipc_state.specs.declared.parked.Awaited.{Awaited}
+use Rattle.std.proofs.Common.{◌<◌, ◌++◌, map, length, sym, subst, ap, ◌∙◌, arith}
 use Rattle.std.specs.Prelude.{Option}
-use Rattle.ipc_state.specs.Finish.{Tried, finish_of}
+use Rattle.ipc_base.specs.declared.limits.Limits.{Limits}
+use Rattle.ipc_state.specs.declared.parked.Object.{Object}
+use Rattle.ipc_state.specs.Finish.{Tried, finish_firing}
 use Rattle.ipc_state.specs.Held.{Held}
+use Rattle.ipc_state.specs.State.{State}
 use Rattle.ipc_state.specs.Waiting.{awaited_by}
-use Rattle.ipc_state.proofs.CallerLemmas.{IsGood}
+use Rattle.ipc_state.proofs.CallerLemmas.{room-waiting}
+use Rattle.ipc_engine.specs.Settling.{ReceivesWait, touched_by}
 use Rattle.ipc_engine.specs.Step.{after, replied, settle, told, joins}
 use Rattle.ipc_engine.specs.View.{plain_outcome}
-use Rattle.ipc_state.proofs.CallerLemmas.{room-waiting}
-use Rattle.ipc_base.specs.declared.limits.Limits.{Limits}
-use Rattle.ipc_state.specs.State.{State}
-use Rattle.ipc_engine.specs.Settling.{ReceivesWait}
 use Rattle.ipc_engine.proofs.Buffers.{finish-state, waits-kept}
-use Rattle.ipc_engine.proofs.Going.{receives-after}
-use Rattle.ipc_engine.proofs.Resumes.{good-of, good-here}
+use Rattle.ipc_engine.proofs.Going.{receives-tried}
+use Rattle.ipc_engine.proofs.Resumes.{ended-of, good-here}
 use Rattle.ipc_engine.proofs.Soundness.{linked}
+use Rattle.ipc_engine.proofs.Tries.{HasEnded}
+use Rattle.ipc_engine.proofs.asking.try_once.Goals.{In-Finishes}
 use Rattle.ipc_engine.proofs.asking.try_once.Goals as goal
+
+-- what it leaves, if it has come to its end
+ended : (c : In-Finishes) → HasEnded c.args.state.now.limits c.args.state.now.state c.args.pid.0 (touched_by c.args.state.now.state c.args.pid.0 c.args.parked.kind)
+    (finish_firing c.try_kept.new.state.state c.in-Finishes.answer c.in-Finishes.fired)
+ended c =
+    let s = c.args.state.now in
+    ended-of s.limits s.state c.args.pid.0 c.args.parked.kind
+    (finish_firing c.try_kept.new.state.state c.in-Finishes.answer c.in-Finishes.fired) c.requires.free c.in-Finishes.ensures.finish
 
 pub finish-requires-clause-good : goal.finish-requires-clause-good
 finish-requires-clause-good c =
     let s = c.args.state.now in
-    let f = finish_of c.try_parked.new.state.state c.in-Finishes.answer in
-    good-here s.limits c.try_parked.new.state.limits s.state c.touched.result f c.try_parked.ensures.limits c.requires.sound
-    (subst (λ (o : Option Awaited). IsGood s.limits s.state o f) (sym c.touched.ensures)
-    (good-of s.limits s.state c.args.pid.0 false (plain_call c.args.call.now) f (c.in-Finishes.ensures.finish (plain_call c.args.call.now) c.requires.call)))
+    let now = c.try_kept.new.state in
+    let f = finish_firing now.state c.in-Finishes.answer c.in-Finishes.fired in
+    good-here s.limits now.limits s.state now.state c.args.pid.0 c.touched_by-touched.result f c.try_kept.ensures.limits
+    (finish-state now.state c.in-Finishes.answer c.in-Finishes.fired) c.requires.sound c.requires.free
+    (subst (λ (o : Option Object). HasEnded s.limits s.state c.args.pid.0 o f) (sym c.touched_by-touched.ensures) (ended
+    (goal.at.finish-requires-clause-good c).In-Finishes))
 
 pub finish-requires-clause-receives : goal.finish-requires-clause-receives
 finish-requires-clause-receives c received =
     let s = c.args.state.now in
-    let f = finish_of c.try_parked.new.state.state c.in-Finishes.answer in
-    let wait = receives-after s.limits s.state c.args.pid.0 f c.requires.sound (plain_call c.args.call.now)
-    (sym (c.in-Finishes.ensures.finish (plain_call c.args.call.now) c.requires.call)) (sym c.receives.ensures ∙ received) in
-    subst (λ (l : Limits). ReceivesWait l c.try_parked.new.state.state) (sym c.try_parked.ensures.limits)
-    (subst (λ (t : State). ReceivesWait s.limits t) (finish-state c.try_parked.new.state.state c.in-Finishes.answer) wait)
+    let now = c.try_kept.new.state in
+    let f = finish_firing now.state c.in-Finishes.answer c.in-Finishes.fired in
+    let wait = receives-tried s.limits s.state c.args.pid.0 c.args.parked.kind f c.requires.sound (sym c.in-Finishes.ensures.finish)
+    (sym c.is_receive-received.ensures ∙ received) in
+    subst (λ (l : Limits). ReceivesWait l now.state) (sym c.try_kept.ensures.limits)
+    (subst (λ (t : State). ReceivesWait s.limits t) (finish-state now.state c.in-Finishes.answer c.in-Finishes.fired) wait)
+
+pub finish-requires-clause-places : goal.finish-requires-clause-places
+finish-requires-clause-places c =
+    let good = (ended (goal.at.finish-requires-clause-places c).In-Finishes).good in
+    omega (
+      arith,
+      c.requires.places,
+      ap length (waits-kept c.try_kept.new.state.state c.args.state.now.state c.in-Finishes.answer c.in-Finishes.fired good.wait),
+    )
 
 pub returns-in-Finishes-clause-state : goal.returns-in-Finishes-clause-state
 returns-in-Finishes-clause-state c =
     let s = c.args.state.now in
-    let f = finish_of c.try_parked.new.state.state c.in-Finishes.answer in
+    let f = finish_firing c.try_kept.new.state.state c.in-Finishes.answer c.in-Finishes.fired in
     c.finish.ensures.state
-    ∙ ((λ i. (after (replied c.args.pid.0 (c.serial-serial.ensures i) f) (settle (c.try_parked.ensures.limits i))).state)
-    ∙ ap (λ (t : Tried). (told s.limits c.args.pid.0 c.args.parked s.state t).state) (c.in-Finishes.ensures.finish
-    (plain_call c.args.call.now) c.requires.call))
-
-pub finish-requires-clause-places : goal.finish-requires-clause-places
-finish-requires-clause-places c =
-    let s = c.args.state.now in
-    let f = finish_of c.try_parked.new.state.state c.in-Finishes.answer in
-    let good = good-of s.limits s.state c.args.pid.0 false (plain_call c.args.call.now) f (c.in-Finishes.ensures.finish
-    (plain_call c.args.call.now) c.requires.call) in
-    omega (arith, c.requires.places, ap length (waits-kept c.try_parked.new.state.state s.state c.in-Finishes.answer good.wait))
+    ∙ ((λ i. (after (replied c.args.pid.0 (c.serial-serial.ensures i) f) (settle (c.try_kept.ensures.limits i))).state)
+    ∙ ap (λ (t : Tried). (told s.limits c.args.pid.0 c.args.parked s.state t).state) c.in-Finishes.ensures.finish)
 
 pub returns-in-Finishes-clause-outcomes : goal.returns-in-Finishes-clause-outcomes
 returns-in-Finishes-clause-outcomes c =
     let s = c.args.state.now in
     let old = map plain_outcome c.args.outcomes.now.items in
-    let f = finish_of c.try_parked.new.state.state c.in-Finishes.answer in
+    let f = finish_firing c.try_kept.new.state.state c.in-Finishes.answer c.in-Finishes.fired in
     c.finish.ensures.outcomes
-    ∙ ((λ i. old ++ (after (replied c.args.pid.0 (c.serial-serial.ensures i) f) (settle (c.try_parked.ensures.limits i))).outcomes)
-    ∙ ap (λ (t : Tried). old ++ (told s.limits c.args.pid.0 c.args.parked s.state t).outcomes) (c.in-Finishes.ensures.finish
-    (plain_call c.args.call.now) c.requires.call))
+    ∙ ((λ i. old ++ (after (replied c.args.pid.0 (c.serial-serial.ensures i) f) (settle (c.try_kept.ensures.limits i))).outcomes)
+    ∙ ap (λ (t : Tried). old ++ (told s.limits c.args.pid.0 c.args.parked s.state t).outcomes) c.in-Finishes.ensures.finish)
 
 pub join-requires-clause-room : goal.join-requires-clause-room
 join-requires-clause-room c =
@@ -75,7 +85,7 @@ returns-in-Waits-clause-state c =
     let kept = c.in-Waits.ensures.kept in
     c.join.ensures.state
     ∙ ((λ i. (joins (kept.1 i).state c.args.pid.0 (kept.0 i) (awaited_by (kept.0 i).kind)).state)
-    ∙ ap (λ (t : Tried). (told s.limits c.args.pid.0 c.args.parked s.state t).state) (c.in-Waits.ensures.finish (plain_call c.args.call.now) c.requires.call))
+    ∙ ap (λ (t : Tried). (told s.limits c.args.pid.0 c.args.parked s.state t).state) c.in-Waits.ensures.finish)
 
 pub returns-in-Waits-clause-outcomes : goal.returns-in-Waits-clause-outcomes
 returns-in-Waits-clause-outcomes c =
@@ -84,5 +94,4 @@ returns-in-Waits-clause-outcomes c =
     let old = map plain_outcome c.args.outcomes.now.items in
     c.join.ensures.outcomes
     ∙ ((λ i. old ++ (joins (kept.1 i).state c.args.pid.0 (kept.0 i) (awaited_by (kept.0 i).kind)).outcomes)
-    ∙ ap (λ (t : Tried). old ++ (told s.limits c.args.pid.0 c.args.parked s.state t).outcomes) (c.in-Waits.ensures.finish
-    (plain_call c.args.call.now) c.requires.call))
+    ∙ ap (λ (t : Tried). old ++ (told s.limits c.args.pid.0 c.args.parked s.state t).outcomes) c.in-Waits.ensures.finish)

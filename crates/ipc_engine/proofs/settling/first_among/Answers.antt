@@ -3,6 +3,7 @@ use Rattle.std.specs.Prelude.{All}
 use Rattle.std.proofs.lemmas.List.{take_all}
 use Rattle.std.proofs.lemmas.List.Elements.{All-more}
 use Rattle.ipc_state.specs.State.{is_process}
+use Rattle.ipc_state.specs.Touching.{object_of}
 use Rattle.ipc_state.specs.Waiting.{PlainWaiting, IsSoundWaiting}
 use Rattle.sysv_calls.specs.Calls.{is_receive}
 use Rattle.ipc_engine.specs.Settling.{MayBe}
@@ -21,7 +22,8 @@ can_go-requires-clause-process c =
 
 pub can_go-requires-clause-other : goal.can_go-requires-clause-other
 can_go-requires-clause-other c =
-    subst (λ (w : PlainWaiting). ¬ MayBe c.args.among w.on → can_go_on c.args.state.now.limits c.args.state.now.state w ≡ false) (sym c.waiting-item.is)
+    let s = c.args.state.now in
+    subst (λ (w : PlainWaiting). ¬ MayBe c.args.among (object_of s.state w.pid.0 w.on) → can_go_on s.limits s.state w ≡ false) (sym c.waiting-item.is)
     (c.requires.rest c.loop-waiting.waiting-index c.waiting-item.result c.loop-waiting-test.true)
 
 pub can_go-requires-clause-receive : goal.can_go-requires-clause-receive

@@ -1,7 +1,7 @@
 use Rattle.std.proofs.Common.{◌≡◌, true, List, ◌++◌, map, sym, ap, subst, ◌∙◌, append-nil}
 use Rattle.ipc_base.specs.declared.identity.Pid.{Pid}
 use Rattle.ipc_base.specs.declared.limits.Limits.{Limits}
-use Rattle.ipc_state.specs.Finish.{finish_of}
+use Rattle.ipc_state.specs.Finish.{finish_firing}
 use Rattle.ipc_state.specs.Held.{Held}
 use Rattle.ipc_state.specs.Sound.{HasSoundParts}
 use Rattle.ipc_state.specs.State.{State, is_process}
@@ -10,7 +10,7 @@ use Rattle.ipc_state.proofs.CallerLemmas.{without_waiting-sound}
 use Rattle.ipc_engine.specs.Event.{PlainOutcome}
 use Rattle.ipc_engine.specs.Step.{Step, can_go_on}
 use Rattle.ipc_engine.specs.View.{plain_outcome}
-use Rattle.ipc_engine.proofs.Buffers.{pushed, finish-state}
+use Rattle.ipc_engine.proofs.Buffers.{finish-state}
 use Rattle.ipc_engine.proofs.Lists.{found-all}
 use Rattle.ipc_engine.proofs.Resumes.{left-is, left-some, resumed-finishes, resumed-waits}
 use Rattle.ipc_engine.proofs.settling.resume.Goals as goal
@@ -27,14 +27,14 @@ returns-in_default-clause-outcomes c w also =
     absurd (left-some s.limits s.state c.args.pid c.requires.first.0 c.leave_wait.result c.requires.parts c.requires.first.1 c.requires.first.2
     c.leave_wait.ensures.call c.in_default.is)
 
-pub try_parked-requires-clause-sound : goal.try_parked-requires-clause-sound
-try_parked-requires-clause-sound c =
+pub try_kept-requires-clause-sound : goal.try_kept-requires-clause-sound
+try_kept-requires-clause-sound c =
     let s = c.args.state.now in
     subst (λ (l : Limits). HasSoundParts l c.leave_wait.new.self.state) (sym c.leave_wait.ensures.limits)
     (subst (λ (t : State). HasSoundParts s.limits t) (sym c.leave_wait.ensures.state) (without_waiting-sound s.limits s.state c.args.pid.0 c.requires.parts))
 
-pub try_parked-requires-clause-process : goal.try_parked-requires-clause-process
-try_parked-requires-clause-process c =
+pub try_kept-requires-clause-process : goal.try_kept-requires-clause-process
+try_kept-requires-clause-process c =
     let s = c.args.state.now in
     let first = c.requires.first.0 in
     let there : is_process s.state first.pid.0 ≡ true =
@@ -48,11 +48,11 @@ returns-in-Finishes-clause-state c w also =
     let first = c.requires.first in
     let v = c.in-Some.waiting in
     let its = left-is s.limits s.state c.args.pid first.0 v c.leave_wait.result c.requires.parts first.1 first.2 c.leave_wait.ensures.call c.in-Some.is in
-    let f = finish_of c.try_parked.new.state.state c.in-Finishes.answer in
+    let f = finish_firing c.try_kept.new.state.state c.in-Finishes.answer c.in-Finishes.fired in
     let is = resumed-finishes s.limits s.state c.leave_wait.new.self.state c.leave_wait.new.self.limits c.args.pid c.serial-serial.result first.0 v w
     c.requires.parts first.1 its first.2
     c.serial-serial.ensures c.leave_wait.ensures.limits c.leave_wait.ensures.state also f c.in-Finishes.ensures.finish in
-    sym (ap (λ (t : Step). t.state) is ∙ finish-state c.try_parked.new.state.state c.in-Finishes.answer)
+    sym (ap (λ (t : Step). t.state) is ∙ finish-state c.try_kept.new.state.state c.in-Finishes.answer c.in-Finishes.fired)
 
 pub returns-in-Finishes-clause-outcomes : goal.returns-in-Finishes-clause-outcomes
 returns-in-Finishes-clause-outcomes c w also =
@@ -60,12 +60,11 @@ returns-in-Finishes-clause-outcomes c w also =
     let first = c.requires.first in
     let v = c.in-Some.waiting in
     let its = left-is s.limits s.state c.args.pid first.0 v c.leave_wait.result c.requires.parts first.1 first.2 c.leave_wait.ensures.call c.in-Some.is in
-    let f = finish_of c.try_parked.new.state.state c.in-Finishes.answer in
+    let f = finish_firing c.try_kept.new.state.state c.in-Finishes.answer c.in-Finishes.fired in
     let is = resumed-finishes s.limits s.state c.leave_wait.new.self.state c.leave_wait.new.self.limits c.args.pid c.serial-serial.result first.0 v w
     c.requires.parts first.1 its first.2
     c.serial-serial.ensures c.leave_wait.ensures.limits c.leave_wait.ensures.state also f c.in-Finishes.ensures.finish in
-    pushed c.args.outcomes.now.items c.push.new.outcomes.items c.reply_to.result _ c.push.ensures.items
-    (ap (λ (t : Step). t.outcomes) (c.reply_to.ensures.reply c.try_parked.new.state.state) ∙ ap (λ (t : Step). t.outcomes) (sym is))
+    c.tell.ensures.outcomes c.try_kept.new.state.state ∙ ap (λ (t : Step). map plain_outcome c.args.outcomes.now.items ++ t.outcomes) (sym is)
 
 pub returns-in-Waits-clause-state : goal.returns-in-Waits-clause-state
 returns-in-Waits-clause-state c w also =

@@ -1,5 +1,5 @@
 use Rattle.std.proofs.Common.{Option, ◌++◌, map, append-nil, sym, subst, ap, ◌∙◌}
-use Rattle.ipc_state.specs.declared.parked.Awaited.{Awaited}
+use Rattle.ipc_state.specs.declared.parked.Object.{Object}
 use Rattle.ipc_engine.specs.Settling.{OthersWait}
 use Rattle.ipc_engine.specs.Step.{Step}
 use Rattle.ipc_engine.specs.View.{plain_outcome}
@@ -9,15 +9,15 @@ use Rattle.ipc_engine.proofs.settling.settle.Goals as goal
 pub returns-in_default-clause-state : goal.returns-in_default-clause-state
 returns-in_default-clause-state c =
     let s = c.args.state.now in
-    let none = untouched-settled s.limits s.state (subst (λ (o : Option Awaited). OthersWait s.limits s.state o) c.in_default.is c.requires.others) in
+    let none = untouched-settled s.limits s.state (subst (λ (o : Option Object). OthersWait s.limits s.state o) c.in_default.is c.requires.others) in
     sym (ap (λ (t : Step). t.state) none)
 
 pub returns-in_default-clause-outcomes : goal.returns-in_default-clause-outcomes
 returns-in_default-clause-outcomes c =
     let s = c.args.state.now in
-    let none = untouched-settled s.limits s.state (subst (λ (o : Option Awaited). OthersWait s.limits s.state o) c.in_default.is c.requires.others) in
+    let none = untouched-settled s.limits s.state (subst (λ (o : Option Object). OthersWait s.limits s.state o) c.in_default.is c.requires.others) in
     sym (ap (λ (t : Step). map plain_outcome c.args.outcomes.now.items ++ t.outcomes) none ∙ append-nil (map plain_outcome c.args.outcomes.now.items))
 
 pub settle_among-requires-clause-rest : goal.settle_among-requires-clause-rest
 settle_among-requires-clause-rest c =
-    let s = c.args.state.now in subst (λ (o : Option Awaited). OthersWait s.limits s.state o) c.in-Some.is c.requires.others
+    let s = c.args.state.now in subst (λ (o : Option Object). OthersWait s.limits s.state o) c.in-Some.is c.requires.others

@@ -1,9 +1,10 @@
 use Rattle.std.proofs.Common.{◌≡◌, ◌+◌, ◌-◌, ℕ, suc, ◌++◌, map, length, append-nil, sym, subst, ap, ◌∙◌, arith}
 use Rattle.std.proofs.lemmas.List.{length-map}
 use Rattle.ipc_base.specs.declared.limits.Limits.{Limits}
+use Rattle.ipc_wait.proofs.CallerLemmas.{found-in}
 use Rattle.ipc_state.specs.Sound.{HasSoundParts}
 use Rattle.ipc_engine.specs.Settling.{RestWaits}
-use Rattle.ipc_engine.specs.Step.{Step, silent, settle, settle_within}
+use Rattle.ipc_engine.specs.Step.{Step, can_go_on, silent, settle, settle_within}
 use Rattle.ipc_engine.specs.View.{plain_outcome}
 use Rattle.ipc_engine.proofs.Going.{goes-on, within-none, within-all, within-nothing}
 use Rattle.ipc_engine.proofs.settling.settle_among.Goals as goal
@@ -38,6 +39,13 @@ returns-in_default-clause-outcomes c =
     let l = c.loop-gone in
     let none = within-none l.state.limits (length c.args.state.now.state.wait - l.gone) l.state.state c.in_default.ensures in
     sym (ap (λ (t : Step). map plain_outcome l.outcomes.items ++ t.outcomes) none ∙ append-nil (map plain_outcome l.outcomes.items)) ∙ l.invariant.outcomes
+
+pub resume-requires-clause-room : goal.resume-requires-clause-room
+resume-requires-clause-room c =
+    let l = c.loop-gone in
+    let s = l.state in
+    let first = c.in-Some.ensures in
+    omega (arith, l.invariant.room, (found-in (can_go_on s.limits s.state) s.state.wait first.0 l.invariant.parts.wait.pids first.1).fewer)
 
 pub loop-gone-preserved : goal.loop-gone-preserved
 loop-gone-preserved c =

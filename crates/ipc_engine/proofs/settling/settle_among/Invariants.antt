@@ -1,4 +1,4 @@
-use Rattle.std.proofs.Common.{◌≡◌, ◌+◌, ◌-◌, ◌≤◌, ◌++◌, true, length, map, vec_capacity}
+use Rattle.std.proofs.Common.{◌≡◌, ◌+◌, ◌*◌, ◌-◌, ◌≤◌, ◌++◌, true, length, map, vec_capacity}
 use Rattle.ipc_state.specs.Sound.{HasSoundParts}
 use Rattle.ipc_engine.specs.Buffer.{room_in}
 use Rattle.ipc_engine.specs.Settling.{AreLinked, ReceivesWait, RestWaits}
@@ -15,7 +15,7 @@ invariant-loop-gone l =
       linked : AreLinked l.state.state;
       rest : RestWaits l.state.limits l.state.state l.among;
       receives : l.received ≡ true → ReceivesWait l.state.limits l.state.state;
-      room : length l.outcomes.items + length l.state.state.wait ≤ vec_capacity l.outcomes;
+      room : length l.outcomes.items + 2 * length l.state.state.wait ≤ vec_capacity l.outcomes;
       limits : l.state.limits ≡ l.fn.state.limits;
       waits : l.state.room.waits ≡ l.fn.state.room.waits;
       capacity : vec_capacity l.fn.outcomes ≤ vec_capacity l.outcomes;

@@ -12,7 +12,7 @@ use Rattle.ipc_hub.proofs.Committing.{adds-both}
 use Rattle.ipc_hub.proofs.Receiving.{goes-further}
 use Rattle.ipc_hub.proofs.Taking.{over-takes, nothing-takes, takes-then}
 use Rattle.ipc_engine.specs.Sound.{IsSound}
-use Rattle.ipc_hub.specs.Relations.Delivery.{owed_at, HasRoomFor}
+use Rattle.ipc_hub.specs.Relations.Delivery.{unanswered_at, HasRoomFor}
 use Rattle.ipc_hub.proofs.Keeping.{empty-room}
 use Rattle.ipc_hub.proofs.serving.take_in.Given.{Over}
 use Rattle.ipc_hub.proofs.serving.take_in.Goals.{After-has_room}
@@ -95,7 +95,7 @@ take-taken-requires-clause-room g c =
     (subst (λ (m : Machine). HasRoomFor (hub_view m (table_of c.loop-taken.connections)) c.longest_reply-reply.result c.args.conn)
     c.engine-in-loop-taken.ensures (c.has_room.ensures.0 c.if-not-has_room.false))
 
--- no event came, or one after which its process is owed a reply
+-- no event came, or one to which the reply is still to come
 still-ready : {D : Type 0} (old new : StoreView D) (before after : ℕ)
     → ((new ≡ old) × (before ≡ after)) ⊎ ((before ≡ 0) × (0 < after) × (IsReadyFor old 2 → IsReadyFor new 1))
     → (IsReadyFor old 2) ⊎ ((0 < before) × IsReadyFor old 1) → (IsReadyFor new 2) ⊎ ((0 < after) × IsReadyFor new 1)
@@ -129,5 +129,5 @@ loop-taken-preserved g c =
       adds = adds-both (i + n) held.adds c.take-taken.ensures.adds (omega (arith, some));
       ready = λ none.
           let waits = took.answers none in
-          still-ready mid.store new.store (owed_at mid.hub conn) (owed_at new.hub conn) waits.event (held.ready waits.empty);
+          still-ready mid.store new.store (unanswered_at mid.hub conn) (unanswered_at new.hub conn) waits.event (held.ready waits.empty);
     }

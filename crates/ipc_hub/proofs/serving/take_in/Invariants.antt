@@ -1,14 +1,14 @@
 use Rattle.std.proofs.Common.{◌≡◌, ◌⊎◌, ◌-◌, ◌<◌, ◌≤◌, length, take}
 use Rattle.ipc_store.specs.View.{IsReadyFor}
 use Rattle.ipc_hub.specs.View.{HasNoFrame}
-use Rattle.ipc_hub.specs.Relations.Delivery.{owed_at}
+use Rattle.ipc_hub.specs.Relations.Delivery.{unanswered_at}
 use Rattle.ipc_hub.specs.Relations.Rows.{table_of, hub_view, stored_view}
 use Rattle.ipc_hub.specs.Relations.Invariant.{GoesOn}
 use Rattle.ipc_hub.specs.Relations.Matches.{Adds, TakesIn}
 use Rattle.ipc_hub.proofs.serving.take_in.Given as goal
 
 -- The hub goes on and has taken in the bytes so far; before the first it is as it was. While the connection keeps no
--- frame, the store is ready for two events, or for one if its process is owed a reply.
+-- frame, the store is ready for two events, or for one if a request of its process is not answered yet.
 abbrev pub invariant-loop-taken : goal.invariant-loop-taken
 invariant-loop-taken g l = record {
   within : l.taken ≤ length l.piece;
@@ -18,7 +18,7 @@ invariant-loop-taken g l = record {
   first : l.taken ≡ 0 → (l.connections ≡ l.fn.connections) × (l.store ≡ l.fn.store);
   adds : Adds l.taken l.fn.store l.store;
   ready : HasNoFrame (hub_view l.store.machine (table_of l.connections)) l.conn
-      → (IsReadyFor l.store 2) ⊎ ((0 < owed_at (hub_view l.store.machine (table_of l.connections)) l.conn) × IsReadyFor l.store 1);
+      → (IsReadyFor l.store 2) ⊎ ((0 < unanswered_at (hub_view l.store.machine (table_of l.connections)) l.conn) × IsReadyFor l.store 1);
 }
 
 -- the bytes that are left

@@ -1,4 +1,4 @@
-use Rattle.std.proofs.Common.{sym, ap, ◌∙◌}
+use Rattle.std.proofs.Common.{ap, ◌∙◌}
 use Rattle.std.specs.List.{list_any}
 use Rattle.ipc_state.specs.Descriptors.{descriptor_row}
 use Rattle.ipc_state.specs.Opening.{is_on_queue}

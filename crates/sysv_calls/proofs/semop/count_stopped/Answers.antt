@@ -17,7 +17,7 @@ counted c =
     let s = c.args.state.now in
     let byte : c.from-count.result ≡ cond c.is_stopped-is_one.result 1 0 = search rules in
     let is = c.is_stopped-is_one.ensures
-    ∙ ap (λ (k : PlainKind). is_stopped s.limits s.state c.args.zero c.args.id.0 c.args.num c.waiting-item.result.pid.0 k) c.call.ensures in
+    ∙ ap (λ (k : PlainKind). is_stopped s.limits s.state c.args.zero c.args.id.0 c.args.num c.waiting-item.result.pid.0 k) c.kind.ensures in
     let item : c.waiting-item.result ≡ get_or s.state.wait c.loop-waiting.waiting-index c.waiting-item.result =
     c.waiting-item.is ∙ ap (λ (l : List PlainWaiting). get_or l c.loop-waiting.waiting-index c.waiting-item.result) c.waits-waiting-items.ensures in
     byte ∙ ap (λ (b : Bool). cond b 1 0) (is ∙ ap (stops c) item)

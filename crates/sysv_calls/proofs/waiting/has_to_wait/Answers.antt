@@ -1,6 +1,6 @@
 use Rattle.std.proofs.Common.{◌≡◌, ◌∙◌, sym, true, false}
-use Rattle.ipc_wire.specs.Request.{PlainCall, Calls}
 use Rattle.ipc_state.specs.Finish.{has_to_wait}
+use Rattle.ipc_state.specs.Waiting.{parked_call}
 use Rattle.sysv_calls.specs.Calls.{attempt}
 use Rattle.sysv_calls.specs.Seen.{attempted}
 use Rattle.sysv_calls.proofs.CallerLemmas.{is_blocked}
@@ -8,22 +8,22 @@ use Rattle.sysv_calls.proofs.Trying.{tested, waits-on}
 use Rattle.sysv_calls.proofs.waiting.has_to_wait.Goals.{After-ready}
 use Rattle.sysv_calls.proofs.waiting.has_to_wait.Goals as goal
 
-by_tests : (c : After-ready) (wanted : PlainCall) → c.args.call.now.kind ≡ Calls wanted
-    → is_blocked (attempted c.ready.result) ≡ has_to_wait (attempt c.args.state.now.limits c.args.state.now.state c.args.pid.0 true wanted)
-by_tests c = waits-on (tested c.args.state.now.limits c.args.state.now.state c.args.pid.0 true c.cred.result c.cred.ensures c.args.call.now.kind
-    c.call.result.now c.call.ensures c.ready.result c.ready.ensures.tests)
+by_tests : (c : After-ready) → is_blocked (attempted c.ready.result)
+    ≡ has_to_wait (attempt c.args.state.now.limits c.args.state.now.state c.args.pid.0 true (parked_call c.args.call.now))
+by_tests c = waits-on (tested c.args.state.now.limits c.args.state.now.state c.args.pid.0 true c.cred.result c.cred.ensures (parked_call c.args.call.now)
+    c.ready.result c.ready.ensures.tests)
 
 pub returns-in-Err-Blocks : goal.returns-in-Err-Blocks
-returns-in-Err-Blocks c wanted is =
+returns-in-Err-Blocks c =
     let here : is_blocked (attempted c.ready.result) ≡ true = cc in
-    sym here ∙ by_tests (goal.at.returns-in-Err-Blocks c).After-ready wanted is
+    sym here ∙ by_tests (goal.at.returns-in-Err-Blocks c).After-ready
 
 pub returns-in-Err-Fails : goal.returns-in-Err-Fails
-returns-in-Err-Fails c wanted is =
+returns-in-Err-Fails c =
     let here : is_blocked (attempted c.ready.result) ≡ false = cc in
-    sym here ∙ by_tests (goal.at.returns-in-Err-Fails c).After-ready wanted is
+    sym here ∙ by_tests (goal.at.returns-in-Err-Fails c).After-ready
 
 pub returns-in-Ok : goal.returns-in-Ok
-returns-in-Ok c wanted is =
+returns-in-Ok c =
     let here : is_blocked (attempted c.ready.result) ≡ false = cc in
-    sym here ∙ by_tests (goal.at.returns-in-Ok c).After-ready wanted is
+    sym here ∙ by_tests (goal.at.returns-in-Ok c).After-ready

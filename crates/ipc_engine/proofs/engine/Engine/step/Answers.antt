@@ -7,10 +7,13 @@ use Rattle.ipc_wire.specs.Request.{PlainRequest}
 use Rattle.ipc_wire.specs.View.{plain_request}
 use Rattle.ipc_state.specs.Held.{Room}
 use Rattle.ipc_state.specs.State.{State, is_waiting}
-use Rattle.sysv_calls.specs.Needs.{Has, IsReserved, Needs, Nothing, Place, SetPlace, Text, needs}
+use Rattle.ipc_wire.specs.Request.{PlainKind, Calls, Posix, Hello, Interrupt as Interrupts}
+use Rattle.sysv_calls.specs.Needs as sysv
+use Rattle.posix_calls.specs.Needs as posix
 use Rattle.ipc_engine.specs.declared.event.Outcome.{Outcome}
 use Rattle.ipc_engine.specs.Buffer.{HasBuffer}
 use Rattle.ipc_engine.specs.Event.{PlainOutcome, Connect, Call, Interrupt, Tick, Exit, Restart}
+use Rattle.ipc_engine.specs.Reserved.{IsReserved, IsReservedAs}
 use Rattle.ipc_engine.specs.Sound.{IsSound}
 use Rattle.ipc_engine.specs.Step.{Step, connect, due, most_replies}
 use Rattle.ipc_engine.specs.View.{plain_outcome}
@@ -32,13 +35,27 @@ keeps limits now before after capacity t spare os same places sound passed buffe
 -- what was reserved is there when the moment has come
 reserved-due : (s : State) (places : Room) (request : PlainRequest) (kept : Option PlainRequest) (moment : ℕ) → IsReserved s places request kept
     → IsReserved (due moment s).state places request kept
-reserved-due s places request kept moment h = record { call = h.call; room = by_needs (needs request.kind) h.room }
+reserved-due s places request kept moment h = by_kind request.kind h
   where
-    by_needs : (n : Needs) → Has s places n → Has (due moment s).state places n
-    by_needs Nothing has = has
-    by_needs (Place key) has = record { queue = has.queue; fresh = has.fresh; vacant = has.vacant }
-    by_needs (SetPlace key nsems) has = record { set = has.set; fresh = has.fresh; vacant = has.vacant }
-    by_needs Text has = has
+    by_needs : (n : sysv.Needs) → sysv.Has s places n → sysv.Has (due moment s).state places n
+    by_needs sysv.Nothing has = has
+    by_needs (sysv.Place key) has = record { queue = has.queue; fresh = has.fresh; vacant = has.vacant }
+    by_needs (sysv.SetPlace key nsems) has = record { set = has.set; fresh = has.fresh; vacant = has.vacant }
+    by_needs sysv.Text has = has
+
+    by_posix : (n : posix.Needs) → posix.Has s places n → posix.Has (due moment s).state places n
+    by_posix posix.Nothing has = has
+    by_posix (posix.Place name) has = record { place = has.place; fresh = has.fresh; called = has.called; vacant = has.vacant }
+    by_posix posix.Text has = has
+
+    for_sysv : sysv.IsReserved s places request kept → sysv.IsReserved (due moment s).state places request kept
+    for_sysv h = record { call = h.call; room = by_needs (sysv.needs request.kind) h.room }
+
+    by_kind : (kind : PlainKind) → IsReservedAs kind s places request kept → IsReservedAs kind (due moment s).state places request kept
+    by_kind (Posix call) h = record { call = h.call; room = by_posix (posix.needs request.kind) h.room }
+    by_kind (Calls call) h = for_sysv h
+    by_kind (Hello cred) h = for_sysv h
+    by_kind Interrupts h = for_sysv h
 
 pub returns-in_ok-reserve_hello-in-Connect-clause-sound : goal.returns-in_ok-reserve_hello-in-Connect-clause-sound
 returns-in_ok-reserve_hello-in-Connect-clause-sound c =

@@ -1,4 +1,4 @@
-use Rattle.std.proofs.Common.{◌≡◌, ◌<◌, ℕ, ℤ, FitsSigned, w32, sym, subst, ap, ◌∙◌, rules}
+use Rattle.std.proofs.Common.{◌≡◌, ◌<◌, ℤ, FitsSigned, w32, sym, subst, ap, ◌∙◌, rules}
 use Rattle.std.proofs.lemmas.Int.{to_z-of_z}
 use Rattle.ipc_state.specs.Directory.{Agree, added, named_by, or_else}
 use Rattle.ipc_state.specs.Keyed.{Keyed}

@@ -1,5 +1,4 @@
-use Rattle.std.proofs.Common.{◌<◌, ap, subst, sym, ◌∙◌, arith}
-use Rattle.ipc_keys.specs.Directory.{is_vacant}
+use Rattle.std.proofs.Common.{◌<◌, subst, sym, ◌∙◌, arith}
 use Rattle.ipc_state.specs.Directory.{name_added, number_at, or_else}
 use Rattle.ipc_state.specs.Tables.{HeldNamed, numbered_of}
 use Rattle.ipc_state.proofs.Directories.{agree-last}

@@ -1,4 +1,4 @@
-use Rattle.std.proofs.Common.{ℕ, List, map, sym, ap, subst, ◌∙◌}
+use Rattle.std.proofs.Common.{ℕ, map, sym, ap, subst, ◌∙◌}
 use Rattle.std.specs.Prelude.{All}
 use Rattle.std.proofs.lemmas.List.Elements.{All-map}
 use Rattle.ipc_state.specs.declared.processes.Process.{Process}

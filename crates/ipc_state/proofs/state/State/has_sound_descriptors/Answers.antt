@@ -1,4 +1,4 @@
-use Rattle.std.proofs.Common.{◌≡◌, true, ℕ, List, map, sym, ap, subst, ◌∙◌}
+use Rattle.std.proofs.Common.{◌≡◌, true, ℕ, map, sym, subst}
 use Rattle.std.specs.Prelude.{All, Bool}
 use Rattle.std.specs.Bool.{Decides}
 use Rattle.ipc_base.specs.Table.{keys_of, IsRising}

@@ -60,6 +60,10 @@ returns-clause-err c =
         set = t.sem.place;
         set_keys = t.sem.keys;
         fresh_set = t.fresh_set;
+        mq = t.mq.place;
+        names = t.mq.names;
+        fresh_mq = is_some t.fresh_mq;
+        fresh_name = t.fresh_name;
       };
     } in
     on_err_weaker c.restore.result

@@ -1,14 +1,14 @@
-use Rattle.std.proofs.Common.{◌≡◌, ◌<◌, ℕ, ℤ, ◌-ℤ◌, List, Some, None, true, rules, FitsSigned, sym, ap, subst, ◌∙◌}
+use Rattle.std.proofs.Common.{◌≡◌, ◌<◌, ℕ, ◌-ℤ◌, List, Some, None, true, rules, FitsSigned, sym, ap, subst, ◌∙◌}
 use Rattle.std.specs.Prelude.{nat_eq, is_some, ◌&&◌, Bool, Option, unwrap_or}
 use Rattle.std.specs.FinMap as fin
 use Rattle.std.specs.Int.{w16}
 use Rattle.std.proofs.lemmas.Int.{to_z-of_z}
 use Rattle.ipc_base.specs.Table.{value_at, with_value}
-use Rattle.sem_undo.specs.Undo.{Undo, Key, adjustment, subtracted, is_adjustment, most_rows}
+use Rattle.sem_undo.specs.Undo.{Undo, adjustment, subtracted, is_adjustment, most_rows}
 use Rattle.ipc_state.specs.declared.numbered.Numbered.{Numbered as Table}
 use Rattle.ipc_state.specs.Held.{Held}
 use Rattle.ipc_state.specs.Numbered.{Numbered}
-use Rattle.ipc_state.specs.State.{State, undo_of, with_undo}
+use Rattle.ipc_state.specs.State.{undo_of, with_undo}
 use Rattle.ipc_state.specs.Tables.{numbered_of, has_place}
 use Rattle.ipc_state.proofs.Places.{with-none}
 use Rattle.ipc_state.proofs.state.State.subtract.Goals.{In-Some}
@@ -42,6 +42,10 @@ returns-in_default c =
         set = t.sem.place;
         set_keys = t.sem.keys;
         fresh_set = t.fresh_set;
+        mq = t.mq.place;
+        names = t.mq.names;
+        fresh_mq = is_some t.fresh_mq;
+        fresh_name = t.fresh_name;
       };
     } in
     ap viewed c.get_mut.follows.holds-at-none ∙ c.self.view_is
@@ -100,6 +104,10 @@ returns c =
         set = t.sem.place;
         set_keys = t.sem.keys;
         fresh_set = t.fresh_set;
+        mq = t.mq.place;
+        names = t.mq.names;
+        fresh_mq = is_some t.fresh_mq;
+        fresh_name = t.fresh_name;
       };
     } in
     (λ i. viewed (entries i) (puts.place i))

@@ -1,0 +1,149 @@
+//! What differs by the kind of a call: what it needs of memory, how it is tried, and which object it may change.
+
+ghost use Rattle.std.specs.Prelude.{◌≡◌, true, false, IfOk, IsOk};
+ghost use Rattle.ipc_wire.specs.Request.{plain_kind};
+ghost use Rattle.ipc_wire.specs.View.{plain_request};
+ghost use Rattle.ipc_state.specs.Finish as finish;
+ghost use Rattle.ipc_state.specs.Sound.{HasSoundParts};
+ghost use Rattle.ipc_state.specs.Spare.{IsKept, IsSpare};
+ghost use Rattle.ipc_state.specs.State.{is_process};
+ghost use Rattle.ipc_state.specs.Waiting.{may_wait};
+ghost use Rattle.sysv_calls.specs.Calls as sysv;
+ghost use Rattle.ipc_engine.specs.Reserved.{Has, IsReserved, takes_memory};
+ghost use Rattle.ipc_engine.specs.Settling.{touched_by};
+ghost use Rattle.ipc_engine.specs.Step.{tried};
+ghost use Rattle.ipc_engine.specs.Trial.{IsKeptIn, tried_of};
+
+use ipc_base::{Errno, Pid};
+use ipc_state::{Object, Parked, ParkedKind, State};
+use ipc_wire::{Request, RequestKind};
+use posix_mq::Registration;
+use std::alloc::{AllocError, Global};
+use sysv_calls::Answer;
+
+/// Takes the memory that a request may need, and gives what is kept of one that may wait. Refused, the state is as
+/// before.
+pub(crate) fn reserve(
+    state: &mut State,
+    alloc: Global,
+    request: &Request<'_>,
+) -> Result<Option<Parked>, AllocError>
+    requires sound { HasSoundParts state.old.limits state.old.state }
+    ensures state { state.new.state ≡ state.old.state }
+    ensures limits { state.new.limits ≡ state.old.limits }
+    ensures waits { state.new.room.waits ≡ state.old.room.waits }
+    ensures ok { IfOk result (λ kept. IsReserved state.new.state state.new.room (plain_request request.now) kept) }
+    ensures memory { takes_memory (plain_kind request.now.kind) ≡ false → IsOk result }
+{
+    match &request.kind {
+        RequestKind::Posix(_) => posix_calls::reserve(state, alloc, request),
+        RequestKind::Call(_) | RequestKind::Hello(_) | RequestKind::Interrupt => {
+            sysv_calls::reserve(state, alloc, request)
+        }
+    }
+}
+
+/// Tries a request that never waits. It takes no memory. Gives how it ends, and the object that it may change.
+pub(crate) fn try_at_once(
+    state: &mut State,
+    pid: Pid,
+    kind: &RequestKind<'_>,
+    spare: &mut Vec<u8>,
+) -> (Answer, Option<Object>)
+    requires sound { HasSoundParts state.old.limits state.old.state }
+    requires process { is_process state.old.state pid.0 ≡ true }
+    requires never { may_wait (plain_kind kind.now) ≡ false }
+    requires room { Has (plain_kind kind.now) state.old.state state.old.room }
+    requires spare { IsSpare state.old.limits spare.old }
+    ensures finish { finish.Finishes (finish.finish_of state.new.state result.0)
+        ≡ tried state.old.limits state.old.state pid.0 false (plain_kind kind.now) }
+    ensures touched { result.1 ≡ touched_by state.old.state pid.0 (plain_kind kind.now) }
+    ensures limits { state.new.limits ≡ state.old.limits }
+    ensures waits { state.new.room.waits ≡ state.old.room.waits }
+    ensures spare { IsKept state.old.limits spare.new result.0 }
+{
+    match kind {
+        RequestKind::Call(call) => {
+            let answer = sysv_calls::attempt(state, pid, call, spare);
+            (answer, sysv_calls::touched(call))
+        }
+        RequestKind::Posix(call) => {
+            let touched = posix_calls::touched(state, pid, call);
+            (posix_calls::attempt(state, pid, call, spare), touched)
+        }
+        RequestKind::Hello(_) | RequestKind::Interrupt => (Err(Errno::EPROTO), None),
+    }
+}
+
+/// What comes of a call that may wait.
+#[derive(Drop)]
+pub(crate) enum Trial {
+    /// It ends so, and fires this registration, if one.
+    Finishes {
+        answer: Answer,
+        fired: Option<Registration>,
+    },
+    /// It has to wait, and is given back.
+    Waits(Parked),
+}
+
+/// Tries a call by a process; `again`, if it has waited. It takes no memory.
+pub(crate) fn try_kept(state: &mut State, pid: Pid, again: bool, parked: Parked) -> Trial
+    requires sound { HasSoundParts state.old.limits state.old.state }
+    requires process { is_process state.old.state pid.0 ≡ true }
+    ensures finish { tried_of state.new.state result
+        ≡ tried state.old.limits state.old.state pid.0 again parked.kind }
+    ensures kept { IsKeptIn state.old parked state.new result }
+    ensures limits { state.new.limits ≡ state.old.limits }
+    ensures waits { state.new.room.waits ≡ state.old.room.waits }
+{
+    let serial = parked.serial();
+    match parked.into_kind() {
+        ParkedKind::Call(call) => match sysv_calls::try_parked(state, pid, again, call) {
+            sysv_calls::Tried::Finishes(answer) => Trial::Finishes {
+                answer,
+                fired: None,
+            },
+            sysv_calls::Tried::Waits(call) => {
+                Trial::Waits(Parked::of_kind(serial, ParkedKind::Call(call)))
+            }
+        },
+        ParkedKind::Posix(call) => match posix_calls::try_parked(state, pid, call) {
+            posix_calls::Tried::Finishes(answer, fired) => Trial::Finishes { answer, fired },
+            posix_calls::Tried::Waits(call) => {
+                Trial::Waits(Parked::of_kind(serial, ParkedKind::Posix(call)))
+            }
+        },
+    }
+}
+
+/// Whether a call of a process that has waited has to wait on.
+pub(crate) fn has_to_wait(state: &State, pid: Pid, parked: &Parked) -> bool
+    requires process { is_process state.now.state pid.0 ≡ true }
+    ensures { result ≡ finish.has_to_wait (tried state.now.limits state.now.state pid.0 true parked.now.kind) }
+{
+    match parked.kind() {
+        ParkedKind::Call(call) => sysv_calls::has_to_wait(state, pid, call),
+        ParkedKind::Posix(call) => posix_calls::has_to_wait(state, pid, call),
+    }
+}
+
+/// Whether a call is a receive from a System V queue: one takes a message away, so that no other receive goes on by it.
+pub(crate) fn is_receive(parked: &Parked) -> bool
+    ensures { result ≡ sysv.is_receive parked.now.kind }
+{
+    match parked.kind() {
+        ParkedKind::Call(call) => sysv_calls::is_receive(call),
+        ParkedKind::Posix(_) => false,
+    }
+}
+
+/// The object that a call of a process may change, so that those that wait on it may go on.
+pub(crate) fn touched_by(state: &State, pid: Pid, parked: &Parked) -> Option<Object>
+    ensures { result ≡ touched_by state.now.state pid.0 parked.now.kind }
+{
+    match parked.kind() {
+        ParkedKind::Call(call) => sysv_calls::touched(&call.lend()),
+        ParkedKind::Posix(call) => posix_calls::touched(state, pid, &call.lend()),
+    }
+}

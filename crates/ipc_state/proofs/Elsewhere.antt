@@ -1,0 +1,209 @@
+-- What other calls wait for stays as it is as a POSIX queue changes, comes or loses its name, and as the descriptors of
+-- a process change.
+use Rattle.std.proofs.Common.{◌≡◌, ◌≢◌, ℕ, Bool, true, false, cond, List, [], ◌∷◌, Option, Some, None, refl, sym, ap, subst, ◌∙◌, arith}
+use Rattle.std.specs.Prelude.{is_some, not, nat_eq, option_map, unwrap_or, if◌then◌else◌}
+use Rattle.std.specs.Int.RustNames.{bit_and}
+use Rattle.std.proofs.lemmas.Bool.Decides.{nat_tests}
+use Rattle.ipc_base.specs.declared.identity.Cred.{Cred}
+use Rattle.ipc_base.specs.declared.limits.Limits.{Limits}
+use Rattle.ipc_base.specs.Table.{value_at, without}
+use Rattle.ipc_base.proofs.CallerLemmas.{at-map, at-with, other-push, other-with, rising-found}
+use Rattle.posix_mq.specs.Queue.{Queue as Mq}
+use Rattle.posix_mq.specs.declared.queue.Registration.{Registration}
+use Rattle.ipc_state.specs.declared.descriptors.Descriptor.{Descriptor}
+use Rattle.ipc_state.specs.declared.descriptors.Opened.{Opened}
+use Rattle.ipc_state.specs.declared.descriptors.Opened.TheVariants as opened
+use Rattle.ipc_state.specs.declared.named.NamedEntry.{NamedEntry}
+use Rattle.ipc_state.specs.declared.parked.Awaited.{Awaited}
+use Rattle.ipc_state.specs.declared.parked.Awaited.TheVariants as awaited
+use Rattle.ipc_state.specs.declared.parked.Object.{Object}
+use Rattle.ipc_state.specs.declared.parked.Object.TheVariants as object
+use Rattle.ipc_state.specs.declared.processes.Process.{Process}
+use Rattle.ipc_state.specs.Descriptors.{Table}
+use Rattle.ipc_state.specs.Named.{nameless, unnamed, with_object, without_name}
+use Rattle.ipc_state.specs.Numbered.{entry_of, with_entry}
+use Rattle.ipc_state.specs.Opening.{deregistered, descriptors_of, descriptor_at, is_by, is_by_descriptor, is_on_queue, is_open, is_registered}
+use Rattle.ipc_state.specs.Opening.{is_there_for, stays, unless_so, with_table, without_registrations}
+use Rattle.ipc_state.specs.Sound.{HasSoundParts}
+use Rattle.ipc_state.specs.State.{State, closed, unlinked, with_descriptors, with_mq, with_new_mq}
+use Rattle.ipc_state.specs.Touching.{object_on, object_of, mq_object, IsAsBefore}
+use Rattle.ipc_state.proofs.SoundMqs.{at-filter, both_true, either, first, none-filter}
+use Rattle.ipc_state.proofs.SoundOpening as opening
+use Rattle.ipc_state.proofs.SoundOpening.{All-found, opens}
+
+-- as before at one change and at the next, as before at both
+pub before-then : (pid : ℕ) (on : Awaited) (s t u : State) → IsAsBefore pid on s t → IsAsBefore pid on t u → IsAsBefore pid on s u
+before-then pid (awaited.Queue id) s t u first second = second ∙ first
+before-then pid (awaited.Set id) s t u first second = (second.0 ∙ first.0, λ p num. second.1 p num ∙ first.1 p num)
+before-then pid (awaited.Descriptor fd) s t u first second = (
+  second.0 ∙ first.0,
+  λ n is. second.1 n (ap (option_map (λ (d : Descriptor). object_on d.on)) first.0 ∙ is) ∙ first.1 n is,
+)
+
+-- the queue of an entry, and the descriptors of a process
+abbrev object_in : Option (NamedEntry Mq) → Option Mq
+object_in r = option_map (λ (e : NamedEntry Mq). e.object) r
+
+abbrev table_in : Option Process → Table
+table_in r = unwrap_or (option_map (λ (q : Process). q.descriptors) r) []
+
+-- what a descriptor of a process is open on
+abbrev on_of : Option Descriptor → Option Object
+on_of r = option_map (λ (d : Descriptor). object_on d.on) r
+
+on_it : (on : Opened) (m : ℕ) → object_on on ≡ object.Mq m → is_on_queue m on ≡ true
+on_it (opened.Queue k) m is = let same : k ≡ m = cc in grind (arith, nat_tests)
+
+opens-it : (table : Table) (k m : ℕ) → on_of (value_at nat_eq table k) ≡ Some (object.Mq m) → opens m table ≡ true
+opens-it [] k m is = cc
+opens-it (d ∷ ds) k m is = by_test (nat_eq d.0 k) is (opens-it ds k m)
+  where
+    by_test : (b : Bool) → on_of (cond b (Some d.1) (value_at nat_eq ds k)) ≡ Some (object.Mq m)
+        → (on_of (value_at nat_eq ds k) ≡ Some (object.Mq m) → opens m ds ≡ true) → opens m (d ∷ ds) ≡ true
+    by_test true is rest = let one : object_on d.1.on ≡ object.Mq m = cc in first (is_on_queue m d.1.on) (opens m ds) (on_it d.1.on m one)
+    by_test false is rest = either (is_on_queue m d.1.on) (opens m ds) (rest is)
+
+-- a queue on which a descriptor is open, is open
+open-by : (ps : List (ℕ × Process)) (p k m : ℕ) → on_of (descriptor_at ps p k) ≡ Some (object.Mq m) → is_open ps m ≡ true
+open-by [] p k m is = cc
+open-by (e ∷ es) p k m is = by_test (nat_eq e.0 p) is (open-by es p k m)
+  where
+    by_test : (b : Bool) → on_of (value_at nat_eq (table_in (cond b (Some e.1) (value_at nat_eq es p))) k) ≡ Some (object.Mq m)
+        → (on_of (descriptor_at es p k) ≡ Some (object.Mq m) → is_open es m ≡ true) → is_open (e ∷ es) m ≡ true
+    by_test true is rest = first (opens m e.1.descriptors) (is_open es m) (opens-it e.1.descriptors k m is)
+    by_test false is rest = either (opens m e.1.descriptors) (is_open es m) (rest is)
+
+-- another queue in the place of one
+pub elsewhere-mq : (s : State) (n : ℕ) (q : Mq) (p : ℕ) (on : Awaited) → Some (object.Mq n) ≢ object_of s p on → IsAsBefore p on s (with_mq s n q)
+elsewhere-mq s n q p (awaited.Queue id) apart = refl
+elsewhere-mq s n q p (awaited.Set id) apart = (refl, λ pid num. refl)
+elsewhere-mq s n q p (awaited.Descriptor fd) apart = (
+  refl,
+  λ m is. by_entry m (λ same. apart (ap (λ (k : ℕ). Some (object.Mq k)) (sym same) ∙ sym is)) (entry_of s.mq n),
+)
+  where
+    by_entry : (m : ℕ) → m ≢ n → (r : Option (NamedEntry Mq))
+        → object_in
+        (entry_of (unwrap_or (option_map (λ (e : NamedEntry Mq). with_entry s.mq n (with_object e q)) r) s.mq) m) ≡ mq_object s m
+    by_entry m other None = refl
+    by_entry m other (Some e) = ap object_in (other-with s.mq.entries n m (with_object e q) other)
+
+-- other descriptors of another process
+pub elsewhere-table : (s : State) (pid : ℕ) (table : Table) (p : ℕ) (on : Awaited) → p ≢ pid → IsAsBefore p on s (with_descriptors s pid table)
+elsewhere-table s pid table p (awaited.Queue id) other = refl
+elsewhere-table s pid table p (awaited.Set id) other = (refl, λ q num. refl)
+elsewhere-table s pid table p (awaited.Descriptor fd) other = (
+  ap (λ (r : Option Process). value_at nat_eq (table_in r) fd) (opening.table-other s.processes pid table p other),
+  λ m is. refl,
+)
+
+module _ (limits : Limits) (s : State) (h : HasSoundParts limits s) where
+  -- a queue on which a descriptor is open is there
+  there-for : (p fd m : ℕ) → object_of s p (awaited.Descriptor fd) ≡ Some (object.Mq m) → is_some (entry_of s.mq m) ≡ true
+  there-for p fd m is = by_value (descriptor_at s.processes.entries p fd) refl is
+    where
+      by_kind : (on : Opened) → object_on on ≡ object.Mq m → is_there_for s.mq on ≡ true → is_some (entry_of s.mq m) ≡ true
+      by_kind (opened.Queue k) is there = let same : k ≡ m = cc in subst (λ (n : ℕ). is_some (entry_of s.mq n) ≡ true) same there
+
+      by_value : (r : Option Descriptor) → descriptor_at s.processes.entries p fd ≡ r → on_of r ≡ Some (object.Mq m) → is_some (entry_of s.mq m) ≡ true
+      by_value None found is = cc
+      by_value (Some d) found is =
+          let on : object_on d.on ≡ object.Mq m = cc in
+          by_kind d.on on (both_true (is_there_for s.mq d.on) (not (nat_eq (bit_and d.flags 3) 3))
+          (opening.descriptor-sound limits s.mq s.processes.entries p fd d h.processes.descriptors found)).0
+
+  -- a new queue
+  pub elsewhere-new_mq : (name : List ℕ) (cred : Cred) (mode : ℕ) (q : Mq) (p : ℕ) (on : Awaited) → IsAsBefore p on s (with_new_mq s name cred mode q)
+  elsewhere-new_mq name cred mode q p (awaited.Queue id) = refl
+  elsewhere-new_mq name cred mode q p (awaited.Set id) = (refl, λ pid num. refl)
+  elsewhere-new_mq name cred mode q p (awaited.Descriptor fd) = (
+    refl,
+    λ m is. let below = (rising-found 1 s.mq.entries s.mq.next m h.mq.named.numbered.numbers (there-for p fd m is)).1 in
+        ap object_in (other-push s.mq.entries s.mq.next m _ (λ same. absurd (omega (arith, same, below)))),
+  )
+
+  -- a name that goes, and the queue with it, if it is not open
+  pub elsewhere-unlinked : (n p : ℕ) (on : Awaited) → IsAsBefore p on s (unlinked s n)
+  elsewhere-unlinked n p (awaited.Queue id) = refl
+  elsewhere-unlinked n p (awaited.Set id) = (refl, λ pid num. refl)
+  elsewhere-unlinked n p (awaited.Descriptor fd) = (
+    refl,
+    λ m is. left m (open-by s.processes.entries p fd m is) (entry_of (unnamed s.mq n) m) refl ∙ same m (entry_of s.mq n) refl,
+  )
+    where
+      left : (m : ℕ) → is_open s.processes.entries m ≡ true → (r : Option (NamedEntry Mq)) → entry_of (unnamed s.mq n) m ≡ r
+          → mq_object (unlinked s n) m ≡ object_in (entry_of (unnamed s.mq n) m)
+      left m used None is =
+          ap object_in (none-filter (stays s.processes.entries) (unnamed s.mq n).entries m is ∙ sym is)
+      left m used (Some e) is =
+          ap object_in (at-filter (stays s.processes.entries) (unnamed s.mq n).entries m e is (either _ _ used) ∙ sym is)
+
+      same : (m : ℕ) (r : Option (NamedEntry Mq)) → entry_of s.mq n ≡ r
+          → object_in (entry_of (without_name s.mq n r) m) ≡ mq_object s m
+      same m None is = refl
+      same m (Some e) is = by_number (nat_eq m n) refl
+        where
+          by_number : (b : Bool) → nat_eq m n ≡ b → object_in (entry_of (with_entry s.mq n (nameless e)) m) ≡ mq_object s m
+          by_number true at =
+              let one : m ≡ n = grind (arith, nat_tests) in
+              subst (λ (k : ℕ). object_in (entry_of (with_entry s.mq n (nameless e)) k) ≡ mq_object s k) (sym one)
+              (ap object_in (at-with s.mq.entries n (nameless e) e is)
+              ∙ sym (ap object_in is))
+          by_number false at =
+              let other : m ≢ n = λ one. grind (arith, nat_tests) in
+              ap object_in (other-with s.mq.entries n m (nameless e) other)
+
+  -- a descriptor that is closed by another process, with the registration by it
+  pub elsewhere-closed : (pid fd p : ℕ) (on : Awaited) → p ≢ pid → object_of s pid (awaited.Descriptor fd) ≢ object_of s p on
+      → IsAsBefore p on s (closed s pid fd)
+  elsewhere-closed pid fd p (awaited.Queue id) other apart = refl
+  elsewhere-closed pid fd p (awaited.Set id) other apart = (refl, λ q num. refl)
+  elsewhere-closed pid fd p (awaited.Descriptor k) other apart = (same, λ m is. by_entry m is (entry_of s.mq m) refl)
+    where
+      goes : Registration → Bool
+      goes = is_by (Some pid) (Some fd)
+
+      left : List (ℕ × Process)
+      left = (with_table s.processes pid (without nat_eq (descriptors_of s.processes.entries pid) fd)).entries
+
+      same : descriptor_at left p k ≡ descriptor_at s.processes.entries p k
+      same =
+          ap (λ (r : Option Process). value_at nat_eq (table_in r) k)
+          (opening.table-other s.processes pid (without nat_eq (descriptors_of s.processes.entries pid) fd) p other)
+
+      -- a registration that goes is with the queue on which the descriptor is open
+      stays-so : (m : ℕ) (r : Option Registration) → is_by_descriptor s.processes.entries m r ≡ true
+          → object_of s pid (awaited.Descriptor fd) ≢ Some (object.Mq m) → unless_so goes r ≡ r
+      stays-so m None registered elsewhere = refl
+      stays-so m (Some r) registered elsewhere = by_test (goes r) refl
+        where
+          by_kind : (on : Opened) → is_on_queue m on ≡ true → object_on on ≡ object.Mq m
+          by_kind (opened.Queue j) is = let one : j ≡ m = grind (arith, nat_tests) in ap (λ (i : ℕ). object.Mq i) one
+
+          by_value : (v : Option Descriptor) → unwrap_or (option_map (λ (d : Descriptor). is_on_queue m d.on) v) false ≡ true → on_of v ≡ Some (object.Mq m)
+          by_value None is = cc
+          by_value (Some d) is = ap (λ (j : Object). Some j) (by_kind d.on is)
+
+          by_test : (b : Bool) → goes r ≡ b → (if b then None else Some r) ≡ Some r
+          by_test false is = refl
+          by_test true is =
+              let both = both_true (nat_eq pid r.pid.0) (nat_eq fd r.descriptor) is in
+              let by_pid : r.pid.0 ≡ pid = grind (arith, nat_tests, both.0) in
+              let by_fd : r.descriptor ≡ fd = grind (arith, nat_tests, both.1) in
+              absurd (elsewhere ((λ i. on_of (descriptor_at s.processes.entries (sym by_pid i) (sym by_fd i)))
+              ∙ by_value (descriptor_at s.processes.entries r.pid.0 r.descriptor) registered))
+
+      by_entry : (m : ℕ) → object_of s p (awaited.Descriptor k) ≡ Some (object.Mq m) → (r : Option (NamedEntry Mq)) → entry_of s.mq m ≡ r
+          → mq_object (closed s pid fd) m ≡ mq_object s m
+      by_entry m is None found =
+          let none : value_at nat_eq (without_registrations goes s.mq).entries m ≡ None =
+          at-map (deregistered goes) s.mq.entries m ∙ ap (option_map (deregistered goes)) found in
+          ap object_in (none-filter (stays left) (without_registrations goes s.mq).entries m none ∙ sym found)
+      by_entry m is (Some e) found =
+          let there : value_at nat_eq (without_registrations goes s.mq).entries m ≡ Some (deregistered goes e) =
+          at-map (deregistered goes) s.mq.entries m ∙ ap (option_map (deregistered goes)) found in
+          let used : is_open left m ≡ true = open-by left p k m (ap on_of same ∙ is) in
+          let registered = All-found (λ (d : ℕ × NamedEntry Mq). is_registered s.processes.entries d ≡ true) s.mq.entries m e h.mq.registered found in
+          let kept : unless_so goes e.object.registration ≡ e.object.registration = stays-so m e.object.registration registered (λ at. apart (at ∙ sym is)) in
+          ap object_in (at-filter (stays left) (without_registrations goes s.mq).entries m (deregistered goes e) there (either _ _ used))
+          ∙ (ap (λ (r : Option Registration). Some (record e.object { registration = r })) kept ∙ sym (ap object_in found))

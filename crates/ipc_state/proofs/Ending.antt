@@ -1,0 +1,160 @@
+-- A call is shown by its steps: from a sound state it leaves a sound state, the body of its answer fits, and what others
+-- wait for is as before.
+use Rattle.std.proofs.Common.{◌≡◌, ◌≢◌, ℕ, Bool, true, false, List, [], ◌∷◌, Option, Some, None, refl, sym, ap, subst, ◌∙◌, arith}
+use Rattle.std.specs.Prelude.{Ok, Err, is_some, option_map, unwrap_or, nat_eq, if◌then◌else◌}
+use Rattle.std.proofs.lemmas.Bool.Decides.{nat_tests}
+use Rattle.ipc_base.specs.declared.errno.Errno.{Errno}
+use Rattle.ipc_base.specs.declared.identity.Cred.{Cred}
+use Rattle.ipc_base.specs.declared.limits.Limits.{Limits}
+use Rattle.ipc_base.specs.Table.{keys_of, value_at}
+use Rattle.ipc_wire.specs.Reply.{PlainBody}
+use Rattle.posix_mq.specs.declared.queue.Registration.{Registration}
+use Rattle.ipc_state.specs.declared.parked.Awaited.{Awaited}
+use Rattle.ipc_state.specs.declared.parked.Awaited.TheVariants as awaited
+use Rattle.ipc_state.specs.declared.parked.Object.{Object}
+use Rattle.ipc_state.specs.declared.processes.Process.{Process}
+use Rattle.ipc_state.specs.Descriptors.{Table}
+use Rattle.ipc_state.specs.Finish.{Finish, IfFinishes, Attempt, Halt, Fails, Blocks, Done, ended, done, done_firing, refused, answer, answer_firing}
+use Rattle.ipc_state.specs.Finish.{refuse, stop, ◌orstop◌, ◌>>◌, ◌>>=◌, if_some}
+use Rattle.ipc_state.specs.Numbered.{Numbered, entry_of}
+use Rattle.ipc_state.specs.Opening.{with_table}
+use Rattle.ipc_state.specs.Sound.{HasSoundParts, FitsBody}
+use Rattle.ipc_state.specs.State.{State, cred_of, is_process, is_waiting}
+use Rattle.ipc_state.specs.Touching.{object_of, is_there, IsAsBefore}
+use Rattle.ipc_state.proofs.SoundOpening as opening
+
+as_before : (pid : ℕ) (on : Awaited) (s : State) → IsAsBefore pid on s s
+as_before pid (awaited.Queue id) s = refl
+as_before pid (awaited.Set id) s = (refl, λ pid num. refl)
+as_before pid (awaited.Descriptor fd) s = (refl, λ n is. refl)
+
+-- the same keys have values
+same_keys : {X : Type 0} (es fs : List (ℕ × X)) (k : ℕ) → keys_of fs ≡ keys_of es → is_some (value_at nat_eq fs k) ≡ is_some (value_at nat_eq es k)
+same_keys [] [] k same = refl
+same_keys [] (f ∷ fs) k same = cc
+same_keys (e ∷ es) [] k same = cc
+same_keys (e ∷ es) (f ∷ fs) k same =
+    let key : f.0 ≡ e.0 = cc in
+    let rest : keys_of fs ≡ keys_of es = cc in
+    ap (λ (n : ℕ). is_some (if nat_eq n k then Some f.1 else value_at nat_eq fs k)) key ∙ by_test (nat_eq e.0 k) (same_keys es fs k rest)
+  where
+    by_test : (b : Bool) → is_some (value_at nat_eq fs k) ≡ is_some (value_at nat_eq es k)
+        → is_some (if b then Some f.1 else value_at nat_eq fs k) ≡ is_some (if b then Some e.1 else value_at nat_eq es k)
+    by_test true rest = refl
+    by_test false rest = rest
+
+-- the user and the group of a process; those of nobody, if it is none
+abbrev cred_in : Option Process → Cred
+cred_in r = unwrap_or (option_map (λ (p : Process). p.cred) r) (record { uid = 65534; gid = 65534 })
+
+-- the same processes are connected, each of the user and the group that it had
+pub record HasSameProcesses (before after : State) : Type 0 where
+  pub next : after.processes.next ≡ before.processes.next
+  pub pids : keys_of after.processes.entries ≡ keys_of before.processes.entries
+  pub creds : (pid : ℕ) → cred_of after pid ≡ cred_of before pid
+
+pub same-processes : (before after : State) → after.processes ≡ before.processes → HasSameProcesses before after
+same-processes before after same =
+    record {
+      next = ap (λ (o : Numbered Process). o.next) same;
+      pids = ap (λ (o : Numbered Process). keys_of o.entries) same;
+      creds = λ pid. ap (λ (o : Numbered Process). cred_in (entry_of o pid)) same;
+    }
+
+-- other descriptors of a process change nobody
+pub same-but-table : (before after : State) (pid : ℕ) (table : Table) → after.processes ≡ with_table before.processes pid table → HasSameProcesses before after
+same-but-table before after pid table put =
+    record {
+      next = ap (λ (o : Numbered Process). o.next) put ∙ opening.table-next before.processes pid table;
+      pids = ap (λ (o : Numbered Process). keys_of o.entries) put ∙ opening.table-keys before.processes pid table;
+      creds = λ p. ap (λ (o : Numbered Process). cred_in (entry_of o p)) put ∙ by_pid p (nat_eq p pid) refl;
+    }
+  where
+    own-cred : (r : Option Process) → entry_of before.processes pid ≡ r
+        → cred_in (entry_of (with_table before.processes pid table) pid) ≡ cred_in (entry_of before.processes pid)
+    own-cred None is = ap (λ (o : Numbered Process). cred_in (entry_of o pid)) (opening.table-none before.processes pid table is)
+    own-cred (Some q) is = ap cred_in (opening.table-own before.processes pid table q is) ∙ sym (ap cred_in is)
+
+    by_pid : (p : ℕ) (b : Bool) → nat_eq p pid ≡ b → cred_in (entry_of (with_table before.processes pid table) p) ≡ cred_in (entry_of before.processes p)
+    by_pid p true is =
+        let same : p ≡ pid = grind (arith, nat_tests) in
+        subst (λ (n : ℕ). cred_in (entry_of (with_table before.processes pid table) n) ≡ cred_in (entry_of before.processes n)) (sym same)
+        (own-cred (entry_of before.processes pid) refl)
+    by_pid p false is = let other : p ≢ pid = λ same. grind (arith, nat_tests) in ap cred_in (opening.table-other before.processes pid table p other)
+
+-- so whoever was connected is
+pub same-connected : (before after : State) (pid : ℕ) → HasSameProcesses before after → is_process after pid ≡ is_process before pid
+same-connected before after pid same = same_keys before.processes.entries after.processes.entries pid same.pids
+
+-- What is to be shown of what a call that began in a state leaves and answers, if it may change this object alone: the
+-- state stays sound, the body of the answer fits, and all else that others wait for is as it was.
+pub record IsGood (limits : Limits) (s : State) (touches : Option Object) (f : Finish) : Type 0 where
+  pub state : HasSoundParts limits s → HasSoundParts limits f.state
+  pub body : HasSoundParts limits s → FitsBody limits f.body
+  pub kept : HasSameProcesses s f.state
+  pub clock : f.state.clock ≡ s.clock
+  pub wait : f.state.wait ≡ s.wait
+  pub others : HasSoundParts limits s → (pid : ℕ) (on : Awaited) → is_waiting s pid ≡ true → touches ≢ object_of s pid on → is_there pid on s ≡ true
+      → IsAsBefore pid on s f.state
+
+abbrev IfDone : (Finish → Type 0) → Attempt Done → Type 0
+IfDone P (Ok d) = P (done_firing d.state d.body d.fired)
+IfDone P (Err h) = Unit {0}
+
+-- it is shown, if the call is done
+pub record Ends (limits : Limits) (s : State) (touches : Option Object) (call : Attempt Done) : Type 0 where
+  pub good : IfDone (IsGood limits s touches) call
+
+-- a call that leaves the state as it is
+unchanged : (limits : Limits) (s : State) (touches : Option Object) (f : Finish) → f.state ≡ s → (HasSoundParts limits s → FitsBody limits f.body)
+    → IsGood limits s touches f
+unchanged limits s touches f same fits =
+    record {
+      state = subst (HasSoundParts limits) (sym same);
+      body = fits;
+      kept = same-processes s f.state (ap (λ (t : State). t.processes) same);
+      clock = ap (λ (t : State). t.clock) same;
+      wait = ap (λ (t : State). t.wait) same;
+      others = λ h pid on waits apart there. subst (IsAsBefore pid on s) (sym same) (as_before pid on s);
+    }
+
+module _ {limits : Limits} {s : State} {touches : Option Object} where
+  pub after-stop : (h : Halt) {b : Bool} {rest : Attempt Done} → (b ≡ false → Ends limits s touches rest) → Ends limits s touches (stop h b >> rest)
+  after-stop h {b = true} go = record { good = tt }
+  after-stop h {b = false} go = go refl
+
+  pub after-refuse : (e : Errno) {b : Bool} {rest : Attempt Done} → (b ≡ false → Ends limits s touches rest) → Ends limits s touches (refuse e b >> rest)
+  after-refuse e {b = true} go = record { good = tt }
+  after-refuse e {b = false} go = go refl
+
+  pub after-orstop : {X : Type 0} (h : Halt) {o : Option X} {rest : X → Attempt Done} → ((x : X) → o ≡ Some x → Ends limits s touches (rest x))
+      → Ends limits s touches (o orstop h >>= rest)
+  after-orstop h {o = None} go = record { good = tt }
+  after-orstop h {o = Some x} go = go x refl
+
+  pub after-attempt : {X : Type 0} {a : Attempt X} {rest : X → Attempt Done} → ((x : X) → a ≡ Ok x → Ends limits s touches (rest x))
+      → Ends limits s touches (a >>= rest)
+  after-attempt {a = Err h} go = record { good = tt }
+  after-attempt {a = Ok x} go = go x refl
+
+  pub by-if_some : {X : Type 0} {o : Option X} {there : X → Attempt Done} {missing : Attempt Done}
+      → ((x : X) → o ≡ Some x → Ends limits s touches (there x)) → (o ≡ None → Ends limits s touches missing) → Ends limits s touches (if_some o there missing)
+  by-if_some {o = None} h k = k refl
+  by-if_some {o = Some x} h k = h x refl
+
+  pub answered_firing : (t : State) (body : PlainBody) (fired : Option Registration) → IsGood limits s touches (done_firing t body fired)
+      → Ends limits s touches (answer_firing t body fired)
+  answered_firing t body fired good = record { good = good }
+
+  pub answered : (t : State) (body : PlainBody) → IsGood limits s touches (done t body) → Ends limits s touches (answer t body)
+  answered t body good = record { good = good }
+
+  -- a call that leaves the state as it is
+  pub read : (body : PlainBody) → (HasSoundParts limits s → FitsBody limits body) → Ends limits s touches (answer s body)
+  read body fits = record { good = unchanged limits s touches (done s body) refl fits }
+
+pub ended-good : (limits : Limits) (s : State) (touches : Option Object) (call : Attempt Done) → Ends limits s touches call
+    → IfFinishes (IsGood limits s touches) (ended s call)
+ended-good limits s touches (Ok d) ends = ends.good
+ended-good limits s touches (Err (Fails e)) ends = unchanged limits s touches (refused s e) refl (λ h. omega arith)
+ended-good limits s touches (Err Blocks) ends = tt

@@ -1,0 +1,7 @@
+mod Alike
+pub mod CallerLemmas
+mod Debts
+mod Ending
+mod Reaching
+mod Running
+mod Trying

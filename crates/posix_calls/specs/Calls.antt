@@ -1,0 +1,42 @@
+-- What each POSIX call answers and leaves, and which object it may change.
+use Rattle.std.specs.Prelude.{ℕ, Option, None}
+use Rattle.ipc_base.specs.declared.limits.Limits.{Limits}
+use Rattle.ipc_wire.specs.Posix.{PlainPosix}
+use Rattle.ipc_wire.specs.Posix as requests
+use Rattle.ipc_state.specs.declared.parked.Awaited.TheVariants as awaited
+use Rattle.ipc_state.specs.declared.parked.Object.{Object}
+use Rattle.ipc_state.specs.State.{State, cred_of}
+use Rattle.ipc_state.specs.Touching.{object_of}
+use Rattle.ipc_state.specs.Finish.{Tried, Attempt, Done, ended}
+use Rattle.posix_calls.specs.Mq.{close, mq_open, mq_unlink, mq_send, mq_receive, mq_notify, mq_getattr, mq_setattr}
+
+-- each call by a process
+abbrev pub call_of : Limits → State → ℕ → PlainPosix → Attempt Done
+call_of limits s pid (requests.Close fd) = close s pid fd
+call_of limits s pid (requests.MqOpen flags mode attr maxmsg msgsize name) =
+    mq_open limits s (cred_of s pid) pid flags mode attr maxmsg msgsize name
+call_of limits s pid (requests.MqUnlink name) = mq_unlink s (cred_of s pid) name
+call_of limits s pid (requests.MqSend fd deadline priority text) = mq_send s pid fd priority text
+call_of limits s pid (requests.MqReceive fd deadline size) = mq_receive s pid fd size
+call_of limits s pid (requests.MqNotify fd kind cookie) = mq_notify s pid fd kind cookie
+call_of limits s pid (requests.MqGetattr fd) = mq_getattr s pid fd
+call_of limits s pid (requests.MqSetattr fd flags) = mq_setattr s pid fd flags
+
+-- the object on which a descriptor of the process is open
+abbrev pub on_descriptor : State → ℕ → ℕ → Option Object
+on_descriptor s pid fd = object_of s pid (awaited.Descriptor fd)
+
+-- the object that a call may change, so that those that wait on it may go on
+abbrev pub touched : State → ℕ → PlainPosix → Option Object
+touched s pid (requests.Close fd) = on_descriptor s pid fd
+touched s pid (requests.MqOpen flags mode attr maxmsg msgsize name) = None
+touched s pid (requests.MqUnlink name) = None
+touched s pid (requests.MqSend fd deadline priority text) = on_descriptor s pid fd
+touched s pid (requests.MqReceive fd deadline size) = on_descriptor s pid fd
+touched s pid (requests.MqNotify fd kind cookie) = on_descriptor s pid fd
+touched s pid (requests.MqGetattr fd) = None
+touched s pid (requests.MqSetattr fd flags) = None
+
+-- what comes of it
+abbrev pub attempt : Limits → State → ℕ → PlainPosix → Tried
+attempt limits s pid call = ended s (call_of limits s pid call)

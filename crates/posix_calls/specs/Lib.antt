@@ -1,0 +1,6 @@
+pub mod Open
+pub mod Mq
+pub mod Calls
+pub mod Registrations
+pub mod Needs
+pub mod Seen

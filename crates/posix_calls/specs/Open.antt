@@ -1,0 +1,106 @@
+-- What is alike for the named objects of every kind (mq_overview(7)): the flags of open(2), who may use an object,
+-- which one a name or a descriptor finds. Refusals stand in the order in which they are tested.
+use Rattle.std.specs.Prelude.{ℕ, Bool, not, ◌&&◌, ◌||◌, ◌==◌, if◌then◌else◌, List}
+use Rattle.std.specs.Prelude.{Option, Some, None, Result, Ok, Err}
+use Rattle.std.specs.Int.RustNames.{bit_and}
+use Rattle.ipc_base.specs.declared.errno.Errno.{Errno}
+use Rattle.ipc_base.specs.declared.errno.Errno.TheVariants.{ENOENT, EBADF, EACCES, EEXIST}
+use Rattle.ipc_base.specs.declared.identity.Cred.{Cred}
+use Rattle.ipc_keys.specs.declared.check.NameKind.{NameKind}
+use Rattle.ipc_keys.specs.Names.{check_name}
+use Rattle.ipc_perm.specs.declared.perm.Perm.{Perm}
+use Rattle.ipc_perm.specs.Perm.{may}
+use Rattle.ipc_state.specs.declared.descriptors.Descriptor.{Descriptor}
+use Rattle.ipc_state.specs.declared.named.NamedEntry.{NamedEntry}
+use Rattle.ipc_state.specs.Numbered.{entry_of}
+use Rattle.ipc_state.specs.Named.{Named, named}
+use Rattle.ipc_state.specs.Opening.{descriptor_at}
+use Rattle.ipc_state.specs.State.{State}
+use Rattle.ipc_state.specs.Finish.{Attempt, Fails, refuse, if_some, ◌orelse◌, ◌>>◌, ◌>>=◌}
+
+-- ---- flags
+
+-- whether a flag is among the flags
+abbrev pub has : ℕ → ℕ → Bool
+has flags flag = bit_and flags flag == flag
+
+-- O_CREAT, O_EXCL and O_NONBLOCK
+abbrev pub creat : ℕ
+creat = 0o100
+
+abbrev pub excl : ℕ
+excl = 0o200
+
+abbrev pub nonblock : ℕ
+nonblock = 0o4000
+
+-- the access mode: to read (O_RDONLY, 0), to write (O_WRONLY, 1), or both (O_RDWR, 2); 3 is none
+abbrev pub access_of : ℕ → ℕ
+access_of flags = bit_and flags 3
+
+-- a descriptor with these flags is open to read, or to write
+abbrev pub reads : ℕ → Bool
+reads flags = not (access_of flags == 1)
+
+abbrev pub writes : ℕ → Bool
+writes flags = not (access_of flags == 0)
+
+-- what an open asks of an object that is there: 4 is to read, 2 is to write
+abbrev pub asked_by : ℕ → ℕ
+asked_by flags = if access_of flags == 0 then 4 else if access_of flags == 1 then 2 else 6
+
+-- an open wants a new object alone: O_CREAT and O_EXCL
+abbrev pub is_exclusive : ℕ → Bool
+is_exclusive flags = has flags creat && has flags excl
+
+-- ---- names
+
+-- a value, or the refusal
+abbrev pub passed : {X : Type 0} → Result X Errno → Attempt X
+passed (Ok x) = Ok x
+passed (Err e) = Err (Fails e)
+
+-- a name that an object of the kind may have
+abbrev pub proper : NameKind → List ℕ → Attempt (Unit {0})
+proper kind name = passed (check_name kind name)
+
+-- what an open finds: the object that the name names, or none, and one may be made
+abbrev pub sought : {X : Type 0} → Named X → List ℕ → ℕ → Attempt (Option ℕ)
+sought o name flags =
+    if_some (named o name)
+    (λ n. refuse EEXIST (is_exclusive flags) >> Ok (Some n))
+    (refuse ENOENT (not (has flags creat)) >> Ok None)
+
+-- who owns it, with the mode: whoever made it
+abbrev pub perm_of : {X : Type 0} → NamedEntry X → Perm
+perm_of e =
+    record { uid = e.owner.uid; gid = e.owner.gid; cuid = e.owner.uid; cgid = e.owner.gid; mode = e.mode }
+
+-- a caller may use it as the flags ask
+abbrev pub may_use : {X : Type 0} → Cred → NamedEntry X → ℕ → Bool
+may_use cred e flags = may cred (perm_of e) (asked_by flags)
+
+-- a caller may unlink it: the owner, or uid 0
+abbrev pub may_unlink : {X : Type 0} → Cred → NamedEntry X → Bool
+may_unlink cred e = cred.uid == e.owner.uid || cred.uid == 0
+
+-- an object that is there, for a caller that may use it as the flags ask
+abbrev pub usable : {X : Type 0} → Named X → Cred → ℕ → ℕ → Attempt (NamedEntry X)
+usable o cred n flags = do
+  e ← entry_of o n orelse ENOENT
+  refuse EACCES (not (may_use cred e flags))
+  Ok e
+
+-- the object that a name names, for a caller that may unlink it
+abbrev pub unlinkable : {X : Type 0} → Named X → Cred → List ℕ → Attempt ℕ
+unlinkable o cred name = do
+  n ← named o name orelse ENOENT
+  e ← entry_of o n orelse ENOENT
+  refuse EACCES (not (may_unlink cred e))
+  Ok n
+
+-- ---- descriptors
+
+-- what a descriptor of the process is
+abbrev pub described : State → ℕ → ℕ → Attempt Descriptor
+described s pid fd = descriptor_at s.processes.entries pid fd orelse EBADF

@@ -1,0 +1,64 @@
+//! The attempt of a call that never waits. It takes no memory.
+
+ghost use Rattle.std.specs.Prelude.{◌≡◌, true, false};
+ghost use Rattle.ipc_wire.specs.Posix.{plain_posix};
+ghost use Rattle.ipc_wire.specs.Request.{Posix};
+ghost use Rattle.ipc_state.specs.Directory.{HasNoSpareName};
+ghost use Rattle.ipc_state.specs.Finish.{Finishes, finish_of};
+ghost use Rattle.ipc_state.specs.Sound.{HasSoundParts};
+ghost use Rattle.ipc_state.specs.State.{is_process};
+ghost use Rattle.ipc_state.specs.Waiting.{may_wait};
+ghost use Rattle.posix_calls.specs.Calls as defined;
+ghost use Rattle.posix_calls.specs.Needs.{Has, HasSpareNameOf, needs};
+ghost use Rattle.ipc_state.specs.Spare.{IsSpare, IsKept};
+
+use crate::mq::{Answer, close, mq_getattr, mq_notify, mq_setattr, mq_unlink};
+use crate::opening::{Wanted, mq_open};
+use ipc_base::Pid;
+use ipc_state::State;
+use ipc_wire::PosixCall;
+
+/// The attempt of a call by a process, whose memory is reserved and that never waits. It takes none: a record is made
+/// in the spare buffer, and has it.
+pub fn attempt(state: &mut State, pid: Pid, call: &PosixCall<'_>, spare: &mut Vec<u8>) -> Answer
+    requires sound { HasSoundParts state.old.limits state.old.state }
+    requires never { may_wait (Posix (plain_posix call.now)) ≡ false }
+    requires room { Has state.old.state state.old.room (needs (Posix (plain_posix call.now))) }
+    requires process { is_process state.old.state pid.0 ≡ true }
+    requires spare { IsSpare state.old.limits spare.old }
+    ensures finish { Finishes (finish_of state.new.state result)
+        ≡ defined.attempt state.old.limits state.old.state pid.0 (plain_posix call.now) }
+    ensures limits { state.new.limits ≡ state.old.limits }
+    ensures waits { state.new.room.waits ≡ state.old.room.waits }
+    ensures keys { state.new.room.keys ≡ state.old.room.keys }
+    ensures set_keys { state.new.room.set_keys ≡ state.old.room.set_keys }
+    ensures spare { IsKept state.old.limits spare.new result }
+    ensures no_name { HasSpareNameOf state.old.room (needs (Posix (plain_posix call.now)))
+        → HasNoSpareName state.new.room.names }
+{
+    let cred = state.cred(pid);
+    match call {
+        PosixCall::Close { fd } => close(state, pid, *fd),
+        PosixCall::MqOpen {
+            flags,
+            mode,
+            attr,
+            maxmsg,
+            msgsize,
+            name,
+        } => {
+            let wanted = Wanted {
+                mode: *mode,
+                attr: *attr,
+                maxmsg: *maxmsg,
+                msgsize: *msgsize,
+            };
+            mq_open(state, cred, pid, *flags, wanted, name)
+        }
+        PosixCall::MqUnlink { name } => mq_unlink(state, cred, name),
+        PosixCall::MqNotify { fd, kind, cookie } => mq_notify(state, pid, *fd, *kind, *cookie),
+        PosixCall::MqGetattr { fd } => mq_getattr(state, pid, *fd, spare),
+        PosixCall::MqSetattr { fd, flags } => mq_setattr(state, pid, *fd, *flags, spare),
+        PosixCall::MqSend { .. } | PosixCall::MqReceive { .. } => unreachable!(),
+    }
+}

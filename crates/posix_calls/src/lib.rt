@@ -1,0 +1,14 @@
+//! The attempts of the POSIX calls: each changes the state and answers, or refuses and changes nothing, or has to wait.
+#![tactic(auto)]
+
+mod access;
+mod calls;
+mod memory;
+mod mq;
+mod opening;
+mod waiting;
+
+pub use calls::attempt;
+pub use memory::reserve;
+pub use mq::{Answer, registrations};
+pub use waiting::{Tried, has_to_wait, touched, try_parked};

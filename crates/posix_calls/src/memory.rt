@@ -1,0 +1,70 @@
+//! What a request may need of memory, taken before its call is tried.
+
+ghost use Rattle.std.specs.Prelude.{◌≡◌, false, IfOk, IsOk, OnOk, OnErr};
+ghost use Rattle.ipc_wire.specs.Request.{plain_kind};
+ghost use Rattle.ipc_wire.specs.View.{plain_request};
+ghost use Rattle.ipc_state.specs.Directory.{HasNoSpareName};
+ghost use Rattle.ipc_state.specs.Sound.{HasSoundParts};
+ghost use Rattle.ipc_state.specs.Waiting.{has_text};
+ghost use Rattle.posix_calls.specs.Needs.{Has, HasSpareNameOf, IsReserved, is_kept, is_place, kept_of, needs};
+ghost use Rattle.posix_calls.specs.Needs.{takes_memory};
+
+use ipc_state::{Parked, State};
+use ipc_wire::{PosixCall, Request, RequestKind};
+use std::alloc::{AllocError, Global};
+
+/// Takes the memory that a POSIX request may need, which one that grows nothing never does. A call that may wait is
+/// kept, its text in memory of its own. Any other request needs nothing here, and nothing is kept of it. Refused, the
+/// state is as before.
+pub fn reserve(
+    state: &mut State,
+    alloc: Global,
+    request: &Request<'_>,
+) -> Result<Option<Parked>, AllocError>
+    requires sound { HasSoundParts state.old.limits state.old.state }
+    ensures state { state.new.state ≡ state.old.state }
+    ensures limits { state.new.limits ≡ state.old.limits }
+    ensures waits { state.new.room.waits ≡ state.old.room.waits }
+    ensures keys { state.new.room.keys ≡ state.old.room.keys }
+    ensures set_keys { state.new.room.set_keys ≡ state.old.room.set_keys }
+    ensures ok { IfOk result (λ kept. IsReserved state.new.state state.new.room (plain_request request.now) kept) }
+    ensures memory { takes_memory (plain_kind request.now.kind) ≡ false → IsOk result }
+    ensures name { HasNoSpareName state.old.room.names
+        → HasSpareNameOf state.new.room (needs (plain_kind request.now.kind)) }
+    ensures no_name { OnErr result (HasNoSpareName state.old.room.names → HasNoSpareName state.new.room.names) }
+{
+    reserve_queue(state, &request.kind)?;
+    keep(alloc, request)
+}
+
+/// Takes the memory of a new queue, if the request may make one. Refused, the state is as before.
+fn reserve_queue(state: &mut State, kind: &RequestKind<'_>) -> Result<(), AllocError>
+    requires sound { HasSoundParts state.old.limits state.old.state }
+    ensures state { state.new.state ≡ state.old.state }
+    ensures limits { state.new.limits ≡ state.old.limits }
+    ensures waits { state.new.room.waits ≡ state.old.room.waits }
+    ensures keys { state.new.room.keys ≡ state.old.room.keys }
+    ensures set_keys { state.new.room.set_keys ≡ state.old.room.set_keys }
+    ensures ok { OnOk result (Has state.new.state state.new.room (needs (plain_kind kind.now))) }
+    ensures memory { is_place (needs (plain_kind kind.now)) ≡ false → IsOk result }
+    ensures name { HasNoSpareName state.old.room.names
+        → HasSpareNameOf state.new.room (needs (plain_kind kind.now)) }
+    ensures no_name { OnErr result (HasNoSpareName state.old.room.names → HasNoSpareName state.new.room.names) }
+{
+    match kind {
+        RequestKind::Posix(PosixCall::MqOpen { name, .. }) => state.reserve_mq(name),
+        _ => Ok(()),
+    }
+}
+
+/// Keeps a POSIX request that may have to wait. Refused for want of memory, which only a text takes.
+fn keep(alloc: Global, request: &Request<'_>) -> Result<Option<Parked>, AllocError>
+    ensures kept { IfOk result (λ kept. kept ≡ kept_of (plain_request request.now)) }
+    ensures memory { has_text (plain_kind request.now.kind) ≡ false → IsOk result }
+    ensures others { is_kept (plain_kind request.now.kind) ≡ false → IsOk result }
+{
+    match &request.kind {
+        RequestKind::Posix(_) => Parked::new(alloc, request),
+        RequestKind::Hello(_) | RequestKind::Interrupt | RequestKind::Call(_) => Ok(None),
+    }
+}

@@ -1,0 +1,214 @@
+//! mq_open(3). It takes no memory in its attempt.
+
+ghost use Rattle.std.specs.Prelude.{◌≡◌, ◌≢◌, ◌<◌, ◌^◌, List, ℕ, None, false, true, IfOk};
+ghost use Rattle.std.specs.Result.{is_ok};
+ghost use Rattle.ipc_keys.specs.Directory.{is_vacant};
+ghost use Rattle.ipc_keys.specs.Names.{check_name as checked};
+ghost use Rattle.ipc_keys.specs.declared.check.NameKind.TheVariants as kinds;
+ghost use Rattle.ipc_state.specs.Descriptors.{lowest_unused};
+ghost use Rattle.ipc_state.specs.Directory.{ArePositive, HasNoSpareName};
+ghost use Rattle.ipc_state.specs.Finish.{Finishes, ended, finish_of};
+ghost use Rattle.ipc_state.specs.Held.{HasMqPlace};
+ghost use Rattle.ipc_state.specs.Named.{named};
+ghost use Rattle.ipc_state.specs.Sound.{HasSoundParts};
+ghost use Rattle.ipc_state.specs.State.{has_all_descriptors, is_process};
+ghost use Rattle.posix_calls.specs.Mq as defined;
+ghost use Rattle.posix_calls.specs.Needs.{HasNoSpareNameBut};
+ghost use Rattle.posix_calls.specs.Open.{sought};
+ghost use Rattle.posix_calls.specs.Seen.{opened_of, result_of};
+
+use crate::access::{is_exclusive, may_use};
+use crate::mq::Answer;
+use bitflags::Flags;
+use ipc_base::{Cred, Errno, Limits, OpenFlags, Pid};
+use ipc_keys::{NameKind, check_name};
+use ipc_state::{Descriptor, Opened, State};
+use ipc_wire::Body;
+
+/// What mq_open(3) asks of a new queue: its mode and, unless `attr` is 0, its limits.
+#[derive(Clone, Copy)]
+pub(crate) struct Wanted {
+    pub(crate) mode: u32,
+    pub(crate) attr: u8,
+    pub(crate) maxmsg: i32,
+    pub(crate) msgsize: i32,
+}
+
+/// The flags that still mean something after the open: the access mode and O_NONBLOCK.
+const KEPT_FLAGS: u32 = 0o4003;
+
+/// mq_open(3). What room of the name is not used is given back.
+pub(crate) fn mq_open(
+    state: &mut State,
+    cred: Cred,
+    pid: Pid,
+    flags: OpenFlags,
+    wanted: Wanted,
+    name: &[u8],
+) -> Answer
+    requires sound { HasSoundParts state.old.limits state.old.state }
+    requires process { is_process state.old.state pid.0 ≡ true }
+    requires room { HasMqPlace state.old.state state.old.room name.now }
+    ensures finish { Finishes (finish_of state.new.state result)
+        ≡ ended state.old.state (defined.mq_open state.old.limits state.old.state cred pid.0 flags.0 wanted.mode
+        wanted.attr wanted.maxmsg wanted.msgsize name.now) }
+    ensures limits { state.new.limits ≡ state.old.limits }
+    ensures waits { state.new.room.waits ≡ state.old.room.waits }
+    ensures keys { state.new.room.keys ≡ state.old.room.keys }
+    ensures set_keys { state.new.room.set_keys ≡ state.old.room.set_keys }
+    ensures no_name { HasNoSpareNameBut name.now state.old.room.names → HasNoSpareName state.new.room.names }
+{
+    let answer = open(state, cred, pid, flags, wanted, name);
+    state.release_mq(name);
+    answer
+}
+
+/// Opens the queue that a name names, or a new one.
+fn open(
+    state: &mut State,
+    cred: Cred,
+    pid: Pid,
+    flags: OpenFlags,
+    wanted: Wanted,
+    name: &[u8],
+) -> Answer
+    requires sound { HasSoundParts state.old.limits state.old.state }
+    requires process { is_process state.old.state pid.0 ≡ true }
+    requires room { HasMqPlace state.old.state state.old.room name.now }
+    ensures finish { Finishes (finish_of state.new.state result)
+        ≡ ended state.old.state (defined.mq_open state.old.limits state.old.state cred pid.0 flags.0 wanted.mode
+        wanted.attr wanted.maxmsg wanted.msgsize name.now) }
+    ensures limits { state.new.limits ≡ state.old.limits }
+    ensures waits { state.new.room.waits ≡ state.old.room.waits }
+    ensures keys { state.new.room.keys ≡ state.old.room.keys }
+    ensures set_keys { state.new.room.set_keys ≡ state.old.room.set_keys }
+    ensures others { (other : List ℕ) → other ≢ name.now
+        → is_vacant state.new.room.names other ≡ is_vacant state.old.room.names other }
+{
+    check_name(NameKind::Queue, name)?;
+    if flags.access_mode() == 3 {
+        return Err(Errno::EINVAL);
+    }
+    if state.has_all_descriptors(pid) {
+        return Err(Errno::EMFILE);
+    }
+    let Some(number) = seek(state, name, flags)? else {
+        return make_queue(state, cred, pid, flags, wanted, name);
+    };
+    open_queue(state, cred, pid, flags, number)
+}
+
+/// The queue that an open finds by its name; none, if it may make one.
+fn seek(state: &State, name: &[u8], flags: OpenFlags) -> Result<Option<u32>, Errno>
+    requires { ArePositive state.now.state.mq.entries }
+    ensures found { result_of result ≡ sought state.now.state.mq name.now flags.0 }
+    ensures unused { IfOk result (λ found. found ≡ None → named state.now.state.mq name.now ≡ None) }
+{
+    let Some(number) = state.mq_of_name(name) else {
+        if !flags.contains(OpenFlags::O_CREAT) {
+            return Err(Errno::ENOENT);
+        }
+        return Ok(None);
+    };
+    if is_exclusive(flags) {
+        return Err(Errno::EEXIST);
+    }
+    Ok(Some(number))
+}
+
+/// Opens a descriptor on the queue of a number, and gives its own.
+fn open_on(state: &mut State, pid: Pid, flags: OpenFlags, number: u32) -> u32
+    requires sound { HasSoundParts state.old.limits state.old.state }
+    requires process { is_process state.old.state pid.0 ≡ true }
+    requires few { has_all_descriptors state.old.limits state.old.state pid.0 ≡ false }
+    ensures opens { opened_of state.new.state result ≡ defined.opens state.old.state pid.0 flags.0 number }
+    ensures same { state.new ≡ record state.old { state = state.new.state } }
+{
+    state.open_descriptor(
+        pid,
+        Descriptor {
+            on: Opened::Queue(number),
+            flags: flags.0 & KEPT_FLAGS,
+        },
+    )
+}
+
+/// Opens the queue of a number, if the caller may use it so.
+fn open_queue(state: &mut State, cred: Cred, pid: Pid, flags: OpenFlags, number: u32) -> Answer
+    requires sound { HasSoundParts state.old.limits state.old.state }
+    requires process { is_process state.old.state pid.0 ≡ true }
+    requires few { has_all_descriptors state.old.limits state.old.state pid.0 ≡ false }
+    ensures finish { Finishes (finish_of state.new.state result)
+        ≡ ended state.old.state (defined.opened_queue state.old.state cred pid.0 flags.0 number) }
+    ensures same { state.new ≡ record state.old { state = state.new.state } }
+{
+    let Some(entry) = state.mq(number) else {
+        return Err(Errno::ENOENT);
+    };
+    if !may_use(cred, entry, flags) {
+        return Err(Errno::EACCES);
+    }
+    Ok(Body::Number(open_on(state, pid, flags, number)))
+}
+
+/// A number of an open that is above 0 and within its limit.
+fn limited(limit: u32, number: i32) -> Result<u32, Errno>
+    ensures { result_of result ≡ defined.limited limit number }
+{
+    if number <= 0 || number as u32 > limit {
+        return Err(Errno::EINVAL);
+    }
+    Ok(number as u32)
+}
+
+/// What is asked for; the server's own number, if nothing is.
+fn asked_or(attr: u8, usual: u32, asked: i32) -> i32
+    requires { usual < 2 ^ 31 }
+    ensures { result ≡ defined.asked_or attr usual asked }
+{
+    if attr == 0 { usual as i32 } else { asked }
+}
+
+/// The most messages of a new queue, and the most bytes of one.
+fn attributes(limits: &Limits, wanted: Wanted) -> Result<(u32, u32), Errno>
+    ensures { result_of result ≡ defined.attributes limits.now wanted.attr wanted.maxmsg wanted.msgsize }
+{
+    let most = asked_or(wanted.attr, limits.maxmsg.min(10), wanted.maxmsg);
+    let maxmsg = limited(limits.maxmsg, most)?;
+    let bytes = asked_or(wanted.attr, limits.msgsize.min(8192), wanted.msgsize);
+    let msgsize = limited(limits.msgsize, bytes)?;
+    Ok((maxmsg, msgsize))
+}
+
+/// Opens a new queue of the name that is ready.
+fn make_queue(
+    state: &mut State,
+    cred: Cred,
+    pid: Pid,
+    flags: OpenFlags,
+    wanted: Wanted,
+    _name: &[u8],
+) -> Answer
+    requires sound { HasSoundParts state.old.limits state.old.state }
+    requires process { is_process state.old.state pid.0 ≡ true }
+    requires few { has_all_descriptors state.old.limits state.old.state pid.0 ≡ false }
+    requires proper { is_ok (checked kinds.Queue _name.now) ≡ true }
+    requires unused { named state.old.state.mq _name.now ≡ None }
+    requires room { HasMqPlace state.old.state state.old.room _name.now }
+    ensures finish { Finishes (finish_of state.new.state result)
+        ≡ ended state.old.state (defined.made_queue state.old.limits state.old.state cred pid.0 flags.0 wanted.mode
+        wanted.attr wanted.maxmsg wanted.msgsize _name.now) }
+    ensures limits { state.new.limits ≡ state.old.limits }
+    ensures waits { state.new.room.waits ≡ state.old.room.waits }
+    ensures keys { state.new.room.keys ≡ state.old.room.keys }
+    ensures set_keys { state.new.room.set_keys ≡ state.old.room.set_keys }
+    ensures others { (other : List ℕ) → other ≢ _name.now
+        → is_vacant state.new.room.names other ≡ is_vacant state.old.room.names other }
+{
+    let (maxmsg, msgsize) = attributes(state.limits(), wanted)?;
+    if state.has_all_mqs() {
+        return Err(Errno::ENOSPC);
+    }
+    let number = state.add_mq(cred, wanted.mode & 0o777, maxmsg, msgsize);
+    Ok(Body::Number(open_on(state, pid, flags, number)))
+}
