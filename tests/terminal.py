@@ -39,6 +39,16 @@ def progress(sectors: int, *reached: int) -> bytes:
     return "".join([*numbers, "\n"]).encode()
 
 
+def all_shown(terminal: int) -> bytes:
+    """All that a terminal shows, whose other end is closed. The system hands it over in pieces."""
+    shown = b""
+    while True:
+        try:
+            shown += os.read(terminal, 4096)
+        except OSError:
+            return shown
+
+
 def main() -> None:
     terminal, errors = pty.openpty()
     # A line's end is not to become two bytes.
@@ -48,11 +58,13 @@ def main() -> None:
     for sectors in (5000, 448, 3000):
         makes(sectors, errors)
     wanted = progress(5000, 2048, 4096, 5000) + progress(3000, 2048, 3000)
-    shown = os.read(terminal, 4096)
+    name = os.ttyname(errors)
+    os.close(errors)
+    shown = all_shown(terminal)
     check(shown == wanted, f"{shown!r} is shown, and not {wanted!r}")
 
     # A terminal that takes nothing.
-    refusing = os.open(os.ttyname(errors), os.O_RDONLY | os.O_NOCTTY)
+    refusing = os.open(name, os.O_RDONLY | os.O_NOCTTY)
     makes(9000, refusing)
 
     # No terminal.

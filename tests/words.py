@@ -152,6 +152,16 @@ def files_of_one_mib() -> None:
     resource.setrlimit(resource.RLIMIT_FSIZE, (1 << 20, 1 << 20))
 
 
+def all_shown(terminal: int) -> bytes:
+    """All that a terminal shows, whose other end is closed. The system hands it over in pieces."""
+    shown = b""
+    while True:
+        try:
+            shown += os.read(terminal, 4096)
+        except OSError:
+            return shown
+
+
 def the_greatest_number() -> None:
     """A terminal shows which number was taken, once there is a MiB of the device, 2048 sectors."""
     terminal, errors = pty.openpty()
@@ -159,7 +169,8 @@ def the_greatest_number() -> None:
     tty.setraw(errors)
     words = ("format", "queues", f"--sectors={GREATEST}")
     ends((1, b"", b""), *words, stderr=errors, preexec_fn=files_of_one_mib)
-    shown = os.read(terminal, 4096)
+    os.close(errors)
+    shown = all_shown(terminal)
     wanted = f"\ripcd: 2048 of {GREATEST} sectors\nipcd: device fault\n".encode()
     check(shown == wanted, f"{shown!r} is shown, and not {wanted!r}")
     os.remove("queues")

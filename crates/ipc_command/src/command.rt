@@ -144,7 +144,7 @@ fn command_line<'a>(alloc: Global) -> Result<Command<'a>, AllocError>
     ensures { IfOk result (λ command. app_of command ≡ declared) }
 {
     Command::new(alloc, "ipcd")
-        .about("System V message queues and semaphore sets that outlive the system")
+        .about("System V and POSIX IPC objects that outlive the system")
         .version("0.1.0, devices of version 0")
         .subcommand_required(true)
         .subcommand(replay(alloc)?)?

@@ -1,7 +1,7 @@
 -- A call that is tried, whatever its kind: what it leaves when it comes to its end, and on what it depends whether it has to
 -- wait.
 use Rattle.std.proofs.Common.{◌≡◌, ◌≢◌, ℕ, Bool, true, false, Option, Some, None, refl, sym, ap, subst, ◌∙◌, arith}
-use Rattle.std.specs.Prelude.{Err, is_some, option_map, sum_by}
+use Rattle.std.specs.Prelude.{is_some, option_map, sum_by}
 use Rattle.ipc_base.specs.declared.errno.Errno.{Errno}
 use Rattle.ipc_base.specs.declared.errno.Errno.TheVariants.{EPROTO}
 use Rattle.ipc_base.specs.declared.limits.Limits.{Limits}
@@ -15,14 +15,14 @@ use Rattle.ipc_state.specs.declared.parked.Object.{Object}
 use Rattle.ipc_state.specs.declared.named.NamedEntry.{NamedEntry}
 use Rattle.ipc_state.specs.declared.processes.Process.{Process}
 use Rattle.posix_mq.specs.Queue.{Queue as Mq}
-use Rattle.ipc_state.specs.Finish.{Finish, Tried, Finishes, Waits, Fails, IfFinishes, has_to_wait, refused}
+use Rattle.ipc_state.specs.Finish.{Finish, Tried, Finishes, Waits, IfFinishes, has_to_wait, refused}
 use Rattle.ipc_state.specs.Named.{Named}
 use Rattle.ipc_state.specs.Numbered.{Numbered}
 use Rattle.ipc_state.specs.Opening.{descriptor_at}
 use Rattle.ipc_state.specs.State.{State, cred_of, is_waiting}
 use Rattle.ipc_state.specs.Touching.{object_of, object_on, is_there, IsAsBefore}
 use Rattle.ipc_state.specs.Waiting.{awaited_by}
-use Rattle.ipc_state.proofs.CallerLemmas.{IsGood, ended-good}
+use Rattle.ipc_state.proofs.CallerLemmas.{IsGood, refused-good}
 use Rattle.posix_calls.specs.Calls as posix
 use Rattle.posix_calls.specs.Registrations.{own}
 use Rattle.posix_calls.proofs.CallerLemmas as posixly
@@ -92,7 +92,7 @@ module _ (limits : Limits) where
   pub refused-ended : (s : State) (pid : ℕ) (touches : Option Object) (e : Errno) → HasEnded limits s pid touches (refused s e)
   refused-ended s pid touches e =
       record {
-        good = ended-good limits s touches (Err (Fails e)) (record { good = tt });
+        good = refused-good limits s touches e;
         leaves = λ p. record { owed = omega arith; objects = λ other on. refl };
       }
 

@@ -64,8 +64,8 @@ pub record IsGreeted (s : State) (now : Step) : Type 0 where
   pub last : now.outcomes ≡ front ++ reply ∷ []
   pub process : (reply.pid ≡ 0) ⊎ ((reply.pid ≡ s.processes.next) × (is_process now.state reply.pid ≡ true))
 
--- a call that waited has been answered: its process is sent one reply, to that call, and whoever was registered with the
--- queue to which a message has come is told
+-- a call that waited has been answered: its process is sent one reply, to that call, and whoever is to be told of a
+-- message that it sent is told
 pub record IsAnswered (w : PlainWaiting) (now : Step) : Type 0 where
   pub reply : PlainOutcome
   pub fired : Option Registration

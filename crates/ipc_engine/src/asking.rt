@@ -23,11 +23,10 @@ use crate::replies::{push, reply_to, tell};
 use crate::settling::{settle, settle_all};
 use crate::trying::{Trial, is_receive, touched_by, try_at_once, try_kept};
 use ipc_base::{Errno, Pid};
-use ipc_state::{Object, Parked, State};
+use ipc_state::{Answer, Object, Parked, State};
 use ipc_wait::Waiting;
 use ipc_wire::{Body, Request, RequestKind};
 use posix_mq::Registration;
-use sysv_calls::Answer;
 
 /// What a process is told at a request whose memory is reserved. It takes none.
 pub(crate) fn ask(

@@ -5,6 +5,7 @@ ghost use Rattle.std.specs.Prelude.{
   ◌+◌,
   ◌≤◌,
   ◌↔◌,
+  ℕ,
   true,
   false,
   [],
@@ -198,11 +199,13 @@ impl Engine {
         }
     }
 
-    /// The most that a process is ever owed.
+    /// The most that a process is ever owed. It tells more cheaply than `owed`, which counts, that there is room.
     pub fn most_owed(&self) -> usize
-        ensures { result ≡ most_owed self.now.limits }
+        ensures most { result ≡ most_owed self.now.limits }
+        ensures bound { (pid : ℕ) → owed self.now.limits self.now.state pid ≤ result }
     {
-        self.limits().longest_reply() as usize + NOTICE_BYTES * self.limits().queues as usize
+        let limits = self.limits();
+        limits.longest_reply() as usize + NOTICE_BYTES * limits.queues as usize
     }
 
     /// Whether the process that an event names is connected: the condition of `step`.
@@ -223,10 +226,10 @@ impl Engine {
         &self.outcomes
     }
 
-    /// One step on an event: `outcomes` are its replies and notifications. Refused for want of memory, which only a
-    /// HELLO that gets a process and a call that may make an object, or has a text or a list, take, nothing has changed, the clock included. A call that waits, and what is
-    /// answered to one that waited, takes none. The state is sound before and after, and no body of a reply is longer
-    /// than `Limits::longest_reply` says.
+    /// One step on an event: `outcomes` are its replies and notifications. Memory is taken only by a HELLO that gets a
+    /// process, and by a call that may make an object, or that has a text or a list. If it is refused, nothing has
+    /// changed, the clock included. A call that waits already, and what is answered to one that waited, takes none. The
+    /// state is sound before and after, and no body of a reply is longer than `Limits::longest_reply` says.
     pub fn step(&mut self, event: Event<'_>) -> Result<(), AllocError>
         requires { IsForProcess self.old.state (plain_event event) }
         ensures state { OnOk result (self.new.state

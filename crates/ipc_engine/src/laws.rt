@@ -49,8 +49,8 @@ pub fn nobody_waits_who_could_go_on()
 {}
 
 /// If none of those before a call in the list can go on, and it can, then it is the first that is answered: it leaves
-/// the list, its process is sent one reply to it, then whoever is to be told of a message that it sent, and all are looked
-/// at again.
+/// the list, its process is sent one reply to it, whoever is to be told of a message that it sent is told, and all are
+/// looked at again.
 pub fn the_earliest_goes_on_first()
     ensures first { (limits : Limits) (s : State) (before later : List PlainWaiting) (w : PlainWaiting)
         → HasSoundParts limits s → s.wait ≡ before ++ w ∷ later
@@ -239,8 +239,8 @@ pub fn restart_adds_adjustments()
     ensures added { (limits : Limits) (s : State) → (step limits s Restart).state.sem ≡ fold undone s.sem s.undo }
 {}
 
-/// A restart leaves the queues, the identifiers of the sets and the numbers of those to come as they are. Of POSIX queues
-/// those with a name are left, all as they were but for a registration, and no other.
+/// A restart leaves the queues, the identifiers of the sets and the numbers of those to come as they are. Of POSIX
+/// queues those with a name are left, as they were but for a registration, and no other.
 pub fn restart_keeps_objects()
     ensures next_pid { (limits : Limits) (s : State)
         → (step limits s Restart).state.processes.next ≡ s.processes.next }

@@ -10,9 +10,9 @@ ghost use Rattle.ipc_engine.specs.View.{plain_outcome, step_of};
 
 use crate::event::Outcome;
 use ipc_base::Pid;
+use ipc_state::Answer;
 use ipc_wire::Body;
 use posix_mq::Registration;
-use sysv_calls::Answer;
 
 /// The reply that tells a process how its request ended.
 pub(crate) fn reply_to(pid: Pid, serial: u32, ended: Answer) -> Outcome

@@ -15,11 +15,10 @@ ghost use Rattle.ipc_engine.specs.Step.{tried};
 ghost use Rattle.ipc_engine.specs.Trial.{IsKeptIn, tried_of};
 
 use ipc_base::{Errno, Pid};
-use ipc_state::{Object, Parked, ParkedKind, State};
+use ipc_state::{Answer, Object, Parked, ParkedKind, State};
 use ipc_wire::{Request, RequestKind};
 use posix_mq::Registration;
 use std::alloc::{AllocError, Global};
-use sysv_calls::Answer;
 
 /// Takes the memory that a request may need, and gives what is kept of one that may wait. Refused, the state is as
 /// before.

@@ -98,13 +98,22 @@ impl Connection {
         !self.ended && self.outbox.visible().is_empty()
     }
 
-    /// Whether what its process is owed has room, and behind it a reply of so many bytes and the last frames.
+    /// Whether what its process is owed has room, and behind it a reply of so many bytes and the last frames. What it is
+    /// owed is counted only where the most that any is owed has no room.
     pub(crate) fn has_room(&self, engine: &Engine, reply: u32) -> bool
         ensures { IsTrue result ↔ (owed_to engine.now.limits engine.now.state (pid_of self.now.process) + reply
             + last_frames ≤ self.now.outbox.free) }
     {
-        let left = self.outbox.free().saturating_sub(self.owed(engine));
-        reply as usize + LAST_FRAMES <= left
+        let wanted = reply as usize + LAST_FRAMES;
+        self.has_beside(engine.most_owed(), wanted) || self.has_beside(self.owed(engine), wanted)
+    }
+
+    /// Whether so many bytes have room beside those that are owed.
+    fn has_beside(&self, owed: usize, wanted: usize) -> bool
+        ensures { IsTrue result ↔ (owed + wanted ≤ self.now.outbox.free) }
+    {
+        let free = self.outbox.free();
+        owed <= free && wanted <= free - owed
     }
 
     /// How many bytes of replies its process is owed, if it has one.

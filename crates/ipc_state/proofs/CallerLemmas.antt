@@ -68,10 +68,14 @@ use Rattle.ipc_state.proofs.Naming.{entry-named, have-names}
 use Rattle.ipc_state.proofs.Adjusting.{HasAll, moved, has-new, has-with, has-adjusted, adjusted-by, exit-length, undone-keeps, all-undone-keeps}
 use Rattle.ipc_state.proofs.Adjusting.{each-moved, each-cleared, each-dropped, none-at, without-same, push-same, each-pushed, seen-keys}
 pub use Rattle.ipc_state.proofs.EntryKeys.{All-seen}
-pub use Rattle.ipc_state.proofs.Ending.{HasSameProcesses, IsGood, Ends, same-processes, same-but-table, same-connected, after-stop, after-refuse, after-orstop}
-pub use Rattle.ipc_state.proofs.Ending.{after-attempt, by-if_some, answered, answered_firing, read, ended-good}
+pub use Rattle.ipc_state.proofs.Ending.{HasSameProcesses, IsGood, Ends, same-processes, same-but-table, same-connected, answered}
+pub use Rattle.ipc_state.proofs.Ending.{as_before, by-finish, ended-good, read, refused-good}
 pub use Rattle.ipc_state.proofs.Elsewhere.{before-then, elsewhere-closed, elsewhere-mq, elsewhere-new_mq, elsewhere-table, elsewhere-unlinked}
 pub use Rattle.ipc_state.proofs.Numbering.{neither}
+pub use Rattle.ipc_state.proofs.Steps.{Passed, Runs, Shows, blocked-seen, blocked-then, is_blocked, ok-same, orstop-passed, passed, shows, stays-stopped}
+pub use Rattle.ipc_state.proofs.Steps.{if_some-runs, orelse-runs, refuse-runs, stop-passed, test-runs, then-runs, waits-blocked}
+pub use Rattle.ipc_state.proofs.Steps.{AtEnd, after, after-attempt, after-orelse, after-orstop, after-refuse, after-stop, after-then, at-failure, at-some, at-value}
+pub use Rattle.ipc_state.proofs.Steps.{by-if_some, by-test}
 pub use Rattle.ipc_state.proofs.SoundQueues.{queue-numbers, sent-sound, taken-sound, changed-sound}
 pub use Rattle.ipc_state.proofs.SoundSets.{with_value-sound, with_values-sound, carried-sound, changed_set-sound}
 

@@ -8,22 +8,21 @@ use Rattle.ipc_base.specs.declared.identity.Cred.{Cred}
 use Rattle.ipc_base.specs.declared.limits.Limits.{Limits}
 use Rattle.ipc_base.specs.Table.{keys_of, value_at}
 use Rattle.ipc_wire.specs.Reply.{PlainBody}
-use Rattle.posix_mq.specs.declared.queue.Registration.{Registration}
 use Rattle.ipc_state.specs.declared.parked.Awaited.{Awaited}
 use Rattle.ipc_state.specs.declared.parked.Awaited.TheVariants as awaited
 use Rattle.ipc_state.specs.declared.parked.Object.{Object}
 use Rattle.ipc_state.specs.declared.processes.Process.{Process}
 use Rattle.ipc_state.specs.Descriptors.{Table}
-use Rattle.ipc_state.specs.Finish.{Finish, IfFinishes, Attempt, Halt, Fails, Blocks, Done, ended, done, done_firing, refused, answer, answer_firing}
-use Rattle.ipc_state.specs.Finish.{refuse, stop, ◌orstop◌, ◌>>◌, ◌>>=◌, if_some}
+use Rattle.ipc_state.specs.Finish.{Finish, IfFinishes, Attempt, Fails, Blocks, Done, ended, done, done_firing, refused, answer}
 use Rattle.ipc_state.specs.Numbered.{Numbered, entry_of}
 use Rattle.ipc_state.specs.Opening.{with_table}
 use Rattle.ipc_state.specs.Sound.{HasSoundParts, FitsBody}
 use Rattle.ipc_state.specs.State.{State, cred_of, is_process, is_waiting}
 use Rattle.ipc_state.specs.Touching.{object_of, is_there, IsAsBefore}
 use Rattle.ipc_state.proofs.SoundOpening as opening
+use Rattle.ipc_state.proofs.Steps.{AtEnd, at-value}
 
-as_before : (pid : ℕ) (on : Awaited) (s : State) → IsAsBefore pid on s s
+pub as_before : (pid : ℕ) (on : Awaited) (s : State) → IsAsBefore pid on s s
 as_before pid (awaited.Queue id) s = refl
 as_before pid (awaited.Set id) s = (refl, λ pid num. refl)
 as_before pid (awaited.Descriptor fd) s = (refl, λ n is. refl)
@@ -97,13 +96,9 @@ pub record IsGood (limits : Limits) (s : State) (touches : Option Object) (f : F
   pub others : HasSoundParts limits s → (pid : ℕ) (on : Awaited) → is_waiting s pid ≡ true → touches ≢ object_of s pid on → is_there pid on s ≡ true
       → IsAsBefore pid on s f.state
 
-abbrev IfDone : (Finish → Type 0) → Attempt Done → Type 0
-IfDone P (Ok d) = P (done_firing d.state d.body d.fired)
-IfDone P (Err h) = Unit {0}
-
 -- it is shown, if the call is done
-pub record Ends (limits : Limits) (s : State) (touches : Option Object) (call : Attempt Done) : Type 0 where
-  pub good : IfDone (IsGood limits s touches) call
+abbrev pub Ends : Limits → State → Option Object → Attempt Done → Type 0
+Ends limits s touches call = AtEnd false (λ (d : Done). IsGood limits s touches (done_firing d.state d.body d.fired)) call
 
 -- a call that leaves the state as it is
 unchanged : (limits : Limits) (s : State) (touches : Option Object) (f : Finish) → f.state ≡ s → (HasSoundParts limits s → FitsBody limits f.body)
@@ -119,42 +114,24 @@ unchanged limits s touches f same fits =
     }
 
 module _ {limits : Limits} {s : State} {touches : Option Object} where
-  pub after-stop : (h : Halt) {b : Bool} {rest : Attempt Done} → (b ≡ false → Ends limits s touches rest) → Ends limits s touches (stop h b >> rest)
-  after-stop h {b = true} go = record { good = tt }
-  after-stop h {b = false} go = go refl
-
-  pub after-refuse : (e : Errno) {b : Bool} {rest : Attempt Done} → (b ≡ false → Ends limits s touches rest) → Ends limits s touches (refuse e b >> rest)
-  after-refuse e {b = true} go = record { good = tt }
-  after-refuse e {b = false} go = go refl
-
-  pub after-orstop : {X : Type 0} (h : Halt) {o : Option X} {rest : X → Attempt Done} → ((x : X) → o ≡ Some x → Ends limits s touches (rest x))
-      → Ends limits s touches (o orstop h >>= rest)
-  after-orstop h {o = None} go = record { good = tt }
-  after-orstop h {o = Some x} go = go x refl
-
-  pub after-attempt : {X : Type 0} {a : Attempt X} {rest : X → Attempt Done} → ((x : X) → a ≡ Ok x → Ends limits s touches (rest x))
-      → Ends limits s touches (a >>= rest)
-  after-attempt {a = Err h} go = record { good = tt }
-  after-attempt {a = Ok x} go = go x refl
-
-  pub by-if_some : {X : Type 0} {o : Option X} {there : X → Attempt Done} {missing : Attempt Done}
-      → ((x : X) → o ≡ Some x → Ends limits s touches (there x)) → (o ≡ None → Ends limits s touches missing) → Ends limits s touches (if_some o there missing)
-  by-if_some {o = None} h k = k refl
-  by-if_some {o = Some x} h k = h x refl
-
-  pub answered_firing : (t : State) (body : PlainBody) (fired : Option Registration) → IsGood limits s touches (done_firing t body fired)
-      → Ends limits s touches (answer_firing t body fired)
-  answered_firing t body fired good = record { good = good }
-
   pub answered : (t : State) (body : PlainBody) → IsGood limits s touches (done t body) → Ends limits s touches (answer t body)
-  answered t body good = record { good = good }
+  answered t body good = at-value _ good
 
   -- a call that leaves the state as it is
   pub read : (body : PlainBody) → (HasSoundParts limits s → FitsBody limits body) → Ends limits s touches (answer s body)
-  read body fits = record { good = unchanged limits s touches (done s body) refl fits }
+  read body fits = at-value _ (unchanged limits s touches (done s body) refl fits)
+
+-- what holds of a call that is done, and of one that is refused, holds where it comes to its end
+pub by-finish : (P : Finish → Type 0) (s : State) (a : Attempt Done) → ((d : Done) → a ≡ Ok d → P (done_firing d.state d.body d.fired))
+    → ((e : Errno) → P (refused s e)) → IfFinishes P (ended s a)
+by-finish P s (Ok d) ends fails = ends d refl
+by-finish P s (Err (Fails e)) ends fails = fails e
+by-finish P s (Err Blocks) ends fails = tt
+
+-- a call that is refused changes nothing
+pub refused-good : (limits : Limits) (s : State) (touches : Option Object) (e : Errno) → IsGood limits s touches (refused s e)
+refused-good limits s touches e = unchanged limits s touches (refused s e) refl (λ h. omega arith)
 
 pub ended-good : (limits : Limits) (s : State) (touches : Option Object) (call : Attempt Done) → Ends limits s touches call
     → IfFinishes (IsGood limits s touches) (ended s call)
-ended-good limits s touches (Ok d) ends = ends.good
-ended-good limits s touches (Err (Fails e)) ends = unchanged limits s touches (refused s e) refl (λ h. omega arith)
-ended-good limits s touches (Err Blocks) ends = tt
+ended-good limits s touches call ends = by-finish (IsGood limits s touches) s call ends.holds (refused-good limits s touches)

@@ -16,3 +16,4 @@ mod Adjusting
 mod Clearing
 mod Few
 mod Opening
+mod Steps

@@ -18,3 +18,4 @@ pub mod LendsMq
 pub mod Touching
 pub mod Finish
 pub mod Spare
+pub mod Steps

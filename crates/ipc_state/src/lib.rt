@@ -3,6 +3,7 @@
 #![tactic(auto)]
 
 mod adjustments;
+mod answers;
 mod descriptors;
 mod keyed;
 mod keys;
@@ -20,6 +21,7 @@ mod state;
 mod tables;
 mod waits;
 
+pub use answers::{Answer, Halt, take_spare};
 pub use descriptors::{
     Descriptor, DescriptorRow, Descriptors, Opened, lowest_unused_is_so, opened_is_there,
 };

@@ -17,10 +17,10 @@ use Rattle.ipc_state.specs.Opening.{descriptor_at}
 use Rattle.ipc_state.specs.State.{State}
 use Rattle.ipc_state.specs.Touching.{object_on, mq_object, is_there, IsAsBefore}
 use Rattle.ipc_state.specs.Waiting.{awaited_by}
+use Rattle.ipc_state.proofs.CallerLemmas.{blocked-then, is_blocked, waits-blocked}
 use Rattle.posix_calls.specs.Calls.{attempt, call_of}
 use Rattle.posix_calls.specs.Mq.{Found, open_queue, queue_number, receivable, sendable, waits_or_fails}
 use Rattle.posix_calls.specs.Open.{reads, writes}
-use Rattle.posix_calls.proofs.Running.{is_blocked, waits-blocked, blocked-then}
 
 some-none : {X : Type 0} {x : X} → None ≡ Some x → ⊥
 some-none is = cc

@@ -1,83 +1,38 @@
--- What a call fires, and the registrations that it leaves, are no more than those before it, and one more that it makes.
--- It changes the descriptors of no other process.
-use Rattle.std.proofs.Common.{◌≡◌, ◌≢◌, ℕ, ◌+◌, ◌≤◌, get_or, length, Bool, true, false, not, cond, List, [], ◌∷◌, Option, Some, None, refl, sym, ap, subst, ◌∙◌, arith}
-use Rattle.std.specs.Prelude.{All, Ok, Err, ◌==◌, ◌&&◌, nat_eq, is_some, option_map, unwrap_or, filter, sum_by, if◌then◌else◌}
-use Rattle.std.specs.Int.RustNames.{bit_and}
+-- How many registrations a process has, when a queue is changed, and what of a process stays as it is.
+use Rattle.std.proofs.Common.{◌≡◌, ◌≢◌, ℕ, ◌+◌, ◌≤◌, get_or, length, Bool, true, false, not, cond, List, [], ◌∷◌, Option, Some, None, refl, sym, ap, ◌∙◌, arith}
+use Rattle.std.specs.Prelude.{All, ◌==◌, ◌&&◌, nat_eq, is_some, option_map, unwrap_or, filter, sum_by, if◌then◌else◌}
 use Rattle.std.proofs.lemmas.Bool.Decides.{nat_tests}
 use Rattle.std.proofs.lemmas.List.Filters.{sum_by-filter_both}
 use Rattle.std.proofs.lemmas.List.Elements.{All-head, All-tail}
-use Rattle.std.proofs.lemmas.List.Sums.{sum_by-append, sum_by-cons, sum_by-le}
+use Rattle.std.proofs.lemmas.List.Sums.{sum_by-cons, sum_by-le}
 use Rattle.ipc_base.specs.Table.{seen_as, value_at, with_value}
-use Rattle.ipc_base.specs.declared.errno.Errno.TheVariants.{EINVAL, EMFILE, ENOSPC}
 use Rattle.ipc_base.specs.declared.limits.Limits.{Limits}
-use Rattle.ipc_keys.specs.declared.check.NameKind.TheVariants as names
-use Rattle.ipc_wire.specs.Posix.{PlainPosix}
-use Rattle.ipc_wire.specs.Posix as requests
 use Rattle.ipc_wire.specs.declared.reply.Body.TheVariants.{Empty}
-use Rattle.posix_mq.specs.Queue.{Queue as Mq, PlainMessage, deregistered as without_registration, empty_queue, received, registered}
+use Rattle.posix_mq.specs.Queue.{Queue as Mq, PlainMessage, deregistered as without_registration}
 use Rattle.posix_mq.specs.declared.queue.Registration.{Registration}
 use Rattle.ipc_state.specs.declared.descriptors.Descriptor.{Descriptor}
 use Rattle.ipc_state.specs.declared.named.NamedEntry.{NamedEntry}
 use Rattle.ipc_state.specs.declared.parked.Awaited.{Awaited}
 use Rattle.ipc_state.specs.declared.parked.Awaited.TheVariants as awaited
 use Rattle.ipc_state.specs.Descriptors.{Table}
-use Rattle.ipc_state.specs.Finish.{Finish, Attempt, Done, Halt, Fails, Blocks, IfFinishes, answer, ended, refuse, stop, if_some, ◌>>◌, ◌>>=◌}
 use Rattle.ipc_state.specs.Named.{nameless, unnamed, with_object, without_name}
 use Rattle.ipc_state.specs.Numbered.{Numbered, entry_of, with_entry}
 use Rattle.ipc_state.specs.Opening.{deregistered, descriptor_at, is_by, is_by_descriptor, is_on_queue, is_registered, stays, unless_so}
 use Rattle.ipc_state.specs.Sound.{HasSoundParts}
-use Rattle.ipc_state.specs.State.{State, closed, cred_of, exit, has_all_descriptors, has_all_mqs, is_process, restart, unlinked, with_descriptors}
+use Rattle.ipc_state.specs.State.{State, closed, exit, is_process, restart, unlinked, with_descriptors}
 use Rattle.ipc_state.specs.State.{with_mq, without_descriptor, without_process}
 use Rattle.ipc_state.specs.declared.processes.Process.{Process}
 use Rattle.ipc_state.specs.Touching.{mq_object, object_of, object_on}
 use Rattle.ipc_state.proofs.CallerLemmas.{elsewhere-table}
-use Rattle.posix_calls.specs.Calls.{attempt, call_of}
-use Rattle.posix_calls.specs.Mq.{arrived, attributes, firing, given_up, is_own, is_told, made_queue}
-use Rattle.posix_calls.specs.Mq.{notified, open_queue, opened_queue, receivable, registering, registration, sendable}
-use Rattle.posix_calls.specs.Open.{access_of, described, proper, sought, unlinkable, usable}
+use Rattle.posix_calls.specs.Mq.{arrived, firing, is_own}
+use Rattle.posix_calls.specs.Mq.{notified, registration}
 use Rattle.posix_calls.specs.Registrations.{may_make, own, registrations}
-use Rattle.posix_calls.proofs.Reaching.{has-entry, open-found, receives, sends}
-
--- ---- what holds of a call that is done
-
-record AtEnd (P : Done → Type 0) (a : Attempt Done) : Type 0 where
-  holds : (d : Done) → a ≡ Ok d → P d
-
-module _ {P : Done → Type 0} where
-  at-done : (d : Done) → P d → AtEnd P (Ok d)
-  at-done d p = record { holds = λ e is. let same : d ≡ e = cc in subst P same p }
-
-  at-stop : (h : Halt) (b : Bool) {rest : Attempt Done} → (b ≡ false → AtEnd P rest) → AtEnd P (stop h b >> rest)
-  at-stop h true go = record { holds = λ d is. cc }
-  at-stop h false go = go refl
-
-  at-then : (a : Attempt (Unit {0})) {rest : Attempt Done} → AtEnd P rest → AtEnd P (a >> rest)
-  at-then (Ok tt) go = go
-  at-then (Err h) go = record { holds = λ d is. cc }
-
-  at-attempt : {X : Type 0} (a : Attempt X) {rest : X → Attempt Done} → ((x : X) → a ≡ Ok x → AtEnd P (rest x)) → AtEnd P (a >>= rest)
-  at-attempt (Ok x) go = go x refl
-  at-attempt (Err h) go = record { holds = λ d is. cc }
-
-  at-if_some : {X : Type 0} (o : Option X) {there : X → Attempt Done} {missing : Attempt Done} → ((x : X) → AtEnd P (there x)) → AtEnd P missing
-      → AtEnd P (if_some o there missing)
-  at-if_some None f g = g
-  at-if_some (Some x) f g = f x
-
-  at-test : (b : Bool) {x y : Attempt Done} → AtEnd P x → AtEnd P y → AtEnd P (if b then x else y)
-  at-test true f g = f
-  at-test false f g = g
-
--- What a call of a process leaves of this one: it has no more registrations than before, with those that were fired, but
--- for one that the call made; if it is another, it has the same objects.
-pub record LeavesOf (s : State) (pid p : ℕ) (f : Finish) : Type 0 where
-  pub owed : own p f.fired + registrations f.state p ≤ registrations s p + may_make pid f.body p
-  pub objects : p ≢ pid → (on : Awaited) → object_of f.state p on ≡ object_of s p on
+use Rattle.posix_calls.proofs.Reaching.{has-entry}
 
 -- ---- registrations of one process
 
 module _ (p : ℕ) where
-  abbrev of-entry : ℕ × NamedEntry Mq → ℕ
+  abbrev pub of-entry : ℕ × NamedEntry Mq → ℕ
   of-entry e = own p e.1.object.registration
 
   fewer-kept : (test : ℕ × NamedEntry Mq → Bool) (es : List (ℕ × NamedEntry Mq)) → sum_by of-entry (filter test es) ≤ sum_by of-entry es
@@ -118,7 +73,7 @@ module _ (p : ℕ) where
           omega (arith, sum_by-cons of-entry g es, sum_by-cons of-entry g (with_value nat_eq es n x), rest there)
 
   -- another queue in the place of one
-  put-mq : (s : State) (n : ℕ) (q new : Mq) → mq_object s n ≡ Some q
+  pub put-mq : (s : State) (n : ℕ) (q new : Mq) → mq_object s n ≡ Some q
       → registrations (with_mq s n new) p + own p q.registration ≡ registrations s p + own p new.registration
   put-mq s n q new is =
       let e = has-entry s n q is in
@@ -135,7 +90,7 @@ module _ (p : ℕ) where
       → sum_by of-entry (filter (stays left) (seen_as (deregistered goes) es)) ≤ sum_by of-entry es
   fewer-swept left goes es = omega (arith, fewer-kept (stays left) (seen_as (deregistered goes) es), fewer-seen goes es)
 
-  fewer-closed : (s : State) (pid fd : ℕ) → registrations (closed s pid fd) p ≤ registrations s p
+  pub fewer-closed : (s : State) (pid fd : ℕ) → registrations (closed s pid fd) p ≤ registrations s p
   fewer-closed s pid fd = fewer-swept (without_descriptor s pid fd).processes.entries (is_by (Some pid) (Some fd)) s.mq.entries
 
   fewer-exited : (s : State) (gone : ℕ) → registrations (exit s gone) p ≤ registrations s p
@@ -181,7 +136,7 @@ module _ (p : ℕ) where
               let none = no-descriptor (value_at nat_eq ps r.pid.0) (ap (λ (q : ℕ). is_some (value_at nat_eq ps q)) one ∙ gone) r.descriptor in
               absurd (let both : true ≡ false = sym is ∙ none in cc)
 
-  fewer-unlinked : (s : State) (n : ℕ) → registrations (unlinked s n) p ≤ registrations s p
+  pub fewer-unlinked : (s : State) (n : ℕ) → registrations (unlinked s n) p ≤ registrations s p
   fewer-unlinked s n = omega (arith, fewer-kept (stays s.processes.entries) (unnamed s.mq n).entries, by_entry (entry_of s.mq n) refl)
     where
       by_entry : (r : Option (NamedEntry Mq)) → entry_of s.mq n ≡ r → sum_by of-entry (without_name s.mq n r).entries ≤ registrations s p
@@ -197,117 +152,44 @@ module _ (p : ℕ) where
       by_test true = omega arith
       by_test false = omega arith
 
-  fewer-arrived : (told : Bool) (q : Mq) (m : PlainMessage) → own p (firing told q) + own p (arrived told q m).registration ≤ own p q.registration
+  pub fewer-arrived : (told : Bool) (q : Mq) (m : PlainMessage) → own p (firing told q) + own p (arrived told q m).registration ≤ own p q.registration
   fewer-arrived true q m = omega (arith, fewer-told q.registration)
   fewer-arrived false q m = omega arith
 
-  fewer-given_up : (own-one : Bool) (q : Mq) → own p (if own-one then without_registration q else q).registration ≤ own p q.registration
+  pub fewer-given_up : (own-one : Bool) (q : Mq) → own p (if own-one then without_registration q else q).registration ≤ own p q.registration
   fewer-given_up true q = omega arith
   fewer-given_up false q = omega arith
 
-  none-own : (r : Option Registration) → is_some r ≡ false → own p r ≡ 0
+  pub none-own : (r : Option Registration) → is_some r ≡ false → own p r ≡ 0
   none-own None is = refl
   none-own (Some r) is = cc
 
   -- ---- objects of one process
 
-  same-objects : (s t : State) → t.processes ≡ s.processes → (on : Awaited) → object_of t p on ≡ object_of s p on
+  pub same-objects : (s t : State) → t.processes ≡ s.processes → (on : Awaited) → object_of t p on ≡ object_of s p on
   same-objects s t same (awaited.Queue id) = refl
   same-objects s t same (awaited.Set id) = refl
   same-objects s t same (awaited.Descriptor fd) =
       ap (λ (ps : Numbered Process). option_map (λ (d : Descriptor). object_on d.on) (descriptor_at ps.entries p fd)) same
 
   -- other descriptors of another process
-  table-objects : (s : State) (pid : ℕ) (table : Table) → p ≢ pid → (on : Awaited) → object_of (with_descriptors s pid table) p on ≡ object_of s p on
+  pub table-objects : (s : State) (pid : ℕ) (table : Table) → p ≢ pid → (on : Awaited) → object_of (with_descriptors s pid table) p on ≡ object_of s p on
   table-objects s pid table other (awaited.Queue id) = refl
   table-objects s pid table other (awaited.Set id) = refl
   table-objects s pid table other (awaited.Descriptor fd) =
       ap (option_map (λ (d : Descriptor). object_on d.on)) (elsewhere-table s pid table p (awaited.Descriptor fd) other).0
 
-  -- ---- each call
-
-  module _ (limits : Limits) (s : State) (pid : ℕ) where
-    record Owes (d : Done) : Type 0 where
-      owes : own p d.fired + registrations d.state p ≤ registrations s p + may_make pid d.body p
-      objects : p ≢ pid → (on : Awaited) → object_of d.state p on ≡ object_of s p on
-
-    -- the processes are the same, or the descriptors of the caller alone are others
-    at-same : (d : Done) → d.state.processes ≡ s.processes → own p d.fired + registrations d.state p ≤ registrations s p + may_make pid d.body p
-        → AtEnd Owes (Ok d)
-    at-same d same less = at-done d (record { owes = less; objects = λ other on. same-objects s d.state same on })
-
-    at-table : (d : Done) (table : Table) → d.state.processes ≡ (with_descriptors s pid table).processes
-        → own p d.fired + registrations d.state p ≤ registrations s p + may_make pid d.body p → AtEnd Owes (Ok d)
-    at-table d table same less =
-        at-done d (record {
-          owes = less;
-          objects = λ other on. same-objects (with_descriptors s pid table) d.state same on ∙ table-objects s pid table other on;
-        })
-
-    made-one : (fd kind cookie : ℕ) → own p (Some (registration pid fd kind cookie)) ≤ may_make pid Empty p
-    made-one fd kind cookie = by_test (pid == p) refl (nat_eq p pid) refl
-      where
-        by_test : (a : Bool) → (pid == p) ≡ a → (b : Bool) → nat_eq p pid ≡ b → (if a then 1 else 0) ≤ (if b && true then 1 else 0)
-        by_test true same true is = omega arith
-        by_test true same false is =
-            let one : pid ≡ p = grind (arith, nat_tests, same) in
-            let other : nat_eq p pid ≡ true = grind (arith, nat_tests, one) in
-            absurd (let both : true ≡ false = sym other ∙ is in cc)
-        by_test false same b is = omega arith
-
-    owes : (call : PlainPosix) → AtEnd Owes (call_of limits s pid call)
-    owes (requests.Close fd) = at-attempt (described s pid fd) (λ d _. at-table _ _ refl (omega (arith, fewer-closed s pid fd)))
-    owes (requests.MqOpen flags mode attr maxmsg msgsize name) =
-        let there : ℕ → Attempt Done = opened_queue s (cred_of s pid) pid flags in
-        let missing : Attempt Done = made_queue limits s (cred_of s pid) pid flags mode attr maxmsg msgsize name in
-        let third : Attempt Done = sought s.mq name flags >>= (λ o. if_some o there missing) in
-        let second : Attempt Done = refuse EMFILE (has_all_descriptors limits s pid) >> third in
-        at-then (proper names.Queue name) {rest = refuse EINVAL (access_of flags == 3) >> second}
-        (at-stop (Fails EINVAL) (access_of flags == 3) {rest = second} (λ _.
-        at-stop (Fails EMFILE) (has_all_descriptors limits s pid) {rest = third} (λ _.
-        at-attempt (sought s.mq name flags) (λ found _. at-if_some found {there = there} {missing = missing}
-        (λ n. at-attempt (usable s.mq (cred_of s pid) n flags) (λ e _. at-table _ _ refl (omega arith)))
-        (at-attempt (attributes limits attr maxmsg msgsize) (λ given _. at-stop (Fails ENOSPC) (has_all_mqs limits s) (λ _. at-table _ _ refl
-        (let q : Mq = empty_queue given.0 given.1 None in
-        let e : NamedEntry Mq = record { name = name; owner = cred_of s pid; mode = bit_and mode 511; object = q } in
-        omega (arith, sum_by-append of-entry s.mq.entries ((s.mq.next, e) ∷ []))))))))))
-    owes (requests.MqUnlink name) =
-        at-then (proper names.Queue name) (at-attempt (unlinkable s.mq (cred_of s pid) name) (λ n _. at-same _ refl (omega (arith, fewer-unlinked s n))))
-    owes (requests.MqSend fd deadline priority text) =
-        at-attempt (sendable s pid fd priority text) (λ f is.
-        let m : PlainMessage = record { priority = priority; text = text } in
-        let told : Bool = is_told s f.number f.queue in
-        at-same _ refl (omega (
-          arith,
-          put-mq s f.number f.queue (arrived told f.queue m) (sends s pid fd priority text f is).queue.there,
-          fewer-arrived told f.queue m,
-        )))
-    owes (requests.MqReceive fd deadline size) =
-        at-attempt (receivable s pid fd size) (λ f is.
-        at-same _ refl (omega (arith, put-mq s f.0.number f.0.queue (received f.0.queue) (receives s pid fd size f is).queue.there)))
-    owes (requests.MqNotify fd kind cookie) =
-        at-stop _ _ (λ _. at-attempt (open_queue s pid fd) (λ f is.
-        let there = (open-found s pid fd f is).there in
-        let r : Registration = registration pid fd kind cookie in
-        at-test (kind == 0) {x = answer (with_mq s f.number (given_up pid f.queue)) Empty} {y = registering s f r}
-        (at-same _ refl (omega (arith, put-mq s f.number f.queue (given_up pid f.queue) there, fewer-given_up (is_own pid f.queue.registration) f.queue)))
-        (at-stop _ _ (λ free. at-same _ refl (omega (
-          arith,
-          put-mq s f.number f.queue (registered f.queue r) there,
-          made-one fd kind cookie,
-          none-own f.queue.registration free,
-        ))))))
-    owes (requests.MqGetattr fd) = at-attempt (open_queue s pid fd) (λ f _. at-same _ refl (omega arith))
-    owes (requests.MqSetattr fd flags) = at-attempt (open_queue s pid fd) (λ f _. at-stop _ _ (λ _. at-table _ _ refl (omega arith)))
-
-    at-finish : (a : Attempt Done) → AtEnd Owes a → IfFinishes (LeavesOf s pid p) (ended s a)
-    at-finish (Ok d) end = let left = end.holds d refl in record { owed = left.owes; objects = left.objects }
-    at-finish (Err (Fails e)) end = record { owed = omega arith; objects = λ other on. refl }
-    at-finish (Err Blocks) end = tt
-
--- of each process: what a call by another or by itself leaves
-pub call-leaves : (limits : Limits) (s : State) (pid : ℕ) (call : PlainPosix) (p : ℕ) → IfFinishes (LeavesOf s pid p) (attempt limits s pid call)
-call-leaves limits s pid call p = at-finish p limits s pid (call_of limits s pid call) (owes p limits s pid call)
+  -- a call that makes one answers so
+  pub made-one : (pid fd kind cookie : ℕ) → own p (Some (registration pid fd kind cookie)) ≤ may_make pid Empty p
+  made-one pid fd kind cookie = by_test (pid == p) refl (nat_eq p pid) refl
+    where
+      by_test : (a : Bool) → (pid == p) ≡ a → (b : Bool) → nat_eq p pid ≡ b → (if a then 1 else 0) ≤ (if b && true then 1 else 0)
+      by_test true same true is = omega arith
+      by_test true same false is =
+          let one : pid ≡ p = grind (arith, nat_tests, same) in
+          let other : nat_eq p pid ≡ true = grind (arith, nat_tests, one) in
+          absurd (let both : true ≡ false = sym other ∙ is in cc)
+      by_test false same b is = omega arith
 
 -- ---- what the crates above cite of registrations
 

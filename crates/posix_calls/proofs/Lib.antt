@@ -3,5 +3,4 @@ pub mod CallerLemmas
 mod Debts
 mod Ending
 mod Reaching
-mod Running
 mod Trying

@@ -1,6 +1,7 @@
 -- What it says that a call went on.
 use Rattle.std.proofs.Common.{◌≡◌, ◌≢◌, ℕ, ℤ, pos, negsuc, ◌<◌, ◌≤◌, Bool, true, false, Decides, List, Option, Some, None, refl, sym, ap, subst, ◌∙◌, arith}
-use Rattle.std.specs.Prelude.{Ok, Err, option_map, not, length, ◌==◌, ◌||◌, min, nat_lt}
+use Rattle.std.specs.Prelude.{Ok, Err, Result, option_map, length, ◌==◌, ◌||◌, min, nat_lt}
+use Rattle.std.specs.Result.{is_ok}
 use Rattle.std.specs.Cmp.Lexicographic.{slice_cmp}
 use Rattle.std.specs.FinMap.{FinMap}
 use Rattle.std.specs.Ordering.{nat_cmp}
@@ -12,8 +13,13 @@ use Rattle.ipc_keys.specs.Directory.{is_vacant}
 use Rattle.ipc_state.specs.Directory.{HasNoSpareName}
 use Rattle.ipc_state.specs.Sound.{HasSoundParts, IsSoundMq}
 use Rattle.ipc_state.proofs.CallerLemmas.{empty_mq-sound, mq-sound}
+use Rattle.ipc_state.proofs.CallerLemmas.{AtEnd, after, after-orelse, after-orstop, after-refuse, after-stop, at-failure, at-value, by-if_some}
 use Rattle.posix_calls.specs.Needs.{HasNoSpareNameBut}
-use Rattle.ipc_base.specs.declared.errno.Errno.TheVariants.{EBADF, EEXIST, EINVAL, EMSGSIZE, ENOENT}
+use Rattle.ipc_base.specs.declared.errno.Errno.{Errno}
+use Rattle.ipc_base.specs.declared.errno.Errno.TheVariants.{EACCES, EBADF, EEXIST, EINVAL, EMSGSIZE, ENOENT}
+use Rattle.ipc_base.specs.declared.identity.Cred.{Cred}
+use Rattle.ipc_keys.specs.Names.{check_name}
+use Rattle.ipc_keys.specs.declared.check.NameKind.{NameKind}
 use Rattle.posix_mq.specs.Queue.{Queue as Mq, PlainMessage, empty_queue, is_full, received_message}
 use Rattle.ipc_state.specs.declared.descriptors.Descriptor.{Descriptor}
 use Rattle.ipc_state.specs.declared.descriptors.Opened.{Opened}
@@ -25,33 +31,8 @@ use Rattle.ipc_state.specs.Opening.{descriptor_at}
 use Rattle.ipc_state.specs.State.{State}
 use Rattle.ipc_state.specs.Touching.{mq_object}
 use Rattle.ipc_state.specs.Held.{Held}
-use Rattle.ipc_state.specs.Finish.{Attempt, Halt, Fails, if_some, refuse, stop, ◌orstop◌, ◌>>◌, ◌>>=◌}
 use Rattle.posix_calls.specs.Mq.{Found, asked_or, attributes, limited, open_queue, open_to, queue_number, receivable, sendable, waits_or_fails}
-use Rattle.posix_calls.specs.Open.{creat, described, has, is_exclusive, reads, sought, writes}
-use Rattle.posix_calls.specs.Seen.{seen}
-
--- ---- steps
-
-pub stop-passed : {X : Type 0} (h : Halt) (b : Bool) (rest : Attempt X) (x : X) → (stop h b >> rest) ≡ Ok x → (b ≡ false) × (rest ≡ Ok x)
-stop-passed h true rest x is = cc
-stop-passed h false rest x is = (refl, is)
-
-pub orstop-passed : {X : Type 0} (o : Option X) (h : Halt) (x : X) → (o orstop h) ≡ Ok x → o ≡ Some x
-orstop-passed None h x is = cc
-orstop-passed (Some y) h x is = cc
-
-pub ok-same : {X : Type 0} {x y : X} → (let a : Attempt X = Ok x in a) ≡ Ok y → x ≡ y
-ok-same is = cc
-
--- past a step that gives a value
-pub record Passed {X Y : Type 0} (a : Attempt X) (next : X → Attempt Y) (y : Y) : Type 0 where
-  pub value : X
-  pub was : a ≡ Ok value
-  pub rest : next value ≡ Ok y
-
-pub passed : {X Y : Type 0} (a : Attempt X) (next : X → Attempt Y) (y : Y) → (a >>= next) ≡ Ok y → Passed a next y
-passed (Ok x) next y is = record { value = x; was = refl; rest = is }
-passed (Err h) next y is = cc
+use Rattle.posix_calls.specs.Open.{passed, proper, reads, sought, unlinkable, usable, writes}
 
 -- ---- a queue that is open
 
@@ -66,19 +47,10 @@ pub record IsOpen (s : State) (pid fd : ℕ) (found : Found) : Type 0 where
 number-is : (on : Opened) (n : ℕ) → queue_number on ≡ Some n → on ≡ opened.Queue n
 number-is (opened.Queue m) n is = cc
 
-pub open-found : (s : State) (pid fd : ℕ) (found : Found) → open_queue s pid fd ≡ Ok found → IsOpen s pid fd found
-open-found s pid fd found is =
-    let d = passed (described s pid fd) _ found is in
-    let n = passed (queue_number d.value.on orstop Fails EBADF) _ found d.rest in
-    let q = passed (mq_object s n.value orstop Fails EBADF) _ found n.rest in
-    let same : (let f : Found = record { number = n.value; queue = q.value; flags = d.value.flags } in f) ≡ found = ok-same q.rest in
-    subst (IsOpen s pid fd) same (record {
-      descriptor = d.value;
-      at = orstop-passed (descriptor_at s.processes.entries pid fd) (Fails EBADF) d.value d.was;
-      on = number-is d.value.on n.value (orstop-passed (queue_number d.value.on) (Fails EBADF) n.value n.was);
-      flags = refl;
-      there = orstop-passed (mq_object s n.value) (Fails EBADF) q.value q.was;
-    })
+pub open-ends : {never : Bool} (s : State) (pid fd : ℕ) → AtEnd never (IsOpen s pid fd) (open_queue s pid fd)
+open-ends s pid fd =
+    after-orelse EBADF (λ d at. after-orelse EBADF (λ n on. after-orelse EBADF (λ q there.
+    at-value _ (record { descriptor = d; at = at; on = number-is d.on n on; flags = refl; there = there }))))
 
 -- the queue of a number has an entry
 pub record HasEntry (s : State) (n : ℕ) (q : Mq) : Type 0 where
@@ -105,11 +77,8 @@ same-but old new s put = put ∙ ap (λ (t : State). let h : Held = record old {
 
 -- ---- calls that may wait
 
-opens-to : (allows : ℕ → Bool) (s : State) (pid fd : ℕ) (found : Found) → open_to allows s pid fd ≡ Ok found → IsOpen s pid fd found
-opens-to allows s pid fd found is =
-    let o = passed (open_queue s pid fd) _ found is in
-    let a = stop-passed (Fails EBADF) (not (allows o.value.flags)) _ found o.rest in
-    open-found s pid fd found (o.was ∙ a.1)
+opens-to : {never : Bool} (allows : ℕ → Bool) (s : State) (pid fd : ℕ) → AtEnd never (IsOpen s pid fd) (open_to allows s pid fd)
+opens-to allows s pid fd = after (open-ends s pid fd) (λ f o. after-refuse EBADF (λ _. at-value f o))
 
 -- what holds of a message that may be sent now, and of the queue
 pub record Sends (s : State) (pid fd priority : ℕ) (text : List ℕ) (found : Found) : Type 0 where
@@ -118,82 +87,63 @@ pub record Sends (s : State) (pid fd priority : ℕ) (text : List ℕ) (found : 
   pub short : nat_lt found.queue.msgsize (length text) ≡ false
   pub room : is_full found.queue ≡ false
 
-pub sends : (s : State) (pid fd priority : ℕ) (text : List ℕ) (found : Found) → sendable s pid fd priority text ≡ Ok found
-    → Sends s pid fd priority text found
-sends s pid fd priority text found is =
-    let a = stop-passed (Fails EINVAL) (nat_lt 32767 priority) _ found is in
-    let b = passed (open_to writes s pid fd) _ found a.1 in
-    let c = stop-passed (Fails EMSGSIZE) (nat_lt b.value.queue.msgsize (length text)) _ found b.rest in
-    let d = stop-passed (waits_or_fails b.value.flags) (is_full b.value.queue) _ found c.1 in
-    subst (Sends s pid fd priority text) (ok-same d.1)
-    (record { queue = opens-to writes s pid fd b.value b.was; low = a.0; short = c.0; room = d.0 })
+pub sends : (s : State) (pid fd priority : ℕ) (text : List ℕ) → AtEnd false (Sends s pid fd priority text) (sendable s pid fd priority text)
+sends s pid fd priority text =
+    after-refuse EINVAL (λ low. after (opens-to writes s pid fd) (λ f o. after-refuse EMSGSIZE (λ short. after-stop (waits_or_fails f.flags) (λ room.
+    at-value f (record { queue = o; low = low; short = short; room = room })))))
 
 -- what holds of a queue from which a message may be received now, and of the message
 pub record Receives (s : State) (pid fd : ℕ) (found : Found × PlainMessage) : Type 0 where
   pub queue : IsOpen s pid fd found.0
   pub message : received_message found.0.queue ≡ Some found.1
 
-pub receives : (s : State) (pid fd size : ℕ) (found : Found × PlainMessage) → receivable s pid fd size ≡ Ok found → Receives s pid fd found
-receives s pid fd size found is =
-    let b = passed (open_to reads s pid fd) _ found is in
-    let c = stop-passed (Fails EMSGSIZE) (nat_lt size b.value.queue.msgsize) _ found b.rest in
-    let m = passed (received_message b.value.queue orstop waits_or_fails b.value.flags) _ found c.1 in
-    let same : (b.value, m.value) ≡ found = ok-same m.rest in
-    subst (Receives s pid fd) same (record {
-      queue = opens-to reads s pid fd b.value b.was;
-      message = orstop-passed (received_message b.value.queue) (waits_or_fails b.value.flags) m.value m.was;
-    })
+pub receives : (s : State) (pid fd size : ℕ) → AtEnd false (Receives s pid fd) (receivable s pid fd size)
+receives s pid fd size =
+    after (opens-to reads s pid fd) (λ f o. after-refuse EMSGSIZE (λ _. after-orstop (waits_or_fails f.flags) (λ m is.
+    at-value (f, m) (record { queue = o; message = is }))))
 
--- what is seen of an attempt tells of it
-pub record Shows {X Y : Type 0} (f : X → Y) (a : Attempt X) (y : Y) : Type 0 where
-  pub value : X
-  pub was : a ≡ Ok value
-  pub is : f value ≡ y
+-- ---- what a name finds
 
-pub shows : {X Y : Type 0} (f : X → Y) (a : Attempt X) (y : Y) → seen f a ≡ Ok y → Shows f a y
-shows f (Ok x) y is = record { value = x; was = refl; is = cc }
-shows f (Err h) y is = cc
+module _ {never : Bool} where
+  -- a name that passes its check
+  pub proper-ends : (kind : NameKind) (name : List ℕ) → AtEnd never (λ (x : Unit {0}). is_ok (check_name kind name) ≡ true) (proper kind name)
+  proper-ends kind name = by_result (check_name kind name)
+    where
+      by_result : (r : Result (Unit {0}) Errno) → AtEnd never (λ (x : Unit {0}). is_ok r ≡ true) (passed r)
+      by_result (Ok x) = at-value x refl
+      by_result (Err e) = at-failure e
 
-pub stays-stopped : {X Y Z : Type 0} (f : X → Y) (next : X → Attempt Z) (a : Attempt X) (h : Halt) → seen f a ≡ Err h → (a >>= next) ≡ Err h
-stays-stopped f next (Ok x) h is = cc
-stays-stopped f next (Err k) h is = cc
+  -- if an open finds nothing, no object has the name
+  pub sought-ends : {X : Type 0} (o : Named X) (name : List ℕ) (flags : ℕ)
+      → AtEnd never (λ (found : Option ℕ). found ≡ None → named o name ≡ None) (sought o name flags)
+  sought-ends o name flags =
+      by-if_some {o = named o name} (λ n _. after-refuse EEXIST (λ _. at-value (Some n) (λ is. cc)))
+      (λ none. after-refuse ENOENT (λ _. at-value None (λ _. none)))
 
--- ---- a new queue
+  pub usable-ends : {X : Type 0} (o : Named X) (cred : Cred) (n flags : ℕ)
+      → AtEnd never (λ (e : NamedEntry X). entry_of o n ≡ Some e) (usable o cred n flags)
+  usable-ends o cred n flags = after-orelse ENOENT (λ e there. after-refuse EACCES (λ _. at-value e there))
 
--- if an open finds nothing, no queue has the name
-pub sought-none : {X : Type 0} (o : Named X) (name : List ℕ) (flags : ℕ) → sought o name flags ≡ Ok None → named o name ≡ None
-sought-none o name flags is = by_name (named o name) is
-  where
-    by_found : (b : Bool) (n : ℕ) → (refuse EEXIST b >> Ok (Some n)) ≡ Ok None → Some n ≡ None
-    by_found true n is = cc
-    by_found false n is = cc
+  pub unlinkable-ends : {X : Type 0} (o : Named X) (cred : Cred) (name : List ℕ)
+      → AtEnd never (λ (n : ℕ). Unit {0}) (unlinkable o cred name)
+  unlinkable-ends o cred name =
+      after-orelse ENOENT {o = named o name} (λ n _. after-orelse ENOENT {o = entry_of o n} (λ e _. after-refuse EACCES (λ _. at-value n tt)))
 
-    by_name : (r : Option ℕ)
-        → if_some r (λ n. refuse EEXIST (is_exclusive flags) >> Ok (Some n)) (refuse ENOENT (not (has flags creat)) >> Ok None) ≡ Ok None → r ≡ None
-    by_name None is = refl
-    by_name (Some n) is = by_found (is_exclusive flags) n is
+  limited-ends : (limit : ℕ) (asked : ℤ) → AtEnd never (λ (n : ℕ). (0 < n) × (n ≤ limit)) (limited limit asked)
+  limited-ends limit (negsuc k) = at-failure EINVAL
+  limited-ends limit (pos k) = after-refuse EINVAL (λ few. at-value k (by_test (k == 0) refl few))
+    where
+      by_test : (b : Bool) → (k == 0) ≡ b → b || nat_lt limit k ≡ false → (0 < k) × (k ≤ limit)
+      by_test true none is = cc
+      by_test false some is = (grind (arith, nat_tests), grind (arith, nat_tests))
 
-limited-within : (limit : ℕ) (asked : ℤ) (n : ℕ) → limited limit asked ≡ Ok n → (0 < n) × (n ≤ limit)
-limited-within limit (negsuc k) n is = cc
-limited-within limit (pos k) n is =
-    let few = stop-passed (Fails EINVAL) (k == 0 || nat_lt limit k) _ n is in
-    let same : k ≡ n = ok-same few.1 in
-    subst (λ (m : ℕ). (0 < m) × (m ≤ limit)) same (by_test (k == 0) refl few.0)
-  where
-    by_test : (b : Bool) → (k == 0) ≡ b → b || nat_lt limit k ≡ false → (0 < k) × (k ≤ limit)
-    by_test true none is = cc
-    by_test false some is = (grind (arith, nat_tests), grind (arith, nat_tests))
-
-pub attributes-sound : (limits : Limits) (attr : ℕ) (maxmsg msgsize : ℤ) (given : ℕ × ℕ) → attributes limits attr maxmsg msgsize ≡ Ok given
-    → IsSoundMq limits (empty_queue given.0 given.1 None)
-attributes-sound limits attr maxmsg msgsize given is =
-    let most = passed (limited limits.maxmsg (asked_or attr (min 10 limits.maxmsg) maxmsg)) _ given is in
-    let bytes = passed (limited limits.msgsize (asked_or attr (min 8192 limits.msgsize) msgsize)) _ given most.rest in
-    let few = limited-within limits.maxmsg (asked_or attr (min 10 limits.maxmsg) maxmsg) most.value most.was in
-    let short = limited-within limits.msgsize (asked_or attr (min 8192 limits.msgsize) msgsize) bytes.value bytes.was in
-    let same : (most.value, bytes.value) ≡ given = ok-same bytes.rest in
-    subst (λ (g : ℕ × ℕ). IsSoundMq limits (empty_queue g.0 g.1 None)) same
-    (empty_mq-sound limits most.value bytes.value few.0 few.1 short.0 short.1)
+  -- a new queue is sound
+  pub attributes-ends : (limits : Limits) (attr : ℕ) (maxmsg msgsize : ℤ)
+      → AtEnd never (λ (given : ℕ × ℕ). IsSoundMq limits (empty_queue given.0 given.1 None)) (attributes limits attr maxmsg msgsize)
+  attributes-ends limits attr maxmsg msgsize =
+      after (limited-ends limits.maxmsg (asked_or attr (min 10 limits.maxmsg) maxmsg)) (λ most few.
+      after (limited-ends limits.msgsize (asked_or attr (min 8192 limits.msgsize) msgsize)) (λ bytes short.
+      at-value (most, bytes) (empty_mq-sound limits most bytes few.0 few.1 short.0 short.1)))
 
 -- no name but this one had room, and it has none
 pub no-spare-name : (name : List ℕ) (old new : FinMap (slice_cmp nat_cmp) ℕ) → HasNoSpareNameBut name old

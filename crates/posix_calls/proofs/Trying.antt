@@ -12,21 +12,17 @@ use Rattle.posix_mq.specs.Queue.{Queue as Mq, PlainMessage, most_messages, recei
 use Rattle.posix_mq.specs.declared.queue.Registration.{Registration}
 use Rattle.ipc_state.specs.declared.parked.ParkedPosix.{ParkedPosix}
 use Rattle.ipc_state.specs.declared.parked.ParkedPosix.TheVariants as parked
-use Rattle.ipc_state.specs.Finish.{Attempt, Done, Halt, Fails, Blocks, Finishes, answer, answer_firing, done, done_firing, ended, has_to_wait, ◌>>=◌}
+use Rattle.ipc_state.specs.Finish.{Attempt, Done, Halt, Finishes, answer, answer_firing, done, done_firing, ended, has_to_wait, ◌>>=◌}
 use Rattle.ipc_state.specs.Sound.{HasSoundParts}
 use Rattle.ipc_state.specs.State.{State, with_mq}
 use Rattle.ipc_state.specs.Touching.{mq_object}
 use Rattle.ipc_state.specs.Waiting.{parked_posix}
+use Rattle.ipc_state.proofs.CallerLemmas.{Shows, blocked-seen, blocked-then, is_blocked, passed, shows, stays-stopped, waits-blocked}
 use Rattle.posix_calls.specs.Calls.{attempt, call_of}
 use Rattle.posix_calls.specs.Mq.{Found, arrived, firing, is_told, message_body, receivable, sendable}
-use Rattle.posix_calls.specs.Seen.{number_in, seen}
-use Rattle.posix_calls.proofs.Reaching.{Shows, Sends, Receives, shows, sends, receives, queue-sound, stays-stopped}
-use Rattle.posix_calls.proofs.Running.{is_blocked, waits-blocked, blocked-then}
-
-blocked-seen : {X Y : Type 0} (f : X → Y) (a : Attempt X) → is_blocked (seen f a) ≡ is_blocked a
-blocked-seen f (Ok x) = refl
-blocked-seen f (Err (Fails e)) = refl
-blocked-seen f (Err Blocks) = refl
+use Rattle.ipc_state.specs.Steps.{seen}
+use Rattle.posix_calls.specs.Seen.{number_in}
+use Rattle.posix_calls.proofs.Reaching.{Sends, Receives, sends, receives, queue-sound}
 
 -- a call has to wait, if its tests say so
 pub waits-as-tested : (limits : Limits) (s : State) (pid : ℕ) (call : ParkedPosix)
@@ -64,7 +60,7 @@ module _ (limits : Limits) (s : State) (pid fd deadline : ℕ) where
     shown-send = shows (λ (f : Found). f.number) _ n tests
 
     may_send : Sends s pid fd priority text shown-send.value
-    may_send = sends s pid fd priority text shown-send.value shown-send.was
+    may_send = (sends s pid fd priority text).holds shown-send.value shown-send.was
 
     send-queue : mq_object s n ≡ Some shown-send.value.queue
     send-queue = ap (mq_object s) (sym shown-send.is) ∙ may_send.queue.there
@@ -98,7 +94,7 @@ module _ (limits : Limits) (s : State) (pid fd deadline : ℕ) where
     shown-receive = shows (λ (f : Found × PlainMessage). f.0.number) _ n tests
 
     may_receive : Receives s pid fd shown-receive.value
-    may_receive = receives s pid fd size shown-receive.value shown-receive.was
+    may_receive = (receives s pid fd size).holds shown-receive.value shown-receive.was
 
     receive-queue : mq_object s n ≡ Some shown-receive.value.0.queue
     receive-queue = ap (mq_object s) (sym shown-receive.is) ∙ may_receive.queue.there

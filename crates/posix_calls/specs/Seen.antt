@@ -4,27 +4,16 @@ use Rattle.ipc_base.specs.declared.errno.Errno.{Errno}
 use Rattle.ipc_wire.specs.Posix.{PlainPosix}
 use Rattle.ipc_wire.specs.declared.reply.Body.TheVariants.{Number}
 use Rattle.ipc_state.specs.State.{State}
-use Rattle.ipc_state.specs.Finish.{Attempt, Done, Halt, Fails, Blocks, Tried, Finishes, Waits, answer, finish_firing}
+use Rattle.ipc_state.specs.Finish.{Attempt, Done, Fails, Tried, Finishes, Waits, answer, finish_firing}
+use Rattle.ipc_state.specs.Steps.{seen}
 use Rattle.ipc_state.specs.Held.{Held}
 use Rattle.ipc_state.specs.Waiting.{parked_posix}
 use Rattle.ipc_state.specs.declared.parked.ParkedPosix.{ParkedPosix}
 use Rattle.ipc_state.specs.declared.parked.ParkedPosix.TheVariants as parked
 use Rattle.posix_calls.specs.Mq.{Found as PlainFound, sendable, receivable}
 use Rattle.posix_calls.specs.declared.mq.Found.{Found}
-use Rattle.posix_calls.specs.declared.waiting.Halt.{Halt as Stops}
-use Rattle.posix_calls.specs.declared.waiting.Halt.TheVariants as stops
 use Rattle.posix_calls.specs.declared.waiting.Tried.{Tried as Comes}
 use Rattle.posix_calls.specs.declared.waiting.Tried.TheVariants as comes
-
--- a value, or why there is none
-abbrev pub result_of : {X : Type 0} → Result X Errno → Attempt X
-result_of (Ok x) = Ok x
-result_of (Err e) = Err (Fails e)
-
--- a part of what a call has on its way
-abbrev pub seen : {X Y : Type 0} → (X → Y) → Attempt X → Attempt Y
-seen f (Ok x) = Ok (f x)
-seen f (Err h) = Err h
 
 -- what a descriptor found
 abbrev pub plain_found : Found → PlainFound
@@ -37,16 +26,6 @@ found_of (Err e) = Err (Fails e)
 -- what an open left, and the number of the descriptor
 abbrev pub opened_of : State → ℕ → Attempt Done
 opened_of s fd = answer s (Number fd)
-
--- why a call does not go on
-abbrev pub plain_halt : Stops → Halt
-plain_halt (stops.Fails e) = Fails e
-plain_halt stops.Blocks = Blocks
-
--- a value, or why there is none
-abbrev pub attempted : {X : Type 0} → Result X Stops → Attempt X
-attempted (Ok x) = Ok x
-attempted (Err h) = Err (plain_halt h)
 
 -- the tests of a call that may wait: the number of the queue, if it may go on now
 abbrev pub number_in : State → ℕ → ParkedPosix → Attempt ℕ

@@ -3,7 +3,7 @@
 
 ghost use Rattle.std.specs.Prelude.{◌≡◌};
 ghost use Rattle.posix_calls.specs.Open as defined;
-ghost use Rattle.posix_calls.specs.Seen.{result_of};
+ghost use Rattle.ipc_state.specs.Steps.{result_of};
 
 use bitflags::Flags;
 use ipc_base::{Cred, Errno, OpenFlags, Pid};

@@ -12,10 +12,10 @@ ghost use Rattle.posix_calls.specs.Calls as defined;
 ghost use Rattle.posix_calls.specs.Needs.{Has, HasSpareNameOf, needs};
 ghost use Rattle.ipc_state.specs.Spare.{IsSpare, IsKept};
 
-use crate::mq::{Answer, close, mq_getattr, mq_notify, mq_setattr, mq_unlink};
+use crate::mq::{close, mq_getattr, mq_notify, mq_setattr, mq_unlink};
 use crate::opening::{Wanted, mq_open};
 use ipc_base::Pid;
-use ipc_state::State;
+use ipc_state::{Answer, State};
 use ipc_wire::PosixCall;
 
 /// The attempt of a call by a process, whose memory is reserved and that never waits. It takes none: a record is made

@@ -10,5 +10,5 @@ mod waiting;
 
 pub use calls::attempt;
 pub use memory::reserve;
-pub use mq::{Answer, registrations};
+pub use mq::registrations;
 pub use waiting::{Tried, has_to_wait, touched, try_parked};

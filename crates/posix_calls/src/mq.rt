@@ -16,19 +16,16 @@ ghost use Rattle.posix_mq.specs.Queue.{Queue, registered, deregistered};
 ghost use Rattle.posix_calls.specs.Mq as defined;
 ghost use Rattle.posix_calls.specs.Open as opening;
 ghost use Rattle.posix_calls.specs.Registrations.{registrations};
-ghost use Rattle.posix_calls.specs.Seen.{found_of, plain_found, result_of, seen};
+ghost use Rattle.ipc_state.specs.Steps.{result_of, seen};
+ghost use Rattle.posix_calls.specs.Seen.{found_of, plain_found};
 ghost use Rattle.ipc_state.specs.Spare.{IsSpare, IsKept};
 
 use crate::access::{described, may_unlink};
 use ipc_base::{Cred, Errno, Field, OpenFlags, Pid};
 use ipc_keys::{NameKind, check_name};
-use ipc_state::{Opened, State};
+use ipc_state::{Answer, Opened, State, take_spare};
 use ipc_wire::{Body, push_fields};
 use posix_mq::{Mq, Registration};
-use std::mem;
-
-/// How a call ends: the body of its reply, or the error.
-pub type Answer = Result<Body<Vec<u8>>, Errno>;
 
 /// What a descriptor finds: the number of its queue, the queue, and its flags.
 #[derive(Clone, Copy)]
@@ -70,15 +67,6 @@ pub(crate) fn close(state: &mut State, pid: Pid, fd: u32) -> Answer
     described(state, pid, fd)?;
     state.close_descriptor(pid, fd);
     Ok(Body::Empty)
-}
-
-/// The spare buffer, for the body of a reply; one without room is left in its place.
-fn take_spare(spare: &mut Vec<u8>) -> Vec<u8>
-    ensures taken { result ≡ spare.old }
-    ensures left { spare.new.items ≡ [] }
-{
-    let alloc = *spare.allocator();
-    mem::replace(spare, Vec::new(alloc))
 }
 
 /// Adds what mq_getattr(3) tells to a body that has room for it.

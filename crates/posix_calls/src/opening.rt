@@ -15,14 +15,14 @@ ghost use Rattle.ipc_state.specs.State.{has_all_descriptors, is_process};
 ghost use Rattle.posix_calls.specs.Mq as defined;
 ghost use Rattle.posix_calls.specs.Needs.{HasNoSpareNameBut};
 ghost use Rattle.posix_calls.specs.Open.{sought};
-ghost use Rattle.posix_calls.specs.Seen.{opened_of, result_of};
+ghost use Rattle.ipc_state.specs.Steps.{result_of};
+ghost use Rattle.posix_calls.specs.Seen.{opened_of};
 
 use crate::access::{is_exclusive, may_use};
-use crate::mq::Answer;
 use bitflags::Flags;
 use ipc_base::{Cred, Errno, Limits, OpenFlags, Pid};
 use ipc_keys::{NameKind, check_name};
-use ipc_state::{Descriptor, Opened, State};
+use ipc_state::{Answer, Descriptor, Opened, State};
 use ipc_wire::Body;
 
 /// What mq_open(3) asks of a new queue: its mode and, unless `attr` is 0, its limits.

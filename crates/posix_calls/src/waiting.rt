@@ -14,13 +14,14 @@ ghost use Rattle.ipc_state.specs.Touching.{mq_object};
 ghost use Rattle.posix_mq.specs.Queue.{Queue, most_messages, plain, received, received_message};
 ghost use Rattle.posix_calls.specs.Calls as calls;
 ghost use Rattle.posix_calls.specs.Mq as defined;
-ghost use Rattle.posix_calls.specs.Seen.{IsKeptIn, attempted, plain_halt, seen, number_in, tried_of};
+ghost use Rattle.ipc_state.specs.Steps.{attempted, plain_halt, seen};
+ghost use Rattle.posix_calls.specs.Seen.{IsKeptIn, number_in, tried_of};
 
 use crate::access::{reads, writes};
-use crate::mq::{Answer, open_queue};
+use crate::mq::open_queue;
 use bitflags::Flags;
 use ipc_base::{Errno, OpenFlags, Pid};
-use ipc_state::{Awaited, Object, ParkedPosix, State};
+use ipc_state::{Answer, Awaited, Halt, Object, ParkedPosix, State};
 use ipc_wire::{Body, PosixCall};
 use posix_mq::{Message, Mq, Registration, received_is_oldest_of_greatest};
 
@@ -31,14 +32,6 @@ pub enum Tried {
     Finishes(Answer, Option<Registration>),
     /// It has to wait, and is given back.
     Waits(ParkedPosix),
-}
-
-/// Why a call does not go on.
-#[derive(Clone, Copy)]
-pub(crate) enum Halt {
-    Fails(Errno),
-    /// It has to wait.
-    Blocks,
 }
 
 /// Tries a call by a process. It takes no memory.

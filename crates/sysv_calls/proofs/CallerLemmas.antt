@@ -37,6 +37,7 @@ use Rattle.ipc_state.specs.Waiting.{awaited_by, may_wait}
 use Rattle.ipc_state.proofs.CallerLemmas.{IsGood, Ends, same-processes, after-refuse, after-attempt, by-if_some, answered, read, ended-good}
 use Rattle.ipc_state.proofs.CallerLemmas.{perm_of-mode, owned_by-mode, with_new_queue-sound, with_queue-sound, queue-sound, sent-sound, taken-sound}
 use Rattle.ipc_state.proofs.CallerLemmas.{changed-sound, permitted-sound, without_queue-sound}
+use Rattle.ipc_state.proofs.CallerLemmas.{blocked-seen, blocked-then, is_blocked, waits-blocked}
 use Rattle.sysv_calls.specs.Access.{write, has, accessible, gone, removed, sought}
 use Rattle.sysv_calls.specs.Msg.{except, is_too_long, sendable, receivable, message_at, waits_or}
 use Rattle.sysv_calls.specs.Semop.{are_within, asked, decided, held_by, operated, operations_of, performable, semop}
@@ -49,12 +50,11 @@ use Rattle.sysv_calls.proofs.Received.{receive_steps, left, after-receive, block
 use Rattle.sysv_calls.proofs.Reaching.{reached-there, removed-is, sought-none, sends, receives, there-append}
 use Rattle.sysv_calls.proofs.SetEnds.{semget-ends, semctl_getval-ends, semctl_getpid-ends, semctl_setval-ends, semctl_getall-ends, semctl_setall-ends}
 use Rattle.sysv_calls.proofs.SetEnds.{semctl_stat-ends, semctl_set-ends, semctl_rmid-ends, semctl_getcnt-ends, semop-ends}
-use Rattle.sysv_calls.proofs.Running.{waits-blocked, blocked-then, blocked-seen, listed-runs, msgget-runs, msgctl_set-runs, msgctl_rmid-runs, semget-runs}
+use Rattle.sysv_calls.proofs.Running.{listed-runs, msgget-runs, msgctl_set-runs, msgctl_rmid-runs, semget-runs}
 use Rattle.sysv_calls.proofs.Running.{semctl_getval-runs, semctl_getpid-runs, semctl_setval-runs, semctl_getall-runs, semctl_setall-runs, semctl_set-runs}
 use Rattle.sysv_calls.proofs.Running.{semctl_getcnt-runs, semctl_rmid-runs}
 pub use Rattle.sysv_calls.proofs.Apart.{IsApart, attempt-apart}
 pub use Rattle.sysv_calls.proofs.Families.{IsOther, by-waiting}
-pub use Rattle.sysv_calls.proofs.Running.{is_blocked}
 use Rattle.sysv_calls.specs.Msg as defined
 use Rattle.sysv_calls.specs.Access as access
 

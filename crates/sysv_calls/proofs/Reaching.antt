@@ -34,13 +34,14 @@ use Rattle.ipc_state.specs.Lends.{HasPutObject}
 use Rattle.ipc_state.specs.Tables.{HeldObjects}
 use Rattle.ipc_state.proofs.CallerLemmas.{put-keys}
 use Rattle.ipc_state.specs.State.{State, set_of}
-use Rattle.ipc_state.specs.Finish.{Attempt, Halt, Fails, refuse, stop, if_some, ◌orelse◌, ◌orstop◌, ◌>>◌, ◌>>=◌}
+use Rattle.ipc_state.specs.Finish.{Attempt, Halt, Fails, refuse, if_some, ◌orelse◌, ◌orstop◌, ◌>>◌, ◌>>=◌}
+use Rattle.ipc_state.proofs.CallerLemmas.{ok-same, orstop-passed, passed, stop-passed}
 use Rattle.sysv_calls.specs.Access.{read, write, has, gone, is_exclusive, may_make, reached, accessible, owned, removed, sought}
 use Rattle.sysv_calls.specs.Msg.{except, waits_or, is_too_long, message_at, sendable, receivable}
 use Rattle.sysv_calls.specs.Needs.{Has, Nothing, SetPlace, set_place}
 use Rattle.sysv_calls.specs.Sem.{are_values, count_of, semaphore, settable}
 use Rattle.sysv_calls.specs.Semop.{Passes, are_within, asked, decided, held_by, operable, performable, tried_list}
-use Rattle.sysv_calls.specs.Seen.{seen}
+use Rattle.ipc_state.specs.Steps.{seen}
 
 module _ {X : Type 0} where
   -- what is reached is there
@@ -90,24 +91,6 @@ there-append (e ∷ es) more n is = by_test (nat_eq e.0 n) is (there-append es m
     by_test false is rest = rest is
 
 -- ---- what it says that a call went on
-
-stop-passed : {X : Type 0} (h : Halt) (b : Bool) (rest : Attempt X) (x : X) → (stop h b >> rest) ≡ Ok x → (b ≡ false) × (rest ≡ Ok x)
-stop-passed h true rest x is = cc
-stop-passed h false rest x is = (refl, is)
-
-orstop-passed : {X : Type 0} (o : Option X) (h : Halt) (x : X) → (o orstop h) ≡ Ok x → o ≡ Some x
-orstop-passed None h x is = cc
-orstop-passed (Some y) h x is = cc
-
--- past a step that gives a value
-record Passed {X Y : Type 0} (a : Attempt X) (next : X → Attempt Y) (y : Y) : Type 0 where
-  value : X
-  was : a ≡ Ok value
-  rest : next value ≡ Ok y
-
-passed : {X Y : Type 0} (a : Attempt X) (next : X → Attempt Y) (y : Y) → (a >>= next) ≡ Ok y → Passed a next y
-passed (Ok x) next y is = record { value = x; was = refl; rest = is }
-passed (Err h) next y is = cc
 
 -- what holds of a message that may be sent now, and of the queue
 pub record Sends (limits : Limits) (s : State) (id : ℕ) (mtype : ℤ) (text : List ℕ) (e : Entry Queue) : Type 0 where
@@ -208,9 +191,6 @@ decided-done ops (IsDone v after) values is = let same : v ≡ values = cc in (a
 decided-done ops (Stops at) values is = cc
 decided-done ops (IsRefused e) values is = cc
 
-ok_same : {X : Type 0} {x y : X} → (let a : Attempt X = Ok x in a) ≡ Ok y → x ≡ y
-ok_same is = cc
-
 pub operates : (limits : Limits) (s : State) (cred : Cred) (pid : ℕ) (again : Bool) (id : ℕ) (ops : List Operation) (found : Entry Set × List ℕ)
     → performable limits s cred pid again id ops ≡ Ok found → Operates limits s pid id ops found
 operates limits s cred pid again id ops found is =
@@ -223,11 +203,11 @@ operates limits s cred pid again id ops found is =
     let c = stop-passed (Fails EFBIG) (not (are_within (length e.value.object.semaphores) ops)) _ o.value b.1 in
     let f = stop-passed (Fails EACCES) (not (list_all (λ x. may cred e.value.perm (asked x)) ops)) _ o.value c.1 in
     let meets : Entry Set → Outcome = λ x. outcome (values_of x.object) (held_by s pid id) ops in
-    let set : e.value ≡ o.value = ok_same f.1 in
+    let set : e.value ≡ o.value = ok-same f.1 in
     let pair : Entry Set → Entry Set × Outcome = λ x. (x, meets x) in
-    let tried : pair e.value ≡ t.value = ◌∙◌ {b = pair o.value} (ap pair set) (ok_same o.rest) in
+    let tried : pair e.value ≡ t.value = ◌∙◌ {b = pair o.value} (ap pair set) (ok-same o.rest) in
     let ends : Entry Set × Outcome → Entry Set × List ℕ = λ p. (p.0, d.value) in
-    let whole : ends (pair e.value) ≡ found = ◌∙◌ {b = ends t.value} (ap ends tried) (ok_same d.rest) in
+    let whole : ends (pair e.value) ≡ found = ◌∙◌ {b = ends t.value} (ap ends tried) (ok-same d.rest) in
     subst (Operates limits s pid id ops) whole (record {
       few = ltb-false limits.semopm (length ops) b.0;
       there = orstop-passed (set_of s id) (Fails (gone again)) e.value e.was;
@@ -243,20 +223,6 @@ pub operates-passes : (limits : Limits) (s : State) (pid id : ℕ) (ops : List O
 operates-passes limits s pid id ops found checked ok =
     let most = (passed-bounds limits checked).semopm in
     record { few = omega (arith, most, ok.few); there = ok.there; within = ok.within; done = ok.done }
-
--- what is seen of an attempt tells of it
-pub record Shows {X Y : Type 0} (f : X → Y) (a : Attempt X) (y : Y) : Type 0 where
-  pub value : X
-  pub was : a ≡ Ok value
-  pub is : f value ≡ y
-
-pub shows : {X Y : Type 0} (f : X → Y) (a : Attempt X) (y : Y) → seen f a ≡ Ok y → Shows f a y
-shows f (Ok x) y is = record { value = x; was = refl; is = cc }
-shows f (Err h) y is = cc
-
-pub stays-stopped : {X Y Z : Type 0} (f : X → Y) (next : X → Attempt Z) (a : Attempt X) (h : Halt) → seen f a ≡ Err h → (a >>= next) ≡ Err h
-stays-stopped f next (Ok x) h is = cc
-stays-stopped f next (Err k) h is = cc
 
 -- what was told of the objects that are held, the definitions say of theirs
 pub told : {X Y : Type 0} (f : Keyed X → Attempt Y) (o s : Keyed X) → o ≡ s → (a : Attempt Y) → a ≡ f o → f s ≡ a

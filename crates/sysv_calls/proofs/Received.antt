@@ -15,10 +15,10 @@ use Rattle.ipc_state.specs.Numbered.{entry_of, last_number}
 use Rattle.ipc_state.specs.Keyed.{holding}
 use Rattle.ipc_state.specs.State.{State, with_queue}
 use Rattle.ipc_state.specs.Finish.{Attempt, Finish, Finishes, Halt, Fails, Blocks, ended, answer, refuse, ◌orelse◌, ◌orstop◌, ◌>>◌, ◌>>=◌}
+use Rattle.ipc_state.proofs.CallerLemmas.{is_blocked}
 use Rattle.sysv_calls.specs.Access.{read, has, gone}
 use Rattle.sysv_calls.specs.Msg.{except, is_too_long, message_at, receivable, msgrcv, waits_or}
 use Rattle.sysv_calls.proofs.Reaching.{Receives, receives}
-use Rattle.sysv_calls.proofs.Running.{is_blocked}
 
 -- the state that a receive of this message leaves
 abbrev pub left : State → ℕ → ℕ → Entry Queue × ℕ → State

@@ -1,6 +1,6 @@
 -- Whether a call has to wait; and those that never do, by their steps.
-use Rattle.std.proofs.Common.{◌≡◌, ℕ, ℤ, Bool, true, false, not, List, Option, Some, None, refl}
-use Rattle.std.specs.Prelude.{Ok, Err, slice_get, length, nat_lt, ◌==◌, ◌+◌}
+use Rattle.std.proofs.Common.{ℕ, ℤ, Bool, false, not, List, Some, None, refl}
+use Rattle.std.specs.Prelude.{Ok, slice_get, length, nat_lt, ◌==◌, ◌+◌}
 use Rattle.ipc_base.specs.declared.errno.Errno.{Errno}
 use Rattle.ipc_base.specs.declared.errno.Errno.TheVariants.{EPERM, EACCES, ENOENT, EEXIST, EINVAL, ERANGE, ENOSPC}
 use Rattle.ipc_base.specs.declared.field.Field.{Field}
@@ -17,58 +17,14 @@ use Rattle.ipc_state.specs.Keyed.{Keyed, holding, keyed, permitting}
 use Rattle.ipc_state.specs.Numbered.{entry_of, is_full}
 use Rattle.ipc_state.specs.Sound.{semaphore_count}
 use Rattle.ipc_state.specs.State.{State, set_of, with_queue, with_new_queue, with_new_set}
-use Rattle.ipc_state.specs.Finish.{Attempt, Done, Fails, Blocks, answer, ended, has_to_wait, refuse, if_some}
-use Rattle.ipc_state.specs.Finish.{◌orelse◌, ◌>>◌, ◌>>=◌}
-use Rattle.sysv_calls.specs.Seen.{seen}
+use Rattle.ipc_state.specs.Finish.{Attempt, Done, answer, refuse}
+use Rattle.ipc_state.specs.Finish.{◌>>◌}
+use Rattle.ipc_state.proofs.CallerLemmas.{Runs, if_some-runs, orelse-runs, refuse-runs, then-runs}
 use Rattle.sysv_calls.specs.Access.{accessible, is_exclusive, listed, may_make, owned, reached, removed, sought, read, write}
 use Rattle.sysv_calls.specs.Msg.{found_queue, made_queue, msgget, msgctl_set, msgctl_rmid}
 use Rattle.sysv_calls.specs.Sem.{count_of, found_set, made_set, semaphore, settable, value_of, semget, semctl_getval, semctl_getpid, semctl_setval}
 use Rattle.sysv_calls.specs.Sem.{are_values, has_fewer, semctl_getall, semctl_setall, semctl_set, semctl_rmid}
 use Rattle.sysv_calls.specs.Semop.{semctl_getcnt}
-
-abbrev pub is_blocked : {X : Type 0} → Attempt X → Bool
-is_blocked (Ok x) = false
-is_blocked (Err (Fails e)) = false
-is_blocked (Err Blocks) = true
-
-pub waits-blocked : (s : State) (a : Attempt Done) → has_to_wait (ended s a) ≡ is_blocked a
-waits-blocked s (Ok d) = refl
-waits-blocked s (Err (Fails e)) = refl
-waits-blocked s (Err Blocks) = refl
-
--- what is done at the end, and what is looked at, tell nothing of it
-pub blocked-then : {X Y : Type 0} (a : Attempt X) (f : X → Y) → is_blocked (a >>= (λ x. Ok (f x))) ≡ is_blocked a
-blocked-then (Ok x) f = refl
-blocked-then (Err (Fails e)) f = refl
-blocked-then (Err Blocks) f = refl
-
-pub blocked-seen : {X Y : Type 0} (f : X → Y) (a : Attempt X) → is_blocked (seen f a) ≡ is_blocked a
-blocked-seen f (Ok x) = refl
-blocked-seen f (Err (Fails e)) = refl
-blocked-seen f (Err Blocks) = refl
-
--- ---- steps that never wait
-
-abbrev Runs : {X : Type 0} → Attempt X → Type 0
-Runs a = is_blocked a ≡ false
-
-then-runs : {X Y : Type 0} (a : Attempt X) (rest : X → Attempt Y) → Runs a → ((x : X) → Runs (rest x)) → Runs (a >>= rest)
-then-runs (Ok x) rest a r = r x
-then-runs (Err (Fails e)) rest a r = refl
-then-runs (Err Blocks) rest a r = a
-
-refuse-runs : {Y : Type 0} (e : Errno) (b : Bool) (rest : Attempt Y) → Runs rest → Runs (refuse e b >> rest)
-refuse-runs e true rest r = refl
-refuse-runs e false rest r = r
-
-orelse-runs : {X Y : Type 0} (o : Option X) (e : Errno) (rest : X → Attempt Y) → ((x : X) → Runs (rest x)) → Runs (o orelse e >>= rest)
-orelse-runs None e rest r = refl
-orelse-runs (Some x) e rest r = r x
-
-if_some-runs : {X Y : Type 0} (o : Option X) (there : X → Attempt Y) (missing : Attempt Y) → ((x : X) → Runs (there x)) → Runs missing
-    → Runs (if_some o there missing)
-if_some-runs None there missing t m = m
-if_some-runs (Some x) there missing t m = t x
 
 -- ---- what is alike for every kind
 

@@ -33,7 +33,8 @@ use Rattle.ipc_state.specs.Numbered.{entry_of}
 use Rattle.ipc_state.specs.Sound.{HasSoundParts, AreAt, has_semaphore}
 use Rattle.ipc_state.specs.State.{State, is_process, undo_of, with_undo}
 use Rattle.ipc_state.proofs.CallerLemmas.{few-adjustments, set-undo}
-use Rattle.sysv_calls.specs.Seen.{seen}
+use Rattle.ipc_state.specs.Steps.{seen}
+use Rattle.ipc_state.proofs.CallerLemmas.{passed}
 use Rattle.sysv_calls.specs.Semop.{decided, held_by, noted, operable, stopped_by, stopping, tried_list, CanBeNoted, CanNote, IsReady}
 
 -- ---- the operation that stops a list

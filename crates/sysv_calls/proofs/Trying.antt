@@ -18,13 +18,16 @@ use Rattle.ipc_state.specs.Finish.{Attempt, Done, Halt, Finishes, answer, done, 
 use Rattle.ipc_state.specs.Sound.{HasSoundParts}
 use Rattle.ipc_state.specs.State.{State, cred_of, is_process, queue_of, with_queue}
 use Rattle.ipc_state.proofs.CallerLemmas.{queue-sound}
+use Rattle.ipc_state.proofs.CallerLemmas.{Shows, passed, shows, stays-stopped}
 use Rattle.sysv_calls.specs.Calls.{attempt, call_of}
 use Rattle.sysv_calls.specs.Msg.{message_at, receivable, sendable}
 use Rattle.sysv_calls.specs.Semop.{IsReady, Passes, operated, operations_of, performable}
-use Rattle.sysv_calls.specs.Seen.{attempted, place_in, plain_halt}
-use Rattle.sysv_calls.specs.declared.msg.Halt.{Halt as Stops}
-use Rattle.sysv_calls.proofs.CallerLemmas.{is_blocked, by-waiting, waits-as-tested}
-use Rattle.sysv_calls.proofs.Reaching.{Shows, Sends, Receives, shows, sends, receives, operates, operates-passes, stays-stopped}
+use Rattle.ipc_state.specs.Steps.{attempted, plain_halt}
+use Rattle.sysv_calls.specs.Seen.{place_in}
+use Rattle.ipc_state.specs.declared.answers.Halt.{Halt as Stops}
+use Rattle.ipc_state.proofs.CallerLemmas.{is_blocked}
+use Rattle.sysv_calls.proofs.CallerLemmas.{by-waiting, waits-as-tested}
+use Rattle.sysv_calls.proofs.Reaching.{Sends, Receives, sends, receives, operates, operates-passes}
 
 -- a queue that is not full has places
 has_places : (q : Queue) (n most : ℕ) → q.qbytes ≤ most → most ≤ most_messages → full q n ≡ false → length q.messages < most_messages

@@ -7,14 +7,13 @@ use Rattle.ipc_base.specs.declared.identity.Id.{Id}
 use Rattle.ipc_base.specs.declared.limits.Limits.{Limits}
 use Rattle.ipc_wire.specs.Request.{PlainCall}
 use Rattle.ipc_wire.specs.Request as requests
-use Rattle.ipc_state.specs.Finish.{Attempt, Halt, Fails, Blocks, Tried, Finishes, Waits, finish_of}
+use Rattle.ipc_state.specs.Finish.{Attempt, Fails, Tried, Finishes, Waits, finish_of}
+use Rattle.ipc_state.specs.Steps.{seen}
 use Rattle.ipc_state.specs.Held.{Held}
 use Rattle.ipc_state.specs.State.{State}
 use Rattle.ipc_state.specs.Waiting.{parked_call}
 use Rattle.sysv_calls.specs.Msg.{sendable, receivable}
 use Rattle.sysv_calls.specs.Semop.{operations_of, performable}
-use Rattle.sysv_calls.specs.declared.msg.Halt.{Halt as Stops}
-use Rattle.sysv_calls.specs.declared.msg.Halt.TheVariants as stops
 use Rattle.sysv_calls.specs.declared.waiting.Tried.{Tried as Comes}
 use Rattle.sysv_calls.specs.declared.waiting.Tried.TheVariants as comes
 
@@ -32,26 +31,6 @@ sought_of (Err e) = Err (Fails e)
 abbrev pub unit_of : {X Y : Type 0} → X → Result Y Errno → Attempt X
 unit_of left (Ok done) = Ok left
 unit_of left (Err e) = Err (Fails e)
-
--- a value, or why there is none
-abbrev pub result_of : {X : Type 0} → Result X Errno → Attempt X
-result_of (Ok x) = Ok x
-result_of (Err e) = Err (Fails e)
-
--- why a call does not go on
-abbrev pub plain_halt : Stops → Halt
-plain_halt (stops.Fails e) = Fails e
-plain_halt stops.Blocks = Blocks
-
--- a value, or why there is none
-abbrev pub attempted : {X : Type 0} → Result X Stops → Attempt X
-attempted (Ok x) = Ok x
-attempted (Err h) = Err (plain_halt h)
-
--- a part of what a call has on its way
-abbrev pub seen : {X Y : Type 0} → (X → Y) → Attempt X → Attempt Y
-seen f (Ok x) = Ok (f x)
-seen f (Err h) = Err h
 
 -- the tests of a call that may wait: if it may go on now, the place of the message that a receive takes, and 0 for any
 -- other

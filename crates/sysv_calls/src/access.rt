@@ -14,7 +14,6 @@ use ipc_base::{Cred, Errno, Field, GetFlags, Id};
 use ipc_perm::{Access, may, owns};
 use ipc_state::{Entry, IPC_PRIVATE, Keyed};
 use ipc_wire::push_fields;
-use std::mem;
 
 /// What an identifier has, for a caller that may use it so; `again` for a call that waited.
 pub(crate) fn accessible<T>(
@@ -96,15 +95,6 @@ pub(crate) fn remove<T: Drop>(objects: &mut Keyed<T>, cred: Cred, id: Id) -> Res
     owned(objects, cred, id)?;
     objects.remove(id);
     Ok(())
-}
-
-/// The spare buffer, for the body of a reply; one without room is left in its place.
-pub(crate) fn take_spare(spare: &mut Vec<u8>) -> Vec<u8>
-    ensures taken { result ≡ spare.old }
-    ensures left { spare.new.items ≡ [] }
-{
-    let alloc = *spare.allocator();
-    mem::replace(spare, Vec::new(alloc))
 }
 
 /// Adds what is alike for the records of every kind to a body that has room for it.

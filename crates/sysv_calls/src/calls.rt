@@ -21,12 +21,9 @@ use crate::sem::{
 };
 use crate::semop::semctl_getcnt;
 use ipc_base::{Errno, Pid};
-use ipc_state::{Parked, State};
+use ipc_state::{Answer, Parked, State};
 use ipc_wire::{Body, Call, Request, RequestKind};
 use std::alloc::{AllocError, Global};
-
-/// How a call ends: the body of its reply, or the error.
-pub type Answer = Result<Body<Vec<u8>>, Errno>;
 
 /// Takes the memory that a System V request may need, which one that grows nothing never does. A call that may wait is
 /// kept, its text in memory of its own. Any other request needs nothing here, and nothing is kept of it. Refused, the

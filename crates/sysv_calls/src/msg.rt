@@ -17,26 +17,17 @@ ghost use Rattle.ipc_wire.specs.declared.reply.Body.TheVariants as body;
 ghost use Rattle.sysv_calls.specs.Msg as defined;
 ghost use Rattle.sysv_calls.specs.Needs.{HasNoSpareKeyBut};
 ghost use Rattle.sysv_calls.specs.Records.{queue_fields};
-ghost use Rattle.sysv_calls.specs.Seen.{attempted, plain_halt, seen};
+ghost use Rattle.ipc_state.specs.Steps.{attempted, plain_halt, seen};
 ghost use Rattle.ipc_state.specs.Spare.{IsSpare, IsKept};
 ghost use Rattle.sysv_msg.specs.Queue.{Queue, most_messages, plain, sent, taken};
 
-use crate::access::{accessible, owned, push_perm, remove, seek, take_spare};
-use crate::calls::Answer;
+use crate::access::{accessible, owned, push_perm, remove, seek};
 use bitflags::Flags;
 use ipc_base::{Cred, Errno, Field, GetFlags, Id, MsgFlags, Pid};
 use ipc_perm::{Access, Perm};
-use ipc_state::{LAST_NUMBER, State};
+use ipc_state::{Answer, Halt, LAST_NUMBER, State, take_spare};
 use ipc_wire::{Body, push_fields};
 use sysv_msg::{Message, MsgQueue};
-
-/// Why a call does not go on.
-#[derive(Clone, Copy)]
-pub(crate) enum Halt {
-    Fails(Errno),
-    /// It has to wait.
-    Blocks,
-}
 
 /// msgget(2). What room of the key is not used is given back.
 pub(crate) fn msgget(state: &mut State, cred: Cred, key: i32, flags: GetFlags) -> Answer

@@ -15,15 +15,14 @@ ghost use Rattle.ipc_state.specs.Numbered.{entry_of};
 ghost use Rattle.ipc_state.specs.Sound.{HasSoundParts};
 ghost use Rattle.sysv_calls.specs.Needs.{Has, HasNoSpareKeyBut, set_place};
 ghost use Rattle.sysv_calls.specs.Records.{set_fields};
-ghost use Rattle.sysv_calls.specs.Seen.{result_of, seen};
+ghost use Rattle.ipc_state.specs.Steps.{result_of, seen};
 ghost use Rattle.sysv_calls.specs.Sem as defined;
 ghost use Rattle.ipc_state.specs.Spare.{IsSpare, IsKept};
 
-use crate::access::{accessible, owned, push_perm, remove, seek, take_spare};
-use crate::calls::Answer;
+use crate::access::{accessible, owned, push_perm, remove, seek};
 use ipc_base::{Cred, Errno, Field, GetFlags, Id, Limits, Pid};
 use ipc_perm::{Access, Perm, may};
-use ipc_state::{Keyed, State};
+use ipc_state::{Answer, Keyed, State, take_spare};
 use ipc_wire::{Body, Pairs, push_fields};
 use sysv_sem::{MOST_VALUE, SemSet, Semaphore};
 

@@ -8,13 +8,13 @@ ghost use Rattle.ipc_state.specs.Sound.{HasSoundParts};
 ghost use Rattle.ipc_state.specs.State.{is_process};
 ghost use Rattle.ipc_state.specs.Waiting.{parked_call};
 ghost use Rattle.sysv_calls.specs.Calls as defined;
-ghost use Rattle.sysv_calls.specs.Seen.{IsKeptIn, attempted, place_in, tried_of};
+ghost use Rattle.ipc_state.specs.Steps.{attempted};
+ghost use Rattle.sysv_calls.specs.Seen.{IsKeptIn, place_in, tried_of};
 
-use crate::calls::Answer;
-use crate::msg::{Halt, ready_to_receive, ready_to_send, receive, send};
+use crate::msg::{ready_to_receive, ready_to_send, receive, send};
 use crate::semop::{operate, ready_to_operate};
 use ipc_base::{Cred, Pid};
-use ipc_state::{Object, ParkedCall, State};
+use ipc_state::{Answer, Halt, Object, ParkedCall, State};
 use ipc_wire::{Body, Call};
 
 /// What comes of a call that may wait.
@@ -96,7 +96,8 @@ fn ready(state: &State, cred: Cred, pid: Pid, again: bool, call: &ParkedCall) ->
     }
 }
 
-/// Whether a call that waits is a receive from a queue: one takes a message away, so that no other receive goes on by it.
+/// Whether a call that waits is a receive from a queue: one takes a message away, so that no other receive goes on by
+/// it.
 pub fn is_receive(call: &ParkedCall) -> bool
     ensures { result ≡ defined.is_receive (Calls (parked_call call.now)) }
 {

@@ -101,7 +101,8 @@ pub record Received {D : Type 0} (medium : D → Medium) (old new : StoreView D)
 -- or one event to which the reply is still to come, and no request of its process was unanswered before.
 pub record Waits {D : Type 0} (old new : StoreView D) (before after : Table) (conn : ℕ) : Type 0 where
   pub empty : HasNoFrame (hub_view old.machine before) conn
-  pub event : ((new ≡ old) × (unanswered_at (hub_view old.machine before) conn ≡ unanswered_at (hub_view new.machine after) conn))
+  pub event : ((new ≡ old)
+      × (unanswered_at (hub_view old.machine before) conn ≡ unanswered_at (hub_view new.machine after) conn))
       ⊎ ((unanswered_at (hub_view old.machine before) conn ≡ 0) × (0 < unanswered_at (hub_view new.machine after) conn)
       × (IsReadyFor old 2 → IsReadyFor new 1))
 

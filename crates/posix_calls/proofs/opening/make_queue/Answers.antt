@@ -1,4 +1,4 @@
-use Rattle.std.proofs.Common.{◌≡◌, ◌∙◌, ◌<◌, None, refl, sym, ap, subst, arith}
+use Rattle.std.proofs.Common.{◌≡◌, ◌∙◌, ◌<◌, false, None, refl, sym, ap, subst, arith}
 use Rattle.std.proofs.lemmas.Nat.{and_le_r}
 use Rattle.std.specs.Int.RustNames.{bit_and}
 use Rattle.ipc_base.specs.declared.limits.Limits.{Limits}
@@ -8,8 +8,8 @@ use Rattle.ipc_state.specs.Held.{Held}
 use Rattle.ipc_state.specs.Sound.{HasSoundParts, IsSoundMq}
 use Rattle.ipc_state.specs.State.{State, has_all_descriptors, is_process, with_new_mq}
 use Rattle.ipc_state.proofs.CallerLemmas.{mq-next, with_new_mq-sound}
-use Rattle.posix_calls.specs.Seen.{result_of}
-use Rattle.posix_calls.proofs.Reaching.{attributes-sound}
+use Rattle.ipc_state.specs.Steps.{result_of}
+use Rattle.posix_calls.proofs.Reaching.{attributes-ends}
 use Rattle.posix_calls.proofs.opening.make_queue.Goals.{After-add_mq-number}
 use Rattle.posix_calls.proofs.opening.make_queue.Goals as goal
 
@@ -28,7 +28,7 @@ open_on-requires-clause-sound c =
     let old = c.args.state.now in
     let w = c.args.wanted in
     let given = sym c.attributes.ensures ∙ ap result_of c.in_ok-maxmsg.was in
-    let good = attributes-sound c.limits.result.now w.attr w.maxmsg w.msgsize _ given in
+    let good = (attributes-ends {never = false} c.limits.result.now w.attr w.maxmsg w.msgsize).holds _ given in
     let mode : bit_and w.mode 511 < 512 = omega (arith, and_le_r w.mode 511) in
     subst (λ (l : Limits). HasSoundParts l c.add_mq-number.new.self.state) (sym c.add_mq-number.ensures.limits)
     (subst (HasSoundParts old.limits) (sym (made a))

@@ -1,9 +1,9 @@
 use Rattle.std.proofs.Common.{◌≡◌, ◌∙◌, sym, ap, true, false}
 use Rattle.ipc_state.specs.Finish.{has_to_wait}
 use Rattle.ipc_state.specs.Waiting.{parked_posix}
+use Rattle.ipc_state.proofs.CallerLemmas.{is_blocked}
 use Rattle.posix_calls.specs.Calls.{attempt}
-use Rattle.posix_calls.specs.Seen.{attempted}
-use Rattle.posix_calls.proofs.Running.{is_blocked}
+use Rattle.ipc_state.specs.Steps.{attempted}
 use Rattle.posix_calls.proofs.Trying.{waits-as-tested}
 use Rattle.posix_calls.proofs.waiting.has_to_wait.Goals.{After-ready}
 use Rattle.posix_calls.proofs.waiting.has_to_wait.Goals as goal

@@ -5,8 +5,9 @@ use Rattle.ipc_state.specs.Held.{Held}
 use Rattle.ipc_state.specs.Waiting.{parked_posix}
 use Rattle.ipc_state.specs.declared.parked.ParkedPosix.{ParkedPosix}
 use Rattle.posix_calls.specs.Calls.{attempt}
-use Rattle.posix_calls.specs.Seen.{attempted, number_in, plain_halt}
-use Rattle.posix_calls.specs.declared.waiting.Halt.{Halt as Stops}
+use Rattle.ipc_state.specs.Steps.{attempted, plain_halt}
+use Rattle.posix_calls.specs.Seen.{number_in}
+use Rattle.ipc_state.specs.declared.answers.Halt.{Halt as Stops}
 use Rattle.posix_calls.proofs.Trying.{ends-stopped, sends-room, sends-finish, receives-some, receives-finish}
 use Rattle.posix_calls.proofs.waiting.try_parked.Goals.{After-ready}
 use Rattle.posix_calls.proofs.waiting.try_parked.Goals as goal

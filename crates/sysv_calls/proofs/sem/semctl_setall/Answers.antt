@@ -11,9 +11,10 @@ use Rattle.ipc_state.specs.Keyed.{Keyed, holding}
 use Rattle.ipc_state.specs.State.{without_adjustments}
 use Rattle.ipc_state.specs.Numbered.{with_entry}
 use Rattle.ipc_state.proofs.CallerLemmas.{lent-object, put-object, set-sound}
-use Rattle.sysv_calls.specs.Seen.{result_of}
+use Rattle.ipc_state.specs.Steps.{result_of}
+use Rattle.ipc_state.proofs.CallerLemmas.{Shows, shows}
 use Rattle.sysv_calls.specs.Sem.{settable}
-use Rattle.sysv_calls.proofs.Reaching.{IsSettable, Shows, keys-kept, settable-there, shows}
+use Rattle.sysv_calls.proofs.Reaching.{IsSettable, keys-kept, settable-there}
 use Rattle.sysv_calls.proofs.sem.semctl_setall.Goals.{In_ok-ready_to_set}
 use Rattle.sysv_calls.proofs.sem.semctl_setall.Goals as goal
 

@@ -14,10 +14,11 @@ use Rattle.ipc_state.specs.State.{without_adjustments}
 use Rattle.ipc_state.specs.Numbered.{with_entry}
 use Rattle.ipc_state.specs.declared.keyed.Entry.{Entry}
 use Rattle.ipc_state.proofs.CallerLemmas.{lent-object, put-object, set-sound}
+use Rattle.ipc_state.proofs.CallerLemmas.{Shows, shows}
 use Rattle.sysv_calls.specs.Access.{write}
-use Rattle.sysv_calls.specs.Seen.{result_of}
+use Rattle.ipc_state.specs.Steps.{result_of}
 use Rattle.sysv_calls.specs.Sem.{semaphore, value_of}
-use Rattle.sysv_calls.proofs.Reaching.{IsFound, Shows, keys-kept, semaphore-there, shows}
+use Rattle.sysv_calls.proofs.Reaching.{IsFound, keys-kept, semaphore-there}
 use Rattle.sysv_calls.proofs.sem.semctl_setval.Goals.{After-unwrap-set}
 use Rattle.sysv_calls.proofs.sem.semctl_setval.Goals as goal
 

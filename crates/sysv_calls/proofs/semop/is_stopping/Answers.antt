@@ -7,7 +7,7 @@ use Rattle.ipc_state.specs.State.{cred_of}
 use Rattle.sysv_sem.specs.declared.operation.Operation.{Operation}
 use Rattle.sysv_sem.specs.declared.operation.Trial.{Trial}
 use Rattle.sysv_sem.specs.declared.operation.Trial.TheVariants as trial
-use Rattle.sysv_calls.specs.Seen.{attempted, plain_halt, seen}
+use Rattle.ipc_state.specs.Steps.{attempted, plain_halt, seen}
 use Rattle.sysv_calls.specs.Semop.{is_of, operations_of, stopping, tried_list}
 use Rattle.sysv_calls.proofs.Semops.{Stopped, Tried, at-front, front-inside, stopped, stopping-none, trial-found, tried-inside}
 use Rattle.sysv_calls.proofs.semop.is_stopping.Goals.{After-try_operations, In-Ok-Blocks}

@@ -5,7 +5,7 @@ use Rattle.ipc_state.specs.Finish.{Attempt, Halt}
 use Rattle.sysv_sem.specs.declared.operation.Operation.{Operation}
 use Rattle.sysv_sem.specs.declared.operation.Trial.{Trial}
 use Rattle.sysv_sem.specs.declared.operation.Trial.TheVariants as trial
-use Rattle.sysv_calls.specs.Seen.{attempted, plain_halt, seen}
+use Rattle.ipc_state.specs.Steps.{attempted, plain_halt, seen}
 use Rattle.sysv_calls.specs.Semop.{operations_of, stopped_by, tried_list}
 use Rattle.sysv_calls.proofs.Semops.{Tried, at-front, front-inside, performs-done, performs-not, performs-refused, performs-stopped, stopped, trial-found, tried-inside}
 use Rattle.sysv_calls.proofs.semop.ready_to_operate.Goals.{After-try_operations, In-Blocks}

@@ -5,10 +5,11 @@ use Rattle.sysv_sem.specs.declared.set.Semaphore.{Semaphore}
 use Rattle.sysv_sem.specs.Set.{Set}
 use Rattle.ipc_state.specs.declared.keyed.Entry.{Entry}
 use Rattle.ipc_state.proofs.CallerLemmas.{set-sound}
+use Rattle.ipc_state.proofs.CallerLemmas.{shows}
 use Rattle.sysv_calls.specs.Access.{read}
-use Rattle.sysv_calls.specs.Seen.{result_of}
+use Rattle.ipc_state.specs.Steps.{result_of}
 use Rattle.sysv_calls.specs.Sem.{semaphore}
-use Rattle.sysv_calls.proofs.Reaching.{semaphore-there, shows}
+use Rattle.sysv_calls.proofs.Reaching.{semaphore-there}
 use Rattle.sysv_calls.proofs.semop.semctl_getcnt.Goals as goal
 
 pub overflow_cast-num : goal.overflow_cast-num

@@ -2,8 +2,8 @@ use Rattle.std.proofs.Common.{◌≡◌, ◌∙◌, sym, true, false}
 use Rattle.ipc_state.specs.Finish.{has_to_wait}
 use Rattle.ipc_state.specs.Waiting.{parked_call}
 use Rattle.sysv_calls.specs.Calls.{attempt}
-use Rattle.sysv_calls.specs.Seen.{attempted}
-use Rattle.sysv_calls.proofs.CallerLemmas.{is_blocked}
+use Rattle.ipc_state.specs.Steps.{attempted}
+use Rattle.ipc_state.proofs.CallerLemmas.{is_blocked}
 use Rattle.sysv_calls.proofs.Trying.{tested, waits-on}
 use Rattle.sysv_calls.proofs.waiting.has_to_wait.Goals.{After-ready}
 use Rattle.sysv_calls.proofs.waiting.has_to_wait.Goals as goal

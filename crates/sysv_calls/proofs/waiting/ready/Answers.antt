@@ -8,7 +8,8 @@ use Rattle.ipc_state.specs.Finish.{Attempt}
 use Rattle.ipc_state.specs.Waiting.{parked_call}
 use Rattle.sysv_calls.specs.Msg.{sendable}
 use Rattle.sysv_calls.specs.Semop.{operations_of, performable}
-use Rattle.sysv_calls.specs.Seen.{place_in, plain_halt, seen}
+use Rattle.ipc_state.specs.Steps.{plain_halt, seen}
+use Rattle.sysv_calls.specs.Seen.{place_in}
 use Rattle.sysv_calls.proofs.Reaching.{other-seen}
 use Rattle.sysv_calls.proofs.waiting.ready.Goals as goal
 

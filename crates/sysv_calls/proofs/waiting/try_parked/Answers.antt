@@ -1,7 +1,7 @@
 use Rattle.std.proofs.Common.{◌∙◌, sym, ap}
 use Rattle.std.specs.Prelude.{Err}
 use Rattle.ipc_state.specs.Waiting.{parked_call}
-use Rattle.sysv_calls.specs.declared.msg.Halt.{Halt as Stops}
+use Rattle.ipc_state.specs.declared.answers.Halt.{Halt as Stops}
 use Rattle.sysv_calls.proofs.Trying.{Tested, tested, ends-stopped, sends-there, sends-room, sends-finish}
 use Rattle.sysv_calls.proofs.Trying.{receives-there, receives-inside, receives-finish, operates-ready, operates-finish}
 use Rattle.sysv_calls.proofs.waiting.try_parked.Goals.{After-ready}

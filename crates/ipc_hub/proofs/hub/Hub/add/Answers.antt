@@ -25,13 +25,13 @@ bounded limits most reply passed is short = omega (arith, is, short, longest_rep
 pub overflow_add-replies : goal.overflow_add-replies
 overflow_add-replies g c =
     let all = bounded c.limits.result.now c.most_owed.result c.longest_reply.result c.limits.ensures.passed
-    (c.most_owed.ensures ∙ ap most_owed (sym c.limits.ensures.limits)) c.longest_reply.ensures.bounded in
+    (c.most_owed.ensures.most ∙ ap most_owed (sym c.limits.ensures.limits)) c.longest_reply.ensures.bounded in
     omega (arith, all)
 
 pub new-requires : goal.new-requires
 new-requires g c =
     bounded c.limits.result.now c.most_owed.result c.longest_reply.result c.limits.ensures.passed
-    (c.most_owed.ensures ∙ ap most_owed (sym c.limits.ensures.limits)) c.longest_reply.ensures.bounded
+    (c.most_owed.ensures.most ∙ ap most_owed (sym c.limits.ensures.limits)) c.longest_reply.ensures.bounded
 
 pub insert-requires-clause-free : goal.insert-requires-clause-free
 insert-requires-clause-free g c =
@@ -48,7 +48,7 @@ invariant_of-self-2 g c =
     rw number at c.in_ok-insert.ensures.ok in
     let limits = ap (λ (m : Machine). m.limits) c.engine-engine.ensures in
     let long = c.longest_reply.ensures.longest ∙ ap longest_reply (c.limits.ensures.limits ∙ limits) in
-    let most = c.most_owed.ensures ∙ ap most_owed limits in
+    let most = c.most_owed.ensures.most ∙ ap most_owed limits in
     let inv : HubInvariant (hub_view c.self.inside.store.machine (table_of c.insert.new.self)) =
     rw added (entry-invariant (hub_view c.self.inside.store.machine (table_of c.self.inside.connections)) c.args.conn (view_of new)
     (c.self.invariant.goes_on goes_on) c.ranges.conn.fits (free c.args.conn (ap (λ v. v.hub.connections) c.self.view_is) c.requires.free)
