@@ -1,4 +1,4 @@
-"""Devices with adjustments (semop(2)): what an exit and a restart add, what is cleared, and what stands for no state."""
+"""Devices with adjustments (semop(2)): what an exit and a restart add, what is cleared, what stands for no state."""
 
 from __future__ import annotations
 

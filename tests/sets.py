@@ -392,7 +392,8 @@ class Writer:
         rng = self.rng
         many = rng.choice([1, 1, 1, 1, 2, 2, 2, 3, 4]) if rng.random() < 0.97 else rng.choice([0, 5])
         return tuple(
-            (rng.choice([0, 0, 0, 0, 1, 1, 2, 3]), rng.choice(self.amounts), rng.choice(self.flags)) for _ in range(many)
+            (rng.choice([0, 0, 0, 0, 1, 1, 2, 3]), rng.choice(self.amounts), rng.choice(self.flags))
+            for _ in range(many)
         )
 
     def asks(self) -> None:

@@ -9,11 +9,11 @@ reckoned from docs/DEVICE.md, and never taken from the program. It takes a momen
 from __future__ import annotations
 
 import os
-import pty
 import subprocess
 import sys
 import tempfile
-import tty
+
+from pseudo_terminal import all_shown, open_terminal
 
 PROGRAM = os.path.abspath(sys.argv[1])
 
@@ -39,20 +39,8 @@ def progress(sectors: int, *reached: int) -> bytes:
     return "".join([*numbers, "\n"]).encode()
 
 
-def all_shown(terminal: int) -> bytes:
-    """All that a terminal shows, whose other end is closed. The system hands it over in pieces."""
-    shown = b""
-    while True:
-        try:
-            shown += os.read(terminal, 4096)
-        except OSError:
-            return shown
-
-
 def main() -> None:
-    terminal, errors = pty.openpty()
-    # A line's end is not to become two bytes.
-    tty.setraw(errors)
+    terminal, errors = open_terminal()
 
     # A new device, one that is cut, of which nothing is told, and one that grows. A MiB has 2048 sectors.
     for sectors in (5000, 448, 3000):

@@ -122,7 +122,7 @@ class Receiver(Comer):
             self.unsure -= not self.is_killed
 
     def closes(self, client: Client) -> None:
-        """It waits, reads what has come meanwhile, and is gone. What the server does before it sees that is not known."""
+        """It waits, reads what has come meanwhile, and is gone. What the server does before it sees that is unknown."""
         client.send(msgrcv_request(*self.target_of(64)))
         client.send(msgctl_stat_request(0))
         _, error, body = client.receive()

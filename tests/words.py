@@ -10,7 +10,6 @@ seconds, and most of that time for a server that makes twelve idle turns.
 from __future__ import annotations
 
 import os
-import pty
 import re
 import resource
 import signal
@@ -19,8 +18,9 @@ import struct
 import subprocess
 import sys
 import tempfile
-import tty
 from pathlib import Path
+
+from pseudo_terminal import all_shown, open_terminal
 
 PROGRAM = os.path.abspath(sys.argv[1])
 GREATEST = "4294967295"
@@ -152,21 +152,9 @@ def files_of_one_mib() -> None:
     resource.setrlimit(resource.RLIMIT_FSIZE, (1 << 20, 1 << 20))
 
 
-def all_shown(terminal: int) -> bytes:
-    """All that a terminal shows, whose other end is closed. The system hands it over in pieces."""
-    shown = b""
-    while True:
-        try:
-            shown += os.read(terminal, 4096)
-        except OSError:
-            return shown
-
-
 def the_greatest_number() -> None:
     """A terminal shows which number was taken, once there is a MiB of the device, 2048 sectors."""
-    terminal, errors = pty.openpty()
-    # A line's end is not to become two bytes.
-    tty.setraw(errors)
+    terminal, errors = open_terminal()
     words = ("format", "queues", f"--sectors={GREATEST}")
     ends((1, b"", b""), *words, stderr=errors, preexec_fn=files_of_one_mib)
     os.close(errors)

@@ -98,8 +98,8 @@ impl Connection {
         !self.ended && self.outbox.visible().is_empty()
     }
 
-    /// Whether what its process is owed has room, and behind it a reply of so many bytes and the last frames. What it is
-    /// owed is counted only where the most that any is owed has no room.
+    /// Whether what its process is owed has room, and behind it a reply of so many bytes and the last frames. What it
+    /// is owed is counted only where the most that any is owed has no room.
     pub(crate) fn has_room(&self, engine: &Engine, reply: u32) -> bool
         ensures { IsTrue result ↔ (owed_to engine.now.limits engine.now.state (pid_of self.now.process) + reply
             + last_frames ≤ self.now.outbox.free) }
