@@ -24,8 +24,8 @@ help:
 	@echo "            docs/OPERATIONS.md says; the first sessions; examples/serve.sh, in which a message outlives a"
 	@echo "            crash; examples/users.sh, two users of a queue; examples/worker.sh, two who wait for jobs;"
 	@echo "            examples/lock.sh, a lock whose holder is killed; examples/notify.sh, one who is told of a message;"
-	@echo "            clients that wait by the dozen; semaphore sets; POSIX queues; and its calls of the system, watched,"
-	@echo "            and each refused in turn. Two minutes, once built"
+	@echo "            clients that wait by the dozen; semaphore sets; POSIX queues, named semaphores and segments; and its"
+	@echo "            calls of the system, watched, and each refused in turn. Two minutes, once built"
 	@echo "make memory the engine's tests and the program, with each allocation refused in turn"
 	@echo "make bench  processor time of runs, lines and ticks on both devices, peak memory, what a commit writes, and"
 	@echo "            commits a second on a file beside the same writes and syncs done bare; it ends with an error while"
@@ -83,6 +83,7 @@ SERVES = python3 tests/serve.py crates/ipcd/out/ipcd && python3 tests/operations
 	sh examples/lock.sh crates/ipcd/out/ipcd && sh examples/notify.sh crates/ipcd/out/ipcd && \
 	python3 tests/waiting.py crates/ipcd/out/ipcd && python3 tests/waiting_load.py crates/ipcd/out/ipcd && \
 	python3 tests/semaphores.py crates/ipcd/out/ipcd && python3 tests/posix_queues.py crates/ipcd/out/ipcd && \
+	python3 tests/named_objects.py crates/ipcd/out/ipcd && \
 	python3 tests/calls.py crates/ipcd/out/ipcd && python3 tests/costs.py crates/ipcd/out/ipcd
 
 serves: program
@@ -104,6 +105,6 @@ bench: program
 	@sh bench/commits.sh crates/ipcd/out/ipcd
 	@sh bench/replay.sh crates/ipcd/out/ipcd
 
-# Nine turns of ten loads on a server. It needs Python and a C compiler.
+# Nine turns of thirteen loads on a server. It needs Python and a C compiler.
 bench-serve: program
 	@python3 bench/serve.py crates/ipcd/out/ipcd

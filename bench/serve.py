@@ -1,21 +1,25 @@
 """Sends and receives of 64-byte messages over the socket, each on the disk before its reply, beside
 as many commits done bare: 512 bytes and a sync, twice for each. And locks that outlive their holder:
-each client takes a semaphore and gives it back, with SEM_UNDO.
+each client takes a semaphore and gives it back, with SEM_UNDO. And shared memory, and named semaphores.
 
     python3 bench/serve.py PROGRAM [TURNS]
 
 In each turn every load (bench/serve_load.c) runs for a second on a server of its own, after bare
-commits (bench/bare.c) for half a second. What is printed are medians over the turns, and a ratio is
+commits (bench/bare.c) for half a second. The last three loads are of this file: a client writes 8192
+bytes into a segment and reads them again, each time at another offset, in a segment of as many bytes
+and in one of 1 MiB; and 30 pairs of clients hand over to each other, by sem_post and sem_wait. These
+clients are in Python, and are no faster than that. What is printed are medians over the turns, and a ratio is
 always of numbers of one turn. The files are in a new folder in the repository, which should be on a
 real disk. Processor time is the server's, by /proc/PID/stat. Syncs are reckoned from its writes to
 files, by /proc/PID/io: a commit makes two, with a sync after each; so does a save of few objects.
 
-It needs a C compiler, and takes two minutes. The status is 1 if a bar is missed.
+It needs a C compiler, and takes three minutes. The status is 1 if a bar is missed.
 """
 
 from __future__ import annotations
 
 import os
+import select
 import subprocess
 import sys
 import tempfile
@@ -24,17 +28,27 @@ from pathlib import Path
 from statistics import median
 from typing import NamedTuple
 
+BENCH = Path(__file__).resolve().parent
+sys.path.insert(0, str(BENCH.parent / "examples"))
+sys.dont_write_bytecode = True
+
+from client import O_CREAT, O_RDWR, Connection, sem_post_request, sem_wait_request  # noqa: E402
+
 # How many clients, how many requests each has in flight, and what they do.
 Load = tuple[int, int, str]
 LOADS: list[Load] = [
     *((clients, ahead, "messages") for clients in (1, 8, 32, 60) for ahead in (1, 16)),
     (60, 1, "locks"),
     (60, 16, "locks"),
+    (1, 1, "8 KiB segment"),
+    (1, 1, "1 MiB segment"),
+    (60, 2, "hand-overs"),
 ]
 
 SECONDS = 1.0
 BARE_SECONDS = 0.5
-BENCH = Path(__file__).resolve().parent
+# Bytes that one call writes, and that a segment has.
+PIECE, MOST = 8192, 1 << 20
 
 
 class Sample(NamedTuple):
@@ -74,6 +88,85 @@ def file_writes(pid: int) -> int:
     return int(Path(f"/proc/{pid}/io").read_text().partition("syscw:")[2].split()[0])
 
 
+def connected() -> Connection:
+    connection = Connection("socket", timeout=10)
+    connection.hello(1000, 100)
+    return connection
+
+
+def segment_load(size: int) -> tuple[int, float]:
+    """Replies to writes and reads of a segment of so many bytes, and in how many seconds they came."""
+    with connected() as client:
+        segment = client.shm_open("/segment", O_CREAT | O_RDWR, 0o600)
+        client.ftruncate(segment, size)
+        begin, turns = time.monotonic(), 0
+        while time.monotonic() - begin < SECONDS:
+            # 37 pieces on, so that every place has its turn.
+            offset = turns * 37 * PIECE % size
+            data = (turns % 256).to_bytes(1, "big") * PIECE
+            client.shm_write(segment, offset, data)
+            if client.shm_read(segment, offset, PIECE) != data:
+                raise RuntimeError("other bytes are read than were written")
+            turns += 1
+        return 2 * turns, time.monotonic() - begin
+
+
+def hand_over_load(clients: int) -> tuple[int, float]:
+    """Replies to posts and waits of so many clients, in pairs, and in how many seconds they came. Who has its turn
+    posts for the other and waits for its next, by two requests at once."""
+    them = [connected() for _ in range(clients)]
+    by_file = {client._socket.fileno(): client for client in them}
+    ready = select.poll()
+    own = {}
+    for number, client in enumerate(them):
+        sems = [client.sem_open(f"/{number // 2}-{one}", O_CREAT, 0o600, 0) for one in (0, 1)]
+        own[client] = (sems[number % 2], sems[1 - number % 2])
+        ready.register(client._socket, select.POLLIN)
+    begin, replies = time.monotonic(), 0
+    waits = {client: client.send(sem_wait_request(own[client][0])) for client in them[1::2]}
+    waits |= {client: go_on(client, *own[client]) for client in them[::2]}
+    while time.monotonic() - begin < SECONDS:
+        for file, _ in ready.poll(10000):
+            client = by_file[file]
+            replies += answers(client, waits, own)
+    seconds = time.monotonic() - begin
+    for client in them:
+        client.close()
+    return replies, seconds
+
+
+def go_on(client: Connection, mine: int, others: int) -> int:
+    """Lets the other go on, and waits. The serial of the wait."""
+    client.send(sem_post_request(others))
+    return client.send(sem_wait_request(mine))
+
+
+def answers(client: Connection, waits: dict[Connection, int], own: dict[Connection, tuple[int, int]]) -> int:
+    """Receives what has come to a client, and goes on after the reply to its wait. How many replies came."""
+    count = 0
+    while count == 0 or client._read:
+        serial, error, _ = client.receive()
+        if error:
+            raise OSError(error, os.strerror(error))
+        count += 1
+        if serial == waits[client]:
+            waits[client] = go_on(client, *own[client])
+    return count
+
+
+def replies_of(load: Load) -> tuple[int, float]:
+    """Runs a load on the server that is there: how many replies came, and in how many seconds."""
+    clients, ahead, what = load
+    if what == "8 KiB segment":
+        return segment_load(PIECE)
+    if what == "1 MiB segment":
+        return segment_load(MOST)
+    if what == "hand-overs":
+        return hand_over_load(clients)
+    replies, seconds = run("./serve_load", "socket", str(clients), str(ahead), str(SECONDS), what).split()
+    return int(replies), float(seconds)
+
+
 def sample(program: str, load: Load, bare: float) -> Sample:
     """Runs a load on a new server."""
     words = [program, "serve", "device", "socket"]
@@ -82,14 +175,12 @@ def sample(program: str, load: Load, bare: float) -> Sample:
             server.stdout.readline()
             spent = processor_seconds(server.pid)
             writes = file_writes(server.pid)
-            clients, ahead, what = load
-            said = run("./serve_load", "socket", str(clients), str(ahead), str(SECONDS), what)
+            replies, seconds = replies_of(load)
             spent = processor_seconds(server.pid) - spent
             writes = file_writes(server.pid) - writes
         finally:
             server.terminate()
     os.remove("socket")
-    replies, seconds = map(float, said.split())
     return Sample(replies / seconds, bare, spent / replies * 1e6, writes / seconds)
 
 

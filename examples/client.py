@@ -1,20 +1,52 @@
 """A client of ipcd, made of Python's standard library alone. A first session, in the folder of this
-file, is
+file, makes an object of each kind, and finds them after the server was killed:
 
     $ ipcd format device
     formatted 45830 sectors
     $ ipcd serve device socket &
     serving device, 45830 sectors, on socket, standard limits
     $ python3
-    >>> from client import Connection, IPC_CREAT
+    >>> from client import *
     >>> with Connection("socket") as connection:
     ...     connection.hello(uid=1000, gid=100)
     ...     queue = connection.msgget(1234, IPC_CREAT | 0o600)
     ...     connection.msgsnd(queue, 5, b"hi")
-    ...     connection.msgrcv(queue, 64)
+    ...     gates = connection.semget(1234, 2, IPC_CREAT | 0o600)
+    ...     connection.semctl_setall(gates, [1, 5])
+    ...     jobs = connection.mq_open("/jobs", O_CREAT | O_RDWR, 0o600)
+    ...     connection.mq_send(jobs, b"sweep", priority=7)
+    ...     ready = connection.sem_open("/ready", O_CREAT, 0o600, value=2)
+    ...     table = connection.shm_open("/table", O_CREAT | O_RDWR, 0o600)
+    ...     connection.ftruncate(table, 4096)
+    ...     connection.shm_write(table, 8, b"row")
     ...
     1
+    >>> exit()
+    $ kill -9 $!; wait $!; rm socket
+    $ ipcd dump device
+    msg          1        1234 0600       1000        100          2          1
+    sem          1        1234 0600       1000        100          2
+    pmq 0600       1000        100          1         10       8192 /jobs
+    psm 0600       1000        100          2 /ready
+    shm 0600       1000        100       4096 /table
+    $ ipcd serve device socket &
+    serving device, 45830 sectors, on socket, standard limits
+    $ python3
+    >>> from client import *
+    >>> with Connection("socket") as connection:
+    ...     connection.hello(uid=1000, gid=100)
+    ...     connection.msgrcv(connection.msgget(1234, 0), 64)
+    ...     connection.semctl_getall(connection.semget(1234, 0, 0))
+    ...     connection.mq_receive(connection.mq_open("/jobs", O_RDONLY), 8192)
+    ...     connection.sem_getvalue(connection.sem_open("/ready", 0))
+    ...     connection.shm_read(connection.shm_open("/table", O_RDONLY), 8, 3)
+    ...
+    2
     (5, b'hi')
+    [1, 5]
+    (7, b'sweep')
+    2
+    b'row'
     >>> exit()
     $ kill $!; wait $!; rm device socket
 
@@ -61,6 +93,21 @@ unasked, maybe before the reply to a call, and is kept until `notification` hand
     connection.mq_notify(jobs, NOTIFY_FRAME, cookie=7)
     descriptor, cookie = connection.notification()
 
+Named semaphores and shared memory segments have names too, and sem_open(3) and shm_open(3) answer a
+descriptor. A wait at a value of 0 goes on after a post; `timeout` is as that of a POSIX queue. A new
+segment has no bytes until ftruncate(2) makes it longer; what it gains is 0.
+
+    ready = connection.sem_open("/ready", O_CREAT, 0o600, value=0)
+    table = connection.shm_open("/table", O_CREAT | O_RDWR, 0o600)
+    connection.ftruncate(table, 4096)
+    connection.shm_write(table, 8, b"row")
+    connection.sem_post(ready)
+
+Another client that has opened both waits, and reads what was written before the post.
+
+    connection.sem_wait(ready, timeout=2.5)
+    connection.shm_read(table, 8, 3)
+
 A client that need not wait for each reply sends some requests ahead, and then receives the replies,
 which come in the same order if no call waits.
 
@@ -98,6 +145,7 @@ O_WRONLY = 1
 O_RDWR = 2
 O_CREAT = 0o100
 O_EXCL = 0o200
+O_TRUNC = 0o1000
 O_NONBLOCK = 0o4000
 
 # What a process asks of mq_notify(3): no longer to be told, not to be told, or to be told by a frame.
@@ -237,6 +285,55 @@ def mq_setattr_request(mqdes: int, flags: int) -> bytes:
     return struct.pack(">BII", 0x2E, mqdes, flags)
 
 
+def sem_open_request(name: str | bytes, oflag: int, mode: int = 0, value: int = 0) -> bytes:
+    return struct.pack(">BIII", 0x32, oflag, mode, value) + os.fsencode(name)
+
+
+def sem_unlink_request(name: str | bytes) -> bytes:
+    return b"\x33" + os.fsencode(name)
+
+
+def sem_post_request(sem: int) -> bytes:
+    return struct.pack(">BI", 0x34, sem)
+
+
+def sem_wait_request(sem: int, deadline: float | None = None) -> bytes:
+    """The deadline is in seconds, as time.time() has them."""
+    return struct.pack(">BIQ", 0x35, sem, _milliseconds(deadline))
+
+
+def sem_trywait_request(sem: int) -> bytes:
+    return struct.pack(">BI", 0x36, sem)
+
+
+def sem_getvalue_request(sem: int) -> bytes:
+    return struct.pack(">BI", 0x37, sem)
+
+
+def shm_open_request(name: str | bytes, oflag: int, mode: int = 0) -> bytes:
+    return struct.pack(">BII", 0x3C, oflag, mode) + os.fsencode(name)
+
+
+def shm_unlink_request(name: str | bytes) -> bytes:
+    return b"\x3d" + os.fsencode(name)
+
+
+def ftruncate_request(fd: int, length: int) -> bytes:
+    return struct.pack(">BIQ", 0x3E, fd, length)
+
+
+def shm_read_request(fd: int, offset: int, length: int) -> bytes:
+    return struct.pack(">BIQI", 0x3F, fd, offset, length)
+
+
+def shm_write_request(fd: int, offset: int, data: bytes) -> bytes:
+    return struct.pack(">BIQ", 0x40, fd, offset) + data
+
+
+def shm_stat_request(fd: int) -> bytes:
+    return struct.pack(">BI", 0x41, fd)
+
+
 def _milliseconds(seconds: float | None) -> int:
     """In a request a time is in milliseconds, and the greatest number is none."""
     return 2**64 - 1 if seconds is None else round(1000 * seconds)
@@ -273,6 +370,15 @@ class SemStat(NamedTuple):
     otime: int
     ctime: int
     nsems: int
+
+
+class ShmStat(NamedTuple):
+    """What fstat(2) tells of a shared memory segment."""
+
+    length: int
+    uid: int
+    gid: int
+    mode: int
 
 
 class Connection:
@@ -428,6 +534,65 @@ class Connection:
     def mq_setattr(self, mqdes: int, flags: int) -> MqAttr:
         """Sets or clears O_NONBLOCK of a descriptor, see mq_setattr(3). Answers what was so before."""
         return MqAttr(*struct.unpack(">IIII", self.call(mq_setattr_request(mqdes, flags))))
+
+    def sem_open(self, name: str | bytes, oflag: int, mode: int = 0, value: int = 0) -> int:
+        """A descriptor of the semaphore with this name, see sem_open(3). One that is there keeps its mode and value."""
+        return _number(self.call(sem_open_request(name, oflag, mode, value)))
+
+    def sem_close(self, sem: int) -> None:
+        """Closes a descriptor, see sem_close(3)."""
+        self.call(close_request(sem))
+
+    def sem_unlink(self, name: str | bytes) -> None:
+        """Takes the name off a semaphore, which goes with its last descriptor, see sem_unlink(3)."""
+        self.call(sem_unlink_request(name))
+
+    def sem_post(self, sem: int) -> None:
+        """Adds 1 to the value of a semaphore, see sem_post(3)."""
+        self.call(sem_post_request(sem))
+
+    def sem_wait(self, sem: int, timeout: float | None = None) -> None:
+        """Takes 1 off the value of a semaphore, see sem_wait(3). It waits while the value is 0, `timeout` seconds at
+        most, if they are given: then it is ETIMEDOUT."""
+        self.call(sem_wait_request(sem, _deadline(timeout)))
+
+    def sem_trywait(self, sem: int) -> None:
+        """The same, but at a value of 0 it is EAGAIN."""
+        self.call(sem_trywait_request(sem))
+
+    def sem_getvalue(self, sem: int) -> int:
+        """The value of a semaphore, see sem_getvalue(3)."""
+        return _number(self.call(sem_getvalue_request(sem)))
+
+    def shm_open(self, name: str | bytes, oflag: int, mode: int = 0) -> int:
+        """A descriptor of the shared memory segment with this name, see shm_open(3)."""
+        return _number(self.call(shm_open_request(name, oflag, mode)))
+
+    def shm_close(self, fd: int) -> None:
+        """Closes a descriptor, see close(2)."""
+        self.call(close_request(fd))
+
+    def shm_unlink(self, name: str | bytes) -> None:
+        """Takes the name off a segment, which goes with its last descriptor, see shm_unlink(3)."""
+        self.call(shm_unlink_request(name))
+
+    def ftruncate(self, fd: int, length: int) -> None:
+        """Cuts a segment to so many bytes, or adds bytes of 0 up to there, see ftruncate(2)."""
+        self.call(ftruncate_request(fd, length))
+
+    def shm_read(self, fd: int, offset: int, length: int) -> bytes:
+        """So many bytes of a segment from an offset on, all of them within it. It is to a segment as pread(2) to a
+        file, but EINVAL past the end."""
+        return self.call(shm_read_request(fd, offset, length))
+
+    def shm_write(self, fd: int, offset: int, data: bytes) -> None:
+        """Puts these bytes into a segment at an offset, all of them within it, as pwrite(2) into a file. Past the end
+        it is EINVAL, and nothing is written."""
+        self.call(shm_write_request(fd, offset, data))
+
+    def shm_stat(self, fd: int) -> ShmStat:
+        """How long a segment is, its owner and its mode, see fstat(2)."""
+        return ShmStat(*struct.unpack(">QIII", self.call(shm_stat_request(fd))))
 
     def notification(self, timeout: float | None = None) -> tuple[int, int]:
         """The next notification: the descriptor that registered, and its cookie. Without one for `timeout`

@@ -92,6 +92,7 @@ from device_layout import (  # noqa: E402
     tick,
     waits,
 )
+from device_named import named  # noqa: E402
 from device_posix import posix  # noqa: E402
 from device_runs import (  # noqa: E402
     EXIT_RECORD,
@@ -603,6 +604,7 @@ def checks() -> Generator[Check, None, None]:
     yield from calls()
     yield from undo()
     yield from posix()
+    yield from named()
     yield from long_objects()
     yield from record_cuts()
     yield from other_records()

@@ -248,7 +248,7 @@ ORDER: tuple[tuple[int, int, str], ...] = (
     (8, 8, "damaged sector 8"),
     (5, 8, "damaged sector 5"),
     (3, 0, "damaged sector 3"),
-    (260, 51, "damaged sector 1"),
+    (260, 48, "damaged sector 1"),
     (260, 3, "damaged sector 260"),
     (1, 8, "damaged sector 1"),
     (0, 99, "damaged sector 0"),
@@ -353,7 +353,10 @@ TURNED: tuple[tuple[int, int, int, int], ...] = (
     (354, 37, 39, 0),
     (354, 40, 40, 1),  # the next number of a POSIX queue
     (354, 41, 43, 0),
-    (354, 44, 51, 1),  # those of other kinds
+    (354, 44, 44, 1),  # the next number of a named semaphore
+    (354, 45, 47, 0),
+    (354, 48, 48, 1),  # the next number of a segment
+    (354, 49, 51, 0),
     (354, 52, 67, 354),  # the number and the length of the processes
     (354, 68, 71, 1),  # how many there are
     (354, 72, 75, 1),  # the pid: not below the next one
@@ -431,7 +434,8 @@ NO_STATE: tuple[tuple[int, int, int], ...] = (
     (0, 15, 1),  # the next identifier is that of the queue
     (0, 19, 1),  # the next identifier is that of the set
     (0, 23, 0),  # the next POSIX queue is 0
-    (0, 27, 2),  # a kind that is to come has had an object
+    (0, 27, 0),  # the next named semaphore is 0
+    (0, 31, 0),  # the next segment is 0
     (1, 3, 2),  # one process more than there are
     (1, 7, 2),  # a process with the next pid
     (1, 19, 1),  # a descriptor
@@ -494,7 +498,7 @@ def unsound() -> Iterator[tuple[str, Objects]]:
     for index in range(4):
         yield f"no object {index}", START[:index] + START[index + 1 :]
     yield "an object more", [*START, (4, NONE)]
-    yield "an object of a later kind", [*START, (4 * QUEUE_KIND + 1, NONE)]
+    yield "an object of a later kind", [*START, (6 * QUEUE_KIND + 1, NONE)]
     yield "no object", []
 
 

@@ -18,9 +18,13 @@ LAST_EPOCH = 2**64 - 1
 QUEUE_KIND = 4294967296
 SET_KIND = 2 * QUEUE_KIND
 POSIX_KIND = 3 * QUEUE_KIND
+NAMED_KIND = 4 * QUEUE_KIND
+SEGMENT_KIND = 5 * QUEUE_KIND
 NONE = bytes(4)
 NO_DEADLINE = 2**64 - 1
 IPC_NOWAIT, MSG_NOERROR, MSG_EXCEPT = 0x800, 0x1000, 0x2000
+O_NONBLOCK = 0x800
+SEM_VALUE_MAX = 2147483647
 SEM_UNDO = 0x1000
 # A user and a group.
 Cred = tuple[int, int]
@@ -200,12 +204,15 @@ def semctl_rmid(serial: int, semid: int) -> bytes:
 # ---- objects of a state
 
 
-def clock(moment: int, next_pid: int, next_queue: int, next_set: int = 1, next_posix: int = 1) -> bytes:
-    return struct.pack(">QIIIIII", moment, next_pid, next_queue, next_set, next_posix, 1, 1)
+def clock(moment: int, next_pid: int, next_queue: int, *others: int) -> bytes:
+    """The others are the next numbers of sets, POSIX queues, named semaphores and segments, which are 1 at first."""
+    rest = (*others, *(4 - len(others)) * [1])
+    return struct.pack(">QIIIIII", moment, next_pid, next_queue, *rest)
 
 
 class Open(NamedTuple):
-    """A descriptor: its number, the POSIX queue on which it is open, and its flags."""
+    """A descriptor: its number, the object on which it is open, its flags, and the object's kind: 3 for a POSIX queue,
+    4 for a named semaphore, 5 for a segment."""
 
     fd: int
     number: int
@@ -321,6 +328,36 @@ class Posix(NamedTuple):
         return struct.pack(">11I", *numbers, len(self.messages), len(self.name)) + self.name + b"".join(parts)
 
 
+class NamedSem(NamedTuple):
+    """A named semaphore."""
+
+    name: bytes
+    value: int = 0
+    owner: Cred = (1000, 100)
+    mode: int = 0o600
+
+    def data(self) -> bytes:
+        return struct.pack(">5I", *self.owner, self.mode, self.value, len(self.name)) + self.name
+
+
+class Segment(NamedTuple):
+    """A shared memory segment."""
+
+    name: bytes
+    content: bytes = b""
+    owner: Cred = (1000, 100)
+    mode: int = 0o600
+
+    def data(self) -> bytes:
+        numbers = struct.pack(">4IQ", *self.owner, self.mode, len(self.name), len(self.content))
+        return numbers + self.name + self.content
+
+
+def shown(name: bytes) -> str:
+    """The name of an object, as `dump` prints it."""
+    return "".join(chr(byte) if 0x21 <= byte <= 0x7E and byte != 0x5C else f"\\x{byte:02x}" for byte in name)
+
+
 def gives(one: Queue | Set, cred: Cred, bits: int) -> bool:
     """Whether it gives this permission: 4 to read, 2 to write."""
     uid, gid = cred
@@ -339,11 +376,15 @@ def state(
     calls: bytes = NONE,
     undo: bytes = NONE,
     posix: dict[int, Posix] | None = None,
+    named: dict[int, NamedSem] | None = None,
+    segments: dict[int, Segment] | None = None,
 ) -> list[tuple[int, bytes]]:
     parts = [(0, the_clock), (1, the_processes), (2, calls), (3, undo)]
     parts += [(QUEUE_KIND + number, queue.data()) for number, queue in queues.items()]
     parts += [(SET_KIND + number, one.data()) for number, one in (sets or {}).items()]
-    return parts + [(POSIX_KIND + number, one.data()) for number, one in (posix or {}).items()]
+    for first, them in (POSIX_KIND, posix), (NAMED_KIND, named), (SEGMENT_KIND, segments):
+        parts += [(first + number, one.data()) for number, one in (them or {}).items()]
+    return parts
 
 
 START = state(clock(0, 1, 1), processes(), {})
@@ -440,13 +481,12 @@ def read_objects(image: bytes, limits: Limits) -> tuple[int, int, list[tuple[int
     return epoch, which, objects
 
 
-def read_clock(data: bytes) -> tuple[int, int, int, int, int]:
-    """The clock, the next pid, the next queue, the next semaphore set and the next POSIX queue."""
+def read_clock(data: bytes) -> tuple[int, int, list[int]]:
+    """The clock, the next pid, and the next number of each kind of objects."""
     demand(len(data) == 32, ROOT)
-    moment, *numbers, fourth, fifth = struct.unpack(">QIIIIII", data)
-    demand(all(0 < number <= LAST_NUMBER + 1 for number in numbers), ROOT)
-    demand(fourth == fifth == 1, ROOT)
-    return moment, *numbers
+    moment, next_pid, *numbers = struct.unpack(">QIIIIII", data)
+    demand(all(0 < number <= LAST_NUMBER + 1 for number in (next_pid, *numbers)), ROOT)
+    return moment, next_pid, numbers
 
 
 class Process(NamedTuple):
@@ -467,8 +507,10 @@ def read_processes(data: bytes, limits: Limits, next_pid: int) -> dict[int, Proc
         at, before, last = at + 16, pid, -1
         opened = {}
         for fd, kind, number, flags in struct.iter_unpack(">IIII", data[at : at + 16 * descriptors]):
-            demand(last < fd < limits.descriptors and kind == 3 and flags & 3 != 3, ROOT)
-            opened[fd] = Open(fd, number, flags)
+            # A queue is open to read, to write or both, a segment to read or both.
+            accesses = {3: (0, 1, 2), 4: (0, 1, 2, 3), 5: (0, 2)}.get(kind, ())
+            demand(last < fd < limits.descriptors and flags & 3 in accesses, ROOT)
+            opened[fd] = Open(fd, number, flags, kind)
             last = fd
         at += 16 * descriptors
         them[pid] = Process((uid, gid), opened)
@@ -477,7 +519,7 @@ def read_processes(data: bytes, limits: Limits, next_pid: int) -> dict[int, Proc
 
 
 def read_waits(data: bytes, limits: Limits, moment: int) -> dict[int, bytes]:
-    """The frames of the calls that wait, by pid. Only a semop has a deadline, which has not come."""
+    """The frames of the calls that wait, by pid. Those of message queues have no deadline; no other's has come."""
     demand(len(data) >= 4, ROOT)
     (count,) = struct.unpack(">I", data[:4])
     demand(count <= limits.processes, ROOT)
@@ -487,9 +529,9 @@ def read_waits(data: bytes, limits: Limits, moment: int) -> dict[int, bytes]:
         demand(at + 16 <= len(data), ROOT)
         pid, deadline, length = struct.unpack(">IQI", data[at : at + 16])
         frame = data[at + 16 : at + 16 + length]
-        demand(len(frame) == length and is_request(frame) and frame[4] in (0x0B, 0x0C, 0x15), ROOT)
-        demand(pid not in them, ROOT)
-        demand(deadline == NO_DEADLINE or (frame[4] == 0x15 and moment < deadline), ROOT)
+        demand(len(frame) == length and is_request(frame), ROOT)
+        demand(frame[4] in (0x0B, 0x0C, 0x15, 0x2A, 0x2B, 0x35) and pid not in them, ROOT)
+        demand(deadline == NO_DEADLINE or (frame[4] >= 0x15 and moment < deadline), ROOT)
         them[pid] = frame
         at += 16 + length
     demand(at == len(data), ROOT)
@@ -523,9 +565,9 @@ def read_set(data: bytes, limits: Limits) -> Set:
     return Set(key, semaphores, (uid, gid), (cuid, cgid), mode, tuple(times))
 
 
-def is_name(name: bytes) -> bool:
-    """Whether a queue may have it."""
-    return name[:1] == b"/" and 1 < len(name) <= 255 and b"/" not in name[1:] and 0 not in name
+def is_name(name: bytes, most: int = 255) -> bool:
+    """Whether an object may have it, or it has none."""
+    return not name or (name[:1] == b"/" and 1 < len(name) <= most and b"/" not in name[1:] and 0 not in name)
 
 
 def read_posix(data: bytes, limits: Limits) -> Posix:
@@ -533,7 +575,7 @@ def read_posix(data: bytes, limits: Limits) -> Posix:
     uid, gid, mode, maxmsg, msgsize, *registration, count, named = struct.unpack(">11I", data[:44])
     name, at, messages = data[44 : 44 + named], 44 + named, []
     demand(mode < 0o1000 and 0 < maxmsg <= limits.posix_messages and 0 < msgsize <= limits.posix_bytes, ROOT)
-    demand(count <= maxmsg and len(name) == named and (not name or is_name(name)), ROOT)
+    demand(count <= maxmsg and len(name) == named and is_name(name), ROOT)
     demand(registration[0] <= 2 and (registration[0] or registration == [0, 0, 0, 0]), ROOT)
     for _ in range(count):
         demand(at + 8 <= len(data), ROOT)
@@ -546,14 +588,35 @@ def read_posix(data: bytes, limits: Limits) -> Posix:
     return Posix(name, tuple(messages), (uid, gid), mode, maxmsg, msgsize, tuple(registration))
 
 
-def are_opened(them: dict[int, Process], posix: dict[int, Posix]) -> bool:
+def read_named(data: bytes) -> NamedSem:
+    demand(len(data) >= 20, ROOT)
+    uid, gid, mode, value, named = struct.unpack(">5I", data[:20])
+    name = data[20:]
+    demand(mode < 0o1000 and value <= SEM_VALUE_MAX and len(name) == named and is_name(name, 251), ROOT)
+    return NamedSem(name, value, (uid, gid), mode)
+
+
+def read_segment(data: bytes) -> Segment:
+    demand(len(data) >= 24, ROOT)
+    uid, gid, mode, named, length = struct.unpack(">4IQ", data[:24])
+    name, content = data[24 : 24 + named], data[24 + named :]
+    demand(mode < 0o1000 and len(name) == named and len(content) == length and is_name(name), ROOT)
+    return Segment(name, content, (uid, gid), mode)
+
+
+# What may be open, by its kind and number.
+Opened = dict[tuple[int, int], Posix | NamedSem | Segment]
+
+
+def are_opened(them: dict[int, Process], objects: Opened) -> bool:
     """What is open is there, what has no name is open, and who is registered has it open by that descriptor."""
-    opened = {one.number for process in them.values() for one in process.opened.values()}
-    for number, queue in posix.items():
-        kind, pid, fd, _ = queue.registration
-        if kind and (pid not in them or fd not in them[pid].opened or them[pid].opened[fd].number != number):
+    opened = {(one.kind, one.number) for process in them.values() for one in process.opened.values()}
+    for place, one in objects.items():
+        kind, pid, fd, _ = one.registration if isinstance(one, Posix) else (0, 0, 0, 0)
+        mine = them[pid].opened.get(fd) if kind and pid in them else None
+        if kind and (mine is None or (mine.kind, mine.number) != place):
             return False
-    return opened <= set(posix) and all(queue.name or number in opened for number, queue in posix.items())
+    return opened <= set(objects) and all(one.name or place in opened for place, one in objects.items())
 
 
 def read_adjustments(data: bytes, pids: set[int], sets: dict[int, Set]) -> dict[tuple[int, int, int], int]:
@@ -573,7 +636,8 @@ def read_adjustments(data: bytes, pids: set[int], sets: dict[int, Set]) -> dict[
 class State(NamedTuple):
     """What calls that wait are tried on."""
 
-    creds: dict[int, Cred]
+    them: dict[int, Process]
+    objects: Opened
     queues: dict[int, Queue]
     sets: dict[int, Set]
     adjustments: dict[tuple[int, int, int], int]
@@ -581,13 +645,31 @@ class State(NamedTuple):
 
     def has_to_wait(self, pid: int, frame: bytes) -> bool:
         """Whether a call, tried now, would neither be done nor refused."""
-        if pid not in self.creds:
+        if pid not in self.them:
             return False
-        return self.stops_list(pid, frame) if frame[4] == 0x15 else self.stops_message(pid, frame)
+        if frame[4] == 0x15:
+            return self.stops_list(pid, frame)
+        return self.stops_message(pid, frame) if frame[4] < 0x15 else self.stops_posix(pid, frame)
+
+    def stops_posix(self, pid: int, frame: bytes) -> bool:
+        opcode, fd = struct.unpack(">BI", frame[4:9])
+        mine = self.them[pid].opened.get(fd)
+        if mine is None or mine.kind != (4 if opcode == 0x35 else 3):
+            return False
+        one = self.objects[mine.kind, mine.number]
+        if opcode == 0x35:
+            return one.value == 0
+        (number,), text, access = struct.unpack(">I", frame[17:21]), frame[21:], mine.flags & 3
+        if mine.flags & O_NONBLOCK:
+            return False
+        if opcode == 0x2A:
+            is_right = number < 32768 and access != 0 and len(text) <= one.msgsize
+            return is_right and len(one.messages) == one.maxmsg
+        return access != 1 and number >= one.msgsize and not one.messages
 
     def stops_message(self, pid: int, frame: bytes) -> bool:
         opcode, number, flags = struct.unpack(">BII", frame[4:13])
-        cred, queue = self.creds[pid], self.queues.get(number)
+        cred, queue = self.them[pid].cred, self.queues.get(number)
         if queue is None or flags & IPC_NOWAIT:
             return False
         if opcode == 0x0B:
@@ -604,7 +686,7 @@ class State(NamedTuple):
             return False
         if not all(number < len(one.semaphores) for number, _, _ in operations):
             return False
-        if not all(gives(one, self.creds[pid], 2 if what else 4) for _, what, _ in operations):
+        if not all(gives(one, self.them[pid].cred, 2 if what else 4) for _, what, _ in operations):
             return False
         values = [value for value, _ in one.semaphores]
         held = [self.adjustments.get((pid, semid, number), 0) for number in range(len(values))]
@@ -623,31 +705,33 @@ class State(NamedTuple):
 def read_state(objects: list[tuple[int, bytes]], limits: Limits) -> tuple[int, set[int]]:
     """The next pid, and the processes that are connected."""
     demand([number for number, _ in objects[:4]] == [0, 1, 2, 3], ROOT)
-    moment, next_pid, next_queue, next_set, next_posix = read_clock(objects[0][1])
+    moment, next_pid, next_numbers = read_clock(objects[0][1])
     them = read_processes(objects[1][1], limits, next_pid)
-    creds = {pid: one.cred for pid, one in them.items()}
     calls = read_waits(objects[2][1], limits, moment)
-    of_queues = [one for one in objects[4:] if one[0] < SET_KIND]
-    of_sets = [one for one in objects[4:] if SET_KIND <= one[0] < POSIX_KIND]
-    of_posix = objects[4 + len(of_queues) + len(of_sets) :]
-    demand(len(of_queues) <= limits.msgmni and len(of_sets) <= limits.semmni, ROOT)
-    demand(len(of_posix) <= limits.posix_queues, ROOT)
-    demand(all(0 < number - QUEUE_KIND < next_queue for number, _ in of_queues), ROOT)
-    demand(all(0 < number - SET_KIND < next_set for number, _ in of_sets), ROOT)
-    demand(all(0 < number - POSIX_KIND < next_posix for number, _ in of_posix), ROOT)
-    queues = {number - QUEUE_KIND: read_queue(data, limits) for number, data in of_queues}
-    sets = {number - SET_KIND: read_set(data, limits) for number, data in of_sets}
-    posix = {number - POSIX_KIND: read_posix(data, limits) for number, data in of_posix}
-    names = [one.name for one in posix.values() if one.name]
-    demand(len(names) == len(set(names)) and are_opened(them, posix), ROOT)
+    kinds: list[dict[int, bytes]] = [{} for _ in range(5)]
+    for number, data in objects[4:]:
+        kind, number = divmod(number, QUEUE_KIND)
+        demand(0 < kind <= 5 and 0 < number < next_numbers[kind - 1], ROOT)
+        kinds[kind - 1][number] = data
+    most = (limits.msgmni, limits.semmni, limits.posix_queues, limits.named, limits.segments)
+    demand(all(len(kind) <= here for kind, here in zip(kinds, most)), ROOT)
+    queues = {number: read_queue(data, limits) for number, data in kinds[0].items()}
+    sets = {number: read_set(data, limits) for number, data in kinds[1].items()}
+    opened: Opened = {(3, number): read_posix(data, limits) for number, data in kinds[2].items()}
+    opened |= {(4, number): read_named(data) for number, data in kinds[3].items()}
+    opened |= {(5, number): read_segment(data) for number, data in kinds[4].items()}
+    names = [(kind, one.name) for (kind, _), one in opened.items() if one.name]
+    demand(len(names) == len(set(names)) and are_opened(them, opened), ROOT)
+    total = sum(len(one.content) for one in opened.values() if isinstance(one, Segment))
+    demand(total <= limits.segment_bytes, ROOT)
     for kind in (queues, sets):
         keys = [one.key for one in kind.values() if one.key]
         demand(len(keys) == len(set(keys)), ROOT)
     demand(sum(len(one.semaphores) for one in sets.values()) <= limits.semmns, ROOT)
-    adjustments = read_adjustments(objects[3][1], set(creds), sets)
-    found = State(creds, queues, sets, adjustments, limits)
+    adjustments = read_adjustments(objects[3][1], set(them), sets)
+    found = State(them, opened, queues, sets, adjustments, limits)
     demand(all(found.has_to_wait(pid, frame) for pid, frame in calls.items()), ROOT)
-    return next_pid, set(creds)
+    return next_pid, set(them)
 
 
 def is_request(frame: bytes) -> bool:
@@ -659,6 +743,10 @@ def is_request(frame: bytes) -> bool:
     sizes |= {0x0D: (4, 4), 0x0E: (20, 20), 0x0F: (4, 4)}
     sizes |= {0x14: (12, 12), 0x15: (12, 8443), 0x16: (8, 8), 0x17: (8, 8), 0x18: (8, 8), 0x19: (8, 8)}
     sizes |= {0x1A: (12, 12), 0x1B: (4, 4), 0x1C: (4, 8443), 0x1D: (4, 4), 0x1E: (16, 16), 0x1F: (4, 4)}
+    sizes |= {0x03: (4, 4), 0x28: (17, 8443), 0x29: (0, 8443), 0x2A: (16, 8443), 0x2B: (16, 16)}
+    sizes |= {0x2C: (12, 12), 0x2D: (4, 4), 0x2E: (8, 8)}
+    sizes |= {0x32: (12, 8443), 0x33: (0, 8443), 0x34: (4, 4), 0x35: (12, 12), 0x36: (4, 4), 0x37: (4, 4)}
+    sizes |= {0x3C: (8, 8443), 0x3D: (0, 8443), 0x3E: (12, 12), 0x3F: (16, 16), 0x40: (12, 8443), 0x41: (4, 4)}
     least, most = sizes.get(frame[4], (1, 0))
     # A SETALL has whole values, and a semop whole operations.
     unit = {0x15: 6, 0x1C: 2}.get(frame[4], 1)

@@ -17,13 +17,16 @@ from device_layout import (
     SECTOR,
     Device,
     Fault,
+    NamedSem,
     Posix,
     Queue,
+    Segment,
     Set,
     batch,
     header,
     read,
     root,
+    shown,
 )
 
 PROGRAM = os.path.abspath(sys.argv[1])
@@ -143,8 +146,13 @@ def row_of_posix(posix: Posix) -> str:
     """The line of a POSIX queue in a listing."""
     owner = f"{posix.mode:04o} {posix.owner[0]:10} {posix.owner[1]:10}"
     counts = f"{len(posix.messages):10} {posix.maxmsg:10} {posix.msgsize:10}"
-    name = "".join(chr(byte) if 0x20 < byte < 0x7F and byte != 0x5C else f"\\x{byte:02x}" for byte in posix.name)
-    return f"pmq {owner} {counts} {name}\n"
+    return f"pmq {owner} {counts} {shown(posix.name)}\n"
+
+
+def row_of_named(one: NamedSem | Segment) -> str:
+    """The line of a named semaphore or of a segment in a listing."""
+    kind, number = ("psm", one.value) if isinstance(one, NamedSem) else ("shm", len(one.content))
+    return f"{kind} {one.mode:04o} {one.owner[0]:10} {one.owner[1]:10} {number:10} {shown(one.name)}\n"
 
 
 def sends(moment: int, connection: int, *frames: bytes) -> str:

@@ -77,7 +77,7 @@ def page(top: Path, name: str) -> str:
         return "man is not here, so its page was not rendered"
     ended = man("--warnings", "-l", str(top / PAGE))
     check((ended.returncode, ended.stderr) == (0, ""), f"the page: {ended.returncode}, {ended.stderr}")
-    words = [name, "System V message queues", "--turns N", "damaged sector N", "too small, N sectors"]
+    words = [name, "System V and POSIX IPC objects", "--turns N", "damaged sector N", "too small, N sectors"]
     for word in words:
         check(word in ended.stdout, f"the page does not have: {word}")
     return "its page is rendered without a warning"

@@ -10,29 +10,29 @@ some seconds.
 from __future__ import annotations
 
 import errno
-import signal
 import struct
 import sys
 import time
-from collections.abc import Callable, Iterator
-from contextlib import contextmanager
+from collections.abc import Callable
 
 sys.dont_write_bytecode = True
 
+from device_layout import shown  # noqa: E402
 from server import (  # noqa: E402
     Client,
-    Server,
     as_user,
     check,
     in_a_folder,
     is_answered,
     is_refused,
+    killed,
     printed,
     process,
     reply,
     run_tests,
     serving,
-    until,
+    small,
+    until_done,
     until_it_waits,
 )
 from client import (  # noqa: E402
@@ -57,39 +57,6 @@ ONE = MqAttr(maxmsg=1, msgsize=64)
 TWO = MqAttr(maxmsg=2, msgsize=64)
 
 Refusals = list[tuple[int, Callable[[], object]]]
-
-
-@contextmanager
-def small() -> Iterator[Server]:
-    """A server with two queues of two messages of 64 bytes, and four processes with four descriptors each."""
-    printed("format", "device", "--small")
-    with serving(limits="small") as server:
-        yield server
-
-
-@contextmanager
-def killed() -> Iterator[Server]:
-    """A server that is killed at the end."""
-    server = Server(limits="small")
-    try:
-        yield server
-        server.stop(signal.SIGKILL)
-    finally:
-        server.process.kill()
-
-
-def until_done(call: Callable[[], object], before: int) -> None:
-    """Makes a call again and again, until it is no longer refused so."""
-
-    def is_done() -> bool:
-        try:
-            call()
-        except OSError as refusal:
-            check(refusal.errno == before, f"{refusal}, and not {errno.errorcode[before]}")
-            return False
-        return True
-
-    until(is_done, f"{errno.errorcode[before]} for ever")
 
 
 def message(priority: int, text: bytes) -> bytes:
@@ -119,8 +86,7 @@ def listed(*queues: tuple[int, MqAttr, bytes, int]) -> None:
     wanted = ""
     for count, attr, name, mode in queues:
         numbers = " ".join(f"{number:10}" for number in (1000, 100, count, attr.maxmsg, attr.msgsize))
-        shown = "".join(chr(b) if 0x21 <= b <= 0x7E and b != 0x5C else f"\\x{b:02x}" for b in name)
-        wanted += f"pmq {mode:04o} {numbers} {shown}\n"
+        wanted += f"pmq {mode:04o} {numbers} {shown(name)}\n"
     found = printed("dump", "device")
     check(found == wanted, f"{found} is listed, and not {wanted}")
 

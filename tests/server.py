@@ -149,6 +149,25 @@ def serving(*words: str, **named: object) -> Iterator[Server]:
         server.process.kill()
 
 
+@contextmanager
+def small() -> Iterator[Server]:
+    """A server of a new device with small limits."""
+    printed("format", "device", "--small")
+    with serving(limits="small") as server:
+        yield server
+
+
+@contextmanager
+def killed() -> Iterator[Server]:
+    """A server with small limits that is killed at the end."""
+    server = Server(limits="small")
+    try:
+        yield server
+        server.stop(signal.SIGKILL)
+    finally:
+        server.process.kill()
+
+
 class Client(Connection):
     """A connection that may also send bytes which are no request."""
 
@@ -212,6 +231,20 @@ def is_refused(call: Callable[[], object], wanted: int) -> None:
         check(refusal.errno == wanted, f"{refusal}, and not {errno.errorcode[wanted]}")
         return
     check(False, f"{found} is answered, and not {errno.errorcode[wanted]}")
+
+
+def until_done(call: Callable[[], object], before: int) -> None:
+    """Makes a call again and again, until it is no longer refused so."""
+
+    def is_done() -> bool:
+        try:
+            call()
+        except OSError as refusal:
+            check(refusal.errno == before, f"{refusal}, and not {errno.errorcode[before]}")
+            return False
+        return True
+
+    until(is_done, f"{errno.errorcode[before]} for ever")
 
 
 def is_answered(client: Client, serial: int, error: int = 0, body: bytes = b"") -> None:

@@ -6,7 +6,6 @@ use Rattle.std.specs.Prelude.{All, find, nat_eq, if◌then◌else◌}
 use Rattle.std.proofs.lemmas.Bool.Decides.{nat_tests}
 use Rattle.std.proofs.lemmas.List.Elements.{All-nil, All-cons, All-filter}
 use Rattle.ipc_base.specs.declared.limits.Limits.{Limits}
-use Rattle.ipc_base.specs.declared.identity.Id.{Id}
 use Rattle.ipc_base.proofs.CallerLemmas.{test_cases}
 use Rattle.ipc_wait.specs.Waits.{call_of, is_of, without}
 use Rattle.ipc_wait.proofs.CallerLemmas.{found-in}
@@ -35,29 +34,49 @@ use Rattle.ipc_engine.proofs.Tries.{HasEnded, there-object, tried-there}
 abbrev IsOrNot : Object → Option Object → Type 0
 IsOrNot a o = (Some a ≡ o) ⊎ (Some a ≢ o)
 
+-- an object by its kind and its number
+abbrev kind : Object → ℕ
+kind (object.Queue a) = 0
+kind (object.Set a) = 1
+kind (object.Mq n) = 2
+kind (object.NamedSem n) = 3
+kind (object.Segment n) = 4
+
+abbrev number : Object → ℕ
+number (object.Queue a) = a.0
+number (object.Set a) = a.0
+number (object.Mq n) = n
+number (object.NamedSem n) = n
+number (object.Segment n) = n
+
+abbrev of_kind : ℕ → ℕ → Object
+of_kind zero n = object.Queue (record { 0 = n })
+of_kind (suc zero) n = object.Set (record { 0 = n })
+of_kind (suc (suc zero)) n = object.Mq n
+of_kind (suc (suc (suc zero))) n = object.NamedSem n
+of_kind (suc (suc (suc (suc k)))) n = object.Segment n
+
+known : (a : Object) → of_kind (kind a) (number a) ≡ a
+known (object.Queue a) = refl
+known (object.Set a) = refl
+known (object.Mq n) = refl
+known (object.NamedSem n) = refl
+known (object.Segment n) = refl
+
 same_object : (a : Object) (o : Option Object) → IsOrNot a o
 same_object a None = inr (λ no. cc)
-same_object (object.Queue a) (Some (object.Queue b)) = by_test (test_cases (nat_eq a.0 b.0))
+same_object a (Some b) = by_kind (test_cases (nat_eq (kind a) (kind b)))
   where
-    by_test : (nat_eq a.0 b.0 ≡ true) ⊎ (nat_eq a.0 b.0 ≡ false) → IsOrNot (object.Queue a) (Some (object.Queue b))
-    by_test (inl is) = inl (ap (λ (n : ℕ). Some (object.Queue (record { 0 = n }))) (grind (arith, nat_tests)))
-    by_test (inr other) = inr (λ same. absurd (let one : a ≡ b = cc in let is : a.0 ≡ b.0 = ap (λ (k : Id). k.0) one in grind (arith, nat_tests)))
-same_object (object.Set a) (Some (object.Set b)) = by_test (test_cases (nat_eq a.0 b.0))
-  where
-    by_test : (nat_eq a.0 b.0 ≡ true) ⊎ (nat_eq a.0 b.0 ≡ false) → IsOrNot (object.Set a) (Some (object.Set b))
-    by_test (inl is) = inl (ap (λ (n : ℕ). Some (object.Set (record { 0 = n }))) (grind (arith, nat_tests)))
-    by_test (inr other) = inr (λ same. absurd (let one : a ≡ b = cc in let is : a.0 ≡ b.0 = ap (λ (k : Id). k.0) one in grind (arith, nat_tests)))
-same_object (object.Mq a) (Some (object.Mq b)) = by_test (test_cases (nat_eq a b))
-  where
-    by_test : (nat_eq a b ≡ true) ⊎ (nat_eq a b ≡ false) → IsOrNot (object.Mq a) (Some (object.Mq b))
-    by_test (inl is) = inl (ap (λ (n : ℕ). Some (object.Mq n)) (grind (arith, nat_tests)))
-    by_test (inr other) = inr (λ same. absurd (let one : a ≡ b = cc in grind (arith, nat_tests)))
-same_object (object.Queue a) (Some (object.Set b)) = inr (λ same. cc)
-same_object (object.Queue a) (Some (object.Mq b)) = inr (λ same. cc)
-same_object (object.Set a) (Some (object.Queue b)) = inr (λ same. cc)
-same_object (object.Set a) (Some (object.Mq b)) = inr (λ same. cc)
-same_object (object.Mq a) (Some (object.Queue b)) = inr (λ same. cc)
-same_object (object.Mq a) (Some (object.Set b)) = inr (λ same. cc)
+    by_number : kind a ≡ kind b → (nat_eq (number a) (number b) ≡ true) ⊎ (nat_eq (number a) (number b) ≡ false) → IsOrNot a (Some b)
+    by_number one (inl is) =
+        let also : number a ≡ number b = grind (arith, nat_tests) in
+        inl (ap Some (sym (known a) ∙ (λ i. of_kind (one i) (also i)) ∙ known b))
+    by_number one (inr other) =
+        inr (λ same. absurd (let it : a ≡ b = cc in let also : number a ≡ number b = ap number it in grind (arith, nat_tests)))
+
+    by_kind : (nat_eq (kind a) (kind b) ≡ true) ⊎ (nat_eq (kind a) (kind b) ≡ false) → IsOrNot a (Some b)
+    by_kind (inl is) = by_number (grind (arith, nat_tests)) (test_cases (nat_eq (number a) (number b)))
+    by_kind (inr other) = inr (λ same. absurd (let it : a ≡ b = cc in let also : kind a ≡ kind b = ap kind it in grind (arith, nat_tests)))
 
 -- each call of a list is found there by its process
 all-waiting : (ws : List PlainWaiting) → All (λ (w : PlainWaiting). is_some (call_of w.pid ws) ≡ true) ws

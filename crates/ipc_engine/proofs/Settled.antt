@@ -51,13 +51,14 @@ abbrev pub HasSameUndo : State → State → Type 0
 HasSameUndo s t = (pid : ℕ) (k : Key) → adjustment (undo_of t pid) k ≡ adjustment (undo_of s pid) k
 
 -- the same queues, sets and adjustments, and the same process
-pub as-before : (pid : ℕ) (on : Awaited) (s t : State) → t.msg ≡ s.msg → t.sem ≡ s.sem → t.mq ≡ s.mq → HasSameUndo s t
+pub as-before : (pid : ℕ) (on : Awaited) (s t : State) → t.msg ≡ s.msg → t.sem ≡ s.sem → t.mq ≡ s.mq → t.named_sem ≡ s.named_sem → HasSameUndo s t
     → entry_of t.processes pid ≡ entry_of s.processes pid → IsAsBefore pid on s t
-as-before pid (awaited.Queue n) s t queues sets mqs undo process = ap (λ (m : Keyed Queue). entry_of m n.0) queues
-as-before pid (awaited.Set n) s t queues sets mqs undo process = (ap (λ (m : Keyed Set). entry_of m n.0) sets, λ pid num. undo pid (n.0, num))
-as-before pid (awaited.Descriptor fd) s t queues sets mqs undo process = (
+as-before pid (awaited.Queue n) s t queues sets mqs sems undo process = ap (λ (m : Keyed Queue). entry_of m n.0) queues
+as-before pid (awaited.Set n) s t queues sets mqs sems undo process = (ap (λ (m : Keyed Set). entry_of m n.0) sets, λ pid num. undo pid (n.0, num))
+as-before pid (awaited.Descriptor fd) s t queues sets mqs sems undo process = (
   ap (λ (p : Option Process). value_at nat_eq (unwrap_or (option_map (λ (q : Process). q.descriptors) p) []) fd) process,
   λ n is. ap (λ (m : Named Mq). option_map (λ (e : NamedEntry Mq). e.object) (entry_of m n)) mqs,
+  λ n is. ap (λ (m : Named ℕ). option_map (λ (e : NamedEntry ℕ). e.object) (entry_of m n)) sems,
 )
 
 pub same-then : (s t u : State) → HasSameProcesses s t → HasSameProcesses t u → HasSameProcesses s u
@@ -142,7 +143,7 @@ module _ (limits : Limits) where
         few = omega arith;
         weight = λ weigh most note light h pid. omega (arith, notes-same note s (without_waiting s w.pid.0) pid refl);
         objects = λ pid on other. same-objects s (without_waiting s w.pid.0) pid on refl;
-        others = λ h pid on waits apart there. as-before pid on s (without_waiting s w.pid.0) refl refl refl (λ pid k. refl) refl;
+        others = λ h pid on waits apart there. as-before pid on s (without_waiting s w.pid.0) refl refl refl refl (λ pid k. refl) refl;
       }
 
   -- of any state it leaves the same processes, and the clock

@@ -67,17 +67,17 @@ module _ (limits : Limits) where
   IsEarly s w = is_due (record { 0 = s.clock }) w ≡ false
 
   -- those that waited do so still if the objects are the same, the adjustments and their processes, and no deadline has come
-  pub all-wait : (s t : State) (ws : List PlainWaiting) → All IsSoundWaiting ws → t.msg ≡ s.msg → t.sem ≡ s.sem → t.mq ≡ s.mq → HasSameUndo s t
-      → All (IsSame s t) ws → All (IsEarly t) ws
+  pub all-wait : (s t : State) (ws : List PlainWaiting) → All IsSoundWaiting ws → t.msg ≡ s.msg → t.sem ≡ s.sem → t.mq ≡ s.mq → t.named_sem ≡ s.named_sem
+      → HasSameUndo s t → All (IsSame s t) ws → All (IsEarly t) ws
       → All (HasToWait limits s) ws → All (HasToWait limits t) ws
-  all-wait s t ws sound queues sets mqs undo same early waits = λ k d h.
+  all-wait s t ws sound queues sets mqs sems undo same early waits = λ k d h.
       let w = get_or ws k d in
       let process = same k d h in
       record {
         process = ap is_some process ∙ (waits k d h).process;
         early = early k d h;
         waits = still-waits s t w (sound k d h) (credited s t w.pid.0 process)
-            (as-before w.pid.0 w.on s t queues sets mqs undo process) ∙ (waits k d h).waits;
+            (as-before w.pid.0 w.on s t queues sets mqs sems undo process) ∙ (waits k d h).waits;
       }
 
   -- settled, a state is sound whose parts are, and whose waiting calls are of its processes and not due
@@ -114,7 +114,7 @@ module _ (limits : Limits) where
       record {
         parts = without_due-sound limits t (begin-sound limits s moment h.parts);
         waits = all-wait s (due moment s).state left
-            (All-filter (λ (w : PlainWaiting). not (test w)) IsSoundWaiting s.wait h.parts.wait.each) refl refl refl (λ pid k. refl)
+            (All-filter (λ (w : PlainWaiting). not (test w)) IsSoundWaiting s.wait h.parts.wait.each) refl refl refl refl (λ pid k. refl)
             (λ k d i. refl) (none-left test s.wait)
             (All-filter (λ (w : PlainWaiting). not (test w)) (HasToWait limits s) s.wait h.waits);
       }
@@ -145,7 +145,7 @@ module _ (limits : Limits) where
       choice (λ (t : Step). IsSound limits t.state) (has_all_processes limits s) _ _ (λ _. h)
       (λ room. record {
         parts = with_process-sound limits s cred room h.parts;
-        waits = all-wait s (with_process s cred) s.wait h.parts.wait.each refl refl refl (same-undo s)
+        waits = all-wait s (with_process s cred) s.wait h.parts.wait.each refl refl refl refl (same-undo s)
             (λ k d i.
             let pid = (get_or s.wait k d).pid.0 in
             let below = (rising-found 1 s.processes.entries s.processes.next pid h.parts.processes.numbered.numbers (h.waits k d i).process).1 in
@@ -187,7 +187,7 @@ module _ (limits : Limits) where
   left-waits s pid h =
       record {
         parts = without_waiting-sound limits s pid h.parts;
-        waits = all-wait s (without_waiting s pid) (without (record { 0 = pid }) s.wait) (sound-besides s pid h) refl refl refl (λ p k. refl) (λ k d i. refl)
+        waits = all-wait s (without_waiting s pid) (without (record { 0 = pid }) s.wait) (sound-besides s pid h) refl refl refl refl (λ p k. refl) (λ k d i. refl)
             (early-besides s pid h) (waits-besides s pid h);
       }
 
@@ -214,7 +214,7 @@ module _ (limits : Limits) where
       choice (λ (t : Step). IsSound limits t.state) (is_due (record { 0 = s.clock }) w) (replied pid request.serial (refused s (expiry request.kind)))
       (silent (with_waiting s w)) (λ _. h)
       (λ early.
-      let before = all-wait s (with_waiting s w) s.wait h.parts.wait.each refl refl refl (λ p k. refl) (λ k d i. refl) (all-early s h) h.waits in
+      let before = all-wait s (with_waiting s w) s.wait h.parts.wait.each refl refl refl refl (λ p k. refl) (λ k d i. refl) (all-early s h) h.waits in
       record {
         parts = with_waiting-sound limits s w h.parts sound free (linked s h) process;
         waits = All-push (HasToWait limits (with_waiting s w)) s.wait w before
@@ -222,7 +222,7 @@ module _ (limits : Limits) where
               process = process;
               early = early;
               waits = ap not (tried-alike limits s (with_waiting s w) pid false true request.kind on is refl (as-before pid on s
-                  (with_waiting s w) refl refl refl (λ p k. refl) refl) ∙ waits);
+                  (with_waiting s w) refl refl refl refl (λ p k. refl) refl) ∙ waits);
             });
       })
 

@@ -202,7 +202,7 @@ module _ (limits : Limits) where
         by_tried (tried limits (without_waiting s w.pid.0) w.pid.0 true w.call.kind)
         (tried-ended limits (without_waiting s w.pid.0) w.pid.0 true w.call.kind (left-free s w))
         (tried-alike limits s (without_waiting s w.pid.0) w.pid.0 true true w.call.kind w.on in_list.on refl
-        (as-before w.pid.0 w.on s (without_waiting s w.pid.0) refl refl refl (λ p k. refl) refl) ∙ opposite _ goes)
+        (as-before w.pid.0 w.on s (without_waiting s w.pid.0) refl refl refl refl (λ p k. refl) refl) ∙ opposite _ goes)
       where
         by_tried : (t : Tried) → IfFinishes (HasEnded limits (without_waiting s w.pid.0) w.pid.0 (touched_by (without_waiting s w.pid.0) w.pid.0 w.call.kind)) t → has_to_wait t ≡ false
             → IsAnswered w (answered w (without_waiting s w.pid.0) t)

@@ -151,8 +151,9 @@ impl Engine {
         &self.state
     }
 
-    /// A row for each object, kind by kind: message queues and semaphore sets by rising identifier, and then
-    /// POSIX queues by the bytes of their names, those without a name first. Refused for want of memory.
+    /// A row for each object, kind by kind: message queues and semaphore sets by rising identifier, and then POSIX
+    /// queues, named semaphores and segments by the bytes of their names, those without a name first. Refused for want
+    /// of memory.
     pub fn list(&self, alloc: Global) -> Result<Vec<Row<&[u8]>>, AllocError>
         ensures { IfOk result (λ rows. map plain_row rows.items ≡ rows_of self.now.state) }
     {
@@ -161,6 +162,8 @@ impl Engine {
             self.state.queues(),
             self.state.sets(),
             self.state.mqs(),
+            self.state.named_sems().items(),
+            self.state.segments().items(),
         )
     }
 

@@ -13,7 +13,7 @@ ghost use Rattle.ipc_wire.specs.Request.{PlainCall, PlainRequest, Calls, Interru
 ghost use Rattle.ipc_state.specs.declared.parked.Awaited.{Awaited};
 ghost use Rattle.ipc_state.specs.declared.named.NamedEntry.{NamedEntry};
 ghost use Rattle.ipc_state.specs.Finish.{Finishes, Waits, refused};
-ghost use Rattle.ipc_state.specs.Named.{with_object};
+ghost use Rattle.ipc_state.specs.Named.{kept_if, with_object};
 ghost use Rattle.ipc_state.specs.Numbered.{entry_of};
 ghost use Rattle.ipc_state.specs.Opening.{has_name};
 ghost use Rattle.posix_mq.specs.Queue.{Queue as Mq, deregistered};
@@ -240,7 +240,8 @@ pub fn restart_adds_adjustments()
 {}
 
 /// A restart leaves the queues, the identifiers of the sets and the numbers of those to come as they are. Of POSIX
-/// queues those with a name are left, as they were but for a registration, and no other.
+/// queues, named semaphores and segments those with a name are left, as they were but for a registration with a queue,
+/// and no other.
 pub fn restart_keeps_objects()
     ensures next_pid { (limits : Limits) (s : State)
         → (step limits s Restart).state.processes.next ≡ s.processes.next }
@@ -254,6 +255,10 @@ pub fn restart_keeps_objects()
     ensures no_other { (limits : Limits) (s : State)
         → All (λ e. has_name e.1 ≡ true) (step limits s Restart).state.mq.entries }
     ensures next_mq { (limits : Limits) (s : State) → (step limits s Restart).state.mq.next ≡ s.mq.next }
+    ensures named_sems { (limits : Limits) (s : State)
+        → (step limits s Restart).state.named_sem ≡ kept_if (λ e. has_name e.1) s.named_sem }
+    ensures segments { (limits : Limits) (s : State)
+        → (step limits s Restart).state.shm ≡ kept_if (λ e. has_name e.1) s.shm }
 {}
 
 /// A restart twice is a restart once.

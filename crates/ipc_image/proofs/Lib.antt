@@ -14,5 +14,8 @@ mod Windows
 mod SavedObjects
 mod Marks
 mod MqObjects
+mod KindSizes
+mod NamedObjects
+mod NamedSizes
 mod AdjustmentLists
 mod WaitingCalls

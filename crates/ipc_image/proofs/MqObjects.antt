@@ -15,14 +15,16 @@ use Rattle.ipc_base.specs.declared.limits.Limits.{Limits}
 use Rattle.ipc_base.specs.Limits.{ArePassed}
 use Rattle.ipc_base.specs.Numbers.{fields_bytes, FitFields}
 use Rattle.ipc_base.proofs.CallerLemmas.{fields_one, numbers_are, passed-bounds}
-use Rattle.ipc_keys.specs.Names.{is_none, queue_fault, unless}
+use Rattle.ipc_keys.specs.declared.check.NameKind.{NameKind}
+use Rattle.ipc_keys.specs.declared.check.NameKind.TheVariants as names
+use Rattle.ipc_keys.specs.Names.{check_name, fault, is_none, most_bytes, unless}
 use Rattle.posix_mq.specs.Queue.{PlainMessage as MqMessage}
 use Rattle.posix_mq.specs.declared.queue.Registration.{Registration}
 use Rattle.ipc_state.specs.declared.named.NamedEntry.{NamedEntry}
 use Rattle.posix_mq.specs.Queue.{Queue as Mq}
 use Rattle.ipc_state.specs.Opening.{is_named_so}
 use Rattle.ipc_state.specs.Sound.{IsSoundMq, IsSoundMqMessage}
-use Rattle.ipc_image.specs.Saved.{registration_numbers, mq_sizes, mq_numbers, mq_shape, mq_tree, mq_message_bytes, mq_bytes, FitsMqMessage, FitsMq}
+use Rattle.ipc_image.specs.Saved.{registration_numbers, mq_sizes, mq_numbers, mq_message_bytes, mq_bytes, FitsMqMessage, FitsMq}
 use Rattle.ipc_image.specs.SavedParts.{IsSmallMq}
 use Rattle.ipc_image.specs.Relations.Mqs.{count_after, length_after}
 use Rattle.ipc_image.specs.Relations.Shapes.{text_one}
@@ -45,23 +47,23 @@ mq-long e =
       registration-long e.object.registration (length e.object.messages) (length e.name),
     )
 
--- a name that a queue may have is short
+-- a name that an object may have is short
 too-long : (f : Option Errno) (long : Bool) → long ≡ true → is_ok (unless f (if long then Err ENAMETOOLONG else Ok tt)) ≡ false
 too-long None long is = rw is refl
 too-long (Some e) long is = refl
 
-name-short : (n : ℕ) (e : NamedEntry Mq) → is_named_so (n, e) ≡ true → length e.name ≤ 255
-name-short n e formed = by_name e.name formed
+pub name-short : {X : Type 0} (kind : NameKind) (e : ℕ × NamedEntry X) → is_named_so kind e ≡ true → length e.1.name ≤ most_bytes kind
+name-short {X} kind e formed = by_name e.1.name formed
   where
-    by_name : (name : List ℕ) → is_named_so (n, record e { name = name }) ≡ true → length name ≤ 255
+    by_name : (name : List ℕ) → is_none name || is_ok (check_name kind name) ≡ true → length name ≤ most_bytes kind
     by_name [] formed = omega arith
-    by_name (b ∷ name) formed = by_length (nat_lt 255 (length (b ∷ name))) refl
+    by_name (b ∷ name) formed = by_length (nat_lt (most_bytes kind) (length (b ∷ name))) refl
       where
-        by_length : (long : Bool) → nat_lt 255 (length (b ∷ name)) ≡ long → length (b ∷ name) ≤ 255
-        by_length true is = let refused = too-long (queue_fault (b ∷ name)) (nat_lt 255 (length (b ∷ name))) is in cc
+        by_length : (long : Bool) → nat_lt (most_bytes kind) (length (b ∷ name)) ≡ long → length (b ∷ name) ≤ most_bytes kind
+        by_length true is = let refused = too-long (fault kind (b ∷ name)) (nat_lt (most_bytes kind) (length (b ∷ name))) is in cc
         by_length false is = grind (arith, nat_tests)
 
-module _ (limits : Limits) (n : ℕ) (e : NamedEntry Mq) (sound : IsSoundMq limits e.object) (formed : is_named_so (n, e) ≡ true) where
+module _ (limits : Limits) (n : ℕ) (e : NamedEntry Mq) (sound : IsSoundMq limits e.object) (formed : is_named_so names.Queue (n, e) ≡ true) where
   pub mq-short : length (mq_bytes e) ≤ 299 + limits.maxmsg * (8 + limits.msgsize)
   mq-short =
       let q : Mq = e.object in
@@ -71,7 +73,7 @@ module _ (limits : Limits) (n : ℕ) (e : NamedEntry Mq) (sound : IsSoundMq limi
       omega (
         arith,
         mq-long e,
-        name-short n e formed,
+        name-short names.Queue (n, e) formed,
         length-most mq_message_bytes (8 + q.msgsize) q.messages each,
         mul-le (length q.messages) (8 + q.msgsize) limits.maxmsg (8 + limits.msgsize) (omega (arith, sound.count, sound.maxmsg.1))
             (omega (arith, sound.msgsize.1)),
@@ -81,7 +83,7 @@ module _ (limits : Limits) (n : ℕ) (e : NamedEntry Mq) (sound : IsSoundMq limi
   mq-small passed =
       let b = passed-bounds limits passed in
       record {
-        name = omega (arith, name-short n e formed);
+        name = omega (arith, name-short names.Queue (n, e) formed);
         count = omega (arith, sound.count, sound.maxmsg.1, b.maxmsg);
         texts = All-weaker (IsSoundMqMessage e.object.msgsize) (λ m. length m.text < 2 ^ 32)
             (λ m good. omega (arith, good.short, sound.msgsize.1, b.msgsize)) e.object.messages sound.messages;

@@ -1,10 +1,10 @@
 -- The state as objects: how many bytes each has, that they are objects, and that they fit where they are kept.
-use Rattle.std.proofs.Common.{◌≡◌, true, ℕ, zero, suc, ◌+◌, ◌*◌, ◌^◌, ◌<◌, ◌≤◌, ◌-◌, List, [], ◌∷◌, ◌++◌, length, map, Some, refl, sym, ap, subst, ◌∙◌, arith}
-use Rattle.std.specs.Prelude.{All, sum_by, option_map}
-use Rattle.std.proofs.lemmas.List.{append-nil, length-map, length-append, map-id}
+use Rattle.std.proofs.Common.{◌≡◌, ℕ, zero, suc, ◌+◌, ◌*◌, ◌^◌, ◌<◌, ◌≤◌, ◌-◌, List, [], ◌∷◌, ◌++◌, length, map, Some, refl, sym, ap, subst, ◌∙◌, arith}
+use Rattle.std.specs.Prelude.{All, option_map}
+use Rattle.std.proofs.lemmas.List.{length-map, length-append, map-id}
 use Rattle.std.proofs.lemmas.List.Concat.{flat_map-cons}
-use Rattle.std.proofs.lemmas.List.Elements.{All-append, All-cons, All-head, All-map, All-nil, All-tail, All-weaker}
-use Rattle.std.proofs.lemmas.List.Sums.{sum_by-append, sum_by-cons, sum_by-le, sum_by_from}
+use Rattle.std.proofs.lemmas.List.Elements.{All-append, All-cons, All-map, All-nil, All-weaker}
+use Rattle.std.proofs.lemmas.List.Sums.{sum_by-append, sum_by-cons, sum_by_from}
 use Rattle.std.proofs.lemmas.Nat.{mul-le}
 use Rattle.std.proofs.Math.Nat.{mul_assoc}
 use Rattle.std.specs.List.{flat_map, slice_get}
@@ -19,14 +19,15 @@ use Rattle.sysv_msg.specs.declared.queue.QueueStat.{QueueStat}
 use Rattle.ipc_state.specs.declared.numbered.Item.{Item}
 use Rattle.ipc_state.specs.declared.keyed.Entry.{Entry}
 use Rattle.ipc_state.specs.declared.named.NamedEntry.{NamedEntry}
-use Rattle.ipc_state.specs.Opening.{is_named_so}
-use Rattle.ipc_state.specs.Sound.{IsSoundQueue, IsSoundSet, IsSoundMq, HasNumbers, AreSoundDescriptors}
+use Rattle.ipc_state.specs.Sound.{IsSoundQueue, IsSoundSet, HasNumbers, AreSoundDescriptors}
 use Rattle.posix_mq.specs.Queue.{Queue as Mq}
+use Rattle.shm_segment.specs.Segment.{Segment}
 use Rattle.sysv_sem.specs.Set.{Set, stat_of as set_stat}
 use Rattle.sysv_sem.specs.declared.set.SemStat.{SemStat}
 use Rattle.ipc_state.proofs.CallerLemmas.{All-seen, queue-numbers, few-adjustments}
 use Rattle.ipc_engine.specs.Sound.{IsSound}
-use Rattle.ipc_state.specs.State.{State, start}
+use Rattle.ipc_state.specs.Opening.{NamedObjects}
+use Rattle.ipc_state.specs.State.{State, named_in, start}
 use Rattle.ipc_state.specs.Waiting.{PlainWaiting}
 use Rattle.ipc_state.specs.Tables.{item_row}
 use Rattle.ipc_base.specs.Numbers.{fields_bytes}
@@ -34,13 +35,13 @@ use Rattle.ipc_image.specs.Saved.{counted_bytes, queue_sizes, queue_numbers, set
 use Rattle.ipc_image.specs.Saved.{clock_sizes, clock_numbers, count_bytes, process_bytes, processes_bytes, message_bytes}
 use Rattle.ipc_image.specs.Saved.{waiting_bytes, waits_bytes, Adjustment, adjustment_bytes, adjustments_in, adjustments_bytes}
 use Rattle.sem_undo.specs.Undo.{Undo}
-use Rattle.ipc_image.specs.Kind.{object_in}
-use Rattle.ipc_image.specs.Saved.{queue_bytes, queue_object, semaphore_bytes, set_bytes, set_object, mq_bytes, mq_object, saved, HasAllPlaces}
+use Rattle.ipc_image.specs.Saved.{queue_bytes, queue_object, semaphore_bytes, set_bytes, set_object, named_objects, saved, HasAllPlaces}
 use Rattle.ipc_image.specs.Saved.{descriptor_bytes}
 use Rattle.ipc_state.specs.declared.state.Numbers.{Numbers}
-use Rattle.ipc_image.specs.SavedParts.{IsMarkAfter, IsFound, IsSmallMq, Stands, seen_state}
+use Rattle.ipc_image.specs.SavedParts.{IsMarkAfter, IsFound, IsSmallMq, Stands, seen_named, seen_state}
 use Rattle.ipc_image.proofs.Marks.{each-at, length-each, length-most}
-use Rattle.ipc_image.proofs.MqObjects.{mq-long, mq-short, mq-small}
+use Rattle.ipc_image.proofs.KindSizes.{kind-sectors, objects-rise}
+use Rattle.ipc_image.proofs.NamedSizes.{mqs-small, named-are, named-counted, named-few, named-rise, named-sectors, named_count, named_most, names-small}
 use Rattle.ipc_image.proofs.WaitingCalls.{length-waits}
 use Rattle.ipc_image.proofs.Attaching.{rising-distinct}
 use Rattle.ipc_image.proofs.AdjustmentLists.{few-in}
@@ -88,19 +89,19 @@ set-long e = omega (arith, length-each semaphore_bytes 6 (λ x. refl) e.object.s
 
 -- the things that have objects of their own
 abbrev pub things : State → PlainObjects
-things s = map queue_object s.msg.entries ++ (map set_object s.sem.entries ++ map mq_object s.mq.entries)
+things s = map queue_object s.msg.entries ++ (map set_object s.sem.entries ++ named_objects (named_in s))
 
 module _ (s : State) where
-  pub saved-count : length (saved s) ≡ 4 + (length s.msg.entries + (length s.sem.entries + length s.mq.entries))
+  pub saved-count : length (saved s) ≡ 4 + (length s.msg.entries + (length s.sem.entries + named_count (named_in s)))
   unfolding saved
   saved-count =
       omega (
         arith,
-        length-append (map queue_object s.msg.entries) (map set_object s.sem.entries ++ map mq_object s.mq.entries),
-        length-append (map set_object s.sem.entries) (map mq_object s.mq.entries),
+        length-append (map queue_object s.msg.entries) (map set_object s.sem.entries ++ named_objects (named_in s)),
+        length-append (map set_object s.sem.entries) (named_objects (named_in s)),
         length-map s.msg.entries queue_object,
         length-map s.sem.entries set_object,
-        length-map s.mq.entries mq_object,
+        named-counted (named_in s),
       )
 
   pub saved-clock : slice_get (saved s) 0 ≡ Some (0, fields_bytes clock_sizes (clock_numbers s))
@@ -140,26 +141,25 @@ module _ (s : State) where
   -- what holds of the four, and of each thing that has an object of its own, holds of all
   each-saved : (P : ℕ × List ℕ → Type 0) → P (0, fields_bytes clock_sizes (clock_numbers s)) → P (1, processes_bytes s.processes.entries)
       → P (2, waits_bytes s.wait) → P (3, adjustments_bytes s.undo) → All (λ e. P (queue_object e)) s.msg.entries
-      → All (λ e. P (set_object e)) s.sem.entries → All (λ e. P (mq_object e)) s.mq.entries → All P (saved s)
+      → All (λ e. P (set_object e)) s.sem.entries → All P (named_objects (named_in s)) → All P (saved s)
   unfolding saved
-  each-saved P clock processes waiting adjustments queues sets mqs =
+  each-saved P clock processes waiting adjustments queues sets named =
       let two : List (ℕ × List ℕ) = (2, waits_bytes s.wait) ∷ (3, adjustments_bytes s.undo) ∷ things s in
       All-cons P _ ((1, processes_bytes s.processes.entries) ∷ two) clock
       (All-cons P _ two processes
       (All-cons P _ ((3, adjustments_bytes s.undo) ∷ things s) waiting
       (All-cons P _ (things s) adjustments
-      (All-append P (map queue_object s.msg.entries) (map set_object s.sem.entries ++ map mq_object s.mq.entries)
+      (All-append P (map queue_object s.msg.entries) (map set_object s.sem.entries ++ named_objects (named_in s))
       (All-map P queue_object s.msg.entries queues)
-      (All-append P (map set_object s.sem.entries) (map mq_object s.mq.entries) (All-map P set_object s.sem.entries sets)
-      (All-map P mq_object s.mq.entries mqs))))))
+      (All-append P (map set_object s.sem.entries) (named_objects (named_in s)) (All-map P set_object s.sem.entries sets) named)))))
 
 -- the state that tables are, and how many objects it has
 module _ (n : Numbers) (ps : List (Item Process)) (ws : List PlainWaiting) (us : List (Item Undo)) (qs : List (Item (Entry Queue)))
-    (xs : List (Item (Entry Set))) (ms : List (Item (NamedEntry Mq))) where
+    (xs : List (Item (Entry Set))) (o : NamedObjects) where
   pub seen-is : (s : State) → n.clock.0 ≡ s.clock → n.next_pid ≡ s.processes.next → n.next_queue ≡ s.msg.next → n.next_set ≡ s.sem.next
-      → n.next_mq ≡ s.mq.next → map item_row ps ≡ s.processes.entries → ws ≡ s.wait → map item_row us ≡ s.undo → map item_row qs ≡ s.msg.entries
-      → map item_row xs ≡ s.sem.entries → map item_row ms ≡ s.mq.entries → seen_state n ps ws us qs xs ms ≡ s
-  seen-is s clock pid queue set mq processes waits undo queues sets mqs =
+      → map item_row ps ≡ s.processes.entries → ws ≡ s.wait → map item_row us ≡ s.undo → map item_row qs ≡ s.msg.entries
+      → map item_row xs ≡ s.sem.entries → o ≡ named_in s → seen_state n ps ws us qs xs o ≡ s
+  seen-is s clock pid queue set processes waits undo queues sets named =
       λ i. record {
         clock = clock i;
         processes = record { next = pid i; entries = processes i };
@@ -167,52 +167,42 @@ module _ (n : Numbers) (ps : List (Item Process)) (ws : List PlainWaiting) (us :
         undo = undo i;
         msg = record { next = queue i; entries = queues i };
         sem = record { next = set i; entries = sets i };
-        mq = record { next = mq i; entries = mqs i };
+        mq = (named i).mq;
+        named_sem = (named i).named_sem;
+        shm = (named i).shm;
       }
 
-  pub seen_count : length (saved (seen_state n ps ws us qs xs ms)) ≡ 4 + (length qs + (length xs + length ms))
-  seen_count =
-      omega (arith, saved-count (seen_state n ps ws us qs xs ms), length-map qs item_row, length-map xs item_row, length-map ms item_row)
+  pub seen_count : length (saved (seen_state n ps ws us qs xs o)) ≡ 4 + (length qs + (length xs + named_count o))
+  seen_count = omega (arith, saved-count (seen_state n ps ws us qs xs o), length-map qs item_row, length-map xs item_row)
 
   -- the bytes of the processes can be counted
-  pub processes-counted : AreObjects (saved (seen_state n ps ws us qs xs ms)) → 4 + length (flat_map process_bytes (map item_row ps)) < 2 ^ 64
+  pub processes-counted : AreObjects (saved (seen_state n ps ws us qs xs o)) → 4 + length (flat_map process_bytes (map item_row ps)) < 2 ^ 64
   processes-counted are =
-      let s : State = seen_state n ps ws us qs xs ms in
+      let s : State = seen_state n ps ws us qs xs o in
       let short = each-at (λ (p : ℕ × List ℕ). length p.1 < 2 ^ 64) (saved s) 1 _ are.lengths (saved-processes s) in
       omega (arith, short, processes-long s.processes.entries)
 
   -- the bytes of the waiting calls can be counted
-  pub waits-counted : AreObjects (saved (seen_state n ps ws us qs xs ms)) → 4 + length (flat_map waiting_bytes (map (λ w. w) ws)) < 2 ^ 64
+  pub waits-counted : AreObjects (saved (seen_state n ps ws us qs xs o)) → 4 + length (flat_map waiting_bytes (map (λ w. w) ws)) < 2 ^ 64
   waits-counted are =
-      let s : State = seen_state n ps ws us qs xs ms in
+      let s : State = seen_state n ps ws us qs xs o in
       let short = each-at (λ (p : ℕ × List ℕ). length p.1 < 2 ^ 64) (saved s) 2 _ are.lengths (saved-waits s) in
       omega (arith, short, waits-long ws, ap (λ (l : List PlainWaiting). length (flat_map waiting_bytes l)) (map-id ws))
 
--- ---- they are objects
-
--- the numbers of the objects of a kind rise, and those of what follows them
-objects-rise : {X : Type 0} (first : ℕ) (bytes_of : X → List ℕ) (low high top : ℕ) (es : List (ℕ × X)) (more : PlainObjects)
-    → IsRising low (keys_of es) high → IsRising (first + high) (keys_of more) top
-    → IsRising (first + low) (keys_of (map (object_in first bytes_of) es ++ more)) top
-objects-rise first bytes_of low high top [] more rising rest = rising-lower (first + low) (first + high) (keys_of more) top (omega (arith, rising)) rest
-objects-rise first bytes_of low high top (e ∷ es) more rising rest =
-    let next : first + (e.0 + 1) ≡ first + e.0 + 1 = omega arith in (
-      omega (arith, rising.0),
-      subst (λ (n : ℕ). IsRising n (keys_of (map (object_in first bytes_of) es ++ more)) top) next
-          (objects-rise first bytes_of (e.0 + 1) high top es more rising.1 rest),
+-- how many objects the state of these tables has
+pub tables_count : (n : Numbers) (ps : List (Item Process)) (ws : List PlainWaiting) (us : List (Item Undo)) (qs : List (Item (Entry Queue)))
+    (xs : List (Item (Entry Set))) (ms : List (Item (NamedEntry Mq))) (ss : List (Item (NamedEntry ℕ))) (gs : List (Item (NamedEntry Segment)))
+    → length (saved (seen_state n ps ws us qs xs (seen_named n ms ss gs))) ≡ 4 + (length qs + (length xs + (length ms + (length ss + length gs))))
+tables_count n ps ws us qs xs ms ss gs =
+    omega (
+      arith,
+      seen_count n ps ws us qs xs (seen_named n ms ss gs),
+      length-map ms item_row,
+      length-map ss item_row,
+      length-map gs item_row,
     )
 
--- the sectors of the objects of a kind
-kind-sectors : {X : Type 0} (first most bytes : ℕ) (bytes_of : X → List ℕ) (es : List (ℕ × X)) → All (λ e. length (bytes_of e.1) ≤ bytes) es
-    → length es ≤ most → sum_by (λ o. sectors (length o.1)) (map (object_in first bytes_of) es) ≤ most * sectors bytes
-kind-sectors first most bytes bytes_of es short few =
-    let of : ℕ × List ℕ → ℕ = λ o. sectors (length o.1) in
-    let objects : PlainObjects = map (object_in first bytes_of) es in
-    let each : All (λ o. of o ≤ sectors bytes) objects =
-    All-map (λ (o : ℕ × List ℕ). of o ≤ sectors bytes) (object_in first bytes_of) es
-    (All-weaker (λ e. length (bytes_of e.1) ≤ bytes) (λ e. of (object_in first bytes_of e) ≤ sectors bytes) (λ e short. omega (arith, short)) es short) in
-    let all : length objects ≤ most = omega (arith, few, length-map es (object_in first bytes_of)) in
-    omega (arith, sum_by-le of (sectors bytes) objects each, mul-le (length objects) (sectors bytes) most (sectors bytes) all (omega arith))
+-- ---- they are objects
 
 -- numbers that rise are no more than those between their bounds
 rising-few : (low : ℕ) (ns : List ℕ) (high : ℕ) → IsRising low ns high → low + length ns ≤ high
@@ -240,7 +230,7 @@ module _ (limits : Limits) (s : State) (passed : ArePassed limits) (sound : IsSo
   -- the count of the descriptors of a process
   pub descriptors-few : All (λ p. length p.1.descriptors ≤ limits.descriptors) s.processes.entries
   descriptors-few =
-      let P : ℕ × Process → Type 0 = λ p. AreSoundDescriptors limits s.mq p.1.descriptors in
+      let P : ℕ × Process → Type 0 = λ p. AreSoundDescriptors limits (named_in s) p.1.descriptors in
       All-weaker P (λ p. length p.1.descriptors ≤ limits.descriptors)
       (λ p good. omega (arith, length-map p.1.descriptors (λ d. d.0), rising-few 0 (keys_of p.1.descriptors) limits.descriptors good.numbers))
       s.processes.entries sound.parts.processes.descriptors
@@ -254,29 +244,21 @@ module _ (limits : Limits) (s : State) (passed : ArePassed limits) (sound : IsSo
       (All-weaker (λ (p : ℕ × Process). length p.1.descriptors ≤ limits.descriptors) P (λ p few. omega (arith, few, b.descriptors))
       s.processes.entries descriptors-few))
 
-  -- what holds of what is sound and has such a name holds of each POSIX queue
-  each-mq : (P : ℕ × NamedEntry Mq → Type 0) → ((e : ℕ × NamedEntry Mq) → IsSoundMq limits e.1.object → is_named_so e ≡ true → P e)
-      → All P s.mq.entries
-  each-mq P from = both s.mq.entries sound.parts.mq.named.each sound.parts.mq.forms
-    where
-      both : (es : List (ℕ × NamedEntry Mq)) → All (λ e. IsSoundMq limits e.1.object) es → All (λ e. is_named_so e ≡ true) es → All P es
-      both [] each formed = All-nil P
-      both (e ∷ es) each formed =
-          let one = from e (All-head (λ (f : ℕ × NamedEntry Mq). IsSoundMq limits f.1.object) e es each) (All-head (λ (f : ℕ × NamedEntry Mq). is_named_so f ≡ true) e es formed) in
-          All-cons P e es one (both es (All-tail (λ (f : ℕ × NamedEntry Mq). IsSoundMq limits f.1.object) e es each)
-          (All-tail (λ (f : ℕ × NamedEntry Mq). is_named_so f ≡ true) e es formed))
-
-  -- the sizes of a POSIX queue
+  -- the sizes of those with a name
   pub mqs-numbers : (rows : List (Item (NamedEntry Mq))) → map item_row rows ≡ s.mq.entries → All (λ e. IsSmallMq e.value) rows
   mqs-numbers rows are =
       let P : ℕ × NamedEntry Mq → Type 0 = λ e. IsSmallMq e.1 in
-      All-seen P item_row rows (subst (All P) (sym are) (each-mq P (λ e good formed. mq-small limits e.0 e.1 good formed passed)))
+      All-seen P item_row rows (subst (All P) (sym are) (mqs-small limits s sound passed))
 
-  abbrev most_mq : ℕ
-  most_mq = 299 + limits.maxmsg * (8 + limits.msgsize)
+  pub sems-numbers : (rows : List (Item (NamedEntry ℕ))) → map item_row rows ≡ s.named_sem.entries → All (λ e. length e.value.name < 2 ^ 32) rows
+  sems-numbers rows are =
+      let P : ℕ × NamedEntry ℕ → Type 0 = λ e. length e.1.name < 2 ^ 32 in
+      All-seen P item_row rows (subst (All P) (sym are) (names-small limits s sound).0)
 
-  mqs-short : All (λ e. length (mq_bytes e.1) ≤ most_mq) s.mq.entries
-  mqs-short = each-mq (λ e. length (mq_bytes e.1) ≤ most_mq) (λ e good formed. mq-short limits e.0 e.1 good formed)
+  pub segments-numbers : (rows : List (Item (NamedEntry Segment))) → map item_row rows ≡ s.shm.entries → All (λ e. length e.value.name < 2 ^ 32) rows
+  segments-numbers rows are =
+      let P : ℕ × NamedEntry Segment → Type 0 = λ e. length e.1.name < 2 ^ 32 in
+      All-seen P item_row rows (subst (All P) (sym are) (names-small limits s sound).1)
 
   processes-short : length (processes_bytes s.processes.entries) ≤ 4 + limits.processes * (16 + 16 * limits.descriptors)
   processes-short =
@@ -324,15 +306,12 @@ module _ (limits : Limits) (s : State) (passed : ArePassed limits) (sound : IsSo
   numbers-rise : IsRising 0 (keys_of (saved s)) (2 ^ 64)
   unfolding saved
   numbers-rise =
-      let mqs : PlainObjects = map mq_object s.mq.entries in
-      let bound : 3 * 2 ^ 32 + s.mq.next ≤ 2 ^ 64 = omega (arith, sound.parts.mq.named.numbered.next) in
-      let third : IsRising (3 * 2 ^ 32 + 1) (keys_of mqs) (2 ^ 64) =
-      subst (λ (os : PlainObjects). IsRising (3 * 2 ^ 32 + 1) (keys_of os) (2 ^ 64)) (append-nil mqs)
-      (objects-rise (3 * 2 ^ 32) mq_bytes 1 s.mq.next (2 ^ 64) s.mq.entries [] sound.parts.mq.named.numbered.numbers bound) in
-      let sets : PlainObjects = map set_object s.sem.entries ++ mqs in
+      let named : PlainObjects = named_objects (named_in s) in
+      let third : IsRising (3 * 2 ^ 32 + 1) (keys_of named) (2 ^ 64) = named-rise limits s sound in
+      let sets : PlainObjects = map set_object s.sem.entries ++ named in
       let second : IsRising (2 * 2 ^ 32 + 1) (keys_of sets) (2 ^ 64) =
-      objects-rise (2 * 2 ^ 32) set_bytes 1 s.sem.next (2 ^ 64) s.sem.entries mqs sound.parts.sem.keyed.numbered.numbers
-      (rising-lower (2 * 2 ^ 32 + s.sem.next) (3 * 2 ^ 32 + 1) (keys_of mqs) (2 ^ 64) (omega (arith, sound.parts.sem.keyed.numbered.next)) third) in
+      objects-rise (2 * 2 ^ 32) set_bytes 1 s.sem.next (2 ^ 64) s.sem.entries named sound.parts.sem.keyed.numbered.numbers
+      (rising-lower (2 * 2 ^ 32 + s.sem.next) (3 * 2 ^ 32 + 1) (keys_of named) (2 ^ 64) (omega (arith, sound.parts.sem.keyed.numbered.next)) third) in
       let all = objects-rise (2 ^ 32) queue_bytes 1 s.msg.next (2 ^ 64) s.msg.entries sets sound.parts.msg.numbered.numbers
       (rising-lower (2 ^ 32 + s.msg.next) (2 * 2 ^ 32 + 1) (keys_of sets) (2 ^ 64) (omega (arith, sound.parts.msg.numbered.next)) second) in
       (omega arith, (omega arith, (omega arith, (omega arith, rising-lower 4 (2 ^ 32 + 1) (keys_of (things s)) (2 ^ 64) (omega arith) all))))
@@ -343,8 +322,7 @@ module _ (limits : Limits) (s : State) (passed : ArePassed limits) (sound : IsSo
       let Some-bytes : ℕ × List ℕ → Type 0 = λ o. 0 < length o.1 in
       let Few-bytes : ℕ × List ℕ → Type 0 = λ o. length o.1 < 2 ^ 64 in
       let IsShort : ℕ × Entry Set → Type 0 = λ e. length (set_bytes e.1) ≤ 44 + 6 * limits.semmsl in
-      let IsShortMq : ℕ × NamedEntry Mq → Type 0 = λ e. length (mq_bytes e.1) ≤ most_mq in
-      let most : most_mq < 2 ^ 64 = omega (arith, mul-le limits.maxmsg (8 + limits.msgsize) 10 8200 b.maxmsg (omega (arith, b.msgsize))) in
+      let named = named-are limits s sound passed in
       let processes : limits.processes * (16 + 16 * limits.descriptors) ≤ 64 * 528 =
       mul-le limits.processes (16 + 16 * limits.descriptors) 64 528 b.processes.1 (omega (arith, b.descriptors)) in
       record {
@@ -353,15 +331,13 @@ module _ (limits : Limits) (s : State) (passed : ArePassed limits) (sound : IsSo
             (omega (arith, adjustments-long s.undo))
             (All-weaker (λ (e : ℕ × Entry Queue). length (queue_bytes e.1) ≤ 64 + 13 * limits.msgmnb) (λ e. Some-bytes (queue_object e))
             (λ e short. omega (arith, queue-long e.1)) s.msg.entries queues-short)
-            (All-weaker IsShort (λ e. Some-bytes (set_object e)) (λ e short. omega (arith, set-long e.1)) s.sem.entries sets-short)
-            (All-weaker IsShortMq (λ e. Some-bytes (mq_object e)) (λ e short. omega (arith, mq-long e.1)) s.mq.entries mqs-short);
+            (All-weaker IsShort (λ e. Some-bytes (set_object e)) (λ e short. omega (arith, set-long e.1)) s.sem.entries sets-short) named.some;
         lengths = each-saved s Few-bytes (omega arith)
             (omega (arith, processes-short, processes))
             (omega (arith, waits-short, b.processes.1)) (omega (arith, adjustments-long s.undo, undo-counted))
             (All-weaker (λ (e : ℕ × Entry Queue). length (queue_bytes e.1) ≤ 64 + 13 * limits.msgmnb) (λ e. Few-bytes (queue_object e))
             (λ e short. omega (arith, short, b.msgmnb.1)) s.msg.entries queues-short)
-            (All-weaker IsShort (λ e. Few-bytes (set_object e)) (λ e short. omega (arith, short, b.semmsl)) s.sem.entries sets-short)
-            (All-weaker IsShortMq (λ e. Few-bytes (mq_object e)) (λ e short. omega (arith, short, most)) s.mq.entries mqs-short);
+            (All-weaker IsShort (λ e. Few-bytes (set_object e)) (λ e short. omega (arith, short, b.semmsl)) s.sem.entries sets-short) named.few;
         count = omega (
           arith,
           saved-count s,
@@ -369,8 +345,10 @@ module _ (limits : Limits) (s : State) (passed : ArePassed limits) (sound : IsSo
           b.msgmni,
           sound.parts.sem.keyed.numbered.count,
           b.semmni,
-          sound.parts.mq.named.numbered.count,
+          named-few limits s sound,
           b.queues,
+          b.named_semaphores,
+          b.segments,
         );
       }
 
@@ -378,14 +356,13 @@ module _ (limits : Limits) (s : State) (passed : ArePassed limits) (sound : IsSo
 
   object-sectors : object_sectors (saved s)
       ≤ process_sectors limits + limits.msgmni * sectors (64 + 13 * limits.msgmnb) + limits.semmni * sectors (44 + 6 * limits.semmsl)
-      + limits.queues * sectors most_mq
+      + named_most limits
   unfolding saved
   object-sectors =
       let of : ℕ × List ℕ → ℕ = λ o. sectors (length o.1) in
       let queues = kind-sectors (2 ^ 32) limits.msgmni (64 + 13 * limits.msgmnb) queue_bytes s.msg.entries queues-short sound.parts.msg.numbered.count in
       let sets = kind-sectors (2 * 2 ^ 32) limits.semmni (44 + 6 * limits.semmsl) set_bytes s.sem.entries sets-short
       sound.parts.sem.keyed.numbered.count in
-      let mqs = kind-sectors (3 * 2 ^ 32) limits.queues most_mq mq_bytes s.mq.entries mqs-short sound.parts.mq.named.numbered.count in
       let first : ℕ = sectors 32 + sectors (length (processes_bytes s.processes.entries)) + sectors (length (waits_bytes s.wait))
       + sectors (length (adjustments_bytes s.undo)) in
       let undo : 12 * length (adjustments_in s.undo) ≤ 12 * limits.processes * limits.semmns =
@@ -393,8 +370,9 @@ module _ (limits : Limits) (s : State) (passed : ArePassed limits) (sound : IsSo
       omega (
         arith,
         sum_by_from of first (things s),
-        sum_by-append of (map queue_object s.msg.entries) (map set_object s.sem.entries ++ map mq_object s.mq.entries),
-        sum_by-append of (map set_object s.sem.entries) (map mq_object s.mq.entries),
+        sum_by-append of (map queue_object s.msg.entries) (map set_object s.sem.entries ++ named_objects (named_in s)),
+        sum_by-append of (map set_object s.sem.entries) (named_objects (named_in s)),
+        named-sectors limits s sound,
         processes-short,
         waits-short,
         adjustments-long s.undo,
@@ -409,7 +387,7 @@ module _ (limits : Limits) (s : State) (passed : ArePassed limits) (sound : IsSo
         saved-count s,
         sound.parts.msg.numbered.count,
         sound.parts.sem.keyed.numbered.count,
-        sound.parts.mq.named.numbered.count,
+        named-few limits s sound,
       )
 
 -- ---- the state to which nothing has happened
@@ -428,7 +406,7 @@ start-places = record {
   distinct = rising-distinct 1 [] 1 (omega arith);
   queues = All-nil _;
   sets = All-nil _;
-  mqs = All-nil _;
+  named = record { mqs = All-nil _; named_sems = All-nil _; segments = All-nil _ };
 }
 
 pub start-are : AreObjects (saved start)

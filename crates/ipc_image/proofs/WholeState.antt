@@ -1,5 +1,5 @@
 -- A state is known by its objects, and what was read of objects makes one.
-use Rattle.std.proofs.Common.{◌≡◌, ℕ, ◌*◌, ◌<◌, ◌^◌, List, [], ◌∷◌, ◌++◌, length, map, drop, Option, Some, refl, sym, ap, subst, ◌∙◌, arith}
+use Rattle.std.proofs.Common.{◌≡◌, ℕ, ◌*◌, ◌<◌, ◌^◌, List, ◌∷◌, ◌++◌, length, map, drop, Option, Some, refl, sym, ap, subst, ◌∙◌, arith}
 use Rattle.std.specs.Prelude.{All, slice_get, unwrap_or, nat_eq}
 use Rattle.std.specs.List.{IsDistinct}
 use Rattle.ipc_base.specs.declared.limits.Limits.{Limits}
@@ -7,15 +7,14 @@ use Rattle.ipc_base.specs.Numbers.{fields_bytes}
 use Rattle.ipc_base.specs.Objects.{PlainObjects}
 use Rattle.ipc_base.specs.Table.{keys_of}
 use Rattle.sem_undo.specs.Undo.{Undo}
-use Rattle.posix_mq.specs.Queue.{Queue as Mq}
 use Rattle.sysv_msg.specs.Queue.{Queue}
 use Rattle.sysv_sem.specs.Set.{Set}
 use Rattle.ipc_state.specs.declared.keyed.Entry.{Entry}
-use Rattle.ipc_state.specs.declared.named.NamedEntry.{NamedEntry}
 use Rattle.ipc_state.specs.declared.processes.Process.{Process}
 use Rattle.ipc_state.specs.declared.state.Numbers.{Numbers}
 use Rattle.ipc_state.specs.Restored.{with_numbers, with_waits}
-use Rattle.ipc_state.specs.State.{State, start}
+use Rattle.ipc_state.specs.Opening.{NamedObjects}
+use Rattle.ipc_state.specs.State.{State, named_in, start}
 use Rattle.ipc_state.specs.Waiting.{PlainWaiting}
 use Rattle.ipc_wait.specs.Waits.{HaveDistinctPids}
 use Rattle.ipc_image.specs.Kind.{FitsIn, IsOther}
@@ -23,15 +22,15 @@ use Rattle.ipc_image.specs.Relations.Restored.{IsClockOf}
 use Rattle.ipc_image.specs.Saved.{clock_sizes, clock_numbers, process_shape, process_tree, process_bytes, processes_bytes, FitsProcess}
 use Rattle.ipc_image.specs.Saved.{message_shape, message_tree, message_bytes, FitsMessage, messages_of, queue_sizes, queue_numbers, queue_bytes, queue_object}
 use Rattle.ipc_image.specs.Saved.{FitsQueue, semaphore_shape, semaphore_numbers, semaphore_bytes, FitsSemaphore, semaphores_of, set_sizes, set_numbers}
-use Rattle.ipc_image.specs.Saved.{set_bytes, set_object, FitsSet, mq_bytes, mq_object, FitsMq, waits_bytes, FitsWaiting, saved, HasAllPlaces}
+use Rattle.ipc_image.specs.Saved.{set_bytes, set_object, FitsSet, waits_bytes, FitsWaiting, named_objects, FitNamed, saved, HasAllPlaces}
 use Rattle.ipc_image.specs.Saved.{adjustment_shape, adjustment_numbers, adjustment_bytes, adjustments_in, adjustments_bytes, FitsAdjustment}
-use Rattle.ipc_image.specs.SavedParts.{queue_from, set_from, with_more, put_processes, put_queues, put_sets, put_mqs}
+use Rattle.ipc_image.specs.SavedParts.{queue_from, set_from, with_more, with_more_named, put_processes, put_queues, put_sets}
 use Rattle.ipc_image.specs.Relations.Trees.{process_one, message_one, semaphore_one, adjustment_one}
 use Rattle.ipc_image.proofs.Attaching.{undo_one}
 use Rattle.ipc_image.specs.Relations.Entries.{entry_one}
-use Rattle.ipc_image.specs.Relations.Mqs.{mq_one}
 use Rattle.ipc_image.specs.Relations.Shapes.{plain_one, counted_one}
-use Rattle.ipc_image.proofs.ReadKinds.{object_at, objects_one, later-kind, later-both}
+use Rattle.ipc_image.proofs.NamedObjects.{NamedLists, listed, named_one, later-named}
+use Rattle.ipc_image.proofs.ReadKinds.{object_at, objects_one, later-both}
 use Rattle.ipc_image.proofs.RestoredParts.{clock_one}
 use Rattle.ipc_image.proofs.SavedObjects.{things}
 use Rattle.ipc_image.proofs.WaitingCalls.{waits_one}
@@ -71,8 +70,8 @@ same_object objects i a b is also =
 
 -- the state that has these
 abbrev pub state_of : Numbers → List (ℕ × Process) → List PlainWaiting → List (ℕ × Undo) → List (ℕ × Entry Queue) → List (ℕ × Entry Set)
-    → List (ℕ × NamedEntry Mq) → State
-state_of n ps ws us es fs ms =
+    → NamedObjects → State
+state_of n ps ws us es fs o =
     record {
       clock = n.clock.0;
       processes = record { next = n.next_pid; entries = ps };
@@ -80,7 +79,9 @@ state_of n ps ws us es fs ms =
       undo = us;
       msg = record { next = n.next_queue; entries = es };
       sem = record { next = n.next_set; entries = fs };
-      mq = record { next = n.next_mq; entries = ms };
+      mq = record { next = n.next_mq; entries = o.mq.entries };
+      named_sem = record { next = n.next_named_sem; entries = o.named_sem.entries };
+      shm = record { next = n.next_segment; entries = o.shm.entries };
     }
 
 -- with these adjustments
@@ -88,12 +89,12 @@ abbrev pub put_undo : State × Limits → List (ℕ × Undo) → State × Limits
 put_undo s us = (record s.0 { undo = us }, s.1)
 
 pub all-added : (n : Numbers) (limits : Limits) (one two three four five six seven : State × Limits) (ps : List (ℕ × Process)) (ws : List PlainWaiting)
-    (us : List (ℕ × Undo)) (es : List (ℕ × Entry Queue)) (fs : List (ℕ × Entry Set)) (ms : List (ℕ × NamedEntry Mq)) → one ≡ (with_numbers start n, limits)
+    (us : List (ℕ × Undo)) (es : List (ℕ × Entry Queue)) (fs : List (ℕ × Entry Set)) (o : NamedObjects) → one ≡ (with_numbers start n, limits)
     → two ≡ with_more (λ s. s.0.processes.entries) put_processes one ps → three ≡ (with_waits two.0 ws, two.1) → four ≡ put_undo three us
     → five ≡ with_more (λ s. s.0.msg.entries) put_queues four es → six ≡ with_more (λ s. s.0.sem.entries) put_sets five fs
-    → seven ≡ with_more (λ s. s.0.mq.entries) put_mqs six ms → seven ≡ (state_of n ps ws us es fs ms, limits)
-all-added n limits one two three four five six seven ps ws us es fs ms from processes waits undo queues sets mqs =
-    mqs ∙ ap (λ (s : State × Limits). put_mqs s (s.0.mq.entries ++ ms)) (sets ∙ ap (λ (s : State × Limits). put_sets s (s.0.sem.entries ++ fs)) (queues ∙ ap (λ (s : State × Limits). put_queues s (s.0.msg.entries ++ es))
+    → seven ≡ with_more_named six o → seven ≡ (state_of n ps ws us es fs o, limits)
+all-added n limits one two three four five six seven ps ws us es fs o from processes waits undo queues sets named =
+    named ∙ ap (λ (s : State × Limits). with_more_named s o) (sets ∙ ap (λ (s : State × Limits). put_sets s (s.0.sem.entries ++ fs)) (queues ∙ ap (λ (s : State × Limits). put_queues s (s.0.msg.entries ++ es))
     (undo ∙ ap (λ (s : State × Limits). put_undo s us) (waits ∙ ap (λ (s : State × Limits). let t : State × Limits = (with_waits s.0 ws, s.1) in t)
     (processes ∙ ap (λ (s : State × Limits). put_processes s (s.0.processes.entries ++ ps)) from)))))
 
@@ -119,17 +120,17 @@ pub record AreAdjustmentsRead (ps : List (ℕ × Process)) (us : List (ℕ × Un
 
 -- the objects are those of the state that they make; its numbers have their places, if no two processes have the same pid
 pub all_restored : (objects : PlainObjects) (n : Numbers) (ps : List (ℕ × Process)) (ws : List PlainWaiting) (us : List (ℕ × Undo))
-    (es : List (ℕ × Entry Queue)) (fs : List (ℕ × Entry Set)) (ms : List (ℕ × NamedEntry Mq)) (s : State) (clock processes calls adjustments : List ℕ)
+    (es : List (ℕ × Entry Queue)) (fs : List (ℕ × Entry Set)) (o : NamedObjects) (s : State) (clock processes calls adjustments : List ℕ)
     → slice_get objects 0 ≡ Some (0, clock) → slice_get objects 1 ≡ Some (1, processes) → slice_get objects 2 ≡ Some (2, calls)
     → slice_get objects 3 ≡ Some (3, adjustments) → AreAdjustmentsRead ps us adjustments → IsClockOf n clock
     → length ps < 2 ^ 32 → All FitsProcess ps → processes ≡ processes_bytes ps
     → length ws < 2 ^ 32 → All FitsWaiting ws → HaveDistinctPids ws → calls ≡ waits_bytes ws → All (FitsIn FitsQueue) es → All (FitsIn FitsSet) fs
-    → All (FitsIn FitsMq) ms → drop 4 objects ≡ map queue_object es ++ (map set_object fs ++ map mq_object ms) → s ≡ state_of n ps ws us es fs ms
+    → FitNamed o → drop 4 objects ≡ map queue_object es ++ (map set_object fs ++ named_objects o) → s ≡ state_of n ps ws us es fs o
     → (IsDistinct nat_eq (keys_of s.undo) → HasAllPlaces s) × (objects ≡ saved s)
-all_restored objects n ps ws us es fs ms s clock processes calls adjustments at0 at1 at2 at3 adjusted of few fit read less fits distinct heard places
+all_restored objects n ps ws us es fs o s clock processes calls adjustments at0 at1 at2 at3 adjusted of few fit read less fits distinct heard places
     holds named others is =
-    let t : State = state_of n ps ws us es fs ms in
-    let numbers = of t refl refl refl refl refl in
+    let t : State = state_of n ps ws us es fs o in
+    let numbers = of t refl refl refl refl refl refl refl in
     let all : IsDistinct nat_eq (keys_of us) → HasAllPlaces t = λ apart. record {
       clock = numbers.0;
       count = few;
@@ -143,7 +144,7 @@ all_restored objects n ps ws us es fs ms s clock processes calls adjustments at0
       distinct = apart;
       queues = places;
       sets = holds;
-      mqs = named;
+      named = record { mqs = named.mqs; named_sems = named.named_sems; segments = named.segments };
     } in
     let parts : HasParts t objects = record {
       clock = at0 ∙ ap (λ (l : List ℕ). let o : Option (ℕ × List ℕ) = Some (0, l) in o) numbers.1;
@@ -156,10 +157,10 @@ all_restored objects n ps ws us es fs ms s clock processes calls adjustments at0
 
 -- ---- told apart
 
--- a state with these processes, waiting calls, adjustments, queues, semaphore sets and POSIX queues
+-- a state with these processes, waiting calls, adjustments, queues, semaphore sets, and those with a name
 abbrev with_parts : State → List (ℕ × Process) → List PlainWaiting → List (ℕ × Undo) → List (ℕ × Entry Queue) → List (ℕ × Entry Set)
-    → List (ℕ × NamedEntry Mq) → State
-with_parts u ps ws us es fs ms =
+    → NamedObjects → State
+with_parts u ps ws us es fs o =
     record {
       clock = u.clock;
       processes = record { next = u.processes.next; entries = ps };
@@ -167,7 +168,9 @@ with_parts u ps ws us es fs ms =
       undo = us;
       msg = record { next = u.msg.next; entries = es };
       sem = record { next = u.sem.next; entries = fs };
-      mq = record { next = u.mq.next; entries = ms };
+      mq = record { next = u.mq.next; entries = o.mq.entries };
+      named_sem = record { next = u.named_sem.next; entries = o.named_sem.entries };
+      shm = record { next = u.shm.next; entries = o.shm.entries };
     }
 
 -- two queues with the same bytes, and two semaphore sets
@@ -183,16 +186,16 @@ set_one =
     (plain_one semaphore_shape semaphore_numbers FitsSemaphore (λ x fit. fit.1) semaphore_one) set_from (λ s. refl)
 
 -- what follows the queues, and what follows the semaphore sets, is of other kinds
-abbrev pub sets_and_mqs : State → PlainObjects
-sets_and_mqs s = map set_object s.sem.entries ++ map mq_object s.mq.entries
+abbrev pub sets_and_named : State → PlainObjects
+sets_and_named s = map set_object s.sem.entries ++ named_objects (named_in s)
 
-pub after-queues : (s : State) → IsOther (2 ^ 32) (sets_and_mqs s)
+pub after-queues : (s : State) → IsOther (2 ^ 32) (sets_and_named s)
 after-queues s =
-    later-both (2 ^ 32) (2 * 2 ^ 32) set_bytes s.sem.entries (map mq_object s.mq.entries) (omega arith)
-    (later-kind (2 ^ 32) (3 * 2 ^ 32) mq_bytes s.mq.entries (omega arith))
+    later-both (2 ^ 32) (2 * 2 ^ 32) set_bytes s.sem.entries (named_objects (named_in s)) (omega arith)
+    (later-named (2 ^ 32) (named_in s) (omega arith))
 
-pub after-sets : (s : State) → IsOther (2 * 2 ^ 32) (map mq_object s.mq.entries)
-after-sets s = later-kind (2 * 2 ^ 32) (3 * 2 ^ 32) mq_bytes s.mq.entries (omega arith)
+pub after-sets : (s : State) → IsOther (2 * 2 ^ 32) (named_objects (named_in s))
+after-sets s = later-named (2 * 2 ^ 32) (named_in s) (omega arith)
 
 -- two states
 pub saved_once : (s t : State) → HasAllPlaces s → HasAllPlaces t → saved s ≡ saved t → s ≡ t
@@ -210,19 +213,18 @@ saved_once s t at also same =
     at.adjustment_count also.adjustment_count at.adjustments also.adjustments (same_object objects 3 _ _ mine.adjustments its.adjustments) in
     let undo = undo_one s.undo t.undo at.distinct
     (at.undo_pids ∙ ap (λ (l : List (ℕ × Process)). keys_of l) processes ∙ sym also.undo_pids) adjustments in
-    let queues = objects_one (2 ^ 32) queue_bytes FitsQueue queue_one s.msg.entries t.msg.entries (sets_and_mqs s)
-    (sets_and_mqs t) at.queues also.queues (after-queues s) (after-queues t) (sym mine.things ∙ its.things) in
-    let sets = objects_one (2 * 2 ^ 32) set_bytes FitsSet set_one s.sem.entries t.sem.entries (map mq_object s.mq.entries) (map mq_object t.mq.entries)
+    let queues = objects_one (2 ^ 32) queue_bytes FitsQueue queue_one s.msg.entries t.msg.entries (sets_and_named s)
+    (sets_and_named t) at.queues also.queues (after-queues s) (after-queues t) (sym mine.things ∙ its.things) in
+    let sets = objects_one (2 * 2 ^ 32) set_bytes FitsSet set_one s.sem.entries t.sem.entries (named_objects (named_in s)) (named_objects (named_in t))
     at.sets also.sets (after-sets s) (after-sets t) queues.1 in
-    let mqs = objects_one (3 * 2 ^ 32) mq_bytes FitsMq mq_one s.mq.entries t.mq.entries [] [] at.mqs also.mqs tt tt
-    (ap (λ (os : PlainObjects). os ++ []) sets.1) in
-    ap (λ (u : State). with_parts u ps s.wait s.undo s.msg.entries s.sem.entries s.mq.entries) clock
-    ∙ ap (λ (l : List (ℕ × Process)). with_parts t l s.wait s.undo s.msg.entries s.sem.entries s.mq.entries) processes
-    ∙ ap (λ (ws : List PlainWaiting). with_parts t qs ws s.undo s.msg.entries s.sem.entries s.mq.entries) waits
-    ∙ ap (λ (us : List (ℕ × Undo)). with_parts t qs t.wait us s.msg.entries s.sem.entries s.mq.entries) undo
-    ∙ ap (λ (es : List (ℕ × Entry Queue)). with_parts t qs t.wait t.undo es s.sem.entries s.mq.entries) queues.0
-    ∙ ap (λ (fs : List (ℕ × Entry Set)). with_parts t qs t.wait t.undo t.msg.entries fs s.mq.entries) sets.0
-    ∙ ap (λ (ms : List (ℕ × NamedEntry Mq)). with_parts t qs t.wait t.undo t.msg.entries t.sem.entries ms) mqs.0
+    let named = named_one (named_in s) (named_in t) at.named also.named sets.1 in
+    ap (λ (u : State). with_parts u ps s.wait s.undo s.msg.entries s.sem.entries (named_in s)) clock
+    ∙ ap (λ (l : List (ℕ × Process)). with_parts t l s.wait s.undo s.msg.entries s.sem.entries (named_in s)) processes
+    ∙ ap (λ (ws : List PlainWaiting). with_parts t qs ws s.undo s.msg.entries s.sem.entries (named_in s)) waits
+    ∙ ap (λ (us : List (ℕ × Undo)). with_parts t qs t.wait us s.msg.entries s.sem.entries (named_in s)) undo
+    ∙ ap (λ (es : List (ℕ × Entry Queue)). with_parts t qs t.wait t.undo es s.sem.entries (named_in s)) queues.0
+    ∙ ap (λ (fs : List (ℕ × Entry Set)). with_parts t qs t.wait t.undo t.msg.entries fs (named_in s)) sets.0
+    ∙ ap (λ (o : NamedLists). with_parts t qs t.wait t.undo t.msg.entries t.sem.entries (listed (named_in t) o)) named
 
 -- what was read is the state, if one has these objects
 pub restored_once : (s t : State) (objects : PlainObjects) (ps : List (ℕ × Process)) (processes : List ℕ) → HasAllPlaces s → objects ≡ saved s

@@ -5,3 +5,4 @@ pub mod Trees
 pub mod Entries
 pub mod Mqs
 pub mod Adjustments
+pub mod Named

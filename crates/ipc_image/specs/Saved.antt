@@ -1,8 +1,7 @@
 -- The state as objects, each of them some bytes under a number: what a checkpoint keeps. There are four that every
--- state has, one for each message queue, one for each semaphore set, and one for each POSIX queue. Kinds that are still
--- to come have their place: their next number is 1. Of a call that waits the object on which it waits is not kept: its
--- request says it.
-use Rattle.std.specs.Prelude.{◌≡◌, ◌*◌, ◌-◌, ◌<◌, ◌≤◌, ◌^◌, ℕ, ℤ, List, [], ◌∷◌, ◌++◌}
+-- state has, and one for each message queue, semaphore set, POSIX queue, named semaphore and segment. Of a call that
+-- waits the object on which it waits is not kept: its request says it.
+use Rattle.std.specs.Prelude.{◌≡◌, ◌+◌, ◌*◌, ◌-◌, ◌<◌, ◌≤◌, ◌^◌, ℕ, ℤ, List, [], ◌∷◌, ◌++◌}
 use Rattle.std.specs.Prelude.{length, map, slice_index, All, FitsSigned, Option, Some, None, IfSome, nat_eq}
 use Rattle.std.specs.Prelude.{if◌then◌else◌}
 use Rattle.std.specs.FinMap as fin
@@ -17,6 +16,8 @@ use Rattle.ipc_wire.specs.Spelling.{HasFrame, request_bytes}
 use Rattle.sem_undo.specs.Undo.{Key, Undo, IsKept}
 use Rattle.posix_mq.specs.Queue.{Queue as Mq, PlainMessage as MqMessage}
 use Rattle.posix_mq.specs.declared.queue.Registration.{Registration}
+use Rattle.posix_sem.specs.Semaphore.{sem_value_max}
+use Rattle.shm_segment.specs.Segment.{Segment}
 use Rattle.sysv_msg.specs.Queue.{Queue, PlainMessage}
 use Rattle.sysv_sem.specs.Operation.{most_value}
 use Rattle.sysv_sem.specs.declared.set.Semaphore.{Semaphore}
@@ -29,7 +30,8 @@ use Rattle.ipc_state.specs.declared.keyed.Entry.{Entry}
 use Rattle.ipc_state.specs.declared.named.NamedEntry.{NamedEntry}
 use Rattle.ipc_state.specs.declared.processes.Process.{Process}
 use Rattle.ipc_engine.specs.Sound.{IsSound}
-use Rattle.ipc_state.specs.State.{State}
+use Rattle.ipc_state.specs.Opening.{NamedObjects}
+use Rattle.ipc_state.specs.State.{State, named_in}
 use Rattle.ipc_state.specs.Waiting.{PlainWaiting, awaited_by}
 use Rattle.ipc_base.specs.declared.field.Size.{Size}
 use Rattle.ipc_base.specs.declared.field.Size.TheVariants.{Two, Four, Eight}
@@ -39,13 +41,14 @@ use Rattle.ipc_image.specs.Shape.{Shape, Fields, Texts, Tree, IsTree, bytes_in}
 
 -- ---- the four that every state has
 
--- the clock, the next pid, and the next number of each of five kinds: message queues, semaphore sets, POSIX queues, and
--- two that are to come
+-- the clock, the next pid, and the next number of each of five kinds: message queues, semaphore sets, POSIX queues,
+-- named semaphores, segments
 abbrev pub clock_sizes : List Size
 clock_sizes = Eight ∷ Four ∷ Four ∷ Four ∷ Four ∷ Four ∷ Four ∷ []
 
 abbrev pub clock_numbers : State → List ℕ
-clock_numbers s = s.clock ∷ s.processes.next ∷ s.msg.next ∷ s.sem.next ∷ s.mq.next ∷ 1 ∷ 1 ∷ []
+clock_numbers s =
+    s.clock ∷ s.processes.next ∷ s.msg.next ∷ s.sem.next ∷ s.mq.next ∷ s.named_sem.next ∷ s.shm.next ∷ []
 
 abbrev pub count_bytes : ℕ → List ℕ
 count_bytes n = fields_bytes (Four ∷ []) (n ∷ [])
@@ -54,12 +57,17 @@ count_bytes n = fields_bytes (Four ∷ []) (n ∷ [])
 abbrev pub counted_bytes : {X : Type 0} → (X → List ℕ) → List X → List ℕ
 counted_bytes bytes_of xs = count_bytes (length xs) ++ flat_map bytes_of xs
 
--- what a descriptor is open on: its kind, of which 3 is a POSIX queue, and its number
+-- what a descriptor is open on: its kind, of which 3 is a POSIX queue, 4 a named semaphore and 5 a segment, and its
+-- number
 abbrev pub opened_kind : Opened → ℕ
 opened_kind (opened.Queue number) = 3
+opened_kind (opened.Semaphore number) = 4
+opened_kind (opened.Segment number) = 5
 
 abbrev pub opened_number : Opened → ℕ
 opened_number (opened.Queue number) = number
+opened_number (opened.Semaphore number) = number
+opened_number (opened.Segment number) = number
 
 -- a descriptor: its number, what it is open on, and its flags
 abbrev pub descriptor_sizes : List Size
@@ -277,15 +285,66 @@ mq_bytes e = bytes_in mq_shape mq_tree e ++ flat_map mq_message_bytes (mq_messag
 abbrev pub mq_object : ℕ × NamedEntry Mq → ℕ × List ℕ
 mq_object = object_in (3 * 2 ^ 32) mq_bytes
 
+-- ---- named semaphores
+
+-- uid, gid, mode, value, how long the name is
+abbrev pub named_sem_sizes : List Size
+named_sem_sizes = Four ∷ Four ∷ Four ∷ Four ∷ Four ∷ []
+
+abbrev pub named_sem_numbers : NamedEntry ℕ → List ℕ
+named_sem_numbers e = e.owner.uid ∷ e.owner.gid ∷ e.mode ∷ e.object ∷ length e.name ∷ []
+
+-- these, and the name
+abbrev pub named_sem_shape : Shape
+named_sem_shape = Texts named_sem_sizes (λ ns. slice_index ns 4)
+
+abbrev pub named_sem_tree : NamedEntry ℕ → Tree named_sem_shape
+named_sem_tree e = (named_sem_numbers e, e.name)
+
+abbrev pub named_sem_bytes : NamedEntry ℕ → List ℕ
+named_sem_bytes = bytes_in named_sem_shape named_sem_tree
+
+-- its object
+abbrev pub named_sem_object : ℕ × NamedEntry ℕ → ℕ × List ℕ
+named_sem_object = object_in (4 * 2 ^ 32) named_sem_bytes
+
+-- ---- segments
+
+-- uid, gid, mode, how long the name is, how many bytes it has
+abbrev pub segment_sizes : List Size
+segment_sizes = Four ∷ Four ∷ Four ∷ Four ∷ Eight ∷ []
+
+abbrev pub segment_numbers : NamedEntry Segment → List ℕ
+segment_numbers e = e.owner.uid ∷ e.owner.gid ∷ e.mode ∷ length e.name ∷ length e.object.bytes ∷ []
+
+-- these, the name, and the bytes
+abbrev pub segment_shape : Shape
+segment_shape = Texts segment_sizes (λ ns. slice_index ns 3 + slice_index ns 4)
+
+abbrev pub segment_tree : NamedEntry Segment → Tree segment_shape
+segment_tree e = (segment_numbers e, e.name ++ e.object.bytes)
+
+abbrev pub segment_bytes : NamedEntry Segment → List ℕ
+segment_bytes = bytes_in segment_shape segment_tree
+
+-- its object
+abbrev pub segment_object : ℕ × NamedEntry Segment → ℕ × List ℕ
+segment_object = object_in (5 * 2 ^ 32) segment_bytes
+
 -- ---- all of it
 
+-- those with a name, each kind by number
+abbrev pub named_objects : NamedObjects → PlainObjects
+named_objects o =
+    map mq_object o.mq.entries ++ (map named_sem_object o.named_sem.entries ++ map segment_object o.shm.entries)
+
 -- the objects: the clock, the processes, the waiting calls, the adjustments, the queues by identifier, the semaphore
--- sets by identifier, and the POSIX queues by number
+-- sets by identifier, and those with a name
 unfoldable pub saved : State → PlainObjects
 saved s =
     (0, fields_bytes clock_sizes (clock_numbers s)) ∷ (1, processes_bytes s.processes.entries)
     ∷ (2, waits_bytes s.wait) ∷ (3, adjustments_bytes s.undo)
-    ∷ map queue_object s.msg.entries ++ (map set_object s.sem.entries ++ map mq_object s.mq.entries)
+    ∷ map queue_object s.msg.entries ++ (map set_object s.sem.entries ++ named_objects (named_in s))
 
 -- ---- each number has its place
 
@@ -333,6 +392,18 @@ FitsMqMessage m = IsTree mq_message_shape (mq_message_tree m)
 abbrev pub FitsMq : NamedEntry Mq → Type 0
 FitsMq e = IsTree mq_shape (mq_tree e) × All FitsMqMessage (mq_messages e.object)
 
+abbrev pub FitsNamedSem : NamedEntry ℕ → Type 0
+FitsNamedSem e = (e.object ≤ sem_value_max) × IsTree named_sem_shape (named_sem_tree e)
+
+abbrev pub FitsSegment : NamedEntry Segment → Type 0
+FitsSegment e = IsTree segment_shape (segment_tree e)
+
+-- of those with a name
+pub record FitNamed (o : NamedObjects) : Type 0 where
+  pub mqs : All (FitsIn FitsMq) o.mq.entries
+  pub named_sems : All (FitsIn FitsNamedSem) o.named_sem.entries
+  pub segments : All (FitsIn FitsSegment) o.shm.entries
+
 -- of the state
 pub record HasAllPlaces (s : State) : Type 0 where
   pub clock : FitFields clock_sizes (clock_numbers s)
@@ -349,7 +420,7 @@ pub record HasAllPlaces (s : State) : Type 0 where
   pub distinct : IsDistinct nat_eq (keys_of s.undo)
   pub queues : All (FitsIn FitsQueue) s.msg.entries
   pub sets : All (FitsIn FitsSet) s.sem.entries
-  pub mqs : All (FitsIn FitsMq) s.mq.entries
+  pub named : FitNamed (named_in s)
 
 -- the objects stand for a sound state
 pub record StandForState (limits : Limits) (s : State) (objects : PlainObjects) : Type 0 where

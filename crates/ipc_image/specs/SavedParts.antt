@@ -17,6 +17,7 @@ use Rattle.sem_undo.specs.Undo.{Undo, entry_of as row_entry}
 use Rattle.sem_undo.specs.declared.undo.UndoRow.{UndoRow}
 use Rattle.posix_mq.specs.Queue.{Queue as Mq, PlainMessage as MqMessage}
 use Rattle.posix_mq.specs.declared.queue.Registration.{Registration}
+use Rattle.shm_segment.specs.Segment.{Segment}
 use Rattle.sysv_msg.specs.Queue.{Queue, PlainMessage}
 use Rattle.sysv_sem.specs.declared.set.Semaphore.{Semaphore}
 use Rattle.sysv_sem.specs.Set.{Set}
@@ -24,6 +25,7 @@ use Rattle.ipc_perm.specs.declared.perm.Perm.{Perm}
 use Rattle.ipc_state.specs.declared.parked.Awaited.{Awaited}
 use Rattle.ipc_state.specs.declared.parked.Awaited.TheVariants as awaited
 use Rattle.ipc_state.specs.declared.descriptors.Descriptor.{Descriptor}
+use Rattle.ipc_state.specs.declared.descriptors.Opened.{Opened}
 use Rattle.ipc_state.specs.declared.descriptors.Opened.TheVariants as opened
 use Rattle.ipc_state.specs.declared.processes.Process.{Process}
 use Rattle.ipc_state.specs.declared.keyed.Entry.{Entry}
@@ -31,7 +33,8 @@ use Rattle.ipc_state.specs.declared.named.NamedEntry.{NamedEntry}
 use Rattle.ipc_state.specs.Descriptors.{Table}
 use Rattle.ipc_state.specs.declared.numbered.Item.{Item}
 use Rattle.ipc_state.specs.declared.state.Numbers.{Numbers}
-use Rattle.ipc_state.specs.State.{State}
+use Rattle.ipc_state.specs.Opening.{NamedObjects}
+use Rattle.ipc_state.specs.State.{State, named_in}
 use Rattle.ipc_state.specs.Tables.{item_row}
 use Rattle.ipc_state.specs.Waiting.{PlainWaiting, awaited_by}
 use Rattle.ipc_image.specs.declared.state_objects.Thing.{Thing}
@@ -39,6 +42,7 @@ use Rattle.ipc_image.specs.declared.state_objects.Thing.TheVariants as thing
 use Rattle.ipc_image.specs.Kind.{FitsIn}
 use Rattle.ipc_image.specs.Saved.{Adjustment, process_bytes, waiting_bytes, message_bytes, queue_object, FitsQueue}
 use Rattle.ipc_image.specs.Saved.{semaphore_bytes, set_object, FitsSet, mq_message_bytes, mq_object, FitsMq, saved}
+use Rattle.ipc_image.specs.Saved.{named_sem_object, FitsNamedSem, segment_object, FitsSegment}
 
 -- ---- what was added
 
@@ -52,7 +56,7 @@ pub record IsPlace {S X : Type 0} (items : S → List X) (put : S → List X →
   pub found : (s : S) (xs : List X) → items (put s xs) ≡ xs
   pub again : (s : S) (xs ys : List X) → put (put s xs) ys ≡ put s ys
 
--- the processes of a state, its queues, its semaphore sets, and its POSIX queues
+-- the processes of a state, its queues, its semaphore sets, its POSIX queues, its named semaphores, and its segments
 abbrev pub put_processes : State × Limits → List (ℕ × Process) → State × Limits
 put_processes s xs = (record s.0 { processes = record { next = s.0.processes.next; entries = xs } }, s.1)
 
@@ -64,6 +68,19 @@ put_sets s xs = (record s.0 { sem = record { next = s.0.sem.next; entries = xs }
 
 abbrev pub put_mqs : State × Limits → List (ℕ × NamedEntry Mq) → State × Limits
 put_mqs s xs = (record s.0 { mq = record { next = s.0.mq.next; entries = xs } }, s.1)
+
+abbrev pub put_named_sems : State × Limits → List (ℕ × NamedEntry ℕ) → State × Limits
+put_named_sems s xs = (record s.0 { named_sem = record { next = s.0.named_sem.next; entries = xs } }, s.1)
+
+abbrev pub put_segments : State × Limits → List (ℕ × NamedEntry Segment) → State × Limits
+put_segments s xs = (record s.0 { shm = record { next = s.0.shm.next; entries = xs } }, s.1)
+
+-- those of each kind with a name after those that are there
+abbrev pub with_more_named : State × Limits → NamedObjects → State × Limits
+with_more_named s o =
+    with_more (λ t. t.0.shm.entries) put_segments
+    (with_more (λ t. t.0.named_sem.entries) put_named_sems
+    (with_more (λ t. t.0.mq.entries) put_mqs s o.mq.entries) o.named_sem.entries) o.shm.entries
 
 -- with an adjustment of a process, if the process is there; with all of these
 abbrev pub attached : List (ℕ × Undo) → Adjustment → List (ℕ × Undo)
@@ -99,11 +116,19 @@ IsMarkOfSet e m = IsMarkIn semaphore_bytes e.1.object.semaphores m
 abbrev pub IsMarkOfMq : ℕ × NamedEntry Mq → Mark → Type 0
 IsMarkOfMq e m = IsMarkIn mq_message_bytes e.1.object.messages m
 
+-- an object without a list has any
+abbrev pub IsAnyMark : {X : Type 0} → X → Mark → Type 0
+IsAnyMark e m = Unit {0}
+
+-- of the one at a place among those with a name
+abbrev pub IsMarkOfNamed : NamedObjects → ℕ → Mark → Type 0
+IsMarkOfNamed o =
+    MarkAt IsMarkOfMq (MarkAt IsAnyMark (MarkAt IsAnyMark (λ at m. Unit {0}) o.shm.entries) o.named_sem.entries)
+    o.mq.entries
+
 -- of the one at a place after the four objects that every state has
 abbrev pub IsMarkAfter : State → ℕ → Mark → Type 0
-IsMarkAfter s =
-    MarkAt IsMarkOfQueue (MarkAt IsMarkOfSet (MarkAt IsMarkOfMq (λ at m. Unit {0}) s.mq.entries) s.sem.entries)
-    s.msg.entries
+IsMarkAfter s = MarkAt IsMarkOfQueue (MarkAt IsMarkOfSet (IsMarkOfNamed (named_in s)) s.sem.entries) s.msg.entries
 
 -- it is a mark of the i-th object; those of objects without a list are never looked at
 pub record IsMarkOf (s : State) (i : ℕ) (m : Mark) : Type 0 where
@@ -122,18 +147,24 @@ abbrev pub object_of : Thing → ℕ × List ℕ
 object_of (thing.Queue q) = queue_object (item_row q.now)
 object_of (thing.Set e) = set_object (item_row e.now)
 object_of (thing.Mq e) = mq_object (item_row e.now)
+object_of (thing.Sem e) = named_sem_object (item_row e.now)
+object_of (thing.Segment e) = segment_object (item_row e.now)
 
 -- each of its numbers has its place
 abbrev pub FitsThing : Thing → Type 0
 FitsThing (thing.Queue q) = FitsIn FitsQueue (item_row q.now)
 FitsThing (thing.Set e) = FitsIn FitsSet (item_row e.now)
 FitsThing (thing.Mq e) = FitsIn FitsMq (item_row e.now)
+FitsThing (thing.Sem e) = FitsIn FitsNamedSem (item_row e.now)
+FitsThing (thing.Segment e) = FitsIn FitsSegment (item_row e.now)
 
 -- the mark is of its parts
 abbrev pub IsMarkOfThing : Thing → Mark → Type 0
 IsMarkOfThing (thing.Queue q) m = IsMarkOfQueue (item_row q.now) m
 IsMarkOfThing (thing.Set e) m = IsMarkOfSet (item_row e.now) m
 IsMarkOfThing (thing.Mq e) m = IsMarkOfMq (item_row e.now) m
+IsMarkOfThing (thing.Sem e) m = Unit {0}
+IsMarkOfThing (thing.Segment e) m = Unit {0}
 
 -- this is the i-th object, and of what it is each number has its place
 pub record IsFound (s : State) (i : ℕ) (o : ℕ × List ℕ) (IsOfIt : Mark → Type 0) (Fits : Type 0) : Type 0 where
@@ -154,9 +185,14 @@ process_from ns descriptors = (
   },
 )
 
+-- what has this kind and this number; a kind that is none of them is taken for the last
+abbrev pub opened_from : ℕ → ℕ → Opened
+opened_from kind number =
+    if kind == 3 then opened.Queue number else if kind == 4 then opened.Semaphore number else opened.Segment number
+
 abbrev pub descriptor_of : List ℕ → ℕ × Descriptor
 descriptor_of ns =
-    (slice_index ns 0, record { on = opened.Queue (slice_index ns 2); flags = slice_index ns 3 })
+    (slice_index ns 0, record { on = opened_from (slice_index ns 1) (slice_index ns 2); flags = slice_index ns 3 })
 
 -- the adjustment of a process that a row is
 abbrev pub of_process : ℕ → UndoRow → Adjustment
@@ -259,16 +295,44 @@ mq_from t messages =
       };
     }
 
+abbrev pub named_sem_from : List ℕ × List ℕ → NamedEntry ℕ
+named_sem_from t =
+    record {
+      name = t.1;
+      owner = record { uid = slice_index t.0 0; gid = slice_index t.0 1 };
+      mode = slice_index t.0 2;
+      object = slice_index t.0 3;
+    }
+
+abbrev pub segment_from : List ℕ × List ℕ → NamedEntry Segment
+segment_from t =
+    record {
+      name = take (slice_index t.0 3) t.1;
+      owner = record { uid = slice_index t.0 0; gid = slice_index t.0 1 };
+      mode = slice_index t.0 2;
+      object = record { bytes = drop (slice_index t.0 3) t.1 };
+    }
+
 -- what is known of the sizes of a sound POSIX queue
 pub record IsSmallMq (e : NamedEntry Mq) : Type 0 where
   pub name : length e.name < 2 ^ 32
   pub count : length e.object.messages < 2 ^ 32
   pub texts : All (λ m. length m.text < 2 ^ 32) e.object.messages
 
--- the state that has these tables
+-- the named objects that have these tables
+abbrev pub seen_named : Numbers → List (Item (NamedEntry Mq)) → List (Item (NamedEntry ℕ))
+    → List (Item (NamedEntry Segment)) → NamedObjects
+seen_named n mqs sems segments =
+    record {
+      mq = record { next = n.next_mq; entries = map item_row mqs };
+      named_sem = record { next = n.next_named_sem; entries = map item_row sems };
+      shm = record { next = n.next_segment; entries = map item_row segments };
+    }
+
+-- the state that has these tables, and these named objects
 abbrev pub seen_state : Numbers → List (Item Process) → List PlainWaiting → List (Item Undo) → List (Item (Entry Queue))
-    → List (Item (Entry Set)) → List (Item (NamedEntry Mq)) → State
-seen_state n processes waits undo queues sets mqs =
+    → List (Item (Entry Set)) → NamedObjects → State
+seen_state n processes waits undo queues sets named =
     record {
       clock = n.clock.0;
       processes = record { next = n.next_pid; entries = map item_row processes };
@@ -276,5 +340,7 @@ seen_state n processes waits undo queues sets mqs =
       undo = map item_row undo;
       msg = record { next = n.next_queue; entries = map item_row queues };
       sem = record { next = n.next_set; entries = map item_row sets };
-      mq = record { next = n.next_mq; entries = map item_row mqs };
+      mq = named.mq;
+      named_sem = named.named_sem;
+      shm = named.shm;
     }

@@ -1,6 +1,6 @@
 //! The clock's object: the clock, and the next number of each kind.
 
-ghost use Rattle.std.specs.Prelude.{◌≡◌, ◌≢◌, ◌↔◌, [], ◌∷◌, IsTrue, IfSome, IfNone, slice_index};
+ghost use Rattle.std.specs.Prelude.{◌≡◌, ◌≢◌, [], ◌∷◌, IfSome, IfNone};
 ghost use Rattle.ipc_base.specs.Numbers.{fields_bytes, FitFields};
 ghost use Rattle.ipc_state.specs.State.{State as PlainState};
 ghost use Rattle.ipc_image.specs.Relations.Restored.{IsClockOf};
@@ -12,11 +12,11 @@ use crate::window::Window;
 use ipc_base::{Field, Moment, take_fields};
 use ipc_state::Numbers;
 
-/// The clock, the next pid, and the next number of each kind; kinds that are to come begin at 1.
+/// The clock, the next pid, and the next number of each kind.
 pub(crate) fn put_clock(window: &mut Window, numbers: Numbers)
     ensures { window.new ≡ passed (fields_bytes clock_sizes
         (numbers.clock.0 ∷ numbers.next_pid ∷ numbers.next_queue ∷ numbers.next_set
-        ∷ numbers.next_mq ∷ 1 ∷ 1 ∷ [])) window.old }
+        ∷ numbers.next_mq ∷ numbers.next_named_sem ∷ numbers.next_segment ∷ [])) window.old }
 {
     put_fields(
         window,
@@ -26,13 +26,13 @@ pub(crate) fn put_clock(window: &mut Window, numbers: Numbers)
             Field::U32(numbers.next_queue),
             Field::U32(numbers.next_set),
             Field::U32(numbers.next_mq),
-            Field::U32(1),
-            Field::U32(1),
+            Field::U32(numbers.next_named_sem),
+            Field::U32(numbers.next_segment),
         ],
     );
 }
 
-/// The clock's object. The next numbers of kinds that are still to come are 1.
+/// The clock's object.
 pub(crate) fn read_clock(bytes: &[u8]) -> Option<Numbers>
     ensures some { IfSome result (λ found. IsClockOf found bytes.now) }
     ensures none { IfNone result ((s : PlainState) → FitFields clock_sizes (clock_numbers s)
@@ -40,7 +40,7 @@ pub(crate) fn read_clock(bytes: &[u8]) -> Option<Numbers>
 {
     let sizes = [EIGHT, FOUR, FOUR, FOUR, FOUR, FOUR, FOUR];
     let (numbers, rest) = take_fields(bytes, &sizes)?;
-    if !rest.is_empty() || !are_to_come(&numbers) {
+    if !rest.is_empty() {
         return None;
     }
     Some(Numbers {
@@ -49,12 +49,7 @@ pub(crate) fn read_clock(bytes: &[u8]) -> Option<Numbers>
         next_queue: numbers[2] as u32,
         next_set: numbers[3] as u32,
         next_mq: numbers[4] as u32,
+        next_named_sem: numbers[5] as u32,
+        next_segment: numbers[6] as u32,
     })
-}
-
-// Whether the next numbers of the kinds that are to come are 1.
-fn are_to_come(numbers: &[u64; 7]) -> bool
-    ensures { IsTrue result ↔ (slice_index numbers.now 5 ≡ 1) × (slice_index numbers.now 6 ≡ 1) }
-{
-    numbers[5] == 1 && numbers[6] == 1
 }

@@ -21,8 +21,12 @@ use ipc_base::{Cred, Field, Pid, take_fields};
 use ipc_engine::StateFault;
 use ipc_state::{Descriptor, DescriptorRow, Descriptors, Item, Opened, Process, State};
 
-/// What a descriptor is open on, as a kind of objects: a POSIX queue.
+/// What a descriptor is open on, as a kind of objects: a POSIX queue, a named semaphore, a segment.
 const QUEUE: u32 = 3;
+
+const SEMAPHORE: u32 = 4;
+
+const SEGMENT: u32 = 5;
 
 impl Saved for DescriptorRow {
     type Into = Descriptors;
@@ -84,21 +88,25 @@ impl Saved for DescriptorRow {
     }
 }
 
-// The kind of what a descriptor is open on.
-fn kind_of(on: Opened) -> u32
+/// The kind of what a descriptor is open on.
+pub(crate) fn kind_of(on: Opened) -> u32
     ensures { result ≡ opened_kind on }
 {
     match on {
         Opened::Queue(_) => QUEUE,
+        Opened::Semaphore(_) => SEMAPHORE,
+        Opened::Segment(_) => SEGMENT,
     }
 }
 
-// And its number within the kind.
-fn number_of(on: Opened) -> u32
+/// And its number within the kind.
+pub(crate) fn number_of(on: Opened) -> u32
     ensures { result ≡ opened_number on }
 {
     match on {
         Opened::Queue(number) => number,
+        Opened::Semaphore(number) => number,
+        Opened::Segment(number) => number,
     }
 }
 
@@ -109,6 +117,8 @@ fn opened(kind: u32, number: u32) -> Option<Opened>
 {
     match kind {
         QUEUE => Some(Opened::Queue(number)),
+        SEMAPHORE => Some(Opened::Semaphore(number)),
+        SEGMENT => Some(Opened::Segment(number)),
         _ => None,
     }
 }

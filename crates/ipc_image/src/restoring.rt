@@ -1,12 +1,14 @@
 //! The machine whose state some objects are.
 
 ghost use Rattle.std.specs.Prelude.{◌≡◌, ◌≢◌, [], ℕ, List, Err, IfOk, OnOk, Some, IfSome};
-ghost use Rattle.std.specs.Prelude.{IfNone, slice_get, nat_eq};
+ghost use Rattle.std.specs.Prelude.{IfNone, drop, slice_get, nat_eq};
 ghost use Rattle.std.specs.List.{IsDistinct};
 ghost use Rattle.ipc_base.specs.Limits.{ArePassed};
 ghost use Rattle.ipc_base.specs.Table.{keys_of};
 ghost use Rattle.ipc_state.specs.State.{State as PlainState, start};
-ghost use Rattle.ipc_image.specs.Saved.{saved, HasAllPlaces, StandForState};
+ghost use Rattle.ipc_state.specs.Opening.{NamedObjects};
+ghost use Rattle.ipc_image.specs.Saved.{named_objects, saved, FitNamed, HasAllPlaces, StandForState};
+ghost use Rattle.ipc_image.specs.SavedParts.{with_more_named};
 
 use crate::adjustments::restore_adjustments;
 use crate::clock::read_clock;
@@ -17,6 +19,8 @@ use ipc_base::{Limits, ObjectMap, Objects};
 use ipc_engine::{Engine, StateFault};
 use ipc_state::{Entry, Item, NamedEntry, Process, State};
 use posix_mq::Mq;
+use posix_sem::NamedSem;
+use shm_segment::Segment;
 use std::alloc::Global;
 use sysv_msg::MsgQueue;
 use sysv_sem::SemSet;
@@ -66,7 +70,25 @@ fn restore(state: &mut State, alloc: Global, objects: &ObjectMap) -> Result<(), 
     restore_adjustments(state, alloc, adjustments)?;
     let next = restore_kind::<Entry<MsgQueue>>(state, alloc, objects, ALWAYS)?;
     let next = restore_kind::<Entry<SemSet>>(state, alloc, objects, next)?;
-    let next = restore_kind::<NamedEntry<Mq>>(state, alloc, objects, next)?;
+    restore_named(state, alloc, objects, next)?;
+    Ok(())
+}
+
+// The objects of those with a name, kind by kind, from this place to the last.
+fn restore_named(
+    state: &mut State,
+    alloc: Global,
+    objects: &ObjectMap,
+    from: u32,
+) -> Result<(), StateFault>
+    ensures ok { OnOk result ((o : NamedObjects) × FitNamed o × (drop from objects.now ≡ named_objects o)
+        × ((state.new.state, state.new.limits) ≡ with_more_named (state.old.state, state.old.limits) o)) }
+    ensures damaged { result ≡ Err StateFault.Unsound → (o : NamedObjects) → FitNamed o
+        → drop from objects.now ≢ named_objects o }
+{
+    let next = restore_kind::<NamedEntry<Mq>>(state, alloc, objects, from)?;
+    let next = restore_kind::<NamedEntry<NamedSem>>(state, alloc, objects, next)?;
+    let next = restore_kind::<NamedEntry<Segment>>(state, alloc, objects, next)?;
     if next < objects.count() {
         return Err(StateFault::Unsound);
     }

@@ -4,9 +4,10 @@ ghost use Rattle.std.specs.Prelude.{◌≡◌, ◌≤◌, ◌<◌, ◌-◌, ◌^
 ghost use Rattle.ipc_base.specs.declared.limits.Limits.{Limits};
 ghost use Rattle.ipc_base.specs.Limits.{ArePassed};
 ghost use Rattle.ipc_base.specs.Objects.{Fit};
-ghost use Rattle.ipc_state.specs.State.{start};
-ghost use Rattle.ipc_image.specs.Saved.{saved, StandForState};
-ghost use Rattle.ipc_image.specs.SavedParts.{IsFound, IsMarkOf, IsMarkOfThing, FitsThing, object_of};
+ghost use Rattle.ipc_state.specs.State.{named_in, start};
+ghost use Rattle.ipc_image.specs.Saved.{named_objects, saved, StandForState};
+ghost use Rattle.ipc_image.specs.SavedParts.{IsFound, IsMarkOf, IsMarkOfNamed, IsMarkOfThing, FitsThing};
+ghost use Rattle.ipc_image.specs.SavedParts.{Stands, object_of};
 ghost use Rattle.ipc_image.specs.Sizes.{area_of};
 ghost use Rattle.ipc_image.specs.Window.{passed};
 
@@ -22,13 +23,15 @@ use ipc_engine::Engine;
 use ipc_state::{Awaited, Entry, Item, NamedEntry, Numbers, Parked, Process};
 use ipc_wait::Waiting;
 use posix_mq::Mq;
+use posix_sem::NamedSem;
 use sem_undo::SemUndo;
+use shm_segment::Segment;
 use std::marker::Model;
 use sysv_msg::MsgQueue;
 use sysv_sem::SemSet;
 
-/// The objects of a state: four that every state has, one for each message queue, one for each semaphore set, and
-/// one for each POSIX queue. A contract sees the state. Each object counts as changed.
+/// The objects of a state: four that every state has, and one for each message queue, semaphore set, POSIX queue, named
+/// semaphore and segment. A contract sees the state. Each object counts as changed.
 #[derive(Drop)]
 pub struct StateObjects<'a> {
     numbers: Numbers,
@@ -38,6 +41,8 @@ pub struct StateObjects<'a> {
     queues: &'a [Item<Entry<MsgQueue>>],
     sets: &'a [Item<Entry<SemSet>>],
     mqs: &'a [Item<NamedEntry<Mq>>],
+    sems: &'a [Item<NamedEntry<NamedSem>>],
+    segments: &'a [Item<NamedEntry<Segment>>],
 }
 
 /// What has an object of its own.
@@ -46,6 +51,8 @@ pub(crate) enum Thing<'a> {
     Queue(&'a Item<Entry<MsgQueue>>),
     Set(&'a Item<Entry<SemSet>>),
     Mq(&'a Item<NamedEntry<Mq>>),
+    Sem(&'a Item<NamedEntry<NamedSem>>),
+    Segment(&'a Item<NamedEntry<Segment>>),
 }
 
 impl<'a> Model for StateObjects<'a> {
@@ -54,19 +61,22 @@ impl<'a> Model for StateObjects<'a> {
     ghost use Rattle.sem_undo.specs.Undo.{undo_code};
     ghost use Rattle.ipc_state.specs.State.{State as PlainState};
     ghost use Rattle.ipc_image.specs.Saved.{saved, HasAllPlaces};
-    ghost use Rattle.ipc_image.specs.SavedParts.{seen_state};
+    ghost use Rattle.ipc_image.specs.SavedParts.{seen_named, seen_state};
 
     ghost Value = { PlainState };
 
     ghost coded = { Prim.hlevel (codes, undo_code) };
 
     ghost view = { λ o.
-        seen_state o.numbers o.processes.now o.waits.now o.undo.now o.queues.now o.sets.now o.mqs.now };
+        seen_state o.numbers o.processes.now o.waits.now o.undo.now o.queues.now o.sets.now
+        (seen_named o.numbers o.mqs.now o.sems.now o.segments.now) };
 
     ghost invariant = { λ o.
-        HasAllPlaces (seen_state o.numbers o.processes.now o.waits.now o.undo.now o.queues.now o.sets.now o.mqs.now)
+        HasAllPlaces (seen_state o.numbers o.processes.now o.waits.now o.undo.now o.queues.now o.sets.now
+        (seen_named o.numbers o.mqs.now o.sems.now o.segments.now))
         × AreObjects (saved
-        (seen_state o.numbers o.processes.now o.waits.now o.undo.now o.queues.now o.sets.now o.mqs.now)) };
+        (seen_state o.numbers o.processes.now o.waits.now o.undo.now o.queues.now o.sets.now
+        (seen_named o.numbers o.mqs.now o.sems.now o.segments.now))) };
 }
 
 /// The state of the machine as objects. It takes no memory. They stand for that state, and fit where
@@ -85,6 +95,8 @@ pub fn objects_of<'a>(engine: &'a Engine) -> StateObjects<'a>
             next_queue: state.next_queue(),
             next_set: state.next_set(),
             next_mq: state.next_mq(),
+            next_named_sem: state.named_sems().next(),
+            next_segment: state.segments().next(),
         },
         processes: state.processes(),
         waits: state.waits(),
@@ -92,6 +104,8 @@ pub fn objects_of<'a>(engine: &'a Engine) -> StateObjects<'a>
         queues: state.queues(),
         sets: state.sets(),
         mqs: state.mqs(),
+        sems: state.named_sems().items(),
+        segments: state.segments().items(),
     }
 }
 
@@ -107,6 +121,8 @@ pub fn start_objects() -> StateObjects<'static>
             next_queue: 1,
             next_set: 1,
             next_mq: 1,
+            next_named_sem: 1,
+            next_segment: 1,
         },
         processes: &[],
         waits: &[],
@@ -114,6 +130,8 @@ pub fn start_objects() -> StateObjects<'static>
         queues: &[],
         sets: &[],
         mqs: &[],
+        sems: &[],
+        segments: &[],
     }
 }
 
@@ -124,9 +142,14 @@ impl<'a> Objects for StateObjects<'a> {
 
     ghost marks = { λ s i m. IsMarkOf s i m };
 
-    #[tactic(auto, using(crate::proofs::SavedObjects::seen_count))]
+    #[tactic(auto, using(crate::proofs::SavedObjects::tables_count))]
     fn count(&self) -> u32 {
-        ALWAYS + self.queues.len() as u32 + self.sets.len() as u32 + self.mqs.len() as u32
+        ALWAYS
+            + self.queues.len() as u32
+            + self.sets.len() as u32
+            + self.mqs.len() as u32
+            + self.sems.len() as u32
+            + self.segments.len() as u32
     }
 
     fn number(&self, i: u32) -> u64 {
@@ -137,6 +160,8 @@ impl<'a> Objects for StateObjects<'a> {
             Thing::Queue(queue) => Entry::<MsgQueue>::FIRST + u64::from(queue.number),
             Thing::Set(set) => Entry::<SemSet>::FIRST + u64::from(set.number),
             Thing::Mq(mq) => NamedEntry::<Mq>::FIRST + u64::from(mq.number),
+            Thing::Sem(sem) => NamedEntry::<NamedSem>::FIRST + u64::from(sem.number),
+            Thing::Segment(segment) => NamedEntry::<Segment>::FIRST + u64::from(segment.number),
         }
     }
 
@@ -179,8 +204,24 @@ fn thing_at<'a, 'b>(objects: &'b StateObjects<'a>, i: u32) -> Thing<'a>
     if at < objects.sets.len() {
         return Thing::Set(&objects.sets[at]);
     }
-    let at = at - objects.sets.len();
-    Thing::Mq(&objects.mqs[at])
+    named_at(objects, at - objects.sets.len())
+}
+
+// What has an object among those with a name, by its place among them.
+fn named_at<'a, 'b>(objects: &'b StateObjects<'a>, at: usize) -> Thing<'a>
+    requires { at < length (named_objects (named_in objects.now)) }
+    ensures stands { Stands (named_objects (named_in objects.now)) (IsMarkOfNamed (named_in objects.now)) at
+        (object_of result) (IsMarkOfThing result) }
+    ensures fits { FitsThing result }
+{
+    if at < objects.mqs.len() {
+        return Thing::Mq(&objects.mqs[at]);
+    }
+    let at = at - objects.mqs.len();
+    if at < objects.sems.len() {
+        return Thing::Sem(&objects.sems[at]);
+    }
+    Thing::Segment(&objects.segments[at - objects.sems.len()])
 }
 
 // How many bytes its object has.
@@ -193,6 +234,8 @@ fn thing_len(thing: &Thing<'_>) -> u64
         Thing::Queue(queue) => queue.value.len(),
         Thing::Set(set) => set.value.len(),
         Thing::Mq(mq) => mq.value.len(),
+        Thing::Sem(sem) => sem.value.len(),
+        Thing::Segment(segment) => segment.value.len(),
     }
 }
 
@@ -208,6 +251,8 @@ fn put_thing(window: &mut Window, thing: &Thing<'_>, mark: &mut Mark)
         Thing::Queue(queue) => queue.value.put(window, mark),
         Thing::Set(set) => set.value.put(window, mark),
         Thing::Mq(mq) => mq.value.put(window, mark),
+        Thing::Sem(sem) => sem.value.put(window, mark),
+        Thing::Segment(segment) => segment.value.put(window, mark),
     }
 }
 

@@ -15,8 +15,9 @@ ghost use Rattle.ipc_image.specs.Kind.{FitsIn};
 ghost use Rattle.ipc_image.specs.Saved.{clock_sizes, clock_numbers, adjustments_of, HasAllPlaces};
 ghost use Rattle.ipc_image.specs.Saved.{FitsAdjustment, FitsDescriptor, FitsProcess, FitsWaiting};
 
+use crate::process::{kind_of, number_of};
 use crate::stored::Stored;
-use ipc_state::{Awaited, DescriptorRow, Item, Opened, Parked, Process, State};
+use ipc_state::{Awaited, DescriptorRow, Item, Parked, Process, State};
 use ipc_wait::Waiting;
 use sem_undo::{SemUndo, UndoRow};
 
@@ -54,7 +55,8 @@ impl Wide for DescriptorRow {
 
     fn read(&self) {
         let _fd = self.fd;
-        let Opened::Queue(_number) = self.descriptor.on;
+        let _kind = kind_of(self.descriptor.on);
+        let _number = number_of(self.descriptor.on);
         let _flags = self.descriptor.flags;
     }
 }
@@ -125,6 +127,8 @@ pub(crate) fn read_state(state: &State)
     read_each(state.queues());
     read_each(state.sets());
     read_each(state.mqs());
+    read_each(state.named_sems().items());
+    read_each(state.segments().items());
 }
 
 fn read_clock(state: &State)
@@ -135,4 +139,6 @@ fn read_clock(state: &State)
     let _next_queue = state.next_queue();
     let _next_set = state.next_set();
     let _next_mq = state.next_mq();
+    let _next_named_sem = state.named_sems().next();
+    let _next_segment = state.segments().next();
 }

@@ -1,5 +1,5 @@
 -- The connections that are open, when one comes and when one goes.
-use Rattle.std.proofs.Common.{◌≡◌, ◌<◌, ◌^◌, ℕ, ◌+◌, arith, Bool, true, false, ◌&&◌, List, [], ◌∷◌, ◌++◌, map, take, drop, Option, Some, None, refl, sym}
+use Rattle.std.proofs.Common.{◌≡◌, ◌<◌, ◌^◌, ℕ, ◌+◌, arith, Bool, true, false, ◌&&◌, List, [], ◌∷◌, ◌++◌, map, take, drop, None, refl, sym}
 use Rattle.std.proofs.Common.{ap, ◌∙◌, subst, inl, inr}
 use Rattle.std.specs.Prelude.{nat_eq, nat_lt, not, is_some, if◌then◌else◌}
 use Rattle.std.proofs.lemmas.Bool.Decides.{nat_tests}
@@ -13,7 +13,7 @@ use Rattle.ipc_base.proofs.CallerLemmas.{entry-at, entry-other, rising-entry, ri
 use Rattle.ipc_base.proofs.CallerLemmas.{nobody}
 use Rattle.ipc_disk.specs.Medium.{Medium}
 use Rattle.ipc_hub.specs.View.{StoredHub, is_connected}
-use Rattle.ipc_hub.specs.Clients.{Client, Clients, client_at, start_client, connect, hangup, leave, tick, process_at}
+use Rattle.ipc_hub.specs.Clients.{Client, Clients, client_at, start_client, connect, hangup, tick, process_at}
 use Rattle.ipc_hub.specs.Relations.Matches.{HubMatches, Simulates, Serves}
 use Rattle.ipc_script.specs.declared.report.Opened.{Opened}
 use Rattle.ipc_script.specs.Script.{Run, is_open, opened}

@@ -5,7 +5,7 @@ ghost use Rattle.std.specs.Io.KnownBytes.{Appends};
 ghost use Rattle.ipc_engine.specs.Listing.{plain_row, rows_of};
 ghost use Rattle.ipc_script.specs.Dump.{dump_text, row_line as row_text};
 ghost use Rattle.ipc_script.specs.Dump.{number_text, key_text, mode_text, is_plain, byte_text, name_text};
-ghost use Rattle.ipc_script.specs.Relations.Columns.{msg_text, sem_text, pmq_text};
+ghost use Rattle.ipc_script.specs.Relations.Columns.{msg_text, sem_text, pmq_text, psm_text, shm_text};
 ghost use Rattle.ipc_script.specs.Script.{WritesPart};
 ghost use Rattle.ipc_script.specs.declared.listing.DumpError.TheVariants.{NoMemory};
 
@@ -41,8 +41,10 @@ impl From<AllocError> for DumpError {
 /// semaphore sets, each by rising identifier: `msg` or `sem`, and then its identifier, key, mode, owner and
 /// group; of a queue its bytes of text and its messages, of a semaphore set how many semaphores it has. Then
 /// the POSIX queues, by name: `pmq`, its mode, owner and group, its messages, the most messages, the most bytes
-/// of one, and its name. A queue that was unlinked has none, so that its line ends with a space. A backslash of
-/// a name, and a byte that is no character from `!` to `~`, is written as `\x` and two hexadecimal digits.
+/// of one, and its name. Then the named semaphores and the segments, by name: `psm` or `shm`, and then its mode,
+/// owner and group, the value of a semaphore or the bytes of a segment, and its name. What was unlinked has none,
+/// so that its line ends with a space. A backslash of a name, and a byte that is no character from `!` to `~`, is
+/// written as `\x` and two hexadecimal digits.
 pub fn dump<D: SectorDisk, W: Write>(
     alloc: Global,
     store: &Store<D>,
@@ -208,6 +210,50 @@ impl<'a> fmt::Display for PmqLine<'a> {
     }
 }
 
+/// The line of a named semaphore.
+#[derive(Clone, Copy)]
+struct PsmLine<'a> {
+    mode: Mode,
+    uid: Number,
+    gid: Number,
+    value: Number,
+    name: Name<'a>,
+}
+
+impl<'a> fmt::Display for PsmLine<'a> {
+    ghost output = { λ line. Some (psm_text line) };
+
+    fn fmt<W: fmt::Write>(&self, f: &mut fmt::Formatter<W>) -> fmt::Result {
+        write!(
+            f,
+            "psm {} {} {} {} {}\n",
+            self.mode, self.uid, self.gid, self.value, self.name
+        )
+    }
+}
+
+/// The line of a segment.
+#[derive(Clone, Copy)]
+struct ShmLine<'a> {
+    mode: Mode,
+    uid: Number,
+    gid: Number,
+    length: Number,
+    name: Name<'a>,
+}
+
+impl<'a> fmt::Display for ShmLine<'a> {
+    ghost output = { λ line. Some (shm_text line) };
+
+    fn fmt<W: fmt::Write>(&self, f: &mut fmt::Formatter<W>) -> fmt::Result {
+        write!(
+            f,
+            "shm {} {} {} {} {}\n",
+            self.mode, self.uid, self.gid, self.length, self.name
+        )
+    }
+}
+
 /// The line of an object. Refused for want of memory.
 fn line_of(alloc: Global, row: &Row<&[u8]>) -> Result<String, AllocError>
     ensures { IfOk result (λ line. string_bytes line ≡ row_text (plain_row row.now)) }
@@ -262,6 +308,34 @@ fn line_of(alloc: Global, row: &Row<&[u8]>) -> Result<String, AllocError>
             messages: Number(messages as u128),
             maxmsg: Number(u128::from(maxmsg)),
             msgsize: Number(u128::from(msgsize)),
+            name: Name(name),
+        }
+        .to_string(alloc),
+        Row::Psm {
+            mode,
+            uid,
+            gid,
+            value,
+            name,
+        } => PsmLine {
+            mode: Mode(mode),
+            uid: Number(u128::from(uid)),
+            gid: Number(u128::from(gid)),
+            value: Number(u128::from(value)),
+            name: Name(name),
+        }
+        .to_string(alloc),
+        Row::Shm {
+            mode,
+            uid,
+            gid,
+            length,
+            name,
+        } => ShmLine {
+            mode: Mode(mode),
+            uid: Number(u128::from(uid)),
+            gid: Number(u128::from(gid)),
+            length: Number(length as u128),
             name: Name(name),
         }
         .to_string(alloc),

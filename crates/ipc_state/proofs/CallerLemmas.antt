@@ -3,7 +3,7 @@
 use Rattle.std.proofs.Common.{◌≡◌, ℕ, ℤ, ◌+◌, ◌<◌, ◌≤◌, Bool, true, false, Option, Some, None, refl, arith, sym, ap, subst, ◌∙◌, List}
 use Rattle.std.proofs.Common.{[], ◌∷◌, ◌++◌, not, suc, drop, take, length, length-append}
 use Rattle.std.proofs.lemmas.Nat.{and_le_r}
-use Rattle.std.specs.Prelude.{option_map, unwrap_or, All, nat_eq, nat_lt, IfSome, if◌then◌else◌, ◌^◌, ◌-◌}
+use Rattle.std.specs.Prelude.{⊤, option_map, unwrap_or, All, nat_eq, nat_lt, IfSome, if◌then◌else◌, ◌^◌, ◌-◌}
 use Rattle.std.proofs.lemmas.Bool.Decides.{nat_tests}
 use Rattle.std.proofs.lemmas.List.Elements.{All-nil, All-append, All-drop, All-filter, All-push, All-take}
 use Rattle.std.proofs.lemmas.List.{length-drop, length-replicate, length-take}
@@ -29,7 +29,6 @@ use Rattle.posix_mq.specs.Queue.{Queue as Mq, PlainMessage as MqMessage, empty_q
 use Rattle.std.specs.List.{remove}
 use Rattle.std.specs.Option.{option_map_or}
 use Rattle.std.specs.Result.{is_ok}
-use Rattle.std.specs.Int.RustNames.{bit_and}
 use Rattle.ipc_keys.specs.Names.{check_name}
 use Rattle.ipc_keys.specs.declared.check.NameKind.TheVariants as names
 use Rattle.sysv_msg.specs.Queue.{Queue, new_queue}
@@ -46,13 +45,18 @@ use Rattle.ipc_state.specs.declared.descriptors.Descriptor.{Descriptor}
 use Rattle.ipc_state.specs.declared.named.NamedEntry.{NamedEntry}
 use Rattle.ipc_state.specs.Descriptors.{opened, with_flags}
 use Rattle.ipc_state.specs.Named.{Named, HaveNames, named, with_object}
-use Rattle.ipc_state.specs.Opening.{descriptors_of, descriptor_at, is_by_descriptor, is_registered, is_sound_descriptor}
+use Rattle.ipc_state.specs.Opening.{NamedObjects, descriptors_of, descriptor_at, has_access, is_by_descriptor, is_registered, is_sound_descriptor, stays}
 use Rattle.ipc_state.specs.Keyed.{Keyed, holding, permitting, keyed, AreKeyed, AreNamed}
 use Rattle.ipc_state.specs.State.{State, start, at_moment, has_all_processes, is_process, with_process, exit, restart}
 use Rattle.ipc_state.specs.State.{is_waiting, with_waiting, without_due, without_waiting, queue_of, with_queue, with_new_queue}
 use Rattle.ipc_state.specs.State.{set_of, with_set, with_new_set, adjusted, undone, undo_of, without_adjustments, with_undo}
 use Rattle.ipc_state.specs.State.{has_all_descriptors, has_all_mqs, with_descriptor, with_descriptor_flags, closed, with_mq, with_new_mq, unlinked}
-use Rattle.ipc_state.specs.Sound.{AreSoundProcesses, AreSoundMqs, IsSoundMq, IsSoundMqMessage}
+use Rattle.ipc_state.specs.State.{has_all_named_sems, has_all_segments, named_in, unlinked_segment, unlinked_sem, with_named_sem, with_new_named_sem}
+use Rattle.ipc_state.specs.State.{with_new_segment, with_segment}
+use Rattle.shm_segment.specs.Segment.{Segment}
+use Rattle.ipc_state.specs.Sound.{segment_bytes}
+use Rattle.ipc_state.specs.Sound.{IsSoundMq, IsSoundMqMessage}
+use Rattle.posix_sem.specs.Semaphore.{sem_value_max}
 use Rattle.ipc_state.specs.Sound.{HasSoundParts, IsSoundQueue, IsSoundSet, AreSoundSets, AreAt, AreAdjustments, semaphore_count}
 use Rattle.ipc_state.specs.Waiting.{PlainWaiting, AreSoundWaits, IsSoundWaiting, deadline_after, deadline_of, has_deadline}
 use Rattle.ipc_state.specs.declared.parked.Awaited.TheVariants as awaited
@@ -71,6 +75,8 @@ pub use Rattle.ipc_state.proofs.EntryKeys.{All-seen}
 pub use Rattle.ipc_state.proofs.Ending.{HasSameProcesses, IsGood, Ends, same-processes, same-but-table, same-connected, answered}
 pub use Rattle.ipc_state.proofs.Ending.{as_before, by-finish, ended-good, read, refused-good}
 pub use Rattle.ipc_state.proofs.Elsewhere.{before-then, elsewhere-closed, elsewhere-mq, elsewhere-new_mq, elsewhere-table, elsewhere-unlinked}
+pub use Rattle.ipc_state.proofs.Elsewhere.{elsewhere-named_sem, elsewhere-new_named_sem, elsewhere-new_segment, elsewhere-segment}
+pub use Rattle.ipc_state.proofs.Elsewhere.{elsewhere-unlinked_segment, elsewhere-unlinked_sem}
 pub use Rattle.ipc_state.proofs.Numbering.{neither}
 pub use Rattle.ipc_state.proofs.Steps.{Passed, Runs, Shows, blocked-seen, blocked-then, is_blocked, ok-same, orstop-passed, passed, shows, stays-stopped}
 pub use Rattle.ipc_state.proofs.Steps.{if_some-runs, orelse-runs, refuse-runs, stop-passed, test-runs, then-runs, waits-blocked}
@@ -90,7 +96,7 @@ module _ (limits : Limits) where
   -- a state with another part that is sound is sound
   pub set-undo : (s : State) (undo : List (ℕ × Undo)) → HasSoundParts limits s → AreAdjustments (keys_of s.processes.entries) s.sem undo
       → HasSoundParts limits (record s { undo = undo })
-  set-undo s undo h good = record { processes = h.processes; wait = h.wait; undo = good; msg = h.msg; sem = h.sem; mq = h.mq }
+  set-undo s undo h good = record { processes = h.processes; wait = h.wait; undo = good; msg = h.msg; sem = h.sem; mq = h.mq; named_sem = h.named_sem; shm = h.shm }
 
   -- other adjustments of a process, at semaphores that are there
   pub with_undo-sound : (s : State) (pid : ℕ) (undo : Undo) → HasSoundParts limits s → AreAt s.sem undo → HasSoundParts limits (with_undo s pid undo)
@@ -110,11 +116,11 @@ module _ (limits : Limits) where
 
   pub set-wait : (s : State) (calls : List PlainWaiting) → HasSoundParts limits s → AreSoundWaits limits calls
       → HasSoundParts limits (record s { wait = calls })
-  set-wait s calls h good = record { processes = h.processes; wait = good; undo = h.undo; msg = h.msg; sem = h.sem; mq = h.mq }
+  set-wait s calls h good = record { processes = h.processes; wait = good; undo = h.undo; msg = h.msg; sem = h.sem; mq = h.mq; named_sem = h.named_sem; shm = h.shm }
 
   pub set-msg : (s : State) (msg : Keyed Queue) → HasSoundParts limits s → AreKeyed limits.msgmni (IsSoundQueue limits) msg
       → HasSoundParts limits (record s { msg = msg })
-  set-msg s msg h good = record { processes = h.processes; wait = h.wait; undo = h.undo; msg = good; sem = h.sem; mq = h.mq }
+  set-msg s msg h good = record { processes = h.processes; wait = h.wait; undo = h.undo; msg = good; sem = h.sem; mq = h.mq; named_sem = h.named_sem; shm = h.shm }
 
   pub set-sem : (s : State) (sem : Keyed Set) → HasSoundParts limits s → HasAll s.sem sem → AreSoundSets limits sem
       → HasSoundParts limits (record s { sem = sem })
@@ -126,6 +132,8 @@ module _ (limits : Limits) where
         msg = h.msg;
         sem = good;
         mq = h.mq;
+        named_sem = h.named_sem;
+        shm = h.shm;
       }
 
   none-waits : AreSoundWaits limits []
@@ -165,6 +173,10 @@ module _ (limits : Limits) where
       let all = All-push (λ (v : PlainWaiting). is_process s v.pid.0 ≡ true) s.wait w connected process in
       omega (arith, few-waiting s.processes.entries (s.wait ++ w ∷ []) distinct all, h.processes.numbered.count, length-append s.wait (w ∷ []))
 
+  -- the objects with a name, and the descriptors
+  all-held : (s : State) → HasSoundParts limits s → mqs.AreAllHeld limits s.processes (named_in s)
+  all-held s h = record { processes = h.processes; mq = h.mq; named_sem = h.named_sem; shm = h.shm }
+
   pub start-sound : HasSoundParts limits start
   start-sound =
       record {
@@ -173,11 +185,13 @@ module _ (limits : Limits) where
         undo = record { pids = refl; each = tt };
         msg = keying.none_yet-keyed limits.msgmni (IsSoundQueue limits);
         sem = record { keyed = keying.none_yet-keyed limits.semmni (IsSoundSet limits); count = omega arith };
-        mq = mqs.none-mqs limits;
+        mq = record { held = mqs.none-held names.Queue limits.queues (IsSoundMq limits) []; registered = All-nil _ };
+        named_sem = mqs.none-held names.Semaphore limits.named_semaphores (λ value. value ≤ sem_value_max) [];
+        shm = record { held = mqs.none-held names.Segment limits.segments (λ x. ⊤) []; bytes = omega arith };
       }
 
   pub begin-sound : (s : State) (moment : ℕ) → HasSoundParts limits s → HasSoundParts limits (at_moment s moment)
-  begin-sound s moment h = record { processes = h.processes; wait = h.wait; undo = h.undo; msg = h.msg; sem = h.sem; mq = h.mq }
+  begin-sound s moment h = record { processes = h.processes; wait = h.wait; undo = h.undo; msg = h.msg; sem = h.sem; mq = h.mq; named_sem = h.named_sem; shm = h.shm }
 
   pub without_due-sound : (s : State) → HasSoundParts limits s → HasSoundParts limits (without_due s)
   without_due-sound s h =
@@ -208,9 +222,9 @@ module _ (limits : Limits) where
   exit-sound s pid h =
       let p : ℕ × Undo = (pid, undo_of s pid) in
       let all : HasAll s.sem (undone s.sem p) = undone-keeps (HasAll s.sem) (has-adjusted s.sem) s.sem p (λ k is. is) in
-      let left = mqs.exit-mqs limits s.processes pid s.mq h.processes h.mq in
+      let left = mqs.exit-held limits s.processes pid (named_in s) (all-held s h) in
       record {
-        processes = left.0;
+        processes = left.processes;
         wait = without-waits (record { 0 = pid }) s.wait h.wait;
         undo = record {
           pids = without-same s.undo s.processes.entries pid h.undo.pids;
@@ -218,26 +232,30 @@ module _ (limits : Limits) where
         };
         msg = h.msg;
         sem = undone-sound s.sem p h.sem;
-        mq = left.1;
+        mq = left.mq;
+        named_sem = left.named_sem;
+        shm = left.shm;
       }
 
   pub restart-sound : (s : State) → HasSoundParts limits s → HasSoundParts limits (restart s)
   restart-sound s h =
-      let left = mqs.restart-mqs limits s.processes s.mq h.processes h.mq in
+      let left = mqs.restart-held limits s.processes (named_in s) (all-held s h) in
       record {
-        processes = left.0;
+        processes = left.processes;
         wait = none-waits;
         undo = record { pids = refl; each = tt };
         msg = h.msg;
         sem = all-undone-keeps (AreSoundSets limits) adjusted-sound s.sem s.undo h.sem;
-        mq = left.1;
+        mq = left.mq;
+        named_sem = left.named_sem;
+        shm = left.shm;
       }
 
   pub with_process-sound : (s : State) (cred : Cred) → has_all_processes limits s ≡ false → HasSoundParts limits s → HasSoundParts limits (with_process s cred)
   with_process-sound s cred room h =
-      let come = mqs.with_process-mqs limits s.processes cred s.mq room h.processes h.mq in
+      let come = mqs.with_process-held limits s.processes cred (named_in s) room (all-held s h) in
       record {
-        processes = come.0;
+        processes = come.processes;
         wait = h.wait;
         undo = record {
           pids = push-same s.undo s.processes.entries s.processes.next fin.empty (record { cred = cred; descriptors = [] }) h.undo.pids;
@@ -245,7 +263,9 @@ module _ (limits : Limits) where
         };
         msg = h.msg;
         sem = h.sem;
-        mq = come.1;
+        mq = come.mq;
+        named_sem = come.named_sem;
+        shm = come.shm;
       }
 
   -- the identifiers of the sets stay, and the next one
@@ -334,50 +354,55 @@ module _ (limits : Limits) where
           count = omega (arith, sets.count-without s.sem id, h.sem.count);
         };
         mq = h.mq;
+        named_sem = h.named_sem;
+        shm = h.shm;
       }
 
   pub set-sound : (s : State) (id : ℕ) (e : Entry Set) → set_of s id ≡ Some e → HasSoundParts limits s → IsSoundSet limits e.object
   set-sound s id e is h = keying.entry-sound limits.semmni (IsSoundSet limits) s.sem id e is h.sem.keyed
 
-  -- ---- POSIX queues and descriptors
+  -- ---- objects with a name, and descriptors
 
-  set-opened : (s : State) (ps : Numbered Process) (o : Named Mq) → HasSoundParts limits s → keys_of ps.entries ≡ keys_of s.processes.entries
-      → AreSoundProcesses limits o ps × AreSoundMqs limits ps.entries o → HasSoundParts limits (record s { processes = ps; mq = o })
+  set-opened : (s : State) (ps : Numbered Process) (o : NamedObjects) → HasSoundParts limits s → keys_of ps.entries ≡ keys_of s.processes.entries
+      → mqs.AreAllHeld limits ps o → HasSoundParts limits (record s { processes = ps; mq = o.mq; named_sem = o.named_sem; shm = o.shm })
   set-opened s ps o h same parts =
       record {
-        processes = parts.0;
+        processes = parts.processes;
         wait = h.wait;
         undo = record { pids = h.undo.pids ∙ sym same; each = h.undo.each };
         msg = h.msg;
         sem = h.sem;
-        mq = parts.1;
+        mq = parts.mq;
+        named_sem = parts.named_sem;
+        shm = parts.shm;
       }
 
   -- a descriptor more of a process, open on what is there
-  pub with_descriptor-sound : (s : State) (pid : ℕ) (d : Descriptor) → has_all_descriptors limits s pid ≡ false → is_sound_descriptor s.mq d ≡ true
-      → HasSoundParts limits s → HasSoundParts limits (with_descriptor s pid d)
+  pub with_descriptor-sound : (s : State) (pid : ℕ) (d : Descriptor) → has_all_descriptors limits s pid ≡ false
+      → is_sound_descriptor (named_in s) d ≡ true → HasSoundParts limits s → HasSoundParts limits (with_descriptor s pid d)
   with_descriptor-sound s pid d room right h =
       let table = descriptors_of s.processes.entries pid in
       let fewer : length table < limits.descriptors = grind (arith, nat_tests) in
-      set-opened s _ s.mq h (opening.table-keys s.processes pid (opened table d))
-      (opening.opened-mqs limits s.processes pid s.mq h.processes h.mq d fewer right)
+      set-opened s _ (named_in s) h (opening.table-keys s.processes pid (opened table d))
+      (opening.opened-held limits s.processes pid (named_in s) (all-held s h) d fewer right)
 
   -- other flags of one, with a way in which it is open
-  pub with_descriptor_flags-sound : (s : State) (pid fd flags : ℕ) → not (nat_eq (bit_and flags 3) 3) ≡ true
+  pub with_descriptor_flags-sound : (s : State) (pid fd flags : ℕ)
+      → ((d : Descriptor) → descriptor_at s.processes.entries pid fd ≡ Some d → has_access d.on flags ≡ true)
       → HasSoundParts limits s → HasSoundParts limits (with_descriptor_flags s pid fd flags)
   with_descriptor_flags-sound s pid fd flags right h =
-      set-opened s _ s.mq h (opening.table-keys s.processes pid (with_flags (descriptors_of s.processes.entries pid) fd flags))
-      (opening.flags-mqs limits s.processes pid s.mq h.processes h.mq fd flags right)
+      set-opened s _ (named_in s) h (opening.table-keys s.processes pid (with_flags (descriptors_of s.processes.entries pid) fd flags))
+      (opening.flags-held limits s.processes pid (named_in s) (all-held s h) fd flags right)
 
   pub closed-sound : (s : State) (pid fd : ℕ) → HasSoundParts limits s → HasSoundParts limits (closed s pid fd)
   closed-sound s pid fd h =
       set-opened s _ _ h (opening.table-keys s.processes pid (without_value nat_eq (descriptors_of s.processes.entries pid) fd))
-      (opening.closed-mqs limits s.processes pid s.mq h.processes h.mq fd)
+      (opening.closed-held limits s.processes pid (named_in s) (all-held s h) fd)
 
   -- what a descriptor of a process is, is sound
   pub descriptor-sound : (s : State) (pid fd : ℕ) (d : Descriptor) → descriptor_at s.processes.entries pid fd ≡ Some d → HasSoundParts limits s
-      → is_sound_descriptor s.mq d ≡ true
-  descriptor-sound s pid fd d is h = opening.descriptor-sound limits s.mq s.processes.entries pid fd d h.processes.descriptors is
+      → is_sound_descriptor (named_in s) d ≡ true
+  descriptor-sound s pid fd d is h = opening.descriptor-sound limits (named_in s) s.processes.entries pid fd d h.processes.descriptors is
 
   -- another queue at a number that is there, with a registration, if one, by a descriptor that is open on it
   pub with_mq-sound : (s : State) (n : ℕ) (e : NamedEntry Mq) (q : Mq) → entry_of s.mq n ≡ Some e → IsSoundMq limits q
@@ -387,7 +412,8 @@ module _ (limits : Limits) where
       let same : put ≡ (with_mq s n q).mq =
       sym (ap (λ (r : Option (NamedEntry Mq)). unwrap_or (option_map (λ (f : NamedEntry Mq). with_entry s.mq n (with_object f q)) r) s.mq) is) in
       subst (λ (o : Named Mq). HasSoundParts limits (record s { mq = o })) same
-      (set-opened s s.processes put h refl (opening.with_mq-mqs limits s.processes s.mq h.processes h.mq n e q is good registered))
+      (set-opened s s.processes (record (named_in s) { mq = put }) h refl
+      (opening.with_mq-held limits s.processes (named_in s) (all-held s h) n e q is good registered))
 
   -- a new queue of a name that no queue has
   pub with_new_mq-sound : (s : State) (name : List ℕ) (cred : Cred) (mode : ℕ) (q : Mq) → named s.mq name ≡ None → has_all_mqs limits s ≡ false → mode < 512
@@ -395,14 +421,78 @@ module _ (limits : Limits) where
       → HasSoundParts limits s → HasSoundParts limits (with_new_mq s name cred mode q)
   with_new_mq-sound s name cred mode q unused room few proper good free h =
       set-opened s s.processes _ h refl
-      (opening.with_new_mq-mqs limits s.processes s.mq h.processes h.mq name cred mode q unused room few proper good free)
+      (opening.with_new_mq-held limits s.processes (named_in s) (all-held s h) name cred mode q unused room few proper good free)
 
   pub unlinked-sound : (s : State) (n : ℕ) → HasSoundParts limits s → HasSoundParts limits (unlinked s n)
-  unlinked-sound s n h = set-opened s s.processes _ h refl (opening.unlinked-mqs limits s.processes s.mq h.processes h.mq n)
+  unlinked-sound s n h = set-opened s s.processes _ h refl (opening.unlinked-held limits s.processes (named_in s) (all-held s h) n)
+
+  pub unlinked_sem-sound : (s : State) (n : ℕ) → HasSoundParts limits s → HasSoundParts limits (unlinked_sem s n)
+  unlinked_sem-sound s n h = set-opened s s.processes _ h refl (opening.unlinked_sem-held limits s.processes (named_in s) (all-held s h) n)
+
+  pub unlinked_segment-sound : (s : State) (n : ℕ) → HasSoundParts limits s → HasSoundParts limits (unlinked_segment s n)
+  unlinked_segment-sound s n h = set-opened s s.processes _ h refl (opening.unlinked_segment-held limits s.processes (named_in s) (all-held s h) n)
+
+  -- another value of a semaphore that is there, and a new one
+  pub with_named_sem-sound : (s : State) (n : ℕ) (e : NamedEntry ℕ) (value : ℕ) → entry_of s.named_sem n ≡ Some e → value ≤ sem_value_max
+      → HasSoundParts limits s → HasSoundParts limits (with_named_sem s n value)
+  with_named_sem-sound s n e value is good h =
+      let put : Named ℕ = with_entry s.named_sem n (with_object e value) in
+      let same : put ≡ (with_named_sem s n value).named_sem =
+      sym (ap (λ (r : Option (NamedEntry ℕ)). unwrap_or (option_map (λ (f : NamedEntry ℕ). with_entry s.named_sem n (with_object f value)) r) s.named_sem) is) in
+      subst (λ (o : Named ℕ). HasSoundParts limits (record s { named_sem = o })) same
+      (set-opened s s.processes (record (named_in s) { named_sem = put }) h refl
+      (opening.with_named_sem-held limits s.processes (named_in s) (all-held s h) n e value is good))
+
+  pub with_new_named_sem-sound : (s : State) (name : List ℕ) (cred : Cred) (mode value : ℕ) → named s.named_sem name ≡ None
+      → has_all_named_sems limits s ≡ false → mode < 512 → is_ok (check_name names.Semaphore name) ≡ true → value ≤ sem_value_max
+      → HasSoundParts limits s → HasSoundParts limits (with_new_named_sem s name cred mode value)
+  with_new_named_sem-sound s name cred mode value unused room few proper good h =
+      set-opened s s.processes _ h refl
+      (opening.with_new_named_sem-held limits s.processes (named_in s) (all-held s h) name cred mode value unused room few proper good)
+
+  pub named_sem-sound : (s : State) (n : ℕ) (e : NamedEntry ℕ) → entry_of s.named_sem n ≡ Some e → HasSoundParts limits s → e.object ≤ sem_value_max
+  named_sem-sound s n e is h = (entry-named limits.named_semaphores (λ value. value ≤ sem_value_max) s.named_sem n e is h.named_sem.named).each
+
+  -- another segment in the place of one, and a new one
+  pub with_segment-sound : (s : State) (n : ℕ) (e : NamedEntry Segment) (x : Segment) → entry_of s.shm n ≡ Some e
+      → segment_bytes s.shm - length e.object.bytes + length x.bytes ≤ limits.segment_bytes
+      → HasSoundParts limits s → HasSoundParts limits (with_segment s n x)
+  with_segment-sound s n e x is few h =
+      let put : Named Segment = with_entry s.shm n (with_object e x) in
+      let same : put ≡ (with_segment s n x).shm =
+      sym (ap (λ (r : Option (NamedEntry Segment)). unwrap_or (option_map (λ (f : NamedEntry Segment). with_entry s.shm n (with_object f x)) r) s.shm) is) in
+      subst (λ (o : Named Segment). HasSoundParts limits (record s { shm = o })) same
+      (set-opened s s.processes (record (named_in s) { shm = put }) h refl
+      (opening.with_segment-held limits s.processes (named_in s) (all-held s h) n e x is few))
+
+  pub with_new_segment-sound : (s : State) (name : List ℕ) (cred : Cred) (mode : ℕ) → named s.shm name ≡ None → has_all_segments limits s ≡ false
+      → mode < 512 → is_ok (check_name names.Segment name) ≡ true → HasSoundParts limits s → HasSoundParts limits (with_new_segment s name cred mode)
+  with_new_segment-sound s name cred mode unused room few proper h =
+      set-opened s s.processes _ h refl
+      (opening.with_new_segment-held limits s.processes (named_in s) (all-held s h) name cred mode unused room few proper)
+
+  -- numbers are above 0, and each name names the object that has it
+  pub named_sem-positive : (s : State) → HasSoundParts limits s → ArePositive s.named_sem.entries
+  named_sem-positive s h = named-positive s.named_sem.entries s.named_sem.next h.named_sem.named.numbered.numbers
+
+  pub named_sem-next : (s : State) → HasSoundParts limits s → 0 < s.named_sem.next
+  named_sem-next s h = omega (arith, rising-bounds 1 (keys_of s.named_sem.entries) s.named_sem.next h.named_sem.named.numbered.numbers)
+
+  pub named_sem-names : (s : State) → HasSoundParts limits s → HaveNames s.named_sem
+  named_sem-names s h = have-names limits.named_semaphores (λ value. value ≤ sem_value_max) s.named_sem h.named_sem.named
+
+  pub segment-positive : (s : State) → HasSoundParts limits s → ArePositive s.shm.entries
+  segment-positive s h = named-positive s.shm.entries s.shm.next h.shm.held.named.numbered.numbers
+
+  pub segment-next : (s : State) → HasSoundParts limits s → 0 < s.shm.next
+  segment-next s h = omega (arith, rising-bounds 1 (keys_of s.shm.entries) s.shm.next h.shm.held.named.numbered.numbers)
+
+  pub segment-names : (s : State) → HasSoundParts limits s → HaveNames s.shm
+  segment-names s h = have-names limits.segments (λ x. ⊤) s.shm h.shm.held.named
 
   -- what holds of a queue that is there
   pub mq-sound : (s : State) (n : ℕ) (e : NamedEntry Mq) → entry_of s.mq n ≡ Some e → HasSoundParts limits s → IsSoundMq limits e.object
-  mq-sound s n e is h = (entry-named limits.queues (IsSoundMq limits) s.mq n e is h.mq.named).each
+  mq-sound s n e is h = (entry-named limits.queues (IsSoundMq limits) s.mq n e is h.mq.held.named).each
 
   pub mq-registered : (s : State) (n : ℕ) (e : NamedEntry Mq) → entry_of s.mq n ≡ Some e → HasSoundParts limits s
       → is_by_descriptor s.processes.entries n e.object.registration ≡ true
@@ -416,13 +506,13 @@ module _ (limits : Limits) where
 
   -- numbers are above 0, so that a directory of names tells them; and each name names the queue that has it
   pub mq-positive : (s : State) → HasSoundParts limits s → ArePositive s.mq.entries
-  mq-positive s h = named-positive s.mq.entries s.mq.next h.mq.named.numbered.numbers
+  mq-positive s h = named-positive s.mq.entries s.mq.next h.mq.held.named.numbered.numbers
 
   pub mq-next : (s : State) → HasSoundParts limits s → 0 < s.mq.next
-  mq-next s h = omega (arith, rising-bounds 1 (keys_of s.mq.entries) s.mq.next h.mq.named.numbered.numbers)
+  mq-next s h = omega (arith, rising-bounds 1 (keys_of s.mq.entries) s.mq.next h.mq.held.named.numbered.numbers)
 
   pub mq-names : (s : State) → HasSoundParts limits s → HaveNames s.mq
-  mq-names s h = have-names limits.queues (IsSoundMq limits) s.mq h.mq.named
+  mq-names s h = have-names limits.queues (IsSoundMq limits) s.mq h.mq.held.named
 
   -- a queue without messages, one with a message more, and one from which a message was received
   pub empty_mq-sound : (maxmsg msgsize : ℕ) → 0 < maxmsg → maxmsg ≤ limits.maxmsg → 0 < msgsize → msgsize ≤ limits.msgsize
@@ -459,7 +549,13 @@ module _ (limits : Limits) where
 
 -- a restart of what a restart has left leaves it
 pub restart-twice : (s : State) → restart (restart s) ≡ restart s
-restart-twice s = ap (λ (o : Named Mq). let t : State = record (restart s) { mq = o } in t) (mqs.restarted-again s.mq)
+restart-twice s =
+    ap (λ (o : NamedObjects). let t : State = record (restart s) { mq = o.mq; named_sem = o.named_sem; shm = o.shm } in t)
+    (λ i. record {
+      mq = mqs.restarted-again s.mq i;
+      named_sem = mqs.kept-again (stays names.Semaphore []) s.named_sem i;
+      shm = mqs.kept-again (stays names.Segment []) s.shm i;
+    })
 
 -- ---- deadlines
 
@@ -502,6 +598,18 @@ deadline-sound now (Posix (posix.MqUnlink name)) = tt
 deadline-sound now (Posix (posix.MqNotify fd kind cookie)) = tt
 deadline-sound now (Posix (posix.MqGetattr fd)) = tt
 deadline-sound now (Posix (posix.MqSetattr fd flags)) = tt
+deadline-sound now (Posix (posix.SemOpen flags mode value name)) = tt
+deadline-sound now (Posix (posix.SemUnlink name)) = tt
+deadline-sound now (Posix (posix.SemPost fd)) = tt
+deadline-sound now (Posix (posix.SemWait fd deadline)) = after-sound 0 deadline
+deadline-sound now (Posix (posix.SemTrywait fd)) = tt
+deadline-sound now (Posix (posix.SemGetvalue fd)) = tt
+deadline-sound now (Posix (posix.ShmOpen flags mode name)) = tt
+deadline-sound now (Posix (posix.ShmUnlink name)) = tt
+deadline-sound now (Posix (posix.Ftruncate fd length)) = tt
+deadline-sound now (Posix (posix.ShmRead fd offset length)) = tt
+deadline-sound now (Posix (posix.ShmWrite fd offset bytes)) = tt
+deadline-sound now (Posix (posix.ShmStat fd)) = tt
 
 -- ---- objects that are held, and those of the definitions
 

@@ -1,8 +1,7 @@
 -- What other calls wait for stays as it is as a POSIX queue changes, comes or loses its name, and as the descriptors of
 -- a process change.
 use Rattle.std.proofs.Common.{◌≡◌, ◌≢◌, ℕ, Bool, true, false, cond, List, [], ◌∷◌, Option, Some, None, refl, sym, ap, subst, ◌∙◌, arith}
-use Rattle.std.specs.Prelude.{is_some, not, nat_eq, option_map, unwrap_or, if◌then◌else◌}
-use Rattle.std.specs.Int.RustNames.{bit_and}
+use Rattle.std.specs.Prelude.{nat_eq, option_map, unwrap_or, if◌then◌else◌}
 use Rattle.std.proofs.lemmas.Bool.Decides.{nat_tests}
 use Rattle.ipc_base.specs.declared.identity.Cred.{Cred}
 use Rattle.ipc_base.specs.declared.limits.Limits.{Limits}
@@ -12,7 +11,9 @@ use Rattle.posix_mq.specs.Queue.{Queue as Mq}
 use Rattle.posix_mq.specs.declared.queue.Registration.{Registration}
 use Rattle.ipc_state.specs.declared.descriptors.Descriptor.{Descriptor}
 use Rattle.ipc_state.specs.declared.descriptors.Opened.{Opened}
-use Rattle.ipc_state.specs.declared.descriptors.Opened.TheVariants as opened
+use Rattle.ipc_state.specs.declared.descriptors.Opened.TheVariants as objects
+use Rattle.ipc_keys.specs.declared.check.NameKind.{NameKind}
+use Rattle.ipc_keys.specs.declared.check.NameKind.TheVariants as names
 use Rattle.ipc_state.specs.declared.named.NamedEntry.{NamedEntry}
 use Rattle.ipc_state.specs.declared.parked.Awaited.{Awaited}
 use Rattle.ipc_state.specs.declared.parked.Awaited.TheVariants as awaited
@@ -20,29 +21,22 @@ use Rattle.ipc_state.specs.declared.parked.Object.{Object}
 use Rattle.ipc_state.specs.declared.parked.Object.TheVariants as object
 use Rattle.ipc_state.specs.declared.processes.Process.{Process}
 use Rattle.ipc_state.specs.Descriptors.{Table}
-use Rattle.ipc_state.specs.Named.{nameless, unnamed, with_object, without_name}
+use Rattle.ipc_state.specs.Named.{Named, nameless, unnamed, with_object, without_name}
 use Rattle.ipc_state.specs.Numbered.{entry_of, with_entry}
-use Rattle.ipc_state.specs.Opening.{deregistered, descriptors_of, descriptor_at, is_by, is_by_descriptor, is_on_queue, is_open, is_registered}
-use Rattle.ipc_state.specs.Opening.{is_there_for, stays, unless_so, with_table, without_registrations}
+use Rattle.ipc_state.specs.Opening.{deregistered, descriptors_of, descriptor_at, is_by, is_by_descriptor, is_on, is_open, is_registered}
+use Rattle.ipc_state.specs.Opening.{has_access, is_there_for, opened_as, stays, still_open, unless_so, with_table, without_registrations}
 use Rattle.ipc_state.specs.Sound.{HasSoundParts}
-use Rattle.ipc_state.specs.State.{State, closed, unlinked, with_descriptors, with_mq, with_new_mq}
-use Rattle.ipc_state.specs.Touching.{object_on, object_of, mq_object, IsAsBefore}
+use Rattle.ipc_state.specs.State.{State, closed, named_in, unlinked, unlinked_segment, unlinked_sem, with_named_sem, with_new_named_sem, with_new_segment, with_segment}
+use Rattle.ipc_state.specs.State.{with_descriptors, with_mq, with_new_mq}
+use Rattle.ipc_state.specs.Touching.{object_on, object_of, mq_object, named_sem_value, IsAsBefore}
+use Rattle.shm_segment.specs.Segment.{Segment}
 use Rattle.ipc_state.proofs.SoundMqs.{at-filter, both_true, either, first, none-filter}
 use Rattle.ipc_state.proofs.SoundOpening as opening
 use Rattle.ipc_state.proofs.SoundOpening.{All-found, opens}
 
--- as before at one change and at the next, as before at both
-pub before-then : (pid : ℕ) (on : Awaited) (s t u : State) → IsAsBefore pid on s t → IsAsBefore pid on t u → IsAsBefore pid on s u
-before-then pid (awaited.Queue id) s t u first second = second ∙ first
-before-then pid (awaited.Set id) s t u first second = (second.0 ∙ first.0, λ p num. second.1 p num ∙ first.1 p num)
-before-then pid (awaited.Descriptor fd) s t u first second = (
-  second.0 ∙ first.0,
-  λ n is. second.1 n (ap (option_map (λ (d : Descriptor). object_on d.on)) first.0 ∙ is) ∙ first.1 n is,
-)
-
--- the queue of an entry, and the descriptors of a process
-abbrev object_in : Option (NamedEntry Mq) → Option Mq
-object_in r = option_map (λ (e : NamedEntry Mq). e.object) r
+-- the object of an entry, and the descriptors of a process
+abbrev object_in : {X : Type 0} → Option (NamedEntry X) → Option X
+object_in r = option_map (λ e. e.object) r
 
 abbrev table_in : Option Process → Table
 table_in r = unwrap_or (option_map (λ (q : Process). q.descriptors) r) []
@@ -51,27 +45,83 @@ table_in r = unwrap_or (option_map (λ (q : Process). q.descriptors) r) []
 abbrev on_of : Option Descriptor → Option Object
 on_of r = option_map (λ (d : Descriptor). object_on d.on) r
 
-on_it : (on : Opened) (m : ℕ) → object_on on ≡ object.Mq m → is_on_queue m on ≡ true
-on_it (opened.Queue k) m is = let same : k ≡ m = cc in grind (arith, nat_tests)
+-- as before at one change and at the next, as before at both
+pub before-then : (pid : ℕ) (on : Awaited) (s t u : State) → IsAsBefore pid on s t → IsAsBefore pid on t u → IsAsBefore pid on s u
+before-then pid (awaited.Queue id) s t u first second = second ∙ first
+before-then pid (awaited.Set id) s t u first second = (second.0 ∙ first.0, λ p num. second.1 p num ∙ first.1 p num)
+before-then pid (awaited.Descriptor fd) s t u first second = (
+  second.0 ∙ first.0,
+  λ n is. second.1 n (ap on_of first.0 ∙ is) ∙ first.1 n is,
+  λ n is. second.2 n (ap on_of first.0 ∙ is) ∙ first.2 n is,
+)
 
-opens-it : (table : Table) (k m : ℕ) → on_of (value_at nat_eq table k) ≡ Some (object.Mq m) → opens m table ≡ true
-opens-it [] k m is = cc
-opens-it (d ∷ ds) k m is = by_test (nat_eq d.0 k) is (opens-it ds k m)
-  where
-    by_test : (b : Bool) → on_of (cond b (Some d.1) (value_at nat_eq ds k)) ≡ Some (object.Mq m)
-        → (on_of (value_at nat_eq ds k) ≡ Some (object.Mq m) → opens m ds ≡ true) → opens m (d ∷ ds) ≡ true
-    by_test true is rest = let one : object_on d.1.on ≡ object.Mq m = cc in first (is_on_queue m d.1.on) (opens m ds) (on_it d.1.on m one)
-    by_test false is rest = either (is_on_queue m d.1.on) (opens m ds) (rest is)
+on_it : (this on : Opened) → object_on on ≡ object_on this → is_on this on ≡ true
+on_it (objects.Queue m) (objects.Queue k) is = let same : k ≡ m = cc in grind (arith, nat_tests)
+on_it (objects.Queue m) (objects.Semaphore k) is = cc
+on_it (objects.Queue m) (objects.Segment k) is = cc
+on_it (objects.Semaphore m) (objects.Queue k) is = cc
+on_it (objects.Semaphore m) (objects.Semaphore k) is = let same : k ≡ m = cc in grind (arith, nat_tests)
+on_it (objects.Semaphore m) (objects.Segment k) is = cc
+on_it (objects.Segment m) (objects.Queue k) is = cc
+on_it (objects.Segment m) (objects.Semaphore k) is = cc
+on_it (objects.Segment m) (objects.Segment k) is = let same : k ≡ m = cc in grind (arith, nat_tests)
 
--- a queue on which a descriptor is open, is open
-open-by : (ps : List (ℕ × Process)) (p k m : ℕ) → on_of (descriptor_at ps p k) ≡ Some (object.Mq m) → is_open ps m ≡ true
-open-by [] p k m is = cc
-open-by (e ∷ es) p k m is = by_test (nat_eq e.0 p) is (open-by es p k m)
+module _ (this : Opened) where
+  opens-it : (table : Table) (k : ℕ) → on_of (value_at nat_eq table k) ≡ Some (object_on this) → opens this table ≡ true
+  opens-it [] k is = cc
+  opens-it (d ∷ ds) k is = by_test (nat_eq d.0 k) is (opens-it ds k)
+    where
+      by_test : (b : Bool) → on_of (cond b (Some d.1) (value_at nat_eq ds k)) ≡ Some (object_on this)
+          → (on_of (value_at nat_eq ds k) ≡ Some (object_on this) → opens this ds ≡ true) → opens this (d ∷ ds) ≡ true
+      by_test true is rest = let one : object_on d.1.on ≡ object_on this = cc in first (is_on this d.1.on) (opens this ds) (on_it this d.1.on one)
+      by_test false is rest = either (is_on this d.1.on) (opens this ds) (rest is)
+
+  -- an object on which a descriptor is open, is open
+  open-by : (ps : List (ℕ × Process)) (p k : ℕ) → on_of (descriptor_at ps p k) ≡ Some (object_on this) → is_open ps this ≡ true
+  open-by [] p k is = cc
+  open-by (e ∷ es) p k is = by_test (nat_eq e.0 p) is (open-by es p k)
+    where
+      by_test : (b : Bool) → on_of (value_at nat_eq (table_in (cond b (Some e.1) (value_at nat_eq es p))) k) ≡ Some (object_on this)
+          → (on_of (descriptor_at es p k) ≡ Some (object_on this) → is_open es this ≡ true) → is_open (e ∷ es) this ≡ true
+      by_test true is rest = first (opens this e.1.descriptors) (is_open es this) (opens-it e.1.descriptors k is)
+      by_test false is rest = either (opens this e.1.descriptors) (is_open es this) (rest is)
+
+-- what is open is left as it is, and without its name it is the same
+module _ {X : Type 0} (kind : NameKind) (ps : List (ℕ × Process)) (o : Named X) where
+  kept-open : (m : ℕ) → is_open ps (opened_as kind m) ≡ true → entry_of (still_open kind ps o) m ≡ entry_of o m
+  kept-open m used = by_entry (entry_of o m) refl
+    where
+      by_entry : (r : Option (NamedEntry X)) → entry_of o m ≡ r → entry_of (still_open kind ps o) m ≡ entry_of o m
+      by_entry None is = none-filter (stays kind ps) o.entries m is ∙ sym is
+      by_entry (Some e) is = at-filter (stays kind ps) o.entries m e is (either _ _ used) ∙ sym is
+
+same-unnamed : {X : Type 0} (o : Named X) (n m : ℕ) → object_in (entry_of (unnamed o n) m) ≡ object_in (entry_of o m)
+same-unnamed {X} o n m = same (entry_of o n) refl
   where
-    by_test : (b : Bool) → on_of (value_at nat_eq (table_in (cond b (Some e.1) (value_at nat_eq es p))) k) ≡ Some (object.Mq m)
-        → (on_of (descriptor_at es p k) ≡ Some (object.Mq m) → is_open es m ≡ true) → is_open (e ∷ es) m ≡ true
-    by_test true is rest = first (opens m e.1.descriptors) (is_open es m) (opens-it e.1.descriptors k m is)
-    by_test false is rest = either (opens m e.1.descriptors) (is_open es m) (rest is)
+    same : (r : Option (NamedEntry X)) → entry_of o n ≡ r → object_in (entry_of (without_name o n r) m) ≡ object_in (entry_of o m)
+    same None is = refl
+    same (Some e) is = by_number (nat_eq m n) refl
+      where
+        by_number : (b : Bool) → nat_eq m n ≡ b → object_in (entry_of (with_entry o n (nameless e)) m) ≡ object_in (entry_of o m)
+        by_number true at =
+            let one : m ≡ n = grind (arith, nat_tests) in
+            subst (λ (k : ℕ). object_in (entry_of (with_entry o n (nameless e)) k) ≡ object_in (entry_of o k)) (sym one)
+            (ap object_in (at-with o.entries n (nameless e) e is) ∙ sym (ap object_in is))
+        by_number false at =
+            let other : m ≢ n = λ one. grind (arith, nat_tests) in
+            ap object_in (other-with o.entries n m (nameless e) other)
+
+-- what an object is, a descriptor is open on
+same-on : (this on : Opened) → object_on on ≡ object_on this → on ≡ this
+same-on (objects.Queue m) (objects.Queue k) is = let same : k ≡ m = cc in ap (λ (n : ℕ). objects.Queue n) same
+same-on (objects.Queue m) (objects.Semaphore k) is = cc
+same-on (objects.Queue m) (objects.Segment k) is = cc
+same-on (objects.Semaphore m) (objects.Queue k) is = cc
+same-on (objects.Semaphore m) (objects.Semaphore k) is = let same : k ≡ m = cc in ap (λ (n : ℕ). objects.Semaphore n) same
+same-on (objects.Semaphore m) (objects.Segment k) is = cc
+same-on (objects.Segment m) (objects.Queue k) is = cc
+same-on (objects.Segment m) (objects.Semaphore k) is = cc
+same-on (objects.Segment m) (objects.Segment k) is = let same : k ≡ m = cc in ap (λ (n : ℕ). objects.Segment n) same
 
 -- another queue in the place of one
 pub elsewhere-mq : (s : State) (n : ℕ) (q : Mq) (p : ℕ) (on : Awaited) → Some (object.Mq n) ≢ object_of s p on → IsAsBefore p on s (with_mq s n q)
@@ -80,6 +130,7 @@ elsewhere-mq s n q p (awaited.Set id) apart = (refl, λ pid num. refl)
 elsewhere-mq s n q p (awaited.Descriptor fd) apart = (
   refl,
   λ m is. by_entry m (λ same. apart (ap (λ (k : ℕ). Some (object.Mq k)) (sym same) ∙ sym is)) (entry_of s.mq n),
+  λ m is. refl,
 )
   where
     by_entry : (m : ℕ) → m ≢ n → (r : Option (NamedEntry Mq))
@@ -88,6 +139,33 @@ elsewhere-mq s n q p (awaited.Descriptor fd) apart = (
     by_entry m other None = refl
     by_entry m other (Some e) = ap object_in (other-with s.mq.entries n m (with_object e q) other)
 
+-- another value of a semaphore, another segment in the place of one, and a new segment
+pub elsewhere-named_sem : (s : State) (n value p : ℕ) (on : Awaited) → Some (object.NamedSem n) ≢ object_of s p on
+    → IsAsBefore p on s (with_named_sem s n value)
+elsewhere-named_sem s n value p (awaited.Queue id) apart = refl
+elsewhere-named_sem s n value p (awaited.Set id) apart = (refl, λ pid num. refl)
+elsewhere-named_sem s n value p (awaited.Descriptor fd) apart = (
+  refl,
+  λ m is. refl,
+  λ m is. by_entry m (λ same. apart (ap (λ (k : ℕ). Some (object.NamedSem k)) (sym same) ∙ sym is)) (entry_of s.named_sem n),
+)
+  where
+    by_entry : (m : ℕ) → m ≢ n → (r : Option (NamedEntry ℕ))
+        → object_in
+        (entry_of (unwrap_or (option_map (λ (e : NamedEntry ℕ). with_entry s.named_sem n (with_object e value)) r) s.named_sem) m) ≡ named_sem_value s m
+    by_entry m other None = refl
+    by_entry m other (Some e) = ap object_in (other-with s.named_sem.entries n m (with_object e value) other)
+
+pub elsewhere-segment : (s : State) (n : ℕ) (x : Segment) (p : ℕ) (on : Awaited) → IsAsBefore p on s (with_segment s n x)
+elsewhere-segment s n x p (awaited.Queue id) = refl
+elsewhere-segment s n x p (awaited.Set id) = (refl, λ pid num. refl)
+elsewhere-segment s n x p (awaited.Descriptor fd) = (refl, λ m is. refl, λ m is. refl)
+
+pub elsewhere-new_segment : (s : State) (name : List ℕ) (cred : Cred) (mode p : ℕ) (on : Awaited) → IsAsBefore p on s (with_new_segment s name cred mode)
+elsewhere-new_segment s name cred mode p (awaited.Queue id) = refl
+elsewhere-new_segment s name cred mode p (awaited.Set id) = (refl, λ pid num. refl)
+elsewhere-new_segment s name cred mode p (awaited.Descriptor fd) = (refl, λ m is. refl, λ m is. refl)
+
 -- other descriptors of another process
 pub elsewhere-table : (s : State) (pid : ℕ) (table : Table) (p : ℕ) (on : Awaited) → p ≢ pid → IsAsBefore p on s (with_descriptors s pid table)
 elsewhere-table s pid table p (awaited.Queue id) other = refl
@@ -95,22 +173,24 @@ elsewhere-table s pid table p (awaited.Set id) other = (refl, λ q num. refl)
 elsewhere-table s pid table p (awaited.Descriptor fd) other = (
   ap (λ (r : Option Process). value_at nat_eq (table_in r) fd) (opening.table-other s.processes pid table p other),
   λ m is. refl,
+  λ m is. refl,
 )
 
 module _ (limits : Limits) (s : State) (h : HasSoundParts limits s) where
-  -- a queue on which a descriptor is open is there
-  there-for : (p fd m : ℕ) → object_of s p (awaited.Descriptor fd) ≡ Some (object.Mq m) → is_some (entry_of s.mq m) ≡ true
-  there-for p fd m is = by_value (descriptor_at s.processes.entries p fd) refl is
+  -- what a descriptor is open on is there
+  there-for : (p fd : ℕ) (this : Opened) → object_of s p (awaited.Descriptor fd) ≡ Some (object_on this) → is_there_for (named_in s) this ≡ true
+  there-for p fd this is = by_value (descriptor_at s.processes.entries p fd) refl is
     where
-      by_kind : (on : Opened) → object_on on ≡ object.Mq m → is_there_for s.mq on ≡ true → is_some (entry_of s.mq m) ≡ true
-      by_kind (opened.Queue k) is there = let same : k ≡ m = cc in subst (λ (n : ℕ). is_some (entry_of s.mq n) ≡ true) same there
+      by_kind : (this on : Opened) → object_on on ≡ object_on this → is_there_for (named_in s) on ≡ true → is_there_for (named_in s) this ≡ true
+      by_kind this on is there = subst (λ (k : Opened). is_there_for (named_in s) k ≡ true) (same-on this on is) there
 
-      by_value : (r : Option Descriptor) → descriptor_at s.processes.entries p fd ≡ r → on_of r ≡ Some (object.Mq m) → is_some (entry_of s.mq m) ≡ true
+      by_value : (r : Option Descriptor) → descriptor_at s.processes.entries p fd ≡ r → on_of r ≡ Some (object_on this)
+          → is_there_for (named_in s) this ≡ true
       by_value None found is = cc
       by_value (Some d) found is =
-          let on : object_on d.on ≡ object.Mq m = cc in
-          by_kind d.on on (both_true (is_there_for s.mq d.on) (not (nat_eq (bit_and d.flags 3) 3))
-          (opening.descriptor-sound limits s.mq s.processes.entries p fd d h.processes.descriptors found)).0
+          let on : object_on d.on ≡ object_on this = cc in
+          by_kind this d.on on (both_true (is_there_for (named_in s) d.on) (has_access d.on d.flags)
+          (opening.descriptor-sound limits (named_in s) s.processes.entries p fd d h.processes.descriptors found)).0
 
   -- a new queue
   pub elsewhere-new_mq : (name : List ℕ) (cred : Cred) (mode : ℕ) (q : Mq) (p : ℕ) (on : Awaited) → IsAsBefore p on s (with_new_mq s name cred mode q)
@@ -118,47 +198,63 @@ module _ (limits : Limits) (s : State) (h : HasSoundParts limits s) where
   elsewhere-new_mq name cred mode q p (awaited.Set id) = (refl, λ pid num. refl)
   elsewhere-new_mq name cred mode q p (awaited.Descriptor fd) = (
     refl,
-    λ m is. let below = (rising-found 1 s.mq.entries s.mq.next m h.mq.named.numbered.numbers (there-for p fd m is)).1 in
+    λ m is. let below = (rising-found 1 s.mq.entries s.mq.next m h.mq.held.named.numbered.numbers (there-for p fd (objects.Queue m) is)).1 in
         ap object_in (other-push s.mq.entries s.mq.next m _ (λ same. absurd (omega (arith, same, below)))),
+    λ m is. refl,
   )
 
-  -- a name that goes, and the queue with it, if it is not open
+  -- a new semaphore
+  pub elsewhere-new_named_sem : (name : List ℕ) (cred : Cred) (mode value p : ℕ) (on : Awaited)
+      → IsAsBefore p on s (with_new_named_sem s name cred mode value)
+  elsewhere-new_named_sem name cred mode value p (awaited.Queue id) = refl
+  elsewhere-new_named_sem name cred mode value p (awaited.Set id) = (refl, λ pid num. refl)
+  elsewhere-new_named_sem name cred mode value p (awaited.Descriptor fd) = (
+    refl,
+    λ m is. refl,
+    λ m is. let below = (rising-found 1 s.named_sem.entries s.named_sem.next m h.named_sem.named.numbered.numbers (there-for p fd (objects.Semaphore m) is)).1 in
+        ap object_in (other-push s.named_sem.entries s.named_sem.next m _ (λ same. absurd (omega (arith, same, below)))),
+  )
+
+  -- a name that goes, and the object with it, if it is not open
   pub elsewhere-unlinked : (n p : ℕ) (on : Awaited) → IsAsBefore p on s (unlinked s n)
   elsewhere-unlinked n p (awaited.Queue id) = refl
   elsewhere-unlinked n p (awaited.Set id) = (refl, λ pid num. refl)
   elsewhere-unlinked n p (awaited.Descriptor fd) = (
     refl,
-    λ m is. left m (open-by s.processes.entries p fd m is) (entry_of (unnamed s.mq n) m) refl ∙ same m (entry_of s.mq n) refl,
+    λ m is. ap object_in (kept-open names.Queue s.processes.entries (unnamed s.mq n) m (open-by (objects.Queue m) s.processes.entries p fd is))
+        ∙ same-unnamed s.mq n m,
+    λ m is. ap object_in (kept-open names.Semaphore s.processes.entries s.named_sem m (open-by (objects.Semaphore m) s.processes.entries p fd is)),
   )
-    where
-      left : (m : ℕ) → is_open s.processes.entries m ≡ true → (r : Option (NamedEntry Mq)) → entry_of (unnamed s.mq n) m ≡ r
-          → mq_object (unlinked s n) m ≡ object_in (entry_of (unnamed s.mq n) m)
-      left m used None is =
-          ap object_in (none-filter (stays s.processes.entries) (unnamed s.mq n).entries m is ∙ sym is)
-      left m used (Some e) is =
-          ap object_in (at-filter (stays s.processes.entries) (unnamed s.mq n).entries m e is (either _ _ used) ∙ sym is)
 
-      same : (m : ℕ) (r : Option (NamedEntry Mq)) → entry_of s.mq n ≡ r
-          → object_in (entry_of (without_name s.mq n r) m) ≡ mq_object s m
-      same m None is = refl
-      same m (Some e) is = by_number (nat_eq m n) refl
-        where
-          by_number : (b : Bool) → nat_eq m n ≡ b → object_in (entry_of (with_entry s.mq n (nameless e)) m) ≡ mq_object s m
-          by_number true at =
-              let one : m ≡ n = grind (arith, nat_tests) in
-              subst (λ (k : ℕ). object_in (entry_of (with_entry s.mq n (nameless e)) k) ≡ mq_object s k) (sym one)
-              (ap object_in (at-with s.mq.entries n (nameless e) e is)
-              ∙ sym (ap object_in is))
-          by_number false at =
-              let other : m ≢ n = λ one. grind (arith, nat_tests) in
-              ap object_in (other-with s.mq.entries n m (nameless e) other)
+  pub elsewhere-unlinked_sem : (n p : ℕ) (on : Awaited) → IsAsBefore p on s (unlinked_sem s n)
+  elsewhere-unlinked_sem n p (awaited.Queue id) = refl
+  elsewhere-unlinked_sem n p (awaited.Set id) = (refl, λ pid num. refl)
+  elsewhere-unlinked_sem n p (awaited.Descriptor fd) = (
+    refl,
+    λ m is. ap object_in (kept-open names.Queue s.processes.entries s.mq m (open-by (objects.Queue m) s.processes.entries p fd is)),
+    λ m is. ap object_in (kept-open names.Semaphore s.processes.entries (unnamed s.named_sem n) m
+        (open-by (objects.Semaphore m) s.processes.entries p fd is)) ∙ same-unnamed s.named_sem n m,
+  )
+
+  pub elsewhere-unlinked_segment : (n p : ℕ) (on : Awaited) → IsAsBefore p on s (unlinked_segment s n)
+  elsewhere-unlinked_segment n p (awaited.Queue id) = refl
+  elsewhere-unlinked_segment n p (awaited.Set id) = (refl, λ pid num. refl)
+  elsewhere-unlinked_segment n p (awaited.Descriptor fd) = (
+    refl,
+    λ m is. ap object_in (kept-open names.Queue s.processes.entries s.mq m (open-by (objects.Queue m) s.processes.entries p fd is)),
+    λ m is. ap object_in (kept-open names.Semaphore s.processes.entries s.named_sem m (open-by (objects.Semaphore m) s.processes.entries p fd is)),
+  )
 
   -- a descriptor that is closed by another process, with the registration by it
   pub elsewhere-closed : (pid fd p : ℕ) (on : Awaited) → p ≢ pid → object_of s pid (awaited.Descriptor fd) ≢ object_of s p on
       → IsAsBefore p on s (closed s pid fd)
   elsewhere-closed pid fd p (awaited.Queue id) other apart = refl
   elsewhere-closed pid fd p (awaited.Set id) other apart = (refl, λ q num. refl)
-  elsewhere-closed pid fd p (awaited.Descriptor k) other apart = (same, λ m is. by_entry m is (entry_of s.mq m) refl)
+  elsewhere-closed pid fd p (awaited.Descriptor k) other apart = (
+    same,
+    λ m is. by_entry m is (entry_of s.mq m) refl,
+    λ m is. ap object_in (kept-open names.Semaphore left s.named_sem m (open-by (objects.Semaphore m) left p k (ap on_of same ∙ is))),
+  )
     where
       goes : Registration → Bool
       goes = is_by (Some pid) (Some fd)
@@ -177,10 +273,12 @@ module _ (limits : Limits) (s : State) (h : HasSoundParts limits s) where
       stays-so m None registered elsewhere = refl
       stays-so m (Some r) registered elsewhere = by_test (goes r) refl
         where
-          by_kind : (on : Opened) → is_on_queue m on ≡ true → object_on on ≡ object.Mq m
-          by_kind (opened.Queue j) is = let one : j ≡ m = grind (arith, nat_tests) in ap (λ (i : ℕ). object.Mq i) one
+          by_kind : (on : Opened) → is_on (objects.Queue m) on ≡ true → object_on on ≡ object.Mq m
+          by_kind (objects.Queue j) is = let one : j ≡ m = grind (arith, nat_tests) in ap (λ (i : ℕ). object.Mq i) one
+          by_kind (objects.Semaphore j) is = cc
+          by_kind (objects.Segment j) is = cc
 
-          by_value : (v : Option Descriptor) → unwrap_or (option_map (λ (d : Descriptor). is_on_queue m d.on) v) false ≡ true → on_of v ≡ Some (object.Mq m)
+          by_value : (v : Option Descriptor) → unwrap_or (option_map (λ (d : Descriptor). is_on (objects.Queue m) d.on) v) false ≡ true → on_of v ≡ Some (object.Mq m)
           by_value None is = cc
           by_value (Some d) is = ap (λ (j : Object). Some j) (by_kind d.on is)
 
@@ -198,12 +296,12 @@ module _ (limits : Limits) (s : State) (h : HasSoundParts limits s) where
       by_entry m is None found =
           let none : value_at nat_eq (without_registrations goes s.mq).entries m ≡ None =
           at-map (deregistered goes) s.mq.entries m ∙ ap (option_map (deregistered goes)) found in
-          ap object_in (none-filter (stays left) (without_registrations goes s.mq).entries m none ∙ sym found)
+          ap object_in (none-filter (stays names.Queue left) (without_registrations goes s.mq).entries m none ∙ sym found)
       by_entry m is (Some e) found =
           let there : value_at nat_eq (without_registrations goes s.mq).entries m ≡ Some (deregistered goes e) =
           at-map (deregistered goes) s.mq.entries m ∙ ap (option_map (deregistered goes)) found in
-          let used : is_open left m ≡ true = open-by left p k m (ap on_of same ∙ is) in
+          let used : is_open left (objects.Queue m) ≡ true = open-by (objects.Queue m) left p k (ap on_of same ∙ is) in
           let registered = All-found (λ (d : ℕ × NamedEntry Mq). is_registered s.processes.entries d ≡ true) s.mq.entries m e h.mq.registered found in
           let kept : unless_so goes e.object.registration ≡ e.object.registration = stays-so m e.object.registration registered (λ at. apart (at ∙ sym is)) in
-          ap object_in (at-filter (stays left) (without_registrations goes s.mq).entries m (deregistered goes e) there (either _ _ used))
+          ap object_in (at-filter (stays names.Queue left) (without_registrations goes s.mq).entries m (deregistered goes e) there (either _ _ used))
           ∙ (ap (λ (r : Option Registration). Some (record e.object { registration = r })) kept ∙ sym (ap object_in found))

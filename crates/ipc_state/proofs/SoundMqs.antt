@@ -1,13 +1,13 @@
--- POSIX queues, and the descriptors that are open on them, stay sound as processes come and go.
+-- Objects with a name, and the descriptors that are open on them, stay sound as processes come and go.
 use Rattle.std.proofs.Common.{◌≡◌, ◌≢◌, ℕ, ◌<◌, ◌≤◌, Bool, true, false, cond, List, [], ◌∷◌, ◌++◌, Option, Some, None, refl, sym, ap, subst, ◌∙◌, arith}
-use Rattle.std.specs.Prelude.{All, is_some, not, ◌||◌, ◌&&◌, nat_eq, nat_lt, nat_le, length, map, option_map, unwrap_or, if◌then◌else◌}
-use Rattle.std.specs.Int.RustNames.{bit_and}
+use Rattle.std.specs.Prelude.{⊤, All, is_some, not, ◌||◌, ◌&&◌, nat_eq, nat_lt, nat_le, length, map, option_map, unwrap_or, if◌then◌else◌}
 use Rattle.std.specs.Str.{bytes_eq}
 use Rattle.std.specs.Bool.{Decides}
 use Rattle.std.specs.List.{filter, list_all, list_any}
 use Rattle.std.proofs.lemmas.Bool.{leb-true, le-leb}
 use Rattle.std.proofs.lemmas.Bool.Decides.{nat_tests, Decides-by_and, Decides-and, Decides-ltb}
 use Rattle.std.proofs.lemmas.List.Elements.{All-nil, All-cons, All-head, All-tail, All-filter, All-push, All-weaker}
+use Rattle.std.proofs.lemmas.List.Filters.{sum_by-filter_both}
 use Rattle.std.proofs.lemmas.List.Folds.{list_any-append}
 use Rattle.std.proofs.lemmas.Slice.Eq.{bytes_eq-Decides}
 use Rattle.ipc_base.specs.declared.identity.Cred.{Cred}
@@ -15,8 +15,12 @@ use Rattle.ipc_base.specs.declared.limits.Limits.{Limits}
 use Rattle.ipc_base.specs.Table.{value_at, without, seen_as}
 use Rattle.ipc_base.proofs.CallerLemmas.{at-map, value_at-without}
 use Rattle.ipc_keys.specs.Names.{is_none}
+use Rattle.ipc_keys.specs.declared.check.NameKind.{NameKind}
+use Rattle.ipc_keys.specs.declared.check.NameKind.TheVariants as names
 use Rattle.posix_mq.specs.Queue.{Queue as Mq, PlainMessage}
 use Rattle.posix_mq.specs.declared.queue.Registration.{Registration}
+use Rattle.posix_sem.specs.Semaphore.{sem_value_max}
+use Rattle.shm_segment.specs.Segment.{Segment}
 use Rattle.ipc_state.specs.declared.descriptors.Descriptor.{Descriptor}
 use Rattle.ipc_state.specs.declared.descriptors.Opened.{Opened}
 use Rattle.ipc_state.specs.declared.descriptors.Opened.TheVariants as opened
@@ -28,10 +32,11 @@ use Rattle.ipc_state.specs.declared.processes.Process.{Process}
 use Rattle.ipc_state.specs.Descriptors.{Table}
 use Rattle.ipc_state.specs.Directory.{Agrees}
 use Rattle.ipc_state.specs.Named.{Named, name_row, named, kept_if, AreNamedObjects}
-use Rattle.ipc_state.specs.Numbered.{Numbered, none_yet, entry_of, is_full, with_new, without_entry}
-use Rattle.ipc_state.specs.Opening.{is_on_queue, is_open, stays, still_open, unless_so, deregistered, without_registrations, is_by}
+use Rattle.ipc_state.specs.Numbered.{AreNumbered, Numbered, none_yet, entry_of, is_full, with_new, without_entry}
+use Rattle.ipc_state.specs.Opening.{NamedObjects, is_on, is_open, opened_as, stays, still_open, unless_so, deregistered, without_registrations, is_by}
 use Rattle.ipc_state.specs.Opening.{has_name, is_named_so, is_there_for, is_sound_descriptor, is_by_descriptor, is_registered}
-use Rattle.ipc_state.specs.Sound.{AreSoundDescriptors, AreSoundMqs, AreSoundProcesses, IsSoundMq, IsSoundMqMessage}
+use Rattle.ipc_state.specs.Sound.{AreHeld, AreSoundDescriptors, AreSoundMqs, AreSoundNamedSems, AreSoundProcesses, AreSoundSegments, IsSoundMq}
+use Rattle.ipc_state.specs.Sound.{IsSoundMqMessage, segment_bytes}
 use Rattle.ipc_state.specs.Tests.{is_sound_mq, is_sound_mq_message}
 use Rattle.ipc_state.proofs.EntryKeys.{each-decides}
 use Rattle.ipc_state.proofs.Naming.{none_yet-named, kept_if-named}
@@ -108,72 +113,112 @@ pub both_true : (a b : Bool) → (a && b) ≡ true → (a ≡ true) × (b ≡ tr
 both_true true b h = (refl, h)
 both_true false b h = cc
 
+pub is_some-map : {X Y : Type 0} (f : X → Y) (r : Option X) → is_some (option_map f r) ≡ is_some r
+is_some-map f None = refl
+is_some-map f (Some x) = refl
+
+-- what is open on an object is on it
+pub is_on-same : (on : Opened) → is_on on on ≡ true
+is_on-same (opened.Queue n) = grind (arith, nat_tests)
+is_on-same (opened.Semaphore n) = grind (arith, nat_tests)
+is_on-same (opened.Segment n) = grind (arith, nat_tests)
+
 -- the objects on which descriptors of these processes are open are there among others too
-abbrev pub AllThere : Named Mq → Named Mq → List (ℕ × Process) → Type 0
-AllThere old new processes = (n : ℕ) → is_open processes n ≡ true → is_some (entry_of old n) ≡ true → is_some (entry_of new n) ≡ true
+abbrev pub AllThere : NamedObjects → NamedObjects → List (ℕ × Process) → Type 0
+AllThere old new processes = (on : Opened) → is_open processes on ≡ true → is_there_for old on ≡ true → is_there_for new on ≡ true
 
 -- its descriptors are sound
-abbrev pub Has : Limits → Named Mq → ℕ × Process → Type 0
+abbrev pub Has : Limits → NamedObjects → ℕ × Process → Type 0
 Has limits o p = AreSoundDescriptors limits o p.1.descriptors
 
-module _ (limits : Limits) (old new : Named Mq) where
-  abbrev Good : Named Mq → ℕ × Descriptor → Type 0
+module _ (limits : Limits) (old new : NamedObjects) where
+  abbrev Good : NamedObjects → ℕ × Descriptor → Type 0
   Good o d = is_sound_descriptor o d.1 ≡ true
 
-  one-there : (d : Descriptor) → ((n : ℕ) → is_on_queue n d.on ≡ true → is_some (entry_of old n) ≡ true → is_some (entry_of new n) ≡ true)
+  one-there : (d : Descriptor) → ((on : Opened) → is_on on d.on ≡ true → is_there_for old on ≡ true → is_there_for new on ≡ true)
       → is_sound_descriptor old d ≡ true → is_sound_descriptor new d ≡ true
-  one-there d all good = by_kind d.on all (both_true _ _ good)
-    where
-      by_kind : (on : Opened) → ((n : ℕ) → is_on_queue n on ≡ true → is_some (entry_of old n) ≡ true → is_some (entry_of new n) ≡ true)
-          → (is_there_for old on ≡ true) × (not (nat_eq (bit_and d.flags 3) 3) ≡ true) → (is_there_for new on && not (nat_eq (bit_and d.flags 3) 3)) ≡ true
-      by_kind (opened.Queue m) all h = let there = all m (let same : nat_eq m m ≡ true = grind (arith, nat_tests) in same) h.0 in rw there h.1
+  one-there d all good = let h = both_true (is_there_for old d.on) _ good in rw (all d.on (is_on-same d.on) h.0) h.1
 
-  table-there : (table : Table) → ((n : ℕ) → list_any (λ (d : ℕ × Descriptor). is_on_queue n d.1.on) table ≡ true → is_some (entry_of old n) ≡ true
-      → is_some (entry_of new n) ≡ true) → All (Good old) table → All (Good new) table
+  table-there : (table : Table) → ((on : Opened) → list_any (λ (d : ℕ × Descriptor). is_on on d.1.on) table ≡ true → is_there_for old on ≡ true
+      → is_there_for new on ≡ true) → All (Good old) table → All (Good new) table
   table-there [] all each = All-nil (Good new)
   table-there (d ∷ ds) all each =
-      All-cons (Good new) d ds (one-there d.1 (λ n is. all n (first _ _ is)) (All-head (Good old) d ds each))
-      (table-there ds (λ n is. all n (either _ _ is)) (All-tail (Good old) d ds each))
+      All-cons (Good new) d ds (one-there d.1 (λ on is. all on (first _ _ is)) (All-head (Good old) d ds each))
+      (table-there ds (λ on is. all on (either _ _ is)) (All-tail (Good old) d ds each))
 
   pub each-there : (ps : List (ℕ × Process)) → AllThere old new ps → All (Has limits old) ps → All (Has limits new) ps
   each-there [] all each = All-nil (Has limits new)
   each-there (p ∷ ps) all each =
       let h = All-head (Has limits old) p ps each in
-      All-cons (Has limits new) p ps (record { numbers = h.numbers; each = table-there p.1.descriptors (λ n is. all n (first _ _ is)) h.each })
-      (each-there ps (λ n is. all n (either _ _ is)) (All-tail (Has limits old) p ps each))
+      All-cons (Has limits new) p ps (record { numbers = h.numbers; each = table-there p.1.descriptors (λ on is. all on (first _ _ is)) h.each })
+      (each-there ps (λ on is. all on (either _ _ is)) (All-tail (Has limits old) p ps each))
 
--- ---- queues that stay
+-- ---- objects that stay
 
-module _ (goes : Registration → Bool) (ps : List (ℕ × Process)) (o : Named Mq) where
-  -- what is open stays there
-  pub open-stay : AllThere o (still_open ps (without_registrations goes o)) ps
-  open-stay n used there = by_entry (entry_of o n) refl there
+module _ {X : Type 0} (kind : NameKind) where
+  -- each object with a name stays
+  pub named-stay : (ps : List (ℕ × Process)) (e : ℕ × NamedEntry X) → e.1.name ≢ [] → stays kind ps e ≡ true
+  named-stay ps e some = first _ _ (by_name (is_none e.1.name) refl)
     where
-      by_entry : (r : Option (NamedEntry Mq)) → entry_of o n ≡ r → is_some r ≡ true → is_some (entry_of (still_open ps (without_registrations goes o)) n) ≡ true
-      by_entry None is some = cc
-      by_entry (Some e) is some =
-          let found : value_at nat_eq (seen_as (deregistered goes) o.entries) n ≡ Some (deregistered goes e) =
-          at-map (deregistered goes) o.entries n ∙ ap (option_map (deregistered goes)) is in
-          ap is_some (at-filter (stays ps) _ n (deregistered goes e) found (either _ _ used))
+      by_name : (b : Bool) → is_none e.1.name ≡ b → not b ≡ true
+      by_name true none = absurd (some ((bytes_eq-Decides e.1.name []).0 none))
+      by_name false has = refl
 
-  pub stay-left : All (λ (e : ℕ × NamedEntry Mq). stays ps e ≡ true) (still_open ps (without_registrations goes o)).entries
-  stay-left = All-passed (stays ps) (seen_as (deregistered goes) o.entries)
+  -- what is open stays there
+  pub open-stay : (ps : List (ℕ × Process)) (o : Named X) (n : ℕ) → is_open ps (opened_as kind n) ≡ true → is_some (entry_of o n) ≡ true
+      → is_some (entry_of (still_open kind ps o) n) ≡ true
+  open-stay ps o n used there = by_entry (entry_of o n) refl there
+    where
+      by_entry : (r : Option (NamedEntry X)) → entry_of o n ≡ r → is_some r ≡ true → is_some (entry_of (still_open kind ps o) n) ≡ true
+      by_entry None is some = cc
+      by_entry (Some e) is some = ap is_some (at-filter (stays kind ps) o.entries n e is (either _ _ used))
+
+  module _ (most : ℕ) (P : X → Type 0) where
+    -- those that stay are held
+    pub held-left : (ps left : List (ℕ × Process)) (o : Named X) → AreHeld most P kind ps o → AreHeld most P kind left (still_open kind left o)
+    held-left ps left o h =
+        record {
+          named = kept_if-named most P (stays kind left) (named-stay left) o h.named;
+          forms = All-filter (stays kind left) (λ (e : ℕ × NamedEntry X). is_named_so kind e ≡ true) o.entries h.forms;
+          stay = All-passed (stays kind left) o.entries;
+        }
+
+    -- and those that there are, where more processes are
+    pub held-more : (ps more : List (ℕ × Process)) (o : Named X) → AreHeld most P kind ps o → AreHeld most P kind (ps ++ more) o
+    held-more ps more o h =
+        record {
+          named = h.named;
+          forms = h.forms;
+          stay = All-weaker (λ (e : ℕ × NamedEntry X). stays kind ps e ≡ true) (λ (e : ℕ × NamedEntry X). stays kind (ps ++ more) e ≡ true)
+              (λ e is. rw (open-more (opened_as kind e.0)) (or-more (has_name e.1) (is_open ps (opened_as kind e.0)) (is_open more (opened_as kind e.0)) is)) o.entries h.stay;
+        }
+      where
+        open-more : (on : Opened) → is_open (ps ++ more) on ≡ (is_open ps on || is_open more on)
+        open-more on = list_any-append (λ (p : ℕ × Process). list_any (λ (d : ℕ × Descriptor). is_on on d.1.on) p.1.descriptors) ps more
+
+    pub none-held : (ps : List (ℕ × Process)) → AreHeld most P kind ps none_yet
+    none-held ps = record { named = none_yet-named most P; forms = All-nil _; stay = All-nil _ }
+
+-- what is left has no more bytes
+pub fewer-bytes : (test : ℕ × NamedEntry Segment → Bool) (o : Named Segment) → segment_bytes (kept_if test o) ≤ segment_bytes o
+fewer-bytes test o =
+    omega (arith, sum_by-filter_both test (λ e. not (test e)) (λ e. refl) (λ (e : ℕ × NamedEntry Segment). length e.1.object.bytes) o.entries)
 
 -- ---- registrations
 
 -- what a descriptor of a process, if it is there, says of a registration with a queue
 abbrev pub told : ℕ → Registration → Option Process → Bool
 told n r p =
-    unwrap_or (option_map (λ (d : Descriptor). is_on_queue n d.on) (value_at nat_eq (unwrap_or (option_map (λ (q : Process). q.descriptors) p) []) r.descriptor)) false
+    unwrap_or (option_map (λ (d : Descriptor). is_on (opened.Queue n) d.on) (value_at nat_eq (unwrap_or (option_map (λ (q : Process). q.descriptors) p) []) r.descriptor)) false
 
 abbrev pub IsRegistered : List (ℕ × Process) → ℕ × NamedEntry Mq → Type 0
 IsRegistered ps e = is_registered ps e ≡ true
 
 -- after an exit, those of others are by descriptors that are open still
 pub registered-exit : (ps : List (ℕ × Process)) (pid : ℕ) (o : Named Mq) → All (IsRegistered ps) o.entries
-    → All (IsRegistered (without nat_eq ps pid)) (still_open (without nat_eq ps pid) (without_registrations (is_by (Some pid) None) o)).entries
+    → All (IsRegistered (without nat_eq ps pid)) (still_open names.Queue (without nat_eq ps pid) (without_registrations (is_by (Some pid) None) o)).entries
 registered-exit ps pid o all =
-    All-filter (stays left) (IsRegistered left) _ (All-seen_as (IsRegistered ps) (IsRegistered left) (deregistered (is_by (Some pid) None)) one o.entries all)
+    All-filter (stays names.Queue left) (IsRegistered left) _ (All-seen_as (IsRegistered ps) (IsRegistered left) (deregistered (is_by (Some pid) None)) one o.entries all)
   where
     left : List (ℕ × Process)
     left = without nat_eq ps pid
@@ -192,9 +237,9 @@ registered-exit ps pid o all =
                 ap (told e.0 r) (value_at-without ps pid r.pid.0 other) ∙ h
 
 -- nobody is left registered
-pub registered-none : (ps : List (ℕ × Process)) (o : Named Mq) → All (IsRegistered ps) (still_open ps (without_registrations (is_by None None) o)).entries
+pub registered-none : (ps : List (ℕ × Process)) (o : Named Mq) → All (IsRegistered ps) (still_open names.Queue ps (without_registrations (is_by None None) o)).entries
 registered-none ps o =
-    All-filter (stays ps) (IsRegistered ps) _
+    All-filter (stays names.Queue ps) (IsRegistered ps) _
     (All-seen_as (λ (e : ℕ × NamedEntry Mq). Unit {0}) (IsRegistered ps) (deregistered (is_by None None)) one o.entries (λ k d i. tt))
   where
     one : (e : ℕ × NamedEntry Mq) → Unit {0} → IsRegistered ps (e.0, deregistered (is_by None None) e.1)
@@ -207,12 +252,6 @@ registered-none ps o =
 -- ---- a process more
 
 module _ (ps more : List (ℕ × Process)) where
-  open-more : (n : ℕ) → is_open (ps ++ more) n ≡ (is_open ps n || is_open more n)
-  open-more n = list_any-append (λ (p : ℕ × Process). list_any (λ (d : ℕ × Descriptor). is_on_queue n d.1.on) p.1.descriptors) ps more
-
-  pub stays-more : (e : ℕ × NamedEntry Mq) → stays ps e ≡ true → stays (ps ++ more) e ≡ true
-  stays-more e stand = rw open-more (or-more (has_name e.1) (is_open ps e.0) (is_open more e.0) stand)
-
   pub registered-more : (e : ℕ × NamedEntry Mq) → IsRegistered ps e → IsRegistered (ps ++ more) e
   registered-more e h = by_registration e.1.object.registration h
     where
@@ -296,34 +335,6 @@ filter-seen {X} {Y} test row (x ∷ xs) = by_test (test (row x)) (filter-seen te
 
 -- ---- the parts of a state
 
--- each object with a name stays
-pub named-stay : (ps : List (ℕ × Process)) (e : ℕ × NamedEntry Mq) → e.1.name ≢ [] → stays ps e ≡ true
-named-stay ps e some = first _ _ (by_name (is_none e.1.name) refl)
-  where
-    by_name : (b : Bool) → is_none e.1.name ≡ b → not b ≡ true
-    by_name true none = absurd (some ((bytes_eq-Decides e.1.name []).0 none))
-    by_name false has = refl
-
--- what processes leave, of which some go, with their registrations
-module _ (limits : Limits) (ps left : List (ℕ × Process)) (goes : Registration → Bool) (o : Named Mq) (h : AreSoundMqs limits ps o) where
-  abbrev rest : Named Mq
-  rest = still_open left (without_registrations goes o)
-
-  pub mqs-left : All (IsRegistered left) rest.entries → AreSoundMqs limits left rest
-  mqs-left registered =
-      record {
-        named = kept_if-named limits.queues (IsSoundMq limits) (stays left) (named-stay left) (without_registrations goes o)
-            (deregistered-sound limits goes limits.queues o h.named);
-        forms = All-filter (stays left) (λ (e : ℕ × NamedEntry Mq). is_named_so e ≡ true) _
-            (All-seen_as (λ (e : ℕ × NamedEntry Mq). is_named_so e ≡ true) (λ (e : ℕ × NamedEntry Mq). is_named_so e ≡ true) (deregistered goes) (λ e f. f) o.entries h.forms);
-        stay = stay-left goes left o;
-        registered = registered;
-      }
-
-  -- those that are left have what they had
-  pub processes-left : All (Has limits o) left → All (Has limits rest) left
-  processes-left each = each-there limits o rest left (open-stay goes left o) each
-
 -- without a process
 pub All-without : {X : Type 0} (P : ℕ × X → Type 0) (es : List (ℕ × X)) (n : ℕ) → All P es → All P (without nat_eq es n)
 All-without P [] n all = all
@@ -333,59 +344,100 @@ All-without {X} P (e ∷ es) n all = by_test (nat_eq e.0 n) (All-without P es n 
     by_test true left = All-tail P e es all
     by_test false left = All-cons P e _ (All-head P e es all) left
 
+-- the objects with a name, and the descriptors that are open on them
+pub record AreAllHeld (limits : Limits) (ps : Numbered Process) (o : NamedObjects) : Type 0 where
+  pub processes : AreSoundProcesses limits o ps
+  pub mq : AreSoundMqs limits ps.entries o.mq
+  pub named_sem : AreSoundNamedSems limits ps.entries o.named_sem
+  pub shm : AreSoundSegments limits ps.entries o.shm
+
+-- what processes leave, with their registrations
+abbrev pub left_by : List (ℕ × Process) → (Registration → Bool) → NamedObjects → NamedObjects
+left_by left goes o =
+    record {
+      mq = still_open names.Queue left (without_registrations goes o.mq);
+      named_sem = still_open names.Semaphore left o.named_sem;
+      shm = still_open names.Segment left o.shm;
+    }
+
 module _ (limits : Limits) where
-  pub none-mqs : AreSoundMqs limits [] none_yet
-  none-mqs =
+  -- registrations are no matter of names
+  deregistered-held : (goes : Registration → Bool) (ps : List (ℕ × Process)) (o : Named Mq)
+      → AreHeld limits.queues (IsSoundMq limits) names.Queue ps o → AreHeld limits.queues (IsSoundMq limits) names.Queue ps (without_registrations goes o)
+  deregistered-held goes ps o h =
       record {
-        named = none_yet-named limits.queues (IsSoundMq limits);
-        forms = All-nil _;
-        stay = All-nil _;
-        registered = All-nil _;
+        named = deregistered-sound limits goes limits.queues o h.named;
+        forms = All-seen_as (λ (e : ℕ × NamedEntry Mq). is_named_so names.Queue e ≡ true) (λ (e : ℕ × NamedEntry Mq). is_named_so names.Queue e ≡ true)
+            (deregistered goes) (λ e f. f) o.entries h.forms;
+        stay = All-seen_as (λ (e : ℕ × NamedEntry Mq). stays names.Queue ps e ≡ true) (λ (e : ℕ × NamedEntry Mq). stays names.Queue ps e ≡ true)
+            (deregistered goes) (λ e f. f) o.entries h.stay;
+      }
+
+  -- what is open stays there
+  pub all-there : (left : List (ℕ × Process)) (goes : Registration → Bool) (o : NamedObjects) → AllThere o (left_by left goes o) left
+  all-there left goes o (opened.Queue n) used there =
+      open-stay names.Queue left (without_registrations goes o.mq) n used
+      (ap is_some (at-map (deregistered goes) o.mq.entries n) ∙ (is_some-map (deregistered goes) (entry_of o.mq n) ∙ there))
+  all-there left goes o (opened.Semaphore n) used there = open-stay names.Semaphore left o.named_sem n used there
+  all-there left goes o (opened.Segment n) used there = open-stay names.Segment left o.shm n used there
+
+  -- if some processes are left, with what is open
+  pub all-left : (ps left : Numbered Process) (goes : Registration → Bool) (o : NamedObjects) → AreAllHeld limits ps o → AreNumbered limits.processes left
+      → All (Has limits o) left.entries → All (IsRegistered left.entries) (left_by left.entries goes o).mq.entries
+      → AreAllHeld limits left (left_by left.entries goes o)
+  all-left ps left goes o h numbered each registered =
+      record {
+        processes = record {
+          numbered = numbered;
+          descriptors = each-there limits o (left_by left.entries goes o) left.entries (all-there left.entries goes o) each;
+        };
+        mq = record {
+          held = held-left names.Queue limits.queues (IsSoundMq limits) ps.entries left.entries (without_registrations goes o.mq)
+              (deregistered-held goes ps.entries o.mq h.mq.held);
+          registered = registered;
+        };
+        named_sem = held-left names.Semaphore limits.named_semaphores (λ value. value ≤ sem_value_max) ps.entries left.entries o.named_sem h.named_sem;
+        shm = record {
+          held = held-left names.Segment limits.segments (λ x. ⊤) ps.entries left.entries o.shm h.shm.held;
+          bytes = omega (arith, fewer-bytes (stays names.Segment left.entries) o.shm, h.shm.bytes);
+        };
       }
 
   -- a process leaves
-  pub exit-mqs : (ps : Numbered Process) (pid : ℕ) (o : Named Mq) → AreSoundProcesses limits o ps → AreSoundMqs limits ps.entries o
-      → AreSoundProcesses limits (still_open (without nat_eq ps.entries pid) (without_registrations (is_by (Some pid) None) o)) (without_entry ps pid)
-      × AreSoundMqs limits (without nat_eq ps.entries pid) (still_open (without nat_eq ps.entries pid) (without_registrations (is_by (Some pid) None) o))
-  exit-mqs ps pid o processes mqs =
-      let left = without nat_eq ps.entries pid in (
-        record {
-          numbered = without_entry-numbered limits.processes ps pid processes.numbered;
-          descriptors = processes-left limits ps.entries left (is_by (Some pid) None) o mqs
-              (All-without (Has limits o) ps.entries pid processes.descriptors);
-        },
-        mqs-left limits ps.entries left (is_by (Some pid) None) o mqs (registered-exit ps.entries pid o mqs.registered),
-      )
+  pub exit-held : (ps : Numbered Process) (pid : ℕ) (o : NamedObjects) → AreAllHeld limits ps o
+      → AreAllHeld limits (without_entry ps pid) (left_by (without nat_eq ps.entries pid) (is_by (Some pid) None) o)
+  exit-held ps pid o h =
+      all-left ps (without_entry ps pid) (is_by (Some pid) None) o h (without_entry-numbered limits.processes ps pid h.processes.numbered)
+      (All-without (Has limits o) ps.entries pid h.processes.descriptors) (registered-exit ps.entries pid o.mq h.mq.registered)
 
   -- all leave
-  pub restart-mqs : (ps : Numbered Process) (o : Named Mq) → AreSoundProcesses limits o ps → AreSoundMqs limits ps.entries o
-      → AreSoundProcesses limits (still_open [] (without_registrations (is_by None None) o)) (record { next = ps.next; entries = [] })
-      × AreSoundMqs limits [] (still_open [] (without_registrations (is_by None None) o))
-  restart-mqs ps o processes mqs = (
-    record { numbered = cleared-numbered limits.processes ps processes.numbered; descriptors = All-nil _ },
-    mqs-left limits ps.entries [] (is_by None None) o mqs (registered-none [] o),
-  )
+  pub restart-held : (ps : Numbered Process) (o : NamedObjects) → AreAllHeld limits ps o
+      → AreAllHeld limits (record { next = ps.next; entries = [] }) (left_by [] (is_by None None) o)
+  restart-held ps o h =
+      all-left ps (record { next = ps.next; entries = [] }) (is_by None None) o h (cleared-numbered limits.processes ps h.processes.numbered) (All-nil _)
+      (registered-none [] o.mq)
 
   -- one comes
-  pub with_process-mqs : (ps : Numbered Process) (cred : Cred) (o : Named Mq) → is_full limits.processes ps ≡ false → AreSoundProcesses limits o ps
-      → AreSoundMqs limits ps.entries o
-      → AreSoundProcesses limits o (with_new ps (record { cred = cred; descriptors = [] }))
-      × AreSoundMqs limits (with_new ps (record { cred = cred; descriptors = [] })).entries o
-  with_process-mqs ps cred o room processes mqs =
+  pub with_process-held : (ps : Numbered Process) (cred : Cred) (o : NamedObjects) → is_full limits.processes ps ≡ false → AreAllHeld limits ps o
+      → AreAllHeld limits (with_new ps (record { cred = cred; descriptors = [] })) o
+  with_process-held ps cred o room h =
       let p : Process = record { cred = cred; descriptors = [] } in
-      let more : List (ℕ × Process) = (ps.next, p) ∷ [] in (
-        record {
-          numbered = with_new-numbered limits.processes ps p room processes.numbered;
-          descriptors = All-push (Has limits o) ps.entries (ps.next, p) processes.descriptors (record { numbers = omega arith; each = All-nil _ });
-        },
-        record {
-          named = mqs.named;
-          forms = mqs.forms;
-          stay = All-weaker (λ (e : ℕ × NamedEntry Mq). stays ps.entries e ≡ true) (λ (e : ℕ × NamedEntry Mq). stays (ps.entries ++ more) e ≡ true)
-              (stays-more ps.entries more) o.entries mqs.stay;
-          registered = All-weaker (IsRegistered ps.entries) (IsRegistered (ps.entries ++ more)) (registered-more ps.entries more) o.entries mqs.registered;
-        },
-      )
+      let more : List (ℕ × Process) = (ps.next, p) ∷ [] in
+      record {
+        processes = record {
+          numbered = with_new-numbered limits.processes ps p room h.processes.numbered;
+          descriptors = All-push (Has limits o) ps.entries (ps.next, p) h.processes.descriptors (record { numbers = omega arith; each = All-nil _ });
+        };
+        mq = record {
+          held = held-more names.Queue limits.queues (IsSoundMq limits) ps.entries more o.mq h.mq.held;
+          registered = All-weaker (IsRegistered ps.entries) (IsRegistered (ps.entries ++ more)) (registered-more ps.entries more) o.mq.entries h.mq.registered;
+        };
+        named_sem = held-more names.Semaphore limits.named_semaphores (λ value. value ≤ sem_value_max) ps.entries more o.named_sem h.named_sem;
+        shm = record {
+          held = held-more names.Segment limits.segments (λ x. ⊤) ps.entries more o.shm h.shm.held;
+          bytes = h.shm.bytes;
+        };
+      }
 
 -- ---- how it is told
 
@@ -459,8 +511,22 @@ none-again e = by_registration e.object.registration
     by_registration None = refl
     by_registration (Some r) = refl
 
-pub restarted-again : (o : Named Mq) → still_open [] (without_registrations (is_by None None) (still_open [] (without_registrations (is_by None None) o)))
-    ≡ still_open [] (without_registrations (is_by None None) o)
+pub restarted-again : (o : Named Mq)
+    → still_open names.Queue [] (without_registrations (is_by None None) (still_open names.Queue [] (without_registrations (is_by None None) o)))
+    ≡ still_open names.Queue [] (without_registrations (is_by None None) o)
 restarted-again o =
     ap (λ (es : List (ℕ × NamedEntry Mq)). let p : Named Mq = record { next = o.next; entries = es } in p)
-    (left-again (deregistered (is_by None None)) none-again (stays []) (λ n e. refl) o.entries)
+    (left-again (deregistered (is_by None None)) none-again (stays names.Queue []) (λ n e. refl) o.entries)
+
+-- what is left when a test was made is left when it is made again
+pub kept-again : {X : Type 0} (test : ℕ × NamedEntry X → Bool) (o : Named X) → kept_if test (kept_if test o) ≡ kept_if test o
+kept-again {X} test o = ap (λ (es : List (ℕ × NamedEntry X)). let p : Named X = record { next = o.next; entries = es } in p) (filter-again o.entries)
+  where
+    filter-again : (es : List (ℕ × NamedEntry X)) → filter test (filter test es) ≡ filter test es
+    filter-again [] = refl
+    filter-again (e ∷ es) = by_test (test e) refl (filter-again es)
+      where
+        by_test : (b : Bool) → test e ≡ b → filter test (filter test es) ≡ filter test es
+            → filter test (cond b (e ∷ filter test es) (filter test es)) ≡ cond b (e ∷ filter test es) (filter test es)
+        by_test true stands rest = rw stands (ap (λ (fs : List (ℕ × NamedEntry X)). e ∷ fs) rest)
+        by_test false goes rest = rest

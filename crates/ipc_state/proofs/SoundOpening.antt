@@ -2,11 +2,11 @@
 -- as descriptors are opened, changed and closed.
 use Rattle.std.proofs.Common.{◌≡◌, ◌≢◌, ℕ, ◌<◌, Bool, true, false, cond, List, [], ◌∷◌, length, Option, Some, None, refl, sym}
 use Rattle.std.proofs.Common.{ap, subst, ◌∙◌, arith}
-use Rattle.std.specs.Prelude.{All, is_some, not, ◌||◌, ◌&&◌, nat_eq, nat_lt, option_map, unwrap_or, if◌then◌else◌}
-use Rattle.std.specs.Int.RustNames.{bit_and}
+use Rattle.std.specs.Prelude.{⊤, ◌+◌, ◌-◌, ◌≤◌, All, sum_by, is_some, not, ◌||◌, ◌&&◌, nat_eq, nat_lt, option_map, unwrap_or, if◌then◌else◌}
 use Rattle.std.specs.List.{list_any}
 use Rattle.std.specs.Result.{is_ok}
 use Rattle.std.proofs.lemmas.Bool.Decides.{nat_tests}
+use Rattle.std.proofs.lemmas.List.Sums.{sum_by-append, sum_by-cons}
 use Rattle.std.proofs.lemmas.List.Elements.{All-nil, All-cons, All-head, All-tail, All-filter, All-push, All-weaker}
 use Rattle.ipc_base.specs.declared.identity.Cred.{Cred}
 use Rattle.ipc_base.specs.declared.limits.Limits.{Limits}
@@ -14,24 +14,29 @@ use Rattle.ipc_base.specs.Table.{keys_of, value_at, with_value, with_entry as wi
 use Rattle.ipc_base.proofs.CallerLemmas.{All-value_at, All-with_value, at-with, entry-other, is_some-append, is_some-with_value, keys_of-with_value}
 use Rattle.ipc_base.proofs.CallerLemmas.{other-with, rising-entry, rising-without, value_at-without}
 use Rattle.ipc_keys.specs.Names.{check_name, is_none}
+use Rattle.ipc_keys.specs.declared.check.NameKind.{NameKind}
 use Rattle.ipc_keys.specs.declared.check.NameKind.TheVariants as names
 use Rattle.posix_mq.specs.Queue.{Queue as Mq}
 use Rattle.posix_mq.specs.declared.queue.Registration.{Registration}
+use Rattle.posix_sem.specs.Semaphore.{sem_value_max}
+use Rattle.shm_segment.specs.Segment.{Segment, empty_segment}
 use Rattle.ipc_state.specs.declared.descriptors.Descriptor.{Descriptor}
 use Rattle.ipc_state.specs.declared.descriptors.Opened.{Opened}
+use Rattle.ipc_state.specs.declared.descriptors.Opened.TheVariants as objects
 use Rattle.ipc_state.specs.declared.named.NamedEntry.{NamedEntry}
 use Rattle.ipc_state.specs.declared.processes.Process.{Process}
 use Rattle.ipc_state.specs.Descriptors.{Table, lowest_unused, opened, with_flags}
 use Rattle.ipc_state.specs.Named.{Named, named, with_object, nameless, without_name, unnamed}
 use Rattle.ipc_state.specs.Numbered.{Numbered, entry_of, is_full, with_entry, with_new, AreNumbered}
-use Rattle.ipc_state.specs.Opening.{descriptors_of, descriptor_at, has_name, is_by, is_by_descriptor, is_named_so, is_on_queue, is_open}
-use Rattle.ipc_state.specs.Opening.{is_sound_descriptor, is_there_for, stays, still_open, unless_so, deregistered, with_table, without_registrations}
-use Rattle.ipc_state.specs.Sound.{AreSoundDescriptors, AreSoundMqs, AreSoundProcesses, IsSoundMq}
+use Rattle.ipc_state.specs.Opening.{NamedObjects, descriptors_of, descriptor_at, has_access, has_name, is_by, is_by_descriptor, is_named_so, is_on, is_open, opened_as}
+use Rattle.ipc_state.specs.Opening.{is_sound_descriptor, is_there_for, stays, still_open, unless_so, deregistered, with_table}
+use Rattle.ipc_state.specs.Sound.{AreHeld, AreSoundDescriptors, AreSoundMqs, AreSoundNamedSems, AreSoundProcesses, AreSoundSegments, IsSoundMq}
+use Rattle.ipc_state.specs.Sound.{segment_bytes}
 use Rattle.ipc_state.proofs.Naming.{kept_if-named, unnamed-named, with_new-named, with_object-named}
 use Rattle.ipc_state.proofs.Numbering.{with_entry-numbered}
 use Rattle.ipc_state.proofs.Opening.{few, unused}
-use Rattle.ipc_state.proofs.SoundMqs.{AllThere, All-passed, All-seen_as, All-without, Has, IsRegistered, at-filter, both_true, each-there, either, first}
-use Rattle.ipc_state.proofs.SoundMqs.{mqs-left, named-stay, processes-left, told}
+use Rattle.ipc_state.proofs.SoundMqs.{AllThere, All-passed, All-seen_as, All-without, AreAllHeld, Has, IsRegistered, all-left, both_true, each-there, either}
+use Rattle.ipc_state.proofs.SoundMqs.{fewer-bytes, first, held-left, left_by, named-stay, open-stay, told}
 
 -- what holds of each entry holds with another in the place of one
 All-put : {X : Type 0} (P : ℕ × X → Type 0) (es : List (ℕ × X)) (n : ℕ) (x : X) → All P es → P (n, x) → All P (with_value nat_eq es n x)
@@ -65,109 +70,316 @@ All-row {X} P (e ∷ es) n x all new = by_test (nat_lt n e.0) (All-row P es n x 
     by_test true rest = All-cons P (n, x) (e ∷ es) new all
     by_test false rest = All-cons P e _ (All-head P e es all) rest
 
--- ---- queues that change
+-- ---- objects that change
 
-module _ (limits : Limits) (ps : Numbered Process) (o : Named Mq) (processes : AreSoundProcesses limits o ps) (mqs : AreSoundMqs limits ps.entries o) where
-  -- as other queues hold the same numbers, descriptors are open on what is there
-  same-there : (new : Named Mq) → ((n : ℕ) → is_some (entry_of o n) ≡ true → is_some (entry_of new n) ≡ true) → AreSoundProcesses limits new ps
-  same-there new all =
-      record { numbered = processes.numbered; descriptors = each-there limits o new ps.entries (λ n used there. all n there) processes.descriptors }
+some_name : (kind : NameKind) (name : List ℕ) → is_ok (check_name kind name) ≡ true → not (is_none name) ≡ true
+some_name names.Queue [] proper = cc
+some_name names.Semaphore [] proper = cc
+some_name names.Segment [] proper = cc
+some_name kind (b ∷ name) proper = refl
+
+module _ {X : Type 0} (kind : NameKind) (most : ℕ) (P : X → Type 0) (ps : List (ℕ × Process)) (o : Named X) (h : AreHeld most P kind ps o) where
+  abbrev Stays : ℕ × NamedEntry X → Type 0
+  Stays d = stays kind ps d ≡ true
+
+  abbrev Formed : ℕ × NamedEntry X → Type 0
+  Formed d = is_named_so kind d ≡ true
+
+  -- another object at a number that is there
+  pub put-held : (n : ℕ) (e : NamedEntry X) (x : X) → entry_of o n ≡ Some e → P x → AreHeld most P kind ps (with_entry o n (with_object e x))
+  put-held n e x is good =
+      let f : NamedEntry X = with_object e x in
+      let Named' : NamedEntry X → Type 0 = λ (d : NamedEntry X). is_named_so kind (n, d) ≡ true in
+      record {
+        named = with_object-named most P o n e x is good h.named;
+        forms = All-with_value nat_eq Named' o.entries n f h.forms (All-value_at nat_eq Named' o.entries n e h.forms is);
+        stay = All-put Stays o.entries n f h.stay (All-found Stays o.entries n e h.stay is);
+      }
+
+  -- a new one of a name that names none
+  pub new-held : (name : List ℕ) (cred : Cred) (mode : ℕ) (x : X) → named o name ≡ None → is_full most o ≡ false → mode < 512
+      → is_ok (check_name kind name) ≡ true → P x → AreHeld most P kind ps (with_new o (record { name = name; owner = cred; mode = mode; object = x }))
+  new-held name cred mode x unnamed room few proper good =
+      let e : NamedEntry X = record { name = name; owner = cred; mode = mode; object = x } in
+      record {
+        named = with_new-named most P o e unnamed room (record { mode = few; each = good }) h.named;
+        forms = All-push Formed o.entries (o.next, e) h.forms (either _ _ proper);
+        stay = All-push Stays o.entries (o.next, e) h.stay (first _ _ (some_name kind name proper));
+      }
+
+  -- what does not tell of names holds without one
+  pub unnamed-all : (n : ℕ) (Q : ℕ × NamedEntry X → Type 0) → ((e : ℕ × NamedEntry X) → Q e → Q (e.0, nameless e.1)) → All Q o.entries
+      → All Q (unnamed o n).entries
+  unnamed-all n Q step all = by_entry (entry_of o n) refl
+    where
+      found : (es : List (ℕ × NamedEntry X)) (e : NamedEntry X) → All Q es → value_at nat_eq es n ≡ Some e → All Q (with_value nat_eq es n (nameless e))
+      found [] e all is = all
+      found (d ∷ es) e all is = by_test (nat_eq d.0 n) is (found es e (All-tail Q d es all))
+        where
+          by_test : (b : Bool) → cond b (Some d.1) (value_at nat_eq es n) ≡ Some e
+              → (value_at nat_eq es n ≡ Some e → All Q (with_value nat_eq es n (nameless e)))
+              → All Q (cond b ((d.0, nameless e) ∷ es) (d ∷ with_value nat_eq es n (nameless e)))
+          by_test true is rest =
+              let one : d.1 ≡ e = cc in
+              All-cons Q (d.0, nameless e) es (subst (λ (f : NamedEntry X). Q (d.0, nameless f)) one (step d (All-head Q d es all))) (All-tail Q d es all)
+          by_test false is rest = All-cons Q d _ (All-head Q d es all) (rest is)
+
+      by_entry : (r : Option (NamedEntry X)) → entry_of o n ≡ r → All Q (without_name o n r).entries
+      by_entry None is = all
+      by_entry (Some e) is = found o.entries e all is
+
+  -- one loses its name, and goes if it is not open
+  pub unnamed-held : (n : ℕ) → AreHeld most P kind ps (still_open kind ps (unnamed o n))
+  unnamed-held n =
+      record {
+        named = kept_if-named most P (stays kind ps) (named-stay kind ps) (unnamed o n) (unnamed-named most P o n h.named);
+        forms = All-filter (stays kind ps) Formed (unnamed o n).entries (unnamed-all n Formed (λ e d. refl) h.forms);
+        stay = All-passed (stays kind ps) (unnamed o n).entries;
+      }
+
+  -- what is open is there still
+  pub unnamed-there : (n m : ℕ) → is_open ps (opened_as kind m) ≡ true → is_some (entry_of o m) ≡ true
+      → is_some (entry_of (still_open kind ps (unnamed o n)) m) ≡ true
+  unnamed-there n m used there = open-stay kind ps (unnamed o n) m used (by_there (entry_of o n) refl)
+    where
+      by_there : (r : Option (NamedEntry X)) → entry_of o n ≡ r → is_some (entry_of (without_name o n r) m) ≡ true
+      by_there None is = there
+      by_there (Some e) is = is_some-with_value nat_eq o.entries n m (nameless e) ∙ there
+
+-- without its name it has as many bytes
+unnamed-bytes : (o : Named Segment) (n : ℕ) → segment_bytes (unnamed o n) ≡ segment_bytes o
+unnamed-bytes o n = by_entry (entry_of o n) refl
+  where
+    bytes : ℕ × NamedEntry Segment → ℕ
+    bytes e = length e.1.object.bytes
+
+    found : (es : List (ℕ × NamedEntry Segment)) (e : NamedEntry Segment) → value_at nat_eq es n ≡ Some e
+        → sum_by bytes (with_value nat_eq es n (nameless e)) ≡ sum_by bytes es
+    found [] e is = refl
+    found (d ∷ es) e is = by_test (nat_eq d.0 n) is (found es e)
+      where
+        by_test : (b : Bool) → cond b (Some d.1) (value_at nat_eq es n) ≡ Some e
+            → (value_at nat_eq es n ≡ Some e → sum_by bytes (with_value nat_eq es n (nameless e)) ≡ sum_by bytes es)
+            → sum_by bytes (cond b ((d.0, nameless e) ∷ es) (d ∷ with_value nat_eq es n (nameless e))) ≡ sum_by bytes (d ∷ es)
+        by_test true is rest =
+            let one : d.1 ≡ e = cc in
+            let new : ℕ × NamedEntry Segment = (d.0, nameless e) in
+            let same : length e.object.bytes ≡ length d.1.object.bytes = ap (λ (f : NamedEntry Segment). length f.object.bytes) (sym one) in
+            omega (arith, sum_by-cons bytes new es, sum_by-cons bytes d es, same)
+        by_test false is rest = omega (arith, sum_by-cons bytes d es, sum_by-cons bytes d (with_value nat_eq es n (nameless e)), rest is)
+
+    by_entry : (r : Option (NamedEntry Segment)) → entry_of o n ≡ r → segment_bytes (without_name o n r) ≡ segment_bytes o
+    by_entry None is = refl
+    by_entry (Some e) is = found o.entries e is
+
+-- with another segment in the place of one
+bytes-with : (o : Named Segment) (n : ℕ) (e : NamedEntry Segment) (x : Segment) → entry_of o n ≡ Some e
+    → segment_bytes (with_entry o n (with_object e x)) + length e.object.bytes ≡ segment_bytes o + length x.bytes
+bytes-with o n e x is = found o.entries is
+  where
+    bytes : ℕ × NamedEntry Segment → ℕ
+    bytes d = length d.1.object.bytes
+
+    found : (es : List (ℕ × NamedEntry Segment)) → value_at nat_eq es n ≡ Some e
+        → sum_by bytes (with_value nat_eq es n (with_object e x)) + length e.object.bytes ≡ sum_by bytes es + length x.bytes
+    found [] is = cc
+    found (d ∷ es) is = by_test (nat_eq d.0 n) is (found es)
+      where
+        by_test : (b : Bool) → cond b (Some d.1) (value_at nat_eq es n) ≡ Some e
+            → (value_at nat_eq es n ≡ Some e
+            → sum_by bytes (with_value nat_eq es n (with_object e x)) + length e.object.bytes ≡ sum_by bytes es + length x.bytes)
+            → sum_by bytes (cond b ((d.0, with_object e x) ∷ es) (d ∷ with_value nat_eq es n (with_object e x))) + length e.object.bytes
+            ≡ sum_by bytes (d ∷ es) + length x.bytes
+        by_test true is rest =
+            let one : d.1 ≡ e = cc in
+            let new : ℕ × NamedEntry Segment = (d.0, with_object e x) in
+            let same : length e.object.bytes ≡ length d.1.object.bytes = ap (λ (f : NamedEntry Segment). length f.object.bytes) (sym one) in
+            omega (arith, sum_by-cons bytes new es, sum_by-cons bytes d es, same)
+        by_test false is rest =
+            omega (arith, sum_by-cons bytes d es, sum_by-cons bytes d (with_value nat_eq es n (with_object e x)), rest is)
+
+module _ (limits : Limits) (ps : Numbered Process) (o : NamedObjects) (h : AreAllHeld limits ps o) where
+  -- as other objects hold the same numbers, descriptors are open on what is there
+  same-there : (new : NamedObjects) → AllThere o new ps.entries → AreSoundProcesses limits new ps
+  same-there new all = record { numbered = h.processes.numbered; descriptors = each-there limits o new ps.entries all h.processes.descriptors }
+
+  -- other queues, sound ones
+  mq-all : (m : Named Mq) → ((n : ℕ) → is_some (entry_of o.mq n) ≡ true → is_some (entry_of m n) ≡ true) → AreSoundMqs limits ps.entries m
+      → AreAllHeld limits ps (record o { mq = m })
+  mq-all m all good = record { processes = same-there (record o { mq = m }) there; mq = good; named_sem = h.named_sem; shm = h.shm }
+    where
+      there : AllThere o (record o { mq = m }) ps.entries
+      there (objects.Queue n) used is = all n is
+      there (objects.Semaphore n) used is = is
+      there (objects.Segment n) used is = is
+
+  -- other semaphores
+  sem-all : (m : Named ℕ) → ((n : ℕ) → is_some (entry_of o.named_sem n) ≡ true → is_some (entry_of m n) ≡ true) → AreSoundNamedSems limits ps.entries m
+      → AreAllHeld limits ps (record o { named_sem = m })
+  sem-all m all good = record { processes = same-there (record o { named_sem = m }) there; mq = h.mq; named_sem = good; shm = h.shm }
+    where
+      there : AllThere o (record o { named_sem = m }) ps.entries
+      there (objects.Queue n) used is = is
+      there (objects.Semaphore n) used is = all n is
+      there (objects.Segment n) used is = is
+
+  -- other segments
+  shm-all : (m : Named Segment) → ((n : ℕ) → is_some (entry_of o.shm n) ≡ true → is_some (entry_of m n) ≡ true) → AreSoundSegments limits ps.entries m
+      → AreAllHeld limits ps (record o { shm = m })
+  shm-all m all good = record { processes = same-there (record o { shm = m }) there; mq = h.mq; named_sem = h.named_sem; shm = good }
+    where
+      there : AllThere o (record o { shm = m }) ps.entries
+      there (objects.Queue n) used is = is
+      there (objects.Semaphore n) used is = is
+      there (objects.Segment n) used is = all n is
 
   -- another queue at a number that is there
-  pub with_mq-mqs : (n : ℕ) (e : NamedEntry Mq) (q : Mq) → entry_of o n ≡ Some e → IsSoundMq limits q → is_by_descriptor ps.entries n q.registration ≡ true
-      → AreSoundProcesses limits (with_entry o n (with_object e q)) ps × AreSoundMqs limits ps.entries (with_entry o n (with_object e q))
-  with_mq-mqs n e q is good registered =
+  pub with_mq-held : (n : ℕ) (e : NamedEntry Mq) (q : Mq) → entry_of o.mq n ≡ Some e → IsSoundMq limits q → is_by_descriptor ps.entries n q.registration ≡ true
+      → AreAllHeld limits ps (record o { mq = with_entry o.mq n (with_object e q) })
+  with_mq-held n e q is good registered =
       let f : NamedEntry Mq = with_object e q in
-      let Stays : ℕ × NamedEntry Mq → Type 0 = λ (d : ℕ × NamedEntry Mq). stays ps.entries d ≡ true in
-      let Named' : NamedEntry Mq → Type 0 = λ (d : NamedEntry Mq). is_named_so (n, d) ≡ true in (
-        same-there (with_entry o n f) (λ m there. is_some-with_value nat_eq o.entries n m f ∙ there),
-        record {
-          named = with_object-named limits.queues (IsSoundMq limits) o n e q is good mqs.named;
-          forms = All-with_value nat_eq Named' o.entries n f mqs.forms (All-value_at nat_eq Named' o.entries n e mqs.forms is);
-          stay = All-put Stays o.entries n f mqs.stay (All-found Stays o.entries n e mqs.stay is);
-          registered = All-put (IsRegistered ps.entries) o.entries n f mqs.registered registered;
-        },
-      )
+      mq-all (with_entry o.mq n f) (λ m there. is_some-with_value nat_eq o.mq.entries n m f ∙ there)
+      (record {
+        held = put-held names.Queue limits.queues (IsSoundMq limits) ps.entries o.mq h.mq.held n e q is good;
+        registered = All-put (IsRegistered ps.entries) o.mq.entries n f h.mq.registered registered;
+      })
 
   -- a new queue of a name that names none
-  pub with_new_mq-mqs : (name : List ℕ) (cred : Cred) (mode : ℕ) (q : Mq) → named o name ≡ None → is_full limits.queues o ≡ false → mode < 512
+  pub with_new_mq-held : (name : List ℕ) (cred : Cred) (mode : ℕ) (q : Mq) → named o.mq name ≡ None → is_full limits.queues o.mq ≡ false → mode < 512
       → is_ok (check_name names.Queue name) ≡ true → IsSoundMq limits q → q.registration ≡ None
-      → AreSoundProcesses limits (with_new o (record { name = name; owner = cred; mode = mode; object = q })) ps
-      × AreSoundMqs limits ps.entries (with_new o (record { name = name; owner = cred; mode = mode; object = q }))
-  with_new_mq-mqs name cred mode q unnamed room few proper good free =
+      → AreAllHeld limits ps (record o { mq = with_new o.mq (record { name = name; owner = cred; mode = mode; object = q }) })
+  with_new_mq-held name cred mode q unnamed room few proper good free =
       let e : NamedEntry Mq = record { name = name; owner = cred; mode = mode; object = q } in
-      let has : has_name e ≡ true = some_name name proper in (
-        same-there (with_new o e) (λ m there. is_some-append nat_eq o.entries ((o.next, e) ∷ []) m there),
-        record {
-          named = with_new-named limits.queues (IsSoundMq limits) o e unnamed room (record { mode = few; each = good }) mqs.named;
-          forms = All-push (λ (d : ℕ × NamedEntry Mq). is_named_so d ≡ true) o.entries (o.next, e) mqs.forms (either _ _ proper);
-          stay = All-push (λ (d : ℕ × NamedEntry Mq). stays ps.entries d ≡ true) o.entries (o.next, e) mqs.stay (first _ _ has);
-          registered = All-push (IsRegistered ps.entries) o.entries (o.next, e) mqs.registered
-              (ap (λ (r : Option Registration). is_by_descriptor ps.entries o.next r) free);
-        },
-      )
-    where
-      some_name : (name : List ℕ) → is_ok (check_name names.Queue name) ≡ true → not (is_none name) ≡ true
-      some_name [] proper = cc
-      some_name (b ∷ name) proper = refl
+      mq-all (with_new o.mq e) (λ m there. is_some-append nat_eq o.mq.entries ((o.mq.next, e) ∷ []) m there)
+      (record {
+        held = new-held names.Queue limits.queues (IsSoundMq limits) ps.entries o.mq h.mq.held name cred mode q unnamed room few proper good;
+        registered = All-push (IsRegistered ps.entries) o.mq.entries (o.mq.next, e) h.mq.registered
+            (ap (λ (r : Option Registration). is_by_descriptor ps.entries o.mq.next r) free);
+      })
+
+  -- what is left when those without a name go that are not open
+  abbrev swept_of : NamedObjects → NamedObjects
+  swept_of m =
+      record {
+        mq = still_open names.Queue ps.entries m.mq;
+        named_sem = still_open names.Semaphore ps.entries m.named_sem;
+        shm = still_open names.Segment ps.entries m.shm;
+      }
+
+  -- those of each kind
+  swept-mqs : AreSoundMqs limits ps.entries (still_open names.Queue ps.entries o.mq)
+  swept-mqs =
+      record {
+        held = held-left names.Queue limits.queues (IsSoundMq limits) ps.entries ps.entries o.mq h.mq.held;
+        registered = All-filter (stays names.Queue ps.entries) (IsRegistered ps.entries) o.mq.entries h.mq.registered;
+      }
+
+  swept-sems : AreSoundNamedSems limits ps.entries (still_open names.Semaphore ps.entries o.named_sem)
+  swept-sems = held-left names.Semaphore limits.named_semaphores (λ value. value ≤ sem_value_max) ps.entries ps.entries o.named_sem h.named_sem
+
+  swept-segments : AreSoundSegments limits ps.entries (still_open names.Segment ps.entries o.shm)
+  swept-segments =
+      record {
+        held = held-left names.Segment limits.segments (λ x. ⊤) ps.entries ps.entries o.shm h.shm.held;
+        bytes = omega (arith, fewer-bytes (stays names.Segment ps.entries) o.shm, h.shm.bytes);
+      }
 
   -- a queue loses its name, and goes if it is not open
-  pub unlinked-mqs : (n : ℕ) → AreSoundProcesses limits (still_open ps.entries (unnamed o n)) ps
-      × AreSoundMqs limits ps.entries (still_open ps.entries (unnamed o n))
-  unlinked-mqs n =
-      let test = stays ps.entries in
-      let forms = unnamed-all (λ (d : ℕ × NamedEntry Mq). is_named_so d ≡ true) (λ e h. refl) mqs.forms in
-      let registered = unnamed-all (IsRegistered ps.entries) (λ e h. h) mqs.registered in (
-        same-used (still_open ps.entries (unnamed o n)) (λ m used there. open_left m used (by_there m there (entry_of o n) refl)),
-        record {
-          named = kept_if-named limits.queues (IsSoundMq limits) test (named-stay ps.entries) (unnamed o n)
-              (unnamed-named limits.queues (IsSoundMq limits) o n mqs.named);
-          forms = All-filter test (λ (d : ℕ × NamedEntry Mq). is_named_so d ≡ true) (unnamed o n).entries forms;
-          stay = All-passed test (unnamed o n).entries;
-          registered = All-filter test (IsRegistered ps.entries) (unnamed o n).entries registered;
-        },
-      )
+  pub unlinked-held : (n : ℕ) → AreAllHeld limits ps (swept_of (record o { mq = unnamed o.mq n }))
+  unlinked-held n =
+      record {
+        processes = same-there (swept_of (record o { mq = unnamed o.mq n })) there;
+        mq = record {
+          held = unnamed-held names.Queue limits.queues (IsSoundMq limits) ps.entries o.mq h.mq.held n;
+          registered = All-filter (stays names.Queue ps.entries) (IsRegistered ps.entries) (unnamed o.mq n).entries
+              (unnamed-all names.Queue limits.queues (IsSoundMq limits) ps.entries o.mq h.mq.held n (IsRegistered ps.entries) (λ e r. r) h.mq.registered);
+        };
+        named_sem = swept-sems;
+        shm = swept-segments;
+      }
     where
-      same-used : (new : Named Mq) → AllThere o new ps.entries → AreSoundProcesses limits new ps
-      same-used new all = record { numbered = processes.numbered; descriptors = each-there limits o new ps.entries all processes.descriptors }
+      there : AllThere o (swept_of (record o { mq = unnamed o.mq n })) ps.entries
+      there (objects.Queue m) used is = unnamed-there names.Queue limits.queues (IsSoundMq limits) ps.entries o.mq h.mq.held n m used is
+      there (objects.Semaphore m) used is = open-stay names.Semaphore ps.entries o.named_sem m used is
+      there (objects.Segment m) used is = open-stay names.Segment ps.entries o.shm m used is
 
-      -- what does not tell of names holds without one
-      unnamed-all : (P : ℕ × NamedEntry Mq → Type 0) → ((e : ℕ × NamedEntry Mq) → P e → P (e.0, nameless e.1)) → All P o.entries → All P (unnamed o n).entries
-      unnamed-all P step all = by_entry (entry_of o n) refl
-        where
-          found : (es : List (ℕ × NamedEntry Mq)) (e : NamedEntry Mq) → All P es → value_at nat_eq es n ≡ Some e → All P (with_value nat_eq es n (nameless e))
-          found [] e all is = all
-          found (d ∷ es) e all is = by_test (nat_eq d.0 n) is (found es e (All-tail P d es all))
-            where
-              by_test : (b : Bool) → cond b (Some d.1) (value_at nat_eq es n) ≡ Some e
-                  → (value_at nat_eq es n ≡ Some e → All P (with_value nat_eq es n (nameless e)))
-                  → All P (cond b ((d.0, nameless e) ∷ es) (d ∷ with_value nat_eq es n (nameless e)))
-              by_test true is rest =
-                  let one : d.1 ≡ e = cc in
-                  All-cons P (d.0, nameless e) es (subst (λ (f : NamedEntry Mq). P (d.0, nameless f)) one (step d (All-head P d es all))) (All-tail P d es all)
-              by_test false is rest = All-cons P d _ (All-head P d es all) (rest is)
+  -- a semaphore
+  pub unlinked_sem-held : (n : ℕ) → AreAllHeld limits ps (swept_of (record o { named_sem = unnamed o.named_sem n }))
+  unlinked_sem-held n =
+      record {
+        processes = same-there (swept_of (record o { named_sem = unnamed o.named_sem n })) there;
+        mq = swept-mqs;
+        named_sem = unnamed-held names.Semaphore limits.named_semaphores (λ value. value ≤ sem_value_max) ps.entries o.named_sem h.named_sem n;
+        shm = swept-segments;
+      }
+    where
+      there : AllThere o (swept_of (record o { named_sem = unnamed o.named_sem n })) ps.entries
+      there (objects.Queue m) used is = open-stay names.Queue ps.entries o.mq m used is
+      there (objects.Semaphore m) used is =
+          unnamed-there names.Semaphore limits.named_semaphores (λ value. value ≤ sem_value_max) ps.entries o.named_sem h.named_sem n m used is
+      there (objects.Segment m) used is = open-stay names.Segment ps.entries o.shm m used is
 
-          by_entry : (r : Option (NamedEntry Mq)) → entry_of o n ≡ r → All P (without_name o n r).entries
-          by_entry None is = all
-          by_entry (Some e) is = found o.entries e all is
+  -- a segment
+  pub unlinked_segment-held : (n : ℕ) → AreAllHeld limits ps (swept_of (record o { shm = unnamed o.shm n }))
+  unlinked_segment-held n =
+      record {
+        processes = same-there (swept_of (record o { shm = unnamed o.shm n })) there;
+        mq = swept-mqs;
+        named_sem = swept-sems;
+        shm = record {
+          held = unnamed-held names.Segment limits.segments (λ x. ⊤) ps.entries o.shm h.shm.held n;
+          bytes = omega (arith, fewer-bytes (stays names.Segment ps.entries) (unnamed o.shm n), unnamed-bytes o.shm n, h.shm.bytes);
+        };
+      }
+    where
+      there : AllThere o (swept_of (record o { shm = unnamed o.shm n })) ps.entries
+      there (objects.Queue m) used is = open-stay names.Queue ps.entries o.mq m used is
+      there (objects.Semaphore m) used is = open-stay names.Semaphore ps.entries o.named_sem m used is
+      there (objects.Segment m) used is = unnamed-there names.Segment limits.segments (λ x. ⊤) ps.entries o.shm h.shm.held n m used is
 
-      by_there : (m : ℕ) → is_some (entry_of o m) ≡ true → (r : Option (NamedEntry Mq)) → entry_of o n ≡ r → is_some (entry_of (without_name o n r) m) ≡ true
-      by_there m there None is = there
-      by_there m there (Some e) is = is_some-with_value nat_eq o.entries n m (nameless e) ∙ there
+  -- another segment at a number that is there, and a new one
+  pub with_segment-held : (n : ℕ) (e : NamedEntry Segment) (x : Segment) → entry_of o.shm n ≡ Some e
+      → segment_bytes o.shm - length e.object.bytes + length x.bytes ≤ limits.segment_bytes
+      → AreAllHeld limits ps (record o { shm = with_entry o.shm n (with_object e x) })
+  with_segment-held n e x is few =
+      shm-all (with_entry o.shm n (with_object e x)) (λ m there. is_some-with_value nat_eq o.shm.entries n m (with_object e x) ∙ there)
+      (record {
+        held = put-held names.Segment limits.segments (λ x. ⊤) ps.entries o.shm h.shm.held n e x is tt;
+        bytes = omega (arith, bytes-with o.shm n e x is, few);
+      })
 
-      open_left : (m : ℕ) → is_open ps.entries m ≡ true → is_some (entry_of (unnamed o n) m) ≡ true
-          → is_some (entry_of (still_open ps.entries (unnamed o n)) m) ≡ true
-      open_left m used there = by_entry (entry_of (unnamed o n) m) refl there
-        where
-          by_entry : (r : Option (NamedEntry Mq)) → entry_of (unnamed o n) m ≡ r → is_some r ≡ true
-              → is_some (entry_of (still_open ps.entries (unnamed o n)) m) ≡ true
-          by_entry None is some = cc
-          by_entry (Some e) is some = ap is_some (at-filter (stays ps.entries) (unnamed o n).entries m e is (either _ _ used))
+  pub with_new_segment-held : (name : List ℕ) (cred : Cred) (mode : ℕ) → named o.shm name ≡ None → is_full limits.segments o.shm ≡ false → mode < 512
+      → is_ok (check_name names.Segment name) ≡ true
+      → AreAllHeld limits ps (record o { shm = with_new o.shm (record { name = name; owner = cred; mode = mode; object = empty_segment }) })
+  with_new_segment-held name cred mode unnamed room few proper =
+      let e : NamedEntry Segment = record { name = name; owner = cred; mode = mode; object = empty_segment } in
+      shm-all (with_new o.shm e) (λ m there. is_some-append nat_eq o.shm.entries ((o.shm.next, e) ∷ []) m there)
+      (record {
+        held = new-held names.Segment limits.segments (λ x. ⊤) ps.entries o.shm h.shm.held name cred mode empty_segment unnamed room few proper tt;
+        bytes = omega (arith, sum_by-append (λ (d : ℕ × NamedEntry Segment). length d.1.object.bytes) o.shm.entries ((o.shm.next, e) ∷ []), h.shm.bytes);
+      })
+
+  -- another value at a number that is there, and a new semaphore
+  pub with_named_sem-held : (n : ℕ) (e : NamedEntry ℕ) (value : ℕ) → entry_of o.named_sem n ≡ Some e → value ≤ sem_value_max
+      → AreAllHeld limits ps (record o { named_sem = with_entry o.named_sem n (with_object e value) })
+  with_named_sem-held n e value is good =
+      sem-all (with_entry o.named_sem n (with_object e value))
+      (λ m there. is_some-with_value nat_eq o.named_sem.entries n m (with_object e value) ∙ there)
+      (put-held names.Semaphore limits.named_semaphores (λ value. value ≤ sem_value_max) ps.entries o.named_sem h.named_sem n e value is good)
+
+  pub with_new_named_sem-held : (name : List ℕ) (cred : Cred) (mode value : ℕ) → named o.named_sem name ≡ None
+      → is_full limits.named_semaphores o.named_sem ≡ false → mode < 512 → is_ok (check_name names.Semaphore name) ≡ true → value ≤ sem_value_max
+      → AreAllHeld limits ps (record o { named_sem = with_new o.named_sem (record { name = name; owner = cred; mode = mode; object = value }) })
+  with_new_named_sem-held name cred mode value unnamed room few proper good =
+      let e : NamedEntry ℕ = record { name = name; owner = cred; mode = mode; object = value } in
+      sem-all (with_new o.named_sem e) (λ m there. is_some-append nat_eq o.named_sem.entries ((o.named_sem.next, e) ∷ []) m there)
+      (new-held names.Semaphore limits.named_semaphores (λ value. value ≤ sem_value_max) ps.entries o.named_sem h.named_sem name cred mode value unnamed room few
+      proper good)
 
 -- ---- descriptors
 
 -- the descriptors of a process are sound; it has none, if it is not there
-pub table-sound : (limits : Limits) (o : Named Mq) (ps : List (ℕ × Process)) (pid : ℕ) → All (Has limits o) ps
+pub table-sound : (limits : Limits) (o : NamedObjects) (ps : List (ℕ × Process)) (pid : ℕ) → All (Has limits o) ps
     → AreSoundDescriptors limits o (descriptors_of ps pid)
 table-sound limits o ps pid all = by_value (value_at nat_eq ps pid) refl
   where
@@ -176,18 +388,18 @@ table-sound limits o ps pid all = by_value (value_at nat_eq ps pid) refl
     by_value (Some p) is = All-value_at nat_eq (λ (q : Process). AreSoundDescriptors limits o q.descriptors) ps pid p all is
 
 -- what a descriptor of a process is, is sound
-pub descriptor-sound : (limits : Limits) (o : Named Mq) (ps : List (ℕ × Process)) (pid fd : ℕ) (d : Descriptor) → All (Has limits o) ps
+pub descriptor-sound : (limits : Limits) (o : NamedObjects) (ps : List (ℕ × Process)) (pid fd : ℕ) (d : Descriptor) → All (Has limits o) ps
     → descriptor_at ps pid fd ≡ Some d → is_sound_descriptor o d ≡ true
 descriptor-sound limits o ps pid fd d all is =
     All-value_at nat_eq (λ (c : Descriptor). is_sound_descriptor o c ≡ true) (descriptors_of ps pid) fd d (table-sound limits o ps pid all).each is
 
--- whether one of these is open on the queue
-abbrev pub opens : ℕ → Table → Bool
-opens n table = list_any (λ (d : ℕ × Descriptor). is_on_queue n d.1.on) table
+-- whether one of these is open on the object
+abbrev pub opens : Opened → Table → Bool
+opens this table = list_any (λ (d : ℕ × Descriptor). is_on this d.1.on) table
 
--- each queue on which one table is open, the other is; each number that is in use there, is in use here on the same
+-- each object on which one table is open, the other is; each number that is in use there, is in use here on the same
 pub record Covers (old new : Table) : Type 0 where
-  pub all : (n : ℕ) → opens n old ≡ true → opens n new ≡ true
+  pub all : (n : Opened) → opens n old ≡ true → opens n new ≡ true
   pub same : (fd : ℕ) (d : Descriptor) → value_at nat_eq old fd ≡ Some d → option_map (λ (c : Descriptor). c.on) (value_at nat_eq new fd) ≡ Some d.on
 
 or-first : (a a' b : Bool) → (a ≡ true → a' ≡ true) → (a || b) ≡ true → (a' || b) ≡ true
@@ -240,7 +452,7 @@ module _ (ps : Numbered Process) (pid : ℕ) (table : Table) where
       by_process None = h
       by_process (Some p) = with_entry-numbered most ps pid (record p { descriptors = table }) h
 
-  pub table-each : (limits : Limits) (o : Named Mq) → All (Has limits o) ps.entries → AreSoundDescriptors limits o table
+  pub table-each : (limits : Limits) (o : NamedObjects) → All (Has limits o) ps.entries → AreSoundDescriptors limits o table
       → All (Has limits o) (with_table ps pid table).entries
   table-each limits o all good = by_process (entry_of ps pid)
     where
@@ -251,7 +463,7 @@ module _ (ps : Numbered Process) (pid : ℕ) (table : Table) where
 
   -- it covers that of a process
   module _ (covers : Covers (descriptors_of ps.entries pid) table) where
-    open-table : (n : ℕ) → is_open ps.entries n ≡ true → is_open (with_table ps pid table).entries n ≡ true
+    open-table : (n : Opened) → is_open ps.entries n ≡ true → is_open (with_table ps pid table).entries n ≡ true
     open-table n used = by_process (entry_of ps pid) refl
       where
         found : (es : List (ℕ × Process)) (p : Process) → value_at nat_eq es pid ≡ Some p → (opens n p.descriptors ≡ true → opens n table ≡ true)
@@ -281,14 +493,14 @@ module _ (ps : Numbered Process) (pid : ℕ) (table : Table) where
     registered-table n r h = by_pid (nat_eq r.pid.0 pid) refl
       where
         on_same : (v w : Option Descriptor) → ((d : Descriptor) → v ≡ Some d → option_map (λ (c : Descriptor). c.on) w ≡ Some d.on)
-            → unwrap_or (option_map (λ (d : Descriptor). is_on_queue n d.on) v) false ≡ true
-            → unwrap_or (option_map (λ (d : Descriptor). is_on_queue n d.on) w) false ≡ true
+            → unwrap_or (option_map (λ (d : Descriptor). is_on (objects.Queue n) d.on) v) false ≡ true
+            → unwrap_or (option_map (λ (d : Descriptor). is_on (objects.Queue n) d.on) w) false ≡ true
         on_same None w same h = cc
         on_same (Some d) None same h = let none = same d refl in cc
         on_same (Some d) (Some c) same h =
             let on : Some c.on ≡ Some d.on = same d refl in
             let one : c.on ≡ d.on = cc in
-            subst (λ (k : Opened). is_on_queue n k ≡ true) (sym one) h
+            subst (λ (k : Opened). is_on (objects.Queue n) k ≡ true) (sym one) h
 
         by_process : (q : Option Process) → entry_of ps pid ≡ q → told n r (entry_of ps pid) ≡ true → told n r (entry_of (with_table ps pid table) pid) ≡ true
         by_process None is h = subst (λ (t : Numbered Process). told n r (entry_of t pid) ≡ true) (sym (table-none is)) h
@@ -305,19 +517,33 @@ module _ (ps : Numbered Process) (pid : ℕ) (table : Table) where
             let other : r.pid.0 ≢ pid = λ same. grind (arith, nat_tests) in
             subst (λ (q : Option Process). told n r q ≡ true) (sym (table-other r.pid.0 other)) h
 
-    pub table-mqs : (limits : Limits) (o : Named Mq) → AreSoundProcesses limits o ps → AreSoundDescriptors limits o table → AreSoundMqs limits ps.entries o
-        → AreSoundProcesses limits o (with_table ps pid table) × AreSoundMqs limits (with_table ps pid table).entries o
-    table-mqs limits o processes good mqs =
-        let new = (with_table ps pid table).entries in (
-          record { numbered = table-numbered limits.processes processes.numbered; descriptors = table-each limits o processes.descriptors good },
-          record {
-            named = mqs.named;
-            forms = mqs.forms;
-            stay = All-weaker (λ (e : ℕ × NamedEntry Mq). stays ps.entries e ≡ true) (λ (e : ℕ × NamedEntry Mq). stays new e ≡ true)
-                (λ e. or-second (has_name e.1) (is_open ps.entries e.0) (is_open new e.0) (open-table e.0)) o.entries mqs.stay;
-            registered = All-weaker (IsRegistered ps.entries) (IsRegistered new) by_entry o.entries mqs.registered;
-          },
-        )
+    table-stay : {X : Type 0} (kind : NameKind) (most : ℕ) (P : X → Type 0) (o : Named X) → AreHeld most P kind ps.entries o
+        → AreHeld most P kind (with_table ps pid table).entries o
+    table-stay {X} kind most P o h =
+        let new = (with_table ps pid table).entries in
+        record {
+          named = h.named;
+          forms = h.forms;
+          stay = All-weaker (λ (e : ℕ × NamedEntry X). stays kind ps.entries e ≡ true) (λ (e : ℕ × NamedEntry X). stays kind new e ≡ true)
+              (λ e. or-second (has_name e.1) (is_open ps.entries (opened_as kind e.0)) (is_open new (opened_as kind e.0)) (open-table (opened_as kind e.0)))
+              o.entries h.stay;
+        }
+
+    pub table-held : (limits : Limits) (o : NamedObjects) → AreSoundDescriptors limits o table → AreAllHeld limits ps o
+        → AreAllHeld limits (with_table ps pid table) o
+    table-held limits o good h =
+        record {
+          processes = record {
+            numbered = table-numbered limits.processes h.processes.numbered;
+            descriptors = table-each limits o h.processes.descriptors good;
+          };
+          mq = record {
+            held = table-stay names.Queue limits.queues (IsSoundMq limits) o.mq h.mq.held;
+            registered = All-weaker (IsRegistered ps.entries) (IsRegistered (with_table ps pid table).entries) by_entry o.mq.entries h.mq.registered;
+          };
+          named_sem = table-stay names.Semaphore limits.named_semaphores (λ value. value ≤ sem_value_max) o.named_sem h.named_sem;
+          shm = record { held = table-stay names.Segment limits.segments (λ x. ⊤) o.shm h.shm.held; bytes = h.shm.bytes };
+        }
       where
         by_entry : (e : ℕ × NamedEntry Mq) → IsRegistered ps.entries e → IsRegistered (with_table ps pid table).entries e
         by_entry e h = by_registration e.1.object.registration h
@@ -329,15 +555,15 @@ module _ (ps : Numbered Process) (pid : ℕ) (table : Table) where
 
 -- ---- descriptors that are opened and changed
 
-opens-row : (n : ℕ) (es : Table) (fd : ℕ) (d : Descriptor) → opens n es ≡ true → opens n (with_row es fd d) ≡ true
+opens-row : (n : Opened) (es : Table) (fd : ℕ) (d : Descriptor) → opens n es ≡ true → opens n (with_row es fd d) ≡ true
 opens-row n [] fd d h = cc
 opens-row n (e ∷ es) fd d h = by_test (nat_lt fd e.0) (opens-row n es fd d)
   where
     by_test : (b : Bool) → (opens n es ≡ true → opens n (with_row es fd d) ≡ true) → opens n (cond b ((fd, d) ∷ e ∷ es) (e ∷ with_row es fd d)) ≡ true
-    by_test true rest = either (is_on_queue n d.on) (opens n (e ∷ es)) h
-    by_test false rest = or-second (is_on_queue n e.1.on) (opens n es) (opens n (with_row es fd d)) rest h
+    by_test true rest = either (is_on n d.on) (opens n (e ∷ es)) h
+    by_test false rest = or-second (is_on n e.1.on) (opens n es) (opens n (with_row es fd d)) rest h
 
-opens-value : (n : ℕ) (es : Table) (fd : ℕ) (d c : Descriptor) → value_at nat_eq es fd ≡ Some d → c.on ≡ d.on → opens n es ≡ true
+opens-value : (n : Opened) (es : Table) (fd : ℕ) (d c : Descriptor) → value_at nat_eq es fd ≡ Some d → c.on ≡ d.on → opens n es ≡ true
     → opens n (with_value nat_eq es fd c) ≡ true
 opens-value n [] fd d c is same h = cc
 opens-value n (e ∷ es) fd d c is same h = by_test (nat_eq e.0 fd) is (λ later. opens-value n es fd d c later same)
@@ -348,10 +574,10 @@ opens-value n (e ∷ es) fd d c is same h = by_test (nat_eq e.0 fd) is (λ later
     by_test true is rest =
         let one : e.1 ≡ d = cc in
         let on : c.on ≡ e.1.on = same ∙ ap (λ (k : Descriptor). k.on) (sym one) in
-        or-first (is_on_queue n e.1.on) (is_on_queue n c.on) (opens n es) (λ u. subst (λ (k : Opened). is_on_queue n k ≡ true) (sym on) u) h
-    by_test false is rest = or-second (is_on_queue n e.1.on) (opens n es) _ (rest is) h
+        or-first (is_on n e.1.on) (is_on n c.on) (opens n es) (λ u. subst (λ (k : Opened). is_on n k ≡ true) (sym on) u) h
+    by_test false is rest = or-second (is_on n e.1.on) (opens n es) _ (rest is) h
 
-module _ (limits : Limits) (o : Named Mq) (table : Table) (good : AreSoundDescriptors limits o table) where
+module _ (limits : Limits) (o : NamedObjects) (table : Table) (good : AreSoundDescriptors limits o table) where
   abbrev Right : Descriptor → Type 0
   Right d = is_sound_descriptor o d ≡ true
 
@@ -401,41 +627,39 @@ module _ (limits : Limits) (o : Named Mq) (table : Table) (good : AreSoundDescri
               same = λ k c found. put d is k c found (nat_eq k fd) refl;
             }
 
-    flags-sound : not (nat_eq (bit_and flags 3) 3) ≡ true → AreSoundDescriptors limits o (with_flags table fd flags)
+    flags-sound : ((d : Descriptor) → value_at nat_eq table fd ≡ Some d → has_access d.on flags ≡ true) → AreSoundDescriptors limits o (with_flags table fd flags)
     flags-sound right = by_value (value_at nat_eq table fd) refl
       where
         by_value : (r : Option Descriptor) → value_at nat_eq table fd ≡ r → AreSoundDescriptors limits o (flagged r)
         by_value None is = good
         by_value (Some d) is =
             let was : Right d = All-value_at nat_eq Right table fd d good.each is in
-            let there = (both_true (is_there_for o d.on) (not (nat_eq (bit_and d.flags 3) 3)) was).0 in
+            let there = (both_true (is_there_for o d.on) (has_access d.on d.flags) was).0 in
             record {
               numbers = rw keys_of-with_value good.numbers;
-              each = All-with_value nat_eq Right table fd (record d { flags = flags }) good.each (rw there right);
+              each = All-with_value nat_eq Right table fd (record d { flags = flags }) good.each (rw there (right d is));
             }
 
-module _ (limits : Limits) (ps : Numbered Process) (pid : ℕ) (o : Named Mq) (processes : AreSoundProcesses limits o ps)
-    (mqs : AreSoundMqs limits ps.entries o) where
+module _ (limits : Limits) (ps : Numbered Process) (pid : ℕ) (o : NamedObjects) (h : AreAllHeld limits ps o) where
   abbrev own-table : Table
   own-table = descriptors_of ps.entries pid
 
   good-table : AreSoundDescriptors limits o own-table
-  good-table = table-sound limits o ps.entries pid processes.descriptors
+  good-table = table-sound limits o ps.entries pid h.processes.descriptors
 
   -- a process opens a descriptor
-  pub opened-mqs : (d : Descriptor) → length own-table < limits.descriptors → is_sound_descriptor o d ≡ true
-      → AreSoundProcesses limits o (with_table ps pid (opened own-table d)) × AreSoundMqs limits (with_table ps pid (opened own-table d)).entries o
-  opened-mqs d fewer right =
-      table-mqs ps pid (opened own-table d) (opened-covers limits o own-table good-table d) limits o processes
-      (opened-sound limits o own-table good-table d fewer right) mqs
+  pub opened-held : (d : Descriptor) → length own-table < limits.descriptors → is_sound_descriptor o d ≡ true
+      → AreAllHeld limits (with_table ps pid (opened own-table d)) o
+  opened-held d fewer right =
+      table-held ps pid (opened own-table d) (opened-covers limits o own-table good-table d) limits o
+      (opened-sound limits o own-table good-table d fewer right) h
 
   -- or changes the flags of one
-  pub flags-mqs : (fd flags : ℕ) → not (nat_eq (bit_and flags 3) 3) ≡ true
-      → AreSoundProcesses limits o (with_table ps pid (with_flags own-table fd flags))
-      × AreSoundMqs limits (with_table ps pid (with_flags own-table fd flags)).entries o
-  flags-mqs fd flags right =
-      table-mqs ps pid (with_flags own-table fd flags) (flags-covers limits o own-table good-table fd flags) limits o processes
-      (flags-sound limits o own-table good-table fd flags right) mqs
+  pub flags-held : (fd flags : ℕ) → ((d : Descriptor) → value_at nat_eq own-table fd ≡ Some d → has_access d.on flags ≡ true)
+      → AreAllHeld limits (with_table ps pid (with_flags own-table fd flags)) o
+  flags-held fd flags right =
+      table-held ps pid (with_flags own-table fd flags) (flags-covers limits o own-table good-table fd flags) limits o
+      (flags-sound limits o own-table good-table fd flags right) h
 
   -- or closes one
   module _ (fd : ℕ) where
@@ -445,22 +669,16 @@ module _ (limits : Limits) (ps : Numbered Process) (pid : ℕ) (o : Named Mq) (p
     abbrev goes : Registration → Bool
     goes = is_by (Some pid) (Some fd)
 
-    pub closed-mqs : AreSoundProcesses limits (still_open shorter.entries (without_registrations goes o)) shorter
-        × AreSoundMqs limits shorter.entries (still_open shorter.entries (without_registrations goes o))
-    closed-mqs =
+    pub closed-held : AreAllHeld limits shorter (left_by shorter.entries goes o)
+    closed-held =
         let good : AreSoundDescriptors limits o (without nat_eq own-table fd) = record {
           numbers = rising-without 0 own-table limits.descriptors fd good-table.numbers;
           each = All-without (λ (e : ℕ × Descriptor). is_sound_descriptor o e.1 ≡ true) own-table fd good-table.each;
-        } in (
-          record {
-            numbered = table-numbered ps pid (without nat_eq own-table fd) limits.processes processes.numbered;
-            descriptors = processes-left limits ps.entries shorter.entries goes o mqs
-                (table-each ps pid (without nat_eq own-table fd) limits o processes.descriptors good);
-          },
-          mqs-left limits ps.entries shorter.entries goes o mqs
-              (All-filter (stays shorter.entries) (IsRegistered shorter.entries) _
-              (All-seen_as (IsRegistered ps.entries) (IsRegistered shorter.entries) (deregistered goes) by_entry o.entries mqs.registered)),
-        )
+        } in
+        all-left limits ps shorter goes o h (table-numbered ps pid (without nat_eq own-table fd) limits.processes h.processes.numbered)
+        (table-each ps pid (without nat_eq own-table fd) limits o h.processes.descriptors good)
+        (All-filter (stays names.Queue shorter.entries) (IsRegistered shorter.entries) _
+        (All-seen_as (IsRegistered ps.entries) (IsRegistered shorter.entries) (deregistered goes) by_entry o.mq.entries h.mq.registered))
       where
         -- the other descriptors are as they were
         elsewhere : (p k : ℕ) → (nat_eq pid p && nat_eq fd k) ≡ false → descriptor_at shorter.entries p k ≡ descriptor_at ps.entries p k
@@ -498,5 +716,5 @@ module _ (limits : Limits) (ps : Numbered Process) (pid : ℕ) (o : Named Mq) (p
                 by_test : (b : Bool) → goes r ≡ b → is_by_descriptor shorter.entries e.0 (if b then None else Some r) ≡ true
                 by_test true is = refl
                 by_test false is =
-                    ap (λ (v : Option Descriptor). unwrap_or (option_map (λ (d : Descriptor). is_on_queue e.0 d.on) v) false)
+                    ap (λ (v : Option Descriptor). unwrap_or (option_map (λ (d : Descriptor). is_on (objects.Queue e.0) d.on) v) false)
                     (elsewhere r.pid.0 r.descriptor is) ∙ h

@@ -6,6 +6,7 @@ use Rattle.std.specs.Ordering.{int_cmp, nat_cmp}
 use Rattle.std.specs.Prelude.{◌≡◌, ◌≢◌, ℕ, ℤ, pos, Bool, true, List, [], Option, Some, None}
 use Rattle.ipc_base.specs.declared.limits.Limits.{Limits}
 use Rattle.ipc_keys.specs.Directory.{is_vacant}
+use Rattle.shm_segment.specs.Segment.{Segment, empty_segment, truncated}
 use Rattle.sysv_sem.specs.Set.{Set, new_set}
 use Rattle.ipc_state.specs.Directory.{HasNoSpareKey}
 use Rattle.ipc_state.specs.Keyed.{keyed}
@@ -16,7 +17,9 @@ use Rattle.ipc_state.specs.State.{State}
 -- directory of the queues' keys, with those that have room there; whether a queue without messages is kept ready to be
 -- added; for how many calls that wait there is room; whether there is room for one semaphore set more; the directory of
 -- the sets' keys; the set that is kept ready to be added; whether there is room for one POSIX queue more; the directory
--- of their names; whether one without messages is kept ready to be added, and the name that is kept ready for it
+-- of their names; whether one without messages is kept ready to be added; the name that is kept ready for a new object;
+-- whether there is room for one named semaphore more, and the directory of their names; the same of segments; the zeros
+-- that are kept ready to be a longer segment
 pub record Room : Type 0 where
   pub process : Bool
   pub queue : Bool
@@ -30,6 +33,11 @@ pub record Room : Type 0 where
   pub names : FinMap (slice_cmp nat_cmp) ℕ
   pub fresh_mq : Bool
   pub fresh_name : Option (List ℕ)
+  pub named_sem : Bool
+  pub sem_names : FinMap (slice_cmp nat_cmp) ℕ
+  pub shm : Bool
+  pub segment_names : FinMap (slice_cmp nat_cmp) ℕ
+  pub fresh_segment : Option Segment
 
 pub record Held : Type 0 where
   pub limits : Limits
@@ -58,6 +66,22 @@ pub record HasMqPlace (s : State) (room : Room) (name : List ℕ) : Type 0 where
   pub fresh : room.fresh_mq ≡ true
   pub called : room.fresh_name ≡ Some name
   pub vacant : name ≢ [] → named s.mq name ≡ None → is_vacant room.names name ≡ true
+
+-- there is room for one named semaphore more of this name, and a name that is ready for it
+pub record HasSemPlace (s : State) (room : Room) (name : List ℕ) : Type 0 where
+  pub place : room.named_sem ≡ true
+  pub called : room.fresh_name ≡ Some name
+  pub vacant : name ≢ [] → named s.named_sem name ≡ None → is_vacant room.sem_names name ≡ true
+
+-- there is room for one segment more of this name, and a name that is ready for it
+pub record HasSegmentPlace (s : State) (room : Room) (name : List ℕ) : Type 0 where
+  pub place : room.shm ≡ true
+  pub called : room.fresh_name ≡ Some name
+  pub vacant : name ≢ [] → named s.shm name ≡ None → is_vacant room.segment_names name ≡ true
+
+-- so many zeros are ready
+abbrev pub HasZeros : Room → ℕ → Type 0
+HasZeros room n = room.fresh_segment ≡ Some (truncated n empty_segment)
 
 -- no key has room that no object has
 pub record HasNoSpareKeys (room : Room) : Type 0 where

@@ -15,6 +15,7 @@ pub mod Lends
 pub mod LendsMsg
 pub mod LendsSem
 pub mod LendsMq
+pub mod LendsNamed
 pub mod Touching
 pub mod Finish
 pub mod Spare

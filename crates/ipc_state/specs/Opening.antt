@@ -7,9 +7,11 @@ use Rattle.std.specs.List.{list_any}
 use Rattle.std.specs.Result.{is_ok}
 use Rattle.ipc_base.specs.Table.{value_at, seen_as}
 use Rattle.ipc_keys.specs.Names.{check_name, is_none}
+use Rattle.ipc_keys.specs.declared.check.NameKind.{NameKind}
 use Rattle.ipc_keys.specs.declared.check.NameKind.TheVariants as names
 use Rattle.posix_mq.specs.Queue.{Queue as Mq}
 use Rattle.posix_mq.specs.declared.queue.Registration.{Registration}
+use Rattle.shm_segment.specs.Segment.{Segment}
 use Rattle.ipc_state.specs.declared.descriptors.Descriptor.{Descriptor}
 use Rattle.ipc_state.specs.declared.descriptors.Opened.{Opened}
 use Rattle.ipc_state.specs.declared.descriptors.Opened.TheVariants as opened
@@ -19,24 +21,39 @@ use Rattle.ipc_state.specs.Descriptors.{Table}
 use Rattle.ipc_state.specs.Named.{Named, kept_if}
 use Rattle.ipc_state.specs.Numbered.{Numbered, entry_of, with_entry}
 
--- whether it is open on the queue of this number
-abbrev pub is_on_queue : ℕ → Opened → Bool
-is_on_queue n (opened.Queue m) = nat_eq m n
+-- whether what it is open on is this
+abbrev pub is_on : Opened → Opened → Bool
+is_on (opened.Queue n) (opened.Queue m) = nat_eq m n
+is_on (opened.Semaphore n) (opened.Semaphore m) = nat_eq m n
+is_on (opened.Segment n) (opened.Segment m) = nat_eq m n
+is_on this on = false
 
--- whether some descriptor of these processes is
-abbrev pub is_open : List (ℕ × Process) → ℕ → Bool
-is_open processes n = list_any (λ p. list_any (λ d. is_on_queue n d.1.on) p.1.descriptors) processes
+-- whether some descriptor of these processes is open on it
+abbrev pub is_open : List (ℕ × Process) → Opened → Bool
+is_open processes this = list_any (λ p. list_any (λ d. is_on this d.1.on) p.1.descriptors) processes
 
-abbrev pub has_name : NamedEntry Mq → Bool
+abbrev pub has_name : {X : Type 0} → NamedEntry X → Bool
 has_name e = not (is_none e.name)
 
--- whether it has a name, or a descriptor is open on it
-abbrev pub stays : List (ℕ × Process) → ℕ × NamedEntry Mq → Bool
-stays processes e = has_name e.1 || is_open processes e.0
+-- an object of a kind, as a descriptor is open on it
+abbrev pub opened_as : NameKind → ℕ → Opened
+opened_as names.Queue n = opened.Queue n
+opened_as names.Semaphore n = opened.Semaphore n
+opened_as names.Segment n = opened.Segment n
+
+-- whether an object of the kind has a name, or a descriptor is open on it
+abbrev pub stays : {X : Type 0} → NameKind → List (ℕ × Process) → ℕ × NamedEntry X → Bool
+stays kind processes e = has_name e.1 || is_open processes (opened_as kind e.0)
 
 -- those that stay
-abbrev pub still_open : List (ℕ × Process) → Named Mq → Named Mq
-still_open processes o = kept_if (stays processes) o
+abbrev pub still_open : {X : Type 0} → NameKind → List (ℕ × Process) → Named X → Named X
+still_open kind processes o = kept_if (stays kind processes) o
+
+-- the objects with a name of each kind
+pub record NamedObjects : Type 0 where
+  pub mq : Named Mq
+  pub named_sem : Named ℕ
+  pub shm : Named Segment
 
 -- ---- registrations
 
@@ -79,23 +96,31 @@ with_table processes pid table =
     processes
 
 -- what it is open on is there
-abbrev pub is_there_for : Named Mq → Opened → Bool
-is_there_for mqs (opened.Queue n) = is_some (entry_of mqs n)
+abbrev pub is_there_for : NamedObjects → Opened → Bool
+is_there_for o (opened.Queue n) = is_some (entry_of o.mq n)
+is_there_for o (opened.Semaphore n) = is_some (entry_of o.named_sem n)
+is_there_for o (opened.Segment n) = is_some (entry_of o.shm n)
 
--- and it is open to read, to write, or both
-abbrev pub is_sound_descriptor : Named Mq → Descriptor → Bool
-is_sound_descriptor mqs d = is_there_for mqs d.on && not (nat_eq (bit_and d.flags 3) 3)
+-- it may be open with these flags: a queue to read, to write, or both; a segment to read, or both
+abbrev pub has_access : Opened → ℕ → Bool
+has_access (opened.Queue n) flags = not (nat_eq (bit_and flags 3) 3)
+has_access (opened.Semaphore n) flags = true
+has_access (opened.Segment n) flags = nat_eq (bit_and flags 1) 0
+
+-- what a descriptor is open on is there, and it may be open so
+abbrev pub is_sound_descriptor : NamedObjects → Descriptor → Bool
+is_sound_descriptor o d = is_there_for o d.on && has_access d.on d.flags
 
 -- a registration, if there is one, is by a descriptor that is open on the queue of this number
 abbrev pub is_by_descriptor : List (ℕ × Process) → ℕ → Option Registration → Bool
 is_by_descriptor processes n None = true
 is_by_descriptor processes n (Some r) =
-    unwrap_or (option_map (λ d. is_on_queue n d.on) (descriptor_at processes r.pid.0 r.descriptor)) false
+    unwrap_or (option_map (λ d. is_on (opened.Queue n) d.on) (descriptor_at processes r.pid.0 r.descriptor)) false
 
 -- whoever is registered with the queue has it open, by the descriptor of the registration
 abbrev pub is_registered : List (ℕ × Process) → ℕ × NamedEntry Mq → Bool
 is_registered processes e = is_by_descriptor processes e.0 e.1.object.registration
 
--- a name, if there is one, is one that a queue may have
-abbrev pub is_named_so : ℕ × NamedEntry Mq → Bool
-is_named_so e = is_none e.1.name || is_ok (check_name names.Queue e.1.name)
+-- a name, if there is one, is one that an object of the kind may have
+abbrev pub is_named_so : {X : Type 0} → NameKind → ℕ × NamedEntry X → Bool
+is_named_so kind e = is_none e.1.name || is_ok (check_name kind e.1.name)

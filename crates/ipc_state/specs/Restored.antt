@@ -5,6 +5,7 @@ use Rattle.ipc_base.specs.Table.{with_value, seen_as}
 use Rattle.sem_undo.specs.Undo.{key_of}
 use Rattle.sem_undo.specs.declared.undo.UndoRow.{UndoRow}
 use Rattle.posix_mq.specs.Queue.{Queue as Mq}
+use Rattle.shm_segment.specs.Segment.{Segment}
 use Rattle.sysv_msg.specs.Queue.{Queue}
 use Rattle.sysv_sem.specs.Set.{Set}
 use Rattle.ipc_state.specs.declared.keyed.Entry.{Entry}
@@ -24,6 +25,8 @@ with_numbers s n =
       msg = record { next = n.next_queue; entries = s.msg.entries };
       sem = record { next = n.next_set; entries = s.sem.entries };
       mq = record { next = n.next_mq; entries = s.mq.entries };
+      named_sem = record { next = n.next_named_sem; entries = s.named_sem.entries };
+      shm = record { next = n.next_segment; entries = s.shm.entries };
     }
 
 -- with a process at the end
@@ -54,3 +57,11 @@ with_last_set s id e = record s { sem = with_last s.sem id e }
 -- with a POSIX queue at the end
 abbrev pub with_last_mq : State → ℕ → NamedEntry Mq → State
 with_last_mq s n e = record s { mq = with_last s.mq n e }
+
+-- with a named semaphore at the end
+abbrev pub with_last_named_sem : State → ℕ → NamedEntry ℕ → State
+with_last_named_sem s n e = record s { named_sem = with_last s.named_sem n e }
+
+-- with a segment at the end
+abbrev pub with_last_segment : State → ℕ → NamedEntry Segment → State
+with_last_segment s n e = record s { shm = with_last s.shm n e }

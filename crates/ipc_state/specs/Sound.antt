@@ -1,7 +1,7 @@
 -- What holds of each part of the state by itself, after every event: numbers rise and are never given twice, no limit
 -- is passed, each key is the key of one object that is there, and no object holds more than it may. What holds between
 -- parts is told where calls are put together.
-use Rattle.std.specs.Prelude.{◌≡◌, ℕ, ◌^◌, ◌<◌, ◌≤◌, pos, int_lt, Bool, true, false, nat_lt}
+use Rattle.std.specs.Prelude.{◌≡◌, ⊤, ℕ, ◌^◌, ◌<◌, ◌≤◌, pos, int_lt, Bool, true, false, nat_lt}
 use Rattle.std.specs.Prelude.{length, All, sum_by, IsTrue}
 use Rattle.std.specs.Prelude.{option_map, unwrap_or, is_some, List}
 use Rattle.std.specs.FinMap as fin
@@ -10,7 +10,11 @@ use Rattle.sem_undo.specs.Undo.{Key, Undo}
 use Rattle.ipc_base.specs.declared.limits.Limits.{Limits}
 use Rattle.ipc_base.specs.Limits.{longest_body}
 use Rattle.ipc_wire.specs.Reply.{PlainBody, body_bytes}
+use Rattle.ipc_keys.specs.declared.check.NameKind.{NameKind}
+use Rattle.ipc_keys.specs.declared.check.NameKind.TheVariants as names
 use Rattle.posix_mq.specs.Queue.{Queue as Mq, PlainMessage as MqMessage}
+use Rattle.posix_sem.specs.Semaphore.{sem_value_max}
+use Rattle.shm_segment.specs.Segment.{Segment}
 use Rattle.sysv_msg.specs.Queue.{Queue, PlainMessage, byte_count}
 use Rattle.sysv_sem.specs.Operation.{most_value}
 use Rattle.sysv_sem.specs.Set.{Set}
@@ -19,8 +23,8 @@ use Rattle.ipc_state.specs.Descriptors.{Table}
 use Rattle.ipc_state.specs.Numbered.{Numbered, AreNumbered, entry_of}
 use Rattle.ipc_state.specs.Keyed.{Keyed, AreKeyed}
 use Rattle.ipc_state.specs.Named.{Named, AreNamedObjects}
-use Rattle.ipc_state.specs.Opening.{is_named_so, is_registered, is_sound_descriptor, stays}
-use Rattle.ipc_state.specs.State.{State}
+use Rattle.ipc_state.specs.Opening.{NamedObjects, is_named_so, is_registered, is_sound_descriptor, stays}
+use Rattle.ipc_state.specs.State.{State, named_in}
 use Rattle.ipc_state.specs.Waiting.{AreSoundWaits}
 
 -- a message has a type above 0 and at most msgmax bytes
@@ -82,31 +86,53 @@ pub record IsSoundMq (limits : Limits) (q : Mq) : Type 0 where
   pub count : length q.messages ≤ q.maxmsg
   pub messages : All (IsSoundMqMessage q.msgsize) q.messages
 
--- each POSIX queue is sound, has a name or is open, and whoever is registered with it has it open
+-- each object with a name of a kind is sound, there are no more than the most, and each has a name that it may have, or
+-- is open
+pub record AreHeld {X : Type 0} (most : ℕ) (IsSoundOne : X → Type 0) (kind : NameKind)
+    (processes : List (ℕ × Process)) (o : Named X) : Type 0 where
+  pub named : AreNamedObjects most IsSoundOne o
+  pub forms : All (λ e. is_named_so kind e ≡ true) o.entries
+  pub stay : All (λ e. stays kind processes e ≡ true) o.entries
+
+-- each POSIX queue is, and whoever is registered with it has it open
 pub record AreSoundMqs (limits : Limits) (processes : List (ℕ × Process)) (o : Named Mq) : Type 0 where
-  pub named : AreNamedObjects limits.queues (IsSoundMq limits) o
-  pub forms : All (λ e. is_named_so e ≡ true) o.entries
-  pub stay : All (λ e. stays processes e ≡ true) o.entries
+  pub held : AreHeld limits.queues (IsSoundMq limits) names.Queue processes o
   pub registered : All (λ e. is_registered processes e ≡ true) o.entries
 
+-- each named semaphore is; its value is no greater than the greatest
+abbrev pub AreSoundNamedSems : Limits → List (ℕ × Process) → Named ℕ → Type 0
+AreSoundNamedSems limits processes o =
+    AreHeld limits.named_semaphores (λ value. value ≤ sem_value_max) names.Semaphore processes o
+
+-- how many bytes the segments have together
+abbrev pub segment_bytes : Named Segment → ℕ
+segment_bytes o = sum_by (λ e. length e.1.object.bytes) o.entries
+
+-- each segment is, and together they have no more bytes than the limit says
+pub record AreSoundSegments (limits : Limits) (processes : List (ℕ × Process)) (o : Named Segment) : Type 0 where
+  pub held : AreHeld limits.segments (λ x. ⊤) names.Segment processes o
+  pub bytes : segment_bytes o ≤ limits.segment_bytes
+
 -- the numbers of a process's descriptors rise, each below the limit; what each is open on is there
-pub record AreSoundDescriptors (limits : Limits) (mqs : Named Mq) (table : Table) : Type 0 where
+pub record AreSoundDescriptors (limits : Limits) (o : NamedObjects) (table : Table) : Type 0 where
   pub numbers : IsRising 0 (keys_of table) limits.descriptors
-  pub each : All (λ d. is_sound_descriptor mqs d.1 ≡ true) table
+  pub each : All (λ d. is_sound_descriptor o d.1 ≡ true) table
 
 -- pids rise, and each process's descriptors are sound
-pub record AreSoundProcesses (limits : Limits) (mqs : Named Mq) (processes : Numbered Process) : Type 0 where
+pub record AreSoundProcesses (limits : Limits) (o : NamedObjects) (processes : Numbered Process) : Type 0 where
   pub numbered : AreNumbered limits.processes processes
-  pub descriptors : All (λ p. AreSoundDescriptors limits mqs p.1.descriptors) processes.entries
+  pub descriptors : All (λ p. AreSoundDescriptors limits o p.1.descriptors) processes.entries
 
 -- each part is sound
 pub record HasSoundParts (limits : Limits) (s : State) : Type 0 where
-  pub processes : AreSoundProcesses limits s.mq s.processes
+  pub processes : AreSoundProcesses limits (named_in s) s.processes
   pub wait : AreSoundWaits limits s.wait
   pub undo : AreAdjustments (keys_of s.processes.entries) s.sem s.undo
   pub msg : AreKeyed limits.msgmni (IsSoundQueue limits) s.msg
   pub sem : AreSoundSets limits s.sem
   pub mq : AreSoundMqs limits s.processes.entries s.mq
+  pub named_sem : AreSoundNamedSems limits s.processes.entries s.named_sem
+  pub shm : AreSoundSegments limits s.processes.entries s.shm
 
 -- the body of a reply is no longer than the longest one
 abbrev pub FitsBody : Limits → PlainBody → Type 0

@@ -7,12 +7,14 @@ use Rattle.std.specs.FinMap as fin
 use Rattle.ipc_base.specs.declared.identity.Cred.{Cred}
 use Rattle.ipc_base.specs.declared.limits.Limits.{Limits}
 use Rattle.ipc_base.specs.Table.{value_at, with_value, seen_as, without as without_value}
+use Rattle.ipc_keys.specs.declared.check.NameKind.TheVariants as names
 use Rattle.ipc_wait.specs.Waits.{call_of, calls_due, calls_left, without}
 use Rattle.ipc_wire.specs.Posix as posix
 use Rattle.ipc_wire.specs.Request.{PlainKind, Posix}
 use Rattle.posix_mq.specs.Queue.{Queue as Mq}
 use Rattle.sysv_msg.specs.Queue.{Queue, new_queue}
 use Rattle.sem_undo.specs.Undo.{Key, Undo, cleared}
+use Rattle.shm_segment.specs.Segment.{Segment, empty_segment}
 use Rattle.sysv_sem.specs.Set.{Set, new_set, after_exit}
 use Rattle.ipc_state.specs.declared.keyed.Entry.{Entry}
 use Rattle.ipc_perm.specs.declared.perm.Perm.{Perm}
@@ -22,7 +24,7 @@ use Rattle.ipc_state.specs.Descriptors.{Table, opened, with_flags}
 use Rattle.ipc_state.specs.Numbered.{Numbered, none_yet, entry_of, is_full, with_entry, with_new, without_entry}
 use Rattle.ipc_state.specs.Keyed.{Keyed, holding}
 use Rattle.ipc_state.specs.Named.{Named, unnamed, with_object}
-use Rattle.ipc_state.specs.Opening.{is_by, is_on_queue, still_open, without_registrations}
+use Rattle.ipc_state.specs.Opening.{NamedObjects, is_by, is_on, opened_as, still_open, without_registrations}
 use Rattle.ipc_state.specs.Opening.{descriptors_of, descriptor_at, with_table}
 use Rattle.ipc_state.specs.Waiting.{PlainWaiting}
 
@@ -41,6 +43,10 @@ pub record State : Type 0 where
   pub sem : Keyed Set
   -- the POSIX message queues
   pub mq : Named Mq
+  -- the named semaphores, each with its value
+  pub named_sem : Named ℕ
+  -- the segments
+  pub shm : Named Segment
 
 -- nothing has happened yet
 abbrev pub start : State
@@ -53,6 +59,8 @@ start =
       msg = none_yet;
       sem = none_yet;
       mq = none_yet;
+      named_sem = none_yet;
+      shm = none_yet;
     }
 
 -- the state as the moment comes
@@ -113,7 +121,16 @@ deregistered_by pid fd s = record s { mq = without_registrations (is_by pid fd) 
 
 -- objects go that have no name and on which no descriptor is open
 abbrev pub swept : State → State
-swept s = record s { mq = still_open s.processes.entries s.mq }
+swept s =
+    record s {
+      mq = still_open names.Queue s.processes.entries s.mq;
+      named_sem = still_open names.Semaphore s.processes.entries s.named_sem;
+      shm = still_open names.Segment s.processes.entries s.shm;
+    }
+
+-- those of every kind
+abbrev pub named_in : State → NamedObjects
+named_in s = record { mq = s.mq; named_sem = s.named_sem; shm = s.shm }
 
 -- ---- processes
 
@@ -210,10 +227,57 @@ with_new_mq s name cred mode q =
 abbrev pub unlinked : State → ℕ → State
 unlinked s n = swept (record s { mq = unnamed s.mq n })
 
+-- ---- named semaphores
+
+-- none can be added: there are as many as the limit says, or no number is left
+abbrev pub has_all_named_sems : Limits → State → Bool
+has_all_named_sems limits s = is_full limits.named_semaphores s.named_sem
+
+-- another value at a number, if it is there, under the same name
+abbrev pub with_named_sem : State → ℕ → ℕ → State
+with_named_sem s n value =
+    record s {
+      named_sem = unwrap_or (option_map (λ e. with_entry s.named_sem n (with_object e value)) (entry_of s.named_sem n))
+          s.named_sem;
+    }
+
+-- with a new semaphore of this name, owner, mode and value
+abbrev pub with_new_named_sem : State → List ℕ → Cred → ℕ → ℕ → State
+with_new_named_sem s name cred mode value =
+    record s {
+      named_sem = with_new s.named_sem (record { name = name; owner = cred; mode = mode; object = value });
+    }
+
+-- the name of a semaphore is unlinked, and it goes, if it is not open
+abbrev pub unlinked_sem : State → ℕ → State
+unlinked_sem s n = swept (record s { named_sem = unnamed s.named_sem n })
+
+-- ---- segments
+
+-- none can be added: there are as many as the limit says, or no number is left
+abbrev pub has_all_segments : Limits → State → Bool
+has_all_segments limits s = is_full limits.segments s.shm
+
+-- another segment at a number, if it is there, under the same name
+abbrev pub with_segment : State → ℕ → Segment → State
+with_segment s n x =
+    record s { shm = unwrap_or (option_map (λ e. with_entry s.shm n (with_object e x)) (entry_of s.shm n)) s.shm }
+
+-- with a new segment of this name, owner and mode, which has no bytes
+abbrev pub with_new_segment : State → List ℕ → Cred → ℕ → State
+with_new_segment s name cred mode =
+    record s { shm = with_new s.shm (record { name = name; owner = cred; mode = mode; object = empty_segment }) }
+
+-- the name of a segment is unlinked, and it goes, if it is not open
+abbrev pub unlinked_segment : State → ℕ → State
+unlinked_segment s n = swept (record s { shm = unnamed s.shm n })
+
+-- ---- calls that wait on POSIX queues
+
 -- what a process asks for is a receive from the queue of this number
 abbrev pub receives_from : State → ℕ → ℕ → PlainKind → Bool
 receives_from s n pid (Posix (posix.MqReceive fd deadline size)) =
-    unwrap_or (option_map (λ d. is_on_queue n d.on) (descriptor_at s.processes.entries pid fd)) false
+    unwrap_or (option_map (λ d. is_on (opened_as names.Queue n) d.on) (descriptor_at s.processes.entries pid fd)) false
 receives_from s n pid kind = false
 
 -- a receive from it waits

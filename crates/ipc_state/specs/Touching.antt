@@ -17,6 +17,8 @@ use Rattle.ipc_state.specs.State.{State, undo_of}
 -- the object on which a descriptor is open
 abbrev pub object_on : Opened → Object
 object_on (opened.Queue n) = object.Mq n
+object_on (opened.Semaphore n) = object.NamedSem n
+object_on (opened.Segment n) = object.Segment n
 
 -- the object that a request of the process names, if it names one; an identifier does, whether it has an object or not
 abbrev pub object_of : State → ℕ → Awaited → Option Object
@@ -28,6 +30,10 @@ object_of s pid (awaited.Descriptor fd) = option_map (λ d. object_on d.on) (des
 abbrev pub mq_object : State → ℕ → Option Mq
 mq_object s n = option_map (λ e. e.object) (entry_of s.mq n)
 
+-- the value of the named semaphore of a number
+abbrev pub named_sem_value : State → ℕ → Option ℕ
+named_sem_value s n = option_map (λ e. e.object) (entry_of s.named_sem n)
+
 -- what a request of the process names is there
 abbrev pub is_there : ℕ → Awaited → State → Bool
 is_there pid (awaited.Queue id) s = is_some (entry_of s.msg id.0)
@@ -35,7 +41,7 @@ is_there pid (awaited.Set id) s = is_some (entry_of s.sem id.0)
 is_there pid (awaited.Descriptor fd) s = is_some (descriptor_at s.processes.entries pid fd)
 
 -- it is in the second state as it is in the first; a set, with the adjustments at its semaphores; a descriptor, with
--- the queue on which it is open
+-- the queue or the semaphore on which it is open
 abbrev pub IsAsBefore : ℕ → Awaited → State → State → Type 0
 IsAsBefore pid (awaited.Queue id) before after = entry_of after.msg id.0 ≡ entry_of before.msg id.0
 IsAsBefore pid (awaited.Set id) before after =
@@ -45,3 +51,5 @@ IsAsBefore pid (awaited.Descriptor fd) before after =
     (descriptor_at after.processes.entries pid fd ≡ descriptor_at before.processes.entries pid fd)
     × ((n : ℕ) → object_of before pid (awaited.Descriptor fd) ≡ Some (object.Mq n)
     → mq_object after n ≡ mq_object before n)
+    × ((n : ℕ) → object_of before pid (awaited.Descriptor fd) ≡ Some (object.NamedSem n)
+    → named_sem_value after n ≡ named_sem_value before n)

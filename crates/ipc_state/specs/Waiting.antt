@@ -1,5 +1,5 @@
--- Calls that wait (msgop(2), semop(2), mq_send(3), mq_receive(3)): on what each of them waits, and what holds of one
--- that does.
+-- Calls that wait (msgop(2), semop(2), mq_send(3), mq_receive(3), sem_wait(3)): on what each of them waits, and what
+-- holds of one that does.
 use Rattle.std.specs.Prelude.{◌≡◌, ◌≤◌, ◌<◌, ◌+◌, ◌-◌, ◌^◌, ℕ, Bool, true, false, is_some, nat_lt, if◌then◌else◌}
 use Rattle.std.specs.Prelude.{List, length, Option, Some, None, IfSome, All}
 use Rattle.ipc_base.specs.declared.errno.Errno.{Errno}
@@ -33,6 +33,7 @@ awaited_by (Calls (requests.Msgrcv id flags size mtype)) = Some (awaited.Queue (
 awaited_by (Calls (requests.Semop id timeout operations)) = Some (awaited.Set (record { 0 = id }))
 awaited_by (Posix (posix.MqSend fd deadline priority text)) = Some (awaited.Descriptor fd)
 awaited_by (Posix (posix.MqReceive fd deadline size)) = Some (awaited.Descriptor fd)
+awaited_by (Posix (posix.SemWait fd deadline)) = Some (awaited.Descriptor fd)
 awaited_by _ = None
 
 -- whether the request is of a call that may wait
@@ -57,6 +58,7 @@ unfoldable pub deadline_of : ℕ → PlainKind → Option Moment
 deadline_of now (Calls (requests.Semop id timeout operations)) = deadline_after now timeout
 deadline_of now (Posix (posix.MqSend fd deadline priority text)) = deadline_after 0 deadline
 deadline_of now (Posix (posix.MqReceive fd deadline size)) = deadline_after 0 deadline
+deadline_of now (Posix (posix.SemWait fd deadline)) = deadline_after 0 deadline
 deadline_of now kind = None
 
 -- whether a call of it may have a deadline
@@ -64,6 +66,7 @@ abbrev pub has_deadline : PlainKind → Bool
 has_deadline (Calls (requests.Semop id timeout operations)) = true
 has_deadline (Posix (posix.MqSend fd deadline priority text)) = true
 has_deadline (Posix (posix.MqReceive fd deadline size)) = true
+has_deadline (Posix (posix.SemWait fd deadline)) = true
 has_deadline kind = false
 
 -- what a call is told whose deadline has come
@@ -81,6 +84,7 @@ parked_call (parked.Semop id timeout operations) = requests.Semop id.0 timeout o
 abbrev pub parked_posix : ParkedPosix → PlainPosix
 parked_posix (parked_as.MqSend fd deadline message) = posix.MqSend fd deadline message.priority message.text.items
 parked_posix (parked_as.MqReceive fd deadline size) = posix.MqReceive fd deadline size
+parked_posix (parked_as.SemWait fd deadline) = posix.SemWait fd deadline
 
 -- what the request of a call that is kept asks
 abbrev pub parked_kind : ParkedKind → PlainKind

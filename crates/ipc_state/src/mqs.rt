@@ -1,39 +1,39 @@
-//! The POSIX message queues: which are still open, and who is registered with them. See mq_overview(7).
+//! The POSIX message queues, and who is registered with them. See mq_overview(7).
 
-ghost use Rattle.std.specs.Prelude.{◌≡◌, ◌≢◌, ◌<◌, ◌↔◌, ◌&&◌, ℕ, List, [], true, false, map, is_some, All};
+ghost use Rattle.std.specs.Prelude.{◌≡◌, ◌≢◌, ◌<◌, ◌↔◌, ◌&&◌, ℕ, List, [], true, false, map, is_some};
 ghost use Rattle.std.specs.Prelude.{IsTrue, OnOk, OnErr, Some, None, option_map};
 ghost use Rattle.std.specs.Borrow.{sem};
-ghost use Rattle.std.specs.List.{list_all, list_any};
+ghost use Rattle.std.specs.List.{list_all};
 ghost use Rattle.std.specs.Option.{option_copied, option_copied_mut};
 ghost use Rattle.ipc_base.specs.Limits.{ArePassed};
 ghost use Rattle.ipc_base.specs.Table.{seen_as};
 ghost use Rattle.ipc_keys.specs.Directory.{is_vacant};
+ghost use Rattle.ipc_keys.specs.declared.check.NameKind.TheVariants as names;
 ghost use Rattle.posix_mq.specs.Queue.{empty_queue, plain};
-ghost use Rattle.ipc_state.specs.Opening.{descriptor_at, is_on_queue, is_open, stays, still_open};
 ghost use Rattle.ipc_state.specs.Opening.{deregistered, is_by, is_or_any, unless_so, without_registrations};
-ghost use Rattle.ipc_state.specs.Opening.{is_named_so, is_registered, is_sound_descriptor};
+ghost use Rattle.ipc_state.specs.Opening.{is_registered};
 ghost use Rattle.ipc_state.specs.Directory.{ArePositive, HasNoSpareName};
 ghost use Rattle.ipc_state.specs.Held.{HasMqPlace};
 ghost use Rattle.ipc_state.specs.LendsMq.{lends_mq};
 ghost use Rattle.ipc_state.specs.Named.{HaveNames, named};
 ghost use Rattle.ipc_state.specs.Numbered.{entry_of};
 ghost use Rattle.ipc_state.specs.Restored.{with_last_mq};
-ghost use Rattle.ipc_state.specs.Sound.{AreSoundDescriptors, AreSoundMqs, AreSoundProcesses, IsSoundMq};
-ghost use Rattle.ipc_state.specs.State.{deregistered_by, has_all_mqs, receives_from, receiver_waits, swept};
+ghost use Rattle.ipc_state.specs.Sound.{AreHeld, AreSoundMqs, IsSoundMq};
+ghost use Rattle.ipc_state.specs.State.{deregistered_by, has_all_mqs, receives_from, receiver_waits};
 ghost use Rattle.ipc_state.specs.State.{unlinked, with_new_mq};
 ghost use Rattle.ipc_state.specs.Tables.{item_row};
 ghost use Rattle.ipc_state.specs.Tests.{is_sound_mq, is_sound_mq_message};
 ghost use Rattle.ipc_state.specs.Waiting.{parked_kind};
 
-use crate::descriptors::{Descriptor, DescriptorRow, Opened};
+use crate::descriptors::Opened;
+use crate::holding::is_on;
 use crate::named::{Named, NamedEntry};
 use crate::numbered::Item;
 use crate::parked::{ParkedKind, ParkedPosix};
-use crate::processes::Process;
 use crate::sound::SoundAlone;
 use crate::state::State;
 use ipc_base::{Cred, Limits, Pid};
-use ipc_keys::{Name, NameKind, check_name};
+use ipc_keys::{Name, NameKind};
 use posix_mq::{Message, Mq, Registration};
 use std::alloc::AllocError;
 
@@ -50,6 +50,13 @@ impl State {
         ensures { map item_row result.now ≡ self.now.state.mq.entries }
     {
         self.mq.items()
+    }
+
+    /// The queues with their names.
+    pub fn named_mqs(&self) -> &Named<Mq>
+        ensures { result.now.objects ≡ self.now.state.mq }
+    {
+        &self.mq
     }
 
     /// What a number has.
@@ -89,6 +96,8 @@ impl State {
         ensures waits { self.new.room.waits ≡ self.old.room.waits }
         ensures keys { self.new.room.keys ≡ self.old.room.keys }
         ensures set_keys { self.new.room.set_keys ≡ self.old.room.set_keys }
+        ensures sem_names { self.new.room.sem_names ≡ self.old.room.sem_names }
+        ensures segment_names { self.new.room.segment_names ≡ self.old.room.segment_names }
         ensures ok { OnOk result (ArePositive self.old.state.mq.entries
             → HasMqPlace self.new.state self.new.room name.now) }
         ensures others { (other : List ℕ) → other ≢ name.now
@@ -107,6 +116,8 @@ impl State {
         ensures waits { self.new.room.waits ≡ self.old.room.waits }
         ensures keys { self.new.room.keys ≡ self.old.room.keys }
         ensures set_keys { self.new.room.set_keys ≡ self.old.room.set_keys }
+        ensures sem_names { self.new.room.sem_names ≡ self.old.room.sem_names }
+        ensures segment_names { self.new.room.segment_names ≡ self.old.room.segment_names }
         ensures names { self.new.room.names ≡ self.old.room.names }
         ensures fresh { OnOk result (self.new.room.fresh_mq ≡ true) }
         ensures name { OnOk result (self.new.room.fresh_name ≡ Some name.now) }
@@ -125,6 +136,8 @@ impl State {
         ensures waits { self.new.room.waits ≡ self.old.room.waits }
         ensures keys { self.new.room.keys ≡ self.old.room.keys }
         ensures set_keys { self.new.room.set_keys ≡ self.old.room.set_keys }
+        ensures sem_names { self.new.room.sem_names ≡ self.old.room.sem_names }
+        ensures segment_names { self.new.room.segment_names ≡ self.old.room.segment_names }
         ensures name { is_vacant self.new.room.names name.now ≡ false }
         ensures others { (other : List ℕ) → other ≢ name.now
             → is_vacant self.new.room.names other ≡ is_vacant self.old.room.names other }
@@ -149,6 +162,8 @@ impl State {
         ensures waits { self.new.room.waits ≡ self.old.room.waits }
         ensures keys { self.new.room.keys ≡ self.old.room.keys }
         ensures set_keys { self.new.room.set_keys ≡ self.old.room.set_keys }
+        ensures sem_names { self.new.room.sem_names ≡ self.old.room.sem_names }
+        ensures segment_names { self.new.room.segment_names ≡ self.old.room.segment_names }
         ensures name { (name : List ℕ) → self.old.room.fresh_name ≡ Some name → name ≢ []
             → is_vacant self.new.room.names name ≡ false }
         ensures others { (name : List ℕ) → self.old.room.fresh_name ≡ Some name → (other : List ℕ) → other ≢ name
@@ -174,6 +189,8 @@ impl State {
         ensures waits { self.new.room.waits ≡ self.old.room.waits }
         ensures keys { self.new.room.keys ≡ self.old.room.keys }
         ensures set_keys { self.new.room.set_keys ≡ self.old.room.set_keys }
+        ensures sem_names { self.new.room.sem_names ≡ self.old.room.sem_names }
+        ensures segment_names { self.new.room.segment_names ≡ self.old.room.segment_names }
         ensures names { HasNoSpareName self.old.room.names → HasNoSpareName self.new.room.names }
     {
         self.mq.unname(number);
@@ -199,7 +216,7 @@ impl State {
             return false;
         };
         match self.descriptor(pid, *fd) {
-            Some(descriptor) => is_on_queue(descriptor.on, number),
+            Some(descriptor) => is_on(Opened::Queue(number), descriptor.on),
             None => false,
         }
     }
@@ -213,15 +230,6 @@ impl State {
         self.mq.restore(number, entry)
     }
 
-    /// Queues go that have no name and on which no descriptor is open. It takes no memory.
-    pub(crate) fn sweep(&mut self)
-        ensures state { self.new.state ≡ swept self.old.state }
-        ensures limits { self.new.limits ≡ self.old.limits }
-        ensures room { self.new.room ≡ record self.old.room { mq = self.new.room.mq } }
-    {
-        self.mq.sweep(self.processes.items());
-    }
-
     /// Registrations go that this process made, or any, by this descriptor, or any. It takes no memory.
     pub(crate) fn deregister(&mut self, pid: Option<u32>, fd: Option<u32>)
         ensures { self.new ≡ record self.old { state = deregistered_by pid fd self.old.state } }
@@ -229,39 +237,26 @@ impl State {
         self.mq.deregister(pid, fd);
     }
 
-    /// What a descriptor of a process is, if the number is in use.
-    pub fn descriptor(&self, pid: Pid, fd: u32) -> Option<Descriptor>
-        ensures { result ≡ descriptor_at self.now.state.processes.entries pid.0 fd }
-    {
-        match self.processes.get(pid.0) {
-            Some(process) => process.value.descriptors.get(fd),
-            None => None,
-        }
-    }
-
     /// Whether the queues are sound.
     pub(crate) fn are_mqs_sound(&self) -> bool
         ensures { IsTrue result ↔ AreSoundMqs self.now.limits self.now.state.processes.entries self.now.state.mq }
     {
-        self.mq.are_sound(self.limits.queues, &self.limits) && self.are_held(self.mq.items())
+        self.are_mqs_held() && self.are_registered(self.mq.items())
     }
 
-    /// Whether each name is one that a queue may have, each of them has a name or is open, and whoever is registered
-    /// with one has it open.
-    fn are_held(&self, items: &[Item<NamedEntry<Mq>>]) -> bool
-        ensures { result ≡ (list_all (λ e. is_named_so (item_row e)) items.now
-            && (list_all (λ e. stays self.now.state.processes.entries (item_row e)) items.now
-            && list_all (λ e. is_registered self.now.state.processes.entries (item_row e)) items.now)) }
+    fn are_mqs_held(&self) -> bool
+        ensures { IsTrue result ↔ AreHeld self.now.limits.queues (IsSoundMq self.now.limits) names.Queue
+            self.now.state.processes.entries self.now.state.mq }
     {
-        have_forms(items) && self.all_stay(items) && self.are_registered(items)
+        self.mq.are_held(
+            self.limits.queues,
+            &self.limits,
+            self.processes.items(),
+            NameKind::Queue,
+        )
     }
 
-    fn all_stay(&self, items: &[Item<NamedEntry<Mq>>]) -> bool
-        ensures { result ≡ list_all (λ e. stays self.now.state.processes.entries (item_row e)) items.now }
-    {
-        all_stay(items, self.processes.items())
-    }
-
+    /// Whether whoever is registered with a queue has it open.
     fn are_registered(&self, items: &[Item<NamedEntry<Mq>>]) -> bool
         ensures { result ≡ list_all (λ e. is_registered self.now.state.processes.entries (item_row e)) items.now }
     {
@@ -275,64 +270,13 @@ impl State {
             return true;
         };
         match self.descriptor(registration.pid, registration.descriptor) {
-            Some(descriptor) => is_on_queue(descriptor.on, item.number),
+            Some(descriptor) => is_on(Opened::Queue(item.number), descriptor.on),
             None => false,
         }
-    }
-
-    /// Whether the processes are sound, with their descriptors.
-    pub(crate) fn are_processes_sound(&self) -> bool
-        ensures { IsTrue result ↔ AreSoundProcesses self.now.limits self.now.state.mq self.now.state.processes }
-    {
-        self.processes.are_numbered(self.limits.processes)
-            && self.have_sound_descriptors(self.processes.items())
-    }
-
-    fn have_sound_descriptors(&self, items: &[Item<Process>]) -> bool
-        ensures { IsTrue result
-            ↔ All (λ p. AreSoundDescriptors self.now.limits self.now.state.mq p.value.descriptors) items.now }
-    {
-        for item in items {
-            if !self.has_sound_descriptors(item) {
-                return false;
-            }
-        }
-        true
-    }
-
-    fn has_sound_descriptors(&self, item: &Item<Process>) -> bool
-        ensures { IsTrue result ↔ AreSoundDescriptors self.now.limits self.now.state.mq item.now.value.descriptors }
-    {
-        let descriptors = &item.value.descriptors;
-        descriptors.rise(self.limits.descriptors) && self.are_open(descriptors.rows())
-    }
-
-    /// Whether each of some descriptors is open on what is there, and has a way in which it is.
-    fn are_open(&self, rows: &[DescriptorRow]) -> bool
-        ensures { result ≡ list_all (λ r. is_sound_descriptor self.now.state.mq r.descriptor) rows.now }
-    {
-        rows.iter().all(|row| self.is_open(&row.descriptor))
-    }
-
-    fn is_open(&self, descriptor: &Descriptor) -> bool
-        ensures { result ≡ is_sound_descriptor self.now.state.mq descriptor.now }
-    {
-        let is_there = match descriptor.on {
-            Opened::Queue(number) => self.mq.get(number).is_some(),
-        };
-        is_there && descriptor.flags & 3 != 3
     }
 }
 
 impl Named<Mq> {
-    /// Those go that have no name and on which no descriptor of these processes is open.
-    fn sweep(&mut self, processes: &[Item<Process>])
-        ensures objects { self.new.objects ≡ still_open (map item_row processes.now) self.old.objects }
-        ensures names { self.new.names ≡ self.old.names }
-    {
-        self.objects.items.retain(|item| stays(processes, item));
-    }
-
     /// Registrations go that this process made, or any, by this descriptor, or any.
     fn deregister(&mut self, pid: Option<u32>, fd: Option<u32>)
         ensures { self.new ≡ record self.old { objects = without_registrations (is_by pid fd) self.old.objects } }
@@ -374,69 +318,6 @@ fn are_sound(messages: &[Message], msgsize: u32) -> bool
 {
     messages.iter().all(|message| message.priority < 32768
         && message.text.len() <= msgsize as usize)
-}
-
-/// Whether each name is one that a queue may have.
-fn have_forms(items: &[Item<NamedEntry<Mq>>]) -> bool
-    ensures { result ≡ list_all (λ e. is_named_so (item_row e)) items.now }
-{
-    items.iter().all(|item| is_named_so(item))
-}
-
-fn is_named_so(item: &Item<NamedEntry<Mq>>) -> bool
-    ensures { result ≡ is_named_so (item_row item.now) }
-{
-    let name = item.value.name.bytes();
-    name.is_empty() || check_name(NameKind::Queue, name).is_ok()
-}
-
-/// Whether each of some queues has a name, or a descriptor of some process is open on it.
-fn all_stay(items: &[Item<NamedEntry<Mq>>], processes: &[Item<Process>]) -> bool
-    ensures { result ≡ list_all (λ e. stays (map item_row processes.now) (item_row e)) items.now }
-{
-    items.iter().all(|item| stays(processes, item))
-}
-
-fn stays(processes: &[Item<Process>], item: &Item<NamedEntry<Mq>>) -> bool
-    ensures { result ≡ stays (map item_row processes.now) (item_row item.now) }
-{
-    !item.value.name.is_none() || is_open(processes, item.number)
-}
-
-/// Whether a descriptor of some process is open on the queue of this number.
-fn is_open(processes: &[Item<Process>], number: u32) -> bool
-    ensures { result ≡ is_open (map item_row processes.now) number }
-{
-    some_opens(processes, number)
-}
-
-fn some_opens(processes: &[Item<Process>], number: u32) -> bool
-    ensures { result
-        ≡ list_any (λ p. list_any (λ d. is_on_queue number d.1.on) p.value.descriptors) processes.now }
-{
-    processes.iter().any(|process| opens(process, number))
-}
-
-fn opens(process: &Item<Process>, number: u32) -> bool
-    ensures { result ≡ list_any (λ d. is_on_queue number d.1.on) process.now.value.descriptors }
-{
-    open_it(process.value.descriptors.rows(), number)
-}
-
-fn open_it(rows: &[DescriptorRow], number: u32) -> bool
-    ensures { result ≡ list_any (λ r. is_on_queue number r.descriptor.on) rows.now }
-{
-    rows.iter()
-        .any(|row| is_on_queue(row.descriptor.on, number))
-}
-
-/// Whether this is the queue of this number.
-fn is_on_queue(on: Opened, number: u32) -> bool
-    ensures { result ≡ is_on_queue number on }
-{
-    match on {
-        Opened::Queue(other) => other == number,
-    }
 }
 
 /// Registrations with these queues go that this process made, or any, by this descriptor, or any.

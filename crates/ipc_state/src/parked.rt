@@ -36,6 +36,10 @@ pub enum Object {
     Set(Id),
     /// A message queue of mq_overview(7), by its number.
     Mq(u32),
+    /// A semaphore of sem_overview(7), by its number.
+    NamedSem(u32),
+    /// A segment of shm_overview(7), by its number.
+    Segment(u32),
 }
 
 /// A System V call that waits, with its fields. See msgop(2) and semop(2).
@@ -157,6 +161,11 @@ pub enum ParkedPosix {
         deadline: u64,
         size: u32,
     },
+    /// A wait for a semaphore whose value is 0.
+    SemWait {
+        fd: u32,
+        deadline: u64,
+    },
 }
 
 impl ParkedPosix {
@@ -181,6 +190,7 @@ impl ParkedPosix {
             PosixCall::MqReceive { fd, deadline, size } => {
                 ParkedPosix::MqReceive { fd, deadline, size }
             }
+            PosixCall::SemWait { fd, deadline } => ParkedPosix::SemWait { fd, deadline },
             _ => return Ok(None),
         };
         Ok(Some(kept))
@@ -205,6 +215,10 @@ impl ParkedPosix {
                 fd: *fd,
                 deadline: *deadline,
                 size: *size,
+            },
+            ParkedPosix::SemWait { fd, deadline } => PosixCall::SemWait {
+                fd: *fd,
+                deadline: *deadline,
             },
         }
     }
@@ -300,7 +314,9 @@ impl Parked {
             ParkedKind::Call(ParkedCall::Msgsnd { .. } | ParkedCall::Msgrcv { .. }) => None,
             ParkedKind::Call(ParkedCall::Semop { timeout, .. }) => deadline_after(now, *timeout),
             ParkedKind::Posix(
-                ParkedPosix::MqSend { deadline, .. } | ParkedPosix::MqReceive { deadline, .. },
+                ParkedPosix::MqSend { deadline, .. }
+                | ParkedPosix::MqReceive { deadline, .. }
+                | ParkedPosix::SemWait { deadline, .. },
             ) => deadline_after(Moment(0), *deadline),
         }
     }
@@ -351,8 +367,11 @@ impl Parked {
                 Awaited::Queue(*id)
             }
             ParkedKind::Call(ParkedCall::Semop { id, .. }) => Awaited::Set(*id),
-            ParkedKind::Posix(ParkedPosix::MqSend { fd, .. } | ParkedPosix::MqReceive { fd, .. }) =>
-                { Awaited::Descriptor(*fd) }
+            ParkedKind::Posix(
+                ParkedPosix::MqSend { fd, .. }
+                | ParkedPosix::MqReceive { fd, .. }
+                | ParkedPosix::SemWait { fd, .. },
+            ) => Awaited::Descriptor(*fd),
         }
     }
 }

@@ -16,7 +16,9 @@ use ipc_base::{Limits, Moment};
 use ipc_keys::Name;
 use ipc_wait::WaitList;
 use posix_mq::Mq;
+use posix_sem::NamedSem;
 use sem_undo::SemUndo;
+use shm_segment::Segment;
 use std::alloc::Global;
 use std::marker::Model;
 use sysv_msg::MsgQueue;
@@ -46,8 +48,12 @@ pub struct State {
     pub(crate) mq: Named<Mq>,
     /// A POSIX queue that is ready to be added.
     pub(crate) fresh_mq: Option<Mq>,
-    /// The name that is ready for it.
+    /// The name that is ready for it, or for a new object of the kinds below.
     pub(crate) fresh_name: Option<Name>,
+    pub(crate) named_sem: Named<NamedSem>,
+    pub(crate) shm: Named<Segment>,
+    /// Zeros that are ready to be a longer segment.
+    pub(crate) fresh_segment: Option<Segment>,
 }
 
 impl Model for State {
@@ -74,6 +80,8 @@ impl Model for State {
         msg = s.msg.objects;
         sem = s.sem.objects;
         mq = s.mq.objects;
+        named_sem = s.named_sem.objects;
+        shm = s.shm.objects;
       };
       room = record {
         process = has_place s.processes
@@ -89,6 +97,11 @@ impl Model for State {
         names = s.mq.names;
         fresh_mq = is_some s.fresh_mq;
         fresh_name = s.fresh_name;
+        named_sem = s.named_sem.place;
+        sem_names = s.named_sem.names;
+        shm = s.shm.place;
+        segment_names = s.shm.names;
+        fresh_segment = s.fresh_segment;
       };
     } };
 
@@ -103,6 +116,8 @@ pub struct Numbers {
     pub next_queue: u32,
     pub next_set: u32,
     pub next_mq: u32,
+    pub next_named_sem: u32,
+    pub next_segment: u32,
 }
 
 impl State {
@@ -128,6 +143,9 @@ impl State {
             mq: Named::new(alloc),
             fresh_mq: None,
             fresh_name: None,
+            named_sem: Named::new(alloc),
+            shm: Named::new(alloc),
+            fresh_segment: None,
         }
     }
 
@@ -168,6 +186,8 @@ impl State {
         self.msg.set_next(numbers.next_queue);
         self.sem.set_next(numbers.next_set);
         self.mq.set_next(numbers.next_mq);
+        self.named_sem.set_next(numbers.next_named_sem);
+        self.shm.set_next(numbers.next_segment);
     }
 
     /// Whether each part is sound.
@@ -180,5 +200,7 @@ impl State {
             && self.are_queues_sound()
             && self.are_sets_sound()
             && self.are_mqs_sound()
+            && self.are_named_sems_sound()
+            && self.are_segments_sound()
     }
 }

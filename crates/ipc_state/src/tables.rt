@@ -48,7 +48,11 @@ impl State {
     pub fn close_descriptor(&mut self, pid: Pid, fd: u32)
         ensures state { self.new.state ≡ closed self.old.state pid.0 fd }
         ensures limits { self.new.limits ≡ self.old.limits }
-        ensures room { self.new.room ≡ record self.old.room { mq = self.new.room.mq } }
+        ensures room { self.new.room ≡ record self.old.room {
+          mq = self.new.room.mq;
+          named_sem = self.new.room.named_sem;
+          shm = self.new.room.shm;
+        } }
     {
         self.processes.close(pid.0, fd);
         self.deregister(Some(pid.0), Some(fd));

@@ -129,6 +129,8 @@ fn object_on(on: Opened) -> Object
 {
     match on {
         Opened::Queue(number) => Object::Mq(number),
+        Opened::Semaphore(number) => Object::NamedSem(number),
+        Opened::Segment(number) => Object::Segment(number),
     }
 }
 

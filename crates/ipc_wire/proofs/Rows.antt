@@ -57,6 +57,18 @@ has_row (Posix (posix.MqReceive fd deadline size)) = record { row = refl; made =
 has_row (Posix (posix.MqNotify fd kind cookie)) = record { row = refl; made = refl }
 has_row (Posix (posix.MqGetattr fd)) = record { row = refl; made = refl }
 has_row (Posix (posix.MqSetattr fd flags)) = record { row = refl; made = refl }
+has_row (Posix (posix.SemOpen flags mode value name)) = record { row = refl; made = refl }
+has_row (Posix (posix.SemUnlink name)) = record { row = refl; made = refl }
+has_row (Posix (posix.SemPost fd)) = record { row = refl; made = refl }
+has_row (Posix (posix.SemWait fd deadline)) = record { row = refl; made = refl }
+has_row (Posix (posix.SemTrywait fd)) = record { row = refl; made = refl }
+has_row (Posix (posix.SemGetvalue fd)) = record { row = refl; made = refl }
+has_row (Posix (posix.ShmOpen flags mode name)) = record { row = refl; made = refl }
+has_row (Posix (posix.ShmUnlink name)) = record { row = refl; made = refl }
+has_row (Posix (posix.Ftruncate fd length)) = record { row = refl; made = refl }
+has_row (Posix (posix.ShmRead fd offset length)) = record { row = refl; made = refl }
+has_row (Posix (posix.ShmWrite fd offset bytes)) = record { row = refl; made = refl }
+has_row (Posix (posix.ShmStat fd)) = record { row = refl; made = refl }
 
 -- the requests of a row are taken apart into what made them
 abbrev Undoes : Row → Type 0

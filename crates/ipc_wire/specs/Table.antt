@@ -281,6 +281,114 @@ mq_setattr =
       make = λ v rest. Posix (posix.MqSetattr v.0 v.1.0);
     }
 
+-- flags, mode, value; the rest is the name
+abbrev pub sem_open : Row
+sem_open =
+    record {
+      opcode = 0x32;
+      fields = U32 ∷ U32 ∷ U32 ∷ [];
+      rest = Bytes;
+      make = λ v rest. Posix (posix.SemOpen v.0 v.1.0 v.1.1.0 rest);
+    }
+
+-- nothing; the rest is the name
+abbrev pub sem_unlink : Row
+sem_unlink = record { opcode = 0x33; fields = []; rest = Bytes; make = λ v rest. Posix (posix.SemUnlink rest) }
+
+-- fd
+abbrev pub sem_post : Row
+sem_post =
+    record {
+      opcode = 0x34;
+      fields = U32 ∷ [];
+      rest = Nothing;
+      make = λ v rest. Posix (posix.SemPost v.0);
+    }
+
+-- fd, deadline
+abbrev pub sem_wait : Row
+sem_wait =
+    record {
+      opcode = 0x35;
+      fields = U32 ∷ U64 ∷ [];
+      rest = Nothing;
+      make = λ v rest. Posix (posix.SemWait v.0 v.1.0);
+    }
+
+-- fd
+abbrev pub sem_trywait : Row
+sem_trywait =
+    record {
+      opcode = 0x36;
+      fields = U32 ∷ [];
+      rest = Nothing;
+      make = λ v rest. Posix (posix.SemTrywait v.0);
+    }
+
+-- fd
+abbrev pub sem_getvalue : Row
+sem_getvalue =
+    record {
+      opcode = 0x37;
+      fields = U32 ∷ [];
+      rest = Nothing;
+      make = λ v rest. Posix (posix.SemGetvalue v.0);
+    }
+
+-- flags, mode; the rest is the name
+abbrev pub shm_open : Row
+shm_open =
+    record {
+      opcode = 0x3c;
+      fields = U32 ∷ U32 ∷ [];
+      rest = Bytes;
+      make = λ v rest. Posix (posix.ShmOpen v.0 v.1.0 rest);
+    }
+
+-- nothing; the rest is the name
+abbrev pub shm_unlink : Row
+shm_unlink = record { opcode = 0x3d; fields = []; rest = Bytes; make = λ v rest. Posix (posix.ShmUnlink rest) }
+
+-- fd, length
+abbrev pub ftruncate : Row
+ftruncate =
+    record {
+      opcode = 0x3e;
+      fields = U32 ∷ U64 ∷ [];
+      rest = Nothing;
+      make = λ v rest. Posix (posix.Ftruncate v.0 v.1.0);
+    }
+
+-- fd, offset, length
+abbrev pub shm_read : Row
+shm_read =
+    record {
+      opcode = 0x3f;
+      fields = U32 ∷ U64 ∷ U32 ∷ [];
+      rest = Nothing;
+      make = λ v rest. Posix (posix.ShmRead v.0 v.1.0 v.1.1.0);
+    }
+
+-- fd, offset; the rest is the bytes
+abbrev pub shm_write : Row
+shm_write =
+    record {
+      opcode = 0x40;
+      fields = U32 ∷ U64 ∷ [];
+      rest = Bytes;
+      make = λ v rest. Posix (posix.ShmWrite v.0 v.1.0 rest);
+    }
+
+-- fd
+abbrev pub shm_stat : Row
+shm_stat =
+    record {
+      opcode = 0x41;
+      fields = U32 ∷ [];
+      rest = Nothing;
+      make = λ v rest. Posix (posix.ShmStat v.0);
+    }
+
 abbrev pub rows : List Row
 rows =
     hello ∷ interrupt ∷ close
@@ -288,7 +396,9 @@ rows =
     ∷ semget ∷ semop ∷ semctl_get_val ∷ semctl_get_pid ∷ semctl_get_ncnt ∷ semctl_get_zcnt
     ∷ semctl_set_val ∷ semctl_get_all ∷ semctl_set_all
     ∷ semctl_stat ∷ semctl_set ∷ semctl_rmid
-    ∷ mq_open ∷ mq_unlink ∷ mq_send ∷ mq_receive ∷ mq_notify ∷ mq_getattr ∷ mq_setattr ∷ []
+    ∷ mq_open ∷ mq_unlink ∷ mq_send ∷ mq_receive ∷ mq_notify ∷ mq_getattr ∷ mq_setattr
+    ∷ sem_open ∷ sem_unlink ∷ sem_post ∷ sem_wait ∷ sem_trywait ∷ sem_getvalue
+    ∷ shm_open ∷ shm_unlink ∷ ftruncate ∷ shm_read ∷ shm_write ∷ shm_stat ∷ []
 
 -- the row of an opcode among rows, if it has one
 abbrev pub row_among : List Row → ℕ → Option Row
@@ -347,3 +457,18 @@ parts_of (Posix (posix.MqNotify fd kind cookie)) =
     record { row = mq_notify; values = (fd, (kind, (cookie, tt))); rest = [] }
 parts_of (Posix (posix.MqGetattr fd)) = record { row = mq_getattr; values = (fd, tt); rest = [] }
 parts_of (Posix (posix.MqSetattr fd flags)) = record { row = mq_setattr; values = (fd, (flags, tt)); rest = [] }
+parts_of (Posix (posix.SemOpen flags mode value name)) =
+    record { row = sem_open; values = (flags, (mode, (value, tt))); rest = name }
+parts_of (Posix (posix.SemUnlink name)) = record { row = sem_unlink; values = tt; rest = name }
+parts_of (Posix (posix.SemPost fd)) = record { row = sem_post; values = (fd, tt); rest = [] }
+parts_of (Posix (posix.SemWait fd deadline)) = record { row = sem_wait; values = (fd, (deadline, tt)); rest = [] }
+parts_of (Posix (posix.SemTrywait fd)) = record { row = sem_trywait; values = (fd, tt); rest = [] }
+parts_of (Posix (posix.SemGetvalue fd)) = record { row = sem_getvalue; values = (fd, tt); rest = [] }
+parts_of (Posix (posix.ShmOpen flags mode name)) = record { row = shm_open; values = (flags, (mode, tt)); rest = name }
+parts_of (Posix (posix.ShmUnlink name)) = record { row = shm_unlink; values = tt; rest = name }
+parts_of (Posix (posix.Ftruncate fd length)) = record { row = ftruncate; values = (fd, (length, tt)); rest = [] }
+parts_of (Posix (posix.ShmRead fd offset length)) =
+    record { row = shm_read; values = (fd, (offset, (length, tt))); rest = [] }
+parts_of (Posix (posix.ShmWrite fd offset bytes)) =
+    record { row = shm_write; values = (fd, (offset, tt)); rest = bytes }
+parts_of (Posix (posix.ShmStat fd)) = record { row = shm_stat; values = (fd, tt); rest = [] }

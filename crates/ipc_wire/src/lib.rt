@@ -1,6 +1,7 @@
 //! The frames of the protocol: requests read from the front of a stream of bytes, and replies written as bytes.
 #![tactic(auto)]
 
+mod fields;
 mod laws;
 mod opcodes;
 mod pairs;

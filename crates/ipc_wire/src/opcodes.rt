@@ -83,3 +83,39 @@ pub(crate) const MQ_GETATTR: u8 = 0x2d;
 
 /// The opcode of mq_setattr(3), as mq_getattr(3) has it.
 pub(crate) const MQ_SETATTR: u8 = 0x2e;
+
+/// The opcode of sem_open(3).
+pub(crate) const SEM_OPEN: u8 = 0x32;
+
+/// The opcode of sem_unlink(3).
+pub(crate) const SEM_UNLINK: u8 = 0x33;
+
+/// The opcode of sem_post(3).
+pub(crate) const SEM_POST: u8 = 0x34;
+
+/// The opcode of sem_wait(3).
+pub(crate) const SEM_WAIT: u8 = 0x35;
+
+/// The opcode of sem_trywait(3), as sem_wait(3) has it.
+pub(crate) const SEM_TRYWAIT: u8 = 0x36;
+
+/// The opcode of sem_getvalue(3).
+pub(crate) const SEM_GETVALUE: u8 = 0x37;
+
+/// The opcode of shm_open(3).
+pub(crate) const SHM_OPEN: u8 = 0x3c;
+
+/// The opcode of shm_unlink(3), as shm_open(3) has it.
+pub(crate) const SHM_UNLINK: u8 = 0x3d;
+
+/// The opcode of ftruncate(2) of a segment.
+pub(crate) const FTRUNCATE: u8 = 0x3e;
+
+/// The opcode of a read from a segment.
+pub(crate) const SHM_READ: u8 = 0x3f;
+
+/// The opcode of a write to a segment.
+pub(crate) const SHM_WRITE: u8 = 0x40;
+
+/// The opcode of fstat(2) of a segment.
+pub(crate) const SHM_STAT: u8 = 0x41;

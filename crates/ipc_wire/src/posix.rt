@@ -54,4 +54,63 @@ pub enum PosixCall<'a> {
         fd: u32,
         flags: OpenFlags,
     },
+    /// sem_open(3): a new semaphore has this value. The name is the rest of the frame and may be empty.
+    SemOpen {
+        flags: OpenFlags,
+        mode: u32,
+        value: u32,
+        name: &'a [u8],
+    },
+    /// sem_unlink(3); the name is the rest of the frame and may be empty.
+    SemUnlink {
+        name: &'a [u8],
+    },
+    /// sem_post(3).
+    SemPost {
+        fd: u32,
+    },
+    /// sem_wait(3), with the deadline of sem_timedwait(3), a moment as that of `MqSend`.
+    SemWait {
+        fd: u32,
+        deadline: u64,
+    },
+    /// sem_trywait(3), as sem_wait(3) has it.
+    SemTrywait {
+        fd: u32,
+    },
+    /// sem_getvalue(3).
+    SemGetvalue {
+        fd: u32,
+    },
+    /// shm_open(3). The name is the rest of the frame and may be empty.
+    ShmOpen {
+        flags: OpenFlags,
+        mode: u32,
+        name: &'a [u8],
+    },
+    /// shm_unlink(3), as shm_open(3) has it; the name is the rest of the frame and may be empty.
+    ShmUnlink {
+        name: &'a [u8],
+    },
+    /// ftruncate(2) of a segment; the length is in bytes.
+    Ftruncate {
+        fd: u32,
+        length: u64,
+    },
+    /// A read of a segment (shm_overview(7)): so many bytes from the offset on.
+    ShmRead {
+        fd: u32,
+        offset: u64,
+        length: u32,
+    },
+    /// A write to a segment (shm_overview(7)): the rest of the frame, from the offset on.
+    ShmWrite {
+        fd: u32,
+        offset: u64,
+        bytes: &'a [u8],
+    },
+    /// fstat(2) of a segment.
+    ShmStat {
+        fd: u32,
+    },
 }

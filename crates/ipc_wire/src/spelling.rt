@@ -24,10 +24,12 @@ ghost use Rattle.ipc_wire.specs.Table.{parts_of};
 ghost use Rattle.ipc_wire.specs.View.{plain_request};
 
 use crate::opcodes::{
-    CLOSE, HELLO, INTERRUPT, MQ_GETATTR, MQ_NOTIFY, MQ_OPEN, MQ_RECEIVE, MQ_SEND, MQ_SETATTR,
-    MQ_UNLINK, MSGCTL_RMID, MSGCTL_SET, MSGCTL_STAT, MSGGET, MSGRCV, MSGSND, SEMCTL_GET_ALL,
+    CLOSE, FTRUNCATE, HELLO, INTERRUPT, MQ_GETATTR, MQ_NOTIFY, MQ_OPEN, MQ_RECEIVE, MQ_SEND,
+    MQ_SETATTR, MQ_UNLINK, MSGCTL_RMID, MSGCTL_SET, MSGCTL_STAT, MSGGET, MSGRCV, MSGSND,
+    SEM_GETVALUE, SEM_OPEN, SEM_POST, SEM_TRYWAIT, SEM_UNLINK, SEM_WAIT, SEMCTL_GET_ALL,
     SEMCTL_GET_NCNT, SEMCTL_GET_PID, SEMCTL_GET_VAL, SEMCTL_GET_ZCNT, SEMCTL_RMID, SEMCTL_SET,
-    SEMCTL_SET_ALL, SEMCTL_SET_VAL, SEMCTL_STAT, SEMGET, SEMOP,
+    SEMCTL_SET_ALL, SEMCTL_SET_VAL, SEMCTL_STAT, SEMGET, SEMOP, SHM_OPEN, SHM_READ, SHM_STAT,
+    SHM_UNLINK, SHM_WRITE,
 };
 use crate::posix::PosixCall;
 use crate::record::Record;
@@ -214,6 +216,35 @@ fn posix_parts(call: PosixCall<'_>) -> RequestParts<'_>
         ),
         PosixCall::MqGetattr { fd } => spelled(MQ_GETATTR, &[U32(fd)], &[]),
         PosixCall::MqSetattr { fd, flags } => spelled(MQ_SETATTR, &[U32(fd), U32(flags.0)], &[]),
+        PosixCall::SemOpen {
+            flags,
+            mode,
+            value,
+            name,
+        } => spelled(SEM_OPEN, &[U32(flags.0), U32(mode), U32(value)], name),
+        PosixCall::SemUnlink { name } => spelled(SEM_UNLINK, &[], name),
+        PosixCall::SemPost { fd } => spelled(SEM_POST, &[U32(fd)], &[]),
+        PosixCall::SemWait { fd, deadline } => spelled(SEM_WAIT, &[U32(fd), U64(deadline)], &[]),
+        PosixCall::SemTrywait { fd } => spelled(SEM_TRYWAIT, &[U32(fd)], &[]),
+        PosixCall::SemGetvalue { fd } => spelled(SEM_GETVALUE, &[U32(fd)], &[]),
+        PosixCall::ShmOpen { flags, mode, name } => spelled(
+            SHM_OPEN,
+            &[U32(flags.0), U32(mode)],
+            name,
+        ),
+        PosixCall::ShmUnlink { name } => spelled(SHM_UNLINK, &[], name),
+        PosixCall::Ftruncate { fd, length } => spelled(FTRUNCATE, &[U32(fd), U64(length)], &[]),
+        PosixCall::ShmRead { fd, offset, length } => spelled(
+            SHM_READ,
+            &[U32(fd), U64(offset), U32(length)],
+            &[],
+        ),
+        PosixCall::ShmWrite { fd, offset, bytes } => spelled(
+            SHM_WRITE,
+            &[U32(fd), U64(offset)],
+            bytes,
+        ),
+        PosixCall::ShmStat { fd } => spelled(SHM_STAT, &[U32(fd)], &[]),
     }
 }
 

@@ -17,10 +17,12 @@ use Rattle.ipc_state.specs.declared.parked.Awaited.TheVariants as awaited
 use Rattle.ipc_state.specs.Descriptors.{Table}
 use Rattle.ipc_state.specs.Named.{nameless, unnamed, with_object, without_name}
 use Rattle.ipc_state.specs.Numbered.{Numbered, entry_of, with_entry}
-use Rattle.ipc_state.specs.Opening.{deregistered, descriptor_at, is_by, is_by_descriptor, is_on_queue, is_registered, stays, unless_so}
+use Rattle.ipc_state.specs.declared.descriptors.Opened.TheVariants as objects
+use Rattle.ipc_keys.specs.declared.check.NameKind.TheVariants as names
+use Rattle.ipc_state.specs.Opening.{deregistered, descriptor_at, is_by, is_by_descriptor, is_on, is_registered, stays, unless_so}
 use Rattle.ipc_state.specs.Sound.{HasSoundParts}
 use Rattle.ipc_state.specs.State.{State, closed, exit, is_process, restart, unlinked, with_descriptors}
-use Rattle.ipc_state.specs.State.{with_mq, without_descriptor, without_process}
+use Rattle.ipc_state.specs.State.{swept, with_mq, without_descriptor, without_process}
 use Rattle.ipc_state.specs.declared.processes.Process.{Process}
 use Rattle.ipc_state.specs.Touching.{mq_object, object_of, object_on}
 use Rattle.ipc_state.proofs.CallerLemmas.{elsewhere-table}
@@ -87,8 +89,8 @@ module _ (p : ℕ) where
 
   -- registrations go, and queues that are no longer open
   fewer-swept : (left : List (ℕ × Process)) (goes : Registration → Bool) (es : List (ℕ × NamedEntry Mq))
-      → sum_by of-entry (filter (stays left) (seen_as (deregistered goes) es)) ≤ sum_by of-entry es
-  fewer-swept left goes es = omega (arith, fewer-kept (stays left) (seen_as (deregistered goes) es), fewer-seen goes es)
+      → sum_by of-entry (filter (stays names.Queue left) (seen_as (deregistered goes) es)) ≤ sum_by of-entry es
+  fewer-swept left goes es = omega (arith, fewer-kept (stays names.Queue left) (seen_as (deregistered goes) es), fewer-seen goes es)
 
   pub fewer-closed : (s : State) (pid fd : ℕ) → registrations (closed s pid fd) p ≤ registrations s p
   fewer-closed s pid fd = fewer-swept (without_descriptor s pid fd).processes.entries (is_by (Some pid) (Some fd)) s.mq.entries
@@ -120,7 +122,7 @@ module _ (p : ℕ) where
       )
     where
       no-descriptor : (r : Option Process) → is_some r ≡ false → (fd : ℕ)
-          → unwrap_or (option_map (λ (d : Descriptor). is_on_queue e.0 d.on)
+          → unwrap_or (option_map (λ (d : Descriptor). is_on (objects.Queue e.0) d.on)
           (value_at nat_eq (unwrap_or (option_map (λ (q : Process). q.descriptors) r) []) fd)) false ≡ false
       no-descriptor None is fd = refl
       no-descriptor (Some q) is fd = cc
@@ -137,11 +139,15 @@ module _ (p : ℕ) where
               absurd (let both : true ≡ false = sym is ∙ none in cc)
 
   pub fewer-unlinked : (s : State) (n : ℕ) → registrations (unlinked s n) p ≤ registrations s p
-  fewer-unlinked s n = omega (arith, fewer-kept (stays s.processes.entries) (unnamed s.mq n).entries, by_entry (entry_of s.mq n) refl)
+  fewer-unlinked s n = omega (arith, fewer-kept (stays names.Queue s.processes.entries) (unnamed s.mq n).entries, by_entry (entry_of s.mq n) refl)
     where
       by_entry : (r : Option (NamedEntry Mq)) → entry_of s.mq n ≡ r → sum_by of-entry (without_name s.mq n r).entries ≤ registrations s p
       by_entry None is = omega arith
       by_entry (Some e) is = omega (arith, put s.mq.entries n e (nameless e) is)
+
+  -- those that are open, or have a name, are left
+  pub fewer-swept_all : (s : State) → registrations (swept s) p ≤ registrations s p
+  fewer-swept_all s = fewer-kept (stays names.Queue s.processes.entries) s.mq.entries
 
   -- what is sent is no more than was registered
   fewer-told : (r : Option Registration) → own p (notified r) ≤ own p r
@@ -200,7 +206,7 @@ pub registrations-restarted : (s : State) (p : ℕ) → registrations (restart s
 registrations-restarted s p = fewer-restarted p s
 
 pub registrations-few : (limits : Limits) (s : State) (p : ℕ) → HasSoundParts limits s → registrations s p ≤ limits.queues
-registrations-few limits s p h = omega (arith, few-registrations p s.mq.entries, h.mq.named.numbered.count)
+registrations-few limits s p h = omega (arith, few-registrations p s.mq.entries, h.mq.held.named.numbered.count)
 
 pub registrations-none : (limits : Limits) (s : State) (p : ℕ) → HasSoundParts limits s → is_process s p ≡ false → registrations s p ≡ 0
 registrations-none limits s p h gone = none-registered p s.processes.entries gone s.mq.entries h.mq.registered

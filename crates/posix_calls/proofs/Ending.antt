@@ -1,14 +1,16 @@
 -- What each call leaves and answers: from a sound state a sound one, with a body that fits; it changes no more than its own
 -- object, and makes no more debts than it may. And those that wait on nothing never wait.
 use Rattle.std.proofs.Common.{◌≡◌, ◌≢◌, ℕ, ℤ, ◌≤◌, Bool, true, false, not, List, [], ◌∷◌, length, Option, Some, None, refl, sym, ap, subst, ◌∙◌, arith}
-use Rattle.std.proofs.Common.{length-append}
-use Rattle.std.specs.Prelude.{◌==◌, ◌&&◌, ◌+◌, nat_eq, option_map, option_and_then, unwrap_or, is_some, slice_get, if◌then◌else◌}
+use Rattle.std.proofs.Common.{◌++◌, cond, drop, length-append, take}
+use Rattle.std.proofs.lemmas.List.{length-drop, length-replicate, length-take}
+use Rattle.ipc_base.specs.Table.{IsRising, keys_of, value_at}
+use Rattle.std.specs.Prelude.{◌-◌, nat_le, nat_lt, replicate, sum_by, ◌==◌, ◌&&◌, ◌+◌, nat_eq, option_map, option_and_then, unwrap_or, is_some, slice_get, if◌then◌else◌}
 use Rattle.std.specs.Int.RustNames.{bit_and}
 use Rattle.std.specs.Result.{is_ok}
 use Rattle.std.proofs.lemmas.Bool.Decides.{nat_tests}
 use Rattle.std.proofs.lemmas.List.Elements.{All-get_or}
 use Rattle.std.proofs.lemmas.Bool.{eqb-true}
-use Rattle.std.proofs.lemmas.List.Sums.{sum_by-append}
+use Rattle.std.proofs.lemmas.List.Sums.{sum_by-append, sum_by-cons}
 use Rattle.std.proofs.lemmas.Option.{get_or_from_slice_get, slice_get_within}
 use Rattle.std.specs.Int.{w32, to_be_bytes}
 use Rattle.std.proofs.lemmas.Nat.{and_assoc, and_le_r, and_mask}
@@ -17,7 +19,7 @@ use Rattle.ipc_base.specs.declared.errno.Errno.TheVariants.{EBADF, EBUSY, EINVAL
 use Rattle.ipc_base.specs.declared.identity.Cred.{Cred}
 use Rattle.ipc_base.specs.declared.limits.Limits.{Limits}
 use Rattle.ipc_base.specs.Numbers.{record_bytes}
-use Rattle.ipc_base.proofs.CallerLemmas.{at-push, rising-found}
+use Rattle.ipc_base.proofs.CallerLemmas.{at-push, at-with, rising-found}
 use Rattle.ipc_keys.specs.Names.{check_name}
 use Rattle.ipc_keys.specs.declared.check.NameKind.TheVariants as names
 use Rattle.ipc_wire.specs.Posix.{PlainPosix}
@@ -37,7 +39,7 @@ use Rattle.ipc_state.specs.declared.parked.Object.TheVariants as object
 use Rattle.ipc_state.specs.Descriptors.{lowest_unused}
 use Rattle.ipc_state.specs.Named.{named}
 use Rattle.ipc_state.specs.Numbered.{entry_of}
-use Rattle.ipc_state.specs.Opening.{descriptor_at, descriptors_of, is_by_descriptor, is_on_queue, is_there_for}
+use Rattle.ipc_state.specs.Opening.{descriptor_at, descriptors_of, has_access, is_by_descriptor, is_on, is_there_for}
 use Rattle.ipc_state.specs.Finish.{Done, answer, answer_firing, done_firing}
 use Rattle.ipc_state.specs.Sound.{FitsBody, HasSoundParts, IsSoundMq, IsSoundMqMessage}
 use Rattle.ipc_state.specs.State.{State, closed, cred_of, has_all_descriptors, is_waiting, unlinked, with_descriptor, with_descriptor_flags, with_mq}
@@ -45,23 +47,43 @@ use Rattle.ipc_state.specs.State.{with_new_mq}
 use Rattle.ipc_state.specs.State.{with_descriptors}
 use Rattle.ipc_state.specs.Descriptors.{Table}
 use Rattle.ipc_state.specs.Opening.{with_table}
+use Rattle.ipc_state.specs.Descriptors.{opened as opened_table}
+use Rattle.ipc_state.specs.Named.{Named, unnamed, with_object}
+use Rattle.ipc_state.specs.Numbered.{Numbered, with_entry, with_new}
+use Rattle.ipc_state.specs.declared.processes.Process.{Process}
+use Rattle.posix_sem.specs.Semaphore.{post_answer, posted, sem_value_max, wait_answer, waited}
+use Rattle.shm_segment.specs.Segment.{Segment, empty_segment, is_within, part, truncated, written}
+use Rattle.ipc_state.specs.Sound.{segment_bytes}
+use Rattle.ipc_state.specs.State.{named_in, unlinked_segment, unlinked_sem, with_named_sem, with_new_named_sem, with_new_segment, with_segment}
 use Rattle.ipc_state.specs.Touching.{IsAsBefore, object_of, object_on}
 use Rattle.ipc_state.specs.Waiting.{may_wait}
 use Rattle.ipc_state.proofs.CallerLemmas.{IsGood, same-processes, same-but-table, as_before}
 use Rattle.ipc_state.proofs.CallerLemmas.{AtEnd, after, after-refuse, after-then, at-some, at-value, by-if_some, by-test}
 use Rattle.ipc_state.proofs.CallerLemmas.{closed-sound, unlinked-sound, with_descriptor-sound, with_descriptor_flags-sound, with_mq-sound, with_new_mq-sound}
 use Rattle.ipc_state.proofs.CallerLemmas.{descriptor-sound, mq-registered, received_mq-sound, sent_mq-sound}
+use Rattle.ipc_state.proofs.CallerLemmas.{elsewhere-named_sem, elsewhere-new_named_sem, elsewhere-new_segment, elsewhere-segment}
+use Rattle.ipc_state.proofs.CallerLemmas.{elsewhere-unlinked_segment, elsewhere-unlinked_sem, named_sem-sound, unlinked_segment-sound, unlinked_sem-sound}
+use Rattle.ipc_state.proofs.CallerLemmas.{with_named_sem-sound, with_new_named_sem-sound, with_new_segment-sound, with_segment-sound}
 use Rattle.ipc_state.proofs.CallerLemmas.{before-then, elsewhere-closed, elsewhere-mq, elsewhere-new_mq, elsewhere-table, elsewhere-unlinked}
 use Rattle.posix_calls.specs.Calls.{call_of, on_descriptor, touched}
 use Rattle.posix_calls.specs.Mq.{Found, arrived, attr_fields, close, firing, given_up, is_own, is_told, kept_flags, made_queue}
 use Rattle.posix_calls.specs.Mq.{message_body, mq_getattr, mq_notify, mq_open, mq_receive, mq_send, mq_setattr, mq_unlink, opened_queue}
 use Rattle.posix_calls.specs.Mq.{registering, registration}
-use Rattle.posix_calls.specs.Open.{access_of, nonblock}
+use Rattle.posix_calls.specs.declared.sem.FoundSem.{FoundSem}
+use Rattle.posix_calls.specs.Open.{access_of, asked_by, has, nonblock, opens}
+use Rattle.posix_calls.specs.Sem.{sem_getvalue, sem_open, sem_post, sem_trywait, sem_unlink, sem_wait}
+use Rattle.posix_calls.specs.Shm.{FoundSegment, asked_of_segment, cut_as, ftruncate, opened_segment, segment_fields, shm_open, shm_read, shm_stat, shm_unlink}
+use Rattle.posix_calls.specs.Shm.{shm_write, trunc}
 use Rattle.posix_calls.specs.Registrations.{may_make, own, registrations}
 use Rattle.posix_calls.proofs.Debts.{fewer-arrived, fewer-closed, fewer-given_up, fewer-unlinked, made-one, none-own, of-entry, put-mq, same-objects}
 use Rattle.posix_calls.proofs.Debts.{table-objects}
 use Rattle.posix_calls.proofs.Reaching.{IsOpen, attributes-ends, has-entry, open-ends, proper-ends, queue-sound, receives, sends, sought-ends}
 use Rattle.posix_calls.proofs.Reaching.{unlinkable-ends, usable-ends}
+use Rattle.posix_calls.proofs.Debts.{fewer-swept_all}
+use Rattle.posix_calls.proofs.Reaching.{IsOpenSegment, IsOpenSem, has-sem_entry, lowers, open_segment-ends, open_sem-ends, passed-ends, writable-ends}
+
+same-some : {X : Type 0} {x y : X} → Some x ≡ Some y → x ≡ y
+same-some is = cc
 
 both_true : (a b : Bool) → a && b ≡ true → (a ≡ true) × (b ≡ true)
 both_true true b is = (refl, is)
@@ -92,6 +114,103 @@ set-mode old flags is =
     let all = and_mask (access_of old + flags) 2 in
     omega (arith, is, bit, low, all)
 
+-- an access mode that is no write alone has no lowest bit
+segment-mode : (flags : ℕ) → (bit_and flags 1 == 1) ≡ false → nat_eq (bit_and (access_of flags) 1) 0 ≡ true
+segment-mode flags is =
+    let low = and_mask flags 1 in
+    let two = and_mask flags 2 in
+    let all = and_mask (access_of flags) 1 in
+    let other : bit_and flags 1 ≢ 1 = λ same. grind (arith, nat_tests) in
+    let none : bit_and (access_of flags) 1 ≡ 0 = omega (arith, low, two, all, other) in
+    grind (arith, nat_tests, none)
+
+-- ---- lengths
+
+-- a new object is there
+new-there : {X : Type 0} (o : Named X) (e : NamedEntry X) → IsRising 1 (keys_of o.entries) o.next → is_some (entry_of (with_new o e) o.next) ≡ true
+new-there {X} o e rising = ap is_some (at-push o.entries o.next e (none (entry_of o o.next) refl))
+  where
+    none : (r : Option (NamedEntry X)) → entry_of o o.next ≡ r → entry_of o o.next ≡ None
+    none None is = is
+    none (Some d) is = let below = (rising-found 1 o.entries o.next o.next rising (ap is_some is)).1 in absurd (omega (arith, below))
+
+pub truncated-length : (x : Segment) (n : ℕ) → length (truncated n x).bytes ≡ n
+truncated-length x n = omega (arith, length-append (take n x.bytes) (replicate (n - length x.bytes) 0), length-take n x.bytes, length-replicate {A = ℕ} (n - length x.bytes) 0)
+
+written-length : (x : Segment) (offset : ℕ) (bytes : List ℕ) → is_within offset (length bytes) x ≡ true
+    → length (written offset bytes x).bytes ≡ length x.bytes
+written-length x offset bytes within =
+    let inside : offset + length bytes ≤ length x.bytes = grind (arith, nat_tests) in
+    omega (
+      arith,
+      inside,
+      length-append (take offset x.bytes) (bytes ++ drop (offset + length bytes) x.bytes),
+      length-append bytes (drop (offset + length bytes) x.bytes),
+      length-take offset x.bytes,
+      length-drop (offset + length bytes) x.bytes,
+    )
+
+-- one of the segments has no more bytes than all
+pub fewer-of : (o : Named Segment) (n : ℕ) (e : NamedEntry Segment) → entry_of o n ≡ Some e → length e.object.bytes ≤ segment_bytes o
+fewer-of o n e is = found o.entries is
+  where
+    bytes : ℕ × NamedEntry Segment → ℕ
+    bytes d = length d.1.object.bytes
+
+    found : (es : List (ℕ × NamedEntry Segment)) → value_at nat_eq es n ≡ Some e → length e.object.bytes ≤ sum_by bytes es
+    found [] is = cc
+    found (d ∷ es) is = by_test (nat_eq d.0 n) is (found es)
+      where
+        by_test : (b : Bool) → cond b (Some d.1) (value_at nat_eq es n) ≡ Some e
+            → (value_at nat_eq es n ≡ Some e → length e.object.bytes ≤ sum_by bytes es) → length e.object.bytes ≤ sum_by bytes (d ∷ es)
+        by_test true is rest =
+            let one : d.1 ≡ e = cc in
+            omega (arith, sum_by-cons bytes d es, ap (λ (f : NamedEntry Segment). length f.object.bytes) one)
+        by_test false is rest = omega (arith, sum_by-cons bytes d es, rest is)
+
+-- what is put in the place of one is there
+put-there : {X : Type 0} (o : Named X) (n : ℕ) (e : NamedEntry X) (x : X) → entry_of o n ≡ Some e
+    → is_some (entry_of (unwrap_or (option_map (λ (f : NamedEntry X). with_entry o n (with_object f x)) (entry_of o n)) o) n) ≡ true
+put-there {X} o n e x is =
+    ap (λ (r : Option (NamedEntry X)). is_some (entry_of (unwrap_or (option_map (λ (f : NamedEntry X). with_entry o n (with_object f x)) r) o) n)) is
+    ∙ ap is_some (at-with o.entries n (with_object e x) e is)
+
+-- ---- a segment that is cut to no bytes, or not
+
+module _ (flags : ℕ) (s : State) (n : ℕ) (e : NamedEntry Segment) where
+  abbrev cut_if : Bool → State
+  cut_if b = if b then with_segment s n (truncated 0 e.object) else s
+
+  pub cut-sound : (limits : Limits) → entry_of s.shm n ≡ Some e → HasSoundParts limits s → HasSoundParts limits (cut_as flags s n e)
+  cut-sound limits there h = by_test (has flags trunc)
+    where
+      by_test : (b : Bool) → HasSoundParts limits (cut_if b)
+      by_test true = with_segment-sound limits s n e (truncated 0 e.object) there (omega (arith, h.shm.bytes, truncated-length e.object 0)) h
+      by_test false = h
+
+  cut-there : entry_of s.shm n ≡ Some e → is_some (entry_of (cut_as flags s n e).shm n) ≡ true
+  cut-there there = by_test (has flags trunc)
+    where
+      by_test : (b : Bool) → is_some (entry_of (cut_if b).shm n) ≡ true
+      by_test true = put-there s.shm n e (truncated 0 e.object) there
+      by_test false = ap is_some there
+
+  cut-elsewhere : (p : ℕ) (on : Awaited) → IsAsBefore p on s (cut_as flags s n e)
+  cut-elsewhere p on = by_test (has flags trunc)
+    where
+      by_test : (b : Bool) → IsAsBefore p on s (cut_if b)
+      by_test true = elsewhere-segment s n (truncated 0 e.object) p on
+      by_test false = as_before p on s
+
+-- all but the segments is as it was
+pub cut-same : {X : Type 0} (f : State → X) → ((x : Segment) → (s : State) (n : ℕ) → f (with_segment s n x) ≡ f s) → (flags : ℕ) (s : State) (n : ℕ)
+    (e : NamedEntry Segment) → f (cut_as flags s n e) ≡ f s
+cut-same f same flags s n e = by_test (has flags trunc)
+  where
+    by_test : (b : Bool) → f (if b then with_segment s n (truncated 0 e.object) else s) ≡ f s
+    by_test true = same (truncated 0 e.object) s n
+    by_test false = refl
+
 -- ---- a queue that is open
 
 on-queue : (s : State) (pid fd : ℕ) (f : Found) → IsOpen s pid fd f → on_descriptor s pid fd ≡ Some (object.Mq f.number)
@@ -102,10 +221,10 @@ number-same n = grind (arith, nat_tests)
 
 -- a registration by that descriptor
 registers-by : (s : State) (pid fd : ℕ) (f : Found) → IsOpen s pid fd f
-    → unwrap_or (option_map (λ (d : Descriptor). is_on_queue f.number d.on) (descriptor_at s.processes.entries pid fd)) false ≡ true
+    → unwrap_or (option_map (λ (d : Descriptor). is_on (opened.Queue f.number) d.on) (descriptor_at s.processes.entries pid fd)) false ≡ true
 registers-by s pid fd f o =
-    ap (λ (r : Option Descriptor). unwrap_or (option_map (λ (d : Descriptor). is_on_queue f.number d.on) r) false) o.at
-    ∙ (ap (is_on_queue f.number) o.on ∙ number-same f.number)
+    ap (λ (r : Option Descriptor). unwrap_or (option_map (λ (d : Descriptor). is_on (opened.Queue f.number) d.on) r) false) o.at
+    ∙ (ap (is_on (opened.Queue f.number)) o.on ∙ number-same f.number)
 
 module _ (limits : Limits) where
   arrived-sound : (told : Bool) (q : Mq) (m : PlainMessage) → IsSoundMq limits (with_message q m) → IsSoundMq limits (arrived told q m)
@@ -192,6 +311,16 @@ module _ (limits : Limits) where
             objects = λ p other on. same-objects p (with_descriptors s pid table) t same on ∙ table-objects p s pid table other on;
           })
 
+    -- other flags with the access mode that it had
+    keeps-access : {fd : ℕ} (f : Found) (o : IsOpen s pid fd f) (flags : ℕ) → bit_and flags 3 ≡ bit_and o.descriptor.flags 3 → HasSoundParts limits s
+        → (d : Descriptor) → descriptor_at s.processes.entries pid fd ≡ Some d → has_access d.on flags ≡ true
+    keeps-access {fd} f o flags same h d at =
+        let good = (both_true (is_there_for (named_in s) o.descriptor.on) _ (descriptor-sound limits s pid fd o.descriptor o.at h)).1 in
+        let one : d ≡ o.descriptor = same-some (sym at ∙ o.at) in
+        let on : d.on ≡ opened.Queue f.number = ap (λ (e : Descriptor). e.on) one ∙ o.on in
+        let was : not (nat_eq (bit_and o.descriptor.flags 3) 3) ≡ true = subst (λ (k : Opened). has_access k o.descriptor.flags ≡ true) o.on good in
+        subst (λ (k : Opened). has_access k flags ≡ true) (sym on) (rw same was)
+
     -- ---- each call
 
     -- another queue in the place of one that is open
@@ -232,6 +361,10 @@ module _ (limits : Limits) where
         fits_message : (m : PlainMessage) → length m.text ≤ limits.msgsize → FitsBody limits (message_body m)
         fits_message m short = omega (arith, length-append (to_be_bytes w32 m.priority) m.text, short)
 
+    -- nothing has changed
+    as_it_is : HasSoundParts limits s → (p : ℕ) (on : Awaited) → IsAsBefore p on s s
+    as_it_is h p on = as_before p on s
+
     module _ {never : Bool} where
       registering-ends : (fd kind cookie : ℕ) (f : Found) → IsOpen s pid fd f
           → AtEnd never (Leaves (on_descriptor s pid fd)) (registering s f (registration pid fd kind cookie))
@@ -271,47 +404,45 @@ module _ (limits : Limits) where
           after (open-ends s pid fd) (λ f o. after-refuse EINVAL (λ within.
           let left : ℕ = access_of f.flags + flags in
           table-ends (with_descriptor_flags s pid fd left) (Record (record_bytes (attr_fields f))) _ refl refl refl
-          (λ h. let there = both_true (is_there_for s.mq o.descriptor.on) _ (descriptor-sound limits s pid fd o.descriptor o.at h) in
-          let same : bit_and left 3 ≡ bit_and o.descriptor.flags 3 =
-          set-mode f.flags flags (eqb-true _ _ (not-false _ within)) ∙ ap (λ (n : ℕ). bit_and n 3) (sym o.flags) in
-          with_descriptor_flags-sound limits s pid fd left (rw same there.1) h)
+          (λ h. with_descriptor_flags-sound limits s pid fd left (λ d at. keeps-access f o left
+          (set-mode f.flags flags (eqb-true _ _ (not-false _ within)) ∙ ap (λ (n : ℕ). bit_and n 3) (sym o.flags)) h d at) h)
           (omega arith) (λ h p on other apart. elsewhere-table s pid _ p on other) (λ p. omega arith)))
+
+      -- a descriptor on an object that is there, in a state of which others see nothing new
+      opens-ends : (t : State) (flags : ℕ) (on : Opened) → t.processes ≡ s.processes → t.clock ≡ s.clock → t.wait ≡ s.wait
+          → has_all_descriptors limits t pid ≡ false → (HasSoundParts limits s → HasSoundParts limits t)
+          → (HasSoundParts limits s → is_there_for (named_in t) on ≡ true) → has_access on flags ≡ true
+          → (HasSoundParts limits s → (p : ℕ) (on : Awaited) → IsAsBefore p on s t) → ((p : ℕ) → registrations t p ≤ registrations s p)
+          → AtEnd never (Leaves None) (opens t pid flags on)
+      opens-ends t flags on same clock wait few sound there access others owes =
+          let d : Descriptor = record { on = on; flags = flags } in
+          let table = opened_table (descriptors_of t.processes.entries pid) d in
+          table-ends (with_descriptor t pid d) (Number (lowest_unused (descriptors_of t.processes.entries pid))) table
+          (ap (λ (ps : Numbered Process). with_table ps pid table) same) clock wait
+          (λ h. with_descriptor-sound limits t pid d few (and-true _ _ (there h) access) (sound h)) (omega arith)
+          (λ h p on other apart. before-then p on s t _ (others h p on) (elsewhere-table t pid table p on other)) owes
 
       -- the queue that the name names, or a new one
       opened-ends : (cred : Cred) (flags n : ℕ) → (access_of flags == 3) ≡ false → has_all_descriptors limits s pid ≡ false
           → AtEnd never (Leaves None) (opened_queue s cred pid flags n)
       opened-ends cred flags n mode few =
-          after (usable-ends s.mq cred n flags) (λ e there.
-          let d : Descriptor = record { on = opened.Queue n; flags = kept_flags flags } in
-          table-ends (with_descriptor s pid d) (Number (lowest_unused (descriptors_of s.processes.entries pid))) _ refl refl refl
-          (with_descriptor-sound limits s pid d few (and-true _ _ (ap is_some there) (kept-mode flags mode))) (omega arith)
-          (λ h p on other apart. elsewhere-table s pid _ p on other) (λ p. omega arith))
+          after (usable-ends s.mq cred n (asked_by flags)) (λ e there.
+          opens-ends s (kept_flags flags) (opened.Queue n) refl refl refl few (λ h. h) (λ _. ap is_some there) (kept-mode flags mode) as_it_is
+          (λ p. omega arith))
 
       made-ends : (cred : Cred) (flags mode attr : ℕ) (maxmsg msgsize : ℤ) (name : List ℕ) → (access_of flags == 3) ≡ false
           → has_all_descriptors limits s pid ≡ false → is_ok (check_name names.Queue name) ≡ true → named s.mq name ≡ None
           → AtEnd never (Leaves None) (made_queue limits s cred pid flags mode attr maxmsg msgsize name)
       made-ends cred flags mode attr maxmsg msgsize name access few right unused =
           after (attributes-ends limits attr maxmsg msgsize) (λ given good. after-refuse ENOSPC (λ room.
-          let d : Descriptor = record { on = opened.Queue s.mq.next; flags = kept_flags flags } in
           let bits : ℕ = bit_and mode 511 in
           let q : Mq = empty_queue given.0 given.1 None in
           let e : NamedEntry Mq = record { name = name; owner = cred; mode = bits; object = q } in
-          let t : State = with_new_mq s name cred bits q in
-          table-ends (with_descriptor t pid d) (Number (lowest_unused (descriptors_of t.processes.entries pid))) _ refl refl refl
-          (λ h. with_descriptor-sound limits t pid d few (and-true _ _ (next-there cred bits q h) (kept-mode flags access))
-          (with_new_mq-sound limits s name cred bits q unused room (omega (arith, and_le_r mode 511)) right good refl h))
-          (omega arith)
-          (λ h p on other apart. before-then p on s t _ (elsewhere-new_mq limits s h name cred bits q p on) (elsewhere-table t pid _ p on other))
+          opens-ends (with_new_mq s name cred bits q) (kept_flags flags) (opened.Queue s.mq.next) refl refl refl few
+          (with_new_mq-sound limits s name cred bits q unused room (omega (arith, and_le_r mode 511)) right good refl)
+          (λ h. new-there s.mq e h.mq.held.named.numbered.numbers) (kept-mode flags access)
+          (λ h p on. elsewhere-new_mq limits s h name cred bits q p on)
           (λ p. omega (arith, sum_by-append (of-entry p) s.mq.entries ((s.mq.next, e) ∷ [])))))
-        where
-          -- the new queue is there
-          next-there : (cred : Cred) (bits : ℕ) (q : Mq) → HasSoundParts limits s → is_some (entry_of (with_new_mq s name cred bits q).mq s.mq.next) ≡ true
-          next-there cred bits q h = ap is_some (at-push s.mq.entries s.mq.next _ (none (entry_of s.mq s.mq.next) refl))
-            where
-              none : (r : Option (NamedEntry Mq)) → entry_of s.mq s.mq.next ≡ r → entry_of s.mq s.mq.next ≡ None
-              none None is = is
-              none (Some e) is =
-                  let below = (rising-found 1 s.mq.entries s.mq.next s.mq.next h.mq.named.numbered.numbers (ap is_some is)).1 in absurd (omega (arith, below))
 
       mq_open-ends : (cred : Cred) (flags mode attr : ℕ) (maxmsg msgsize : ℤ) (name : List ℕ)
           → AtEnd never (Leaves None) (mq_open limits s cred pid flags mode attr maxmsg msgsize name)
@@ -320,6 +451,130 @@ module _ (limits : Limits) where
           after (sought-ends s.mq name flags) (λ found unused.
           by-if_some {o = found} (λ n _. opened-ends cred flags n access few)
           (λ none. made-ends cred flags mode attr maxmsg msgsize name access few right (unused none))))))
+
+    -- ---- named semaphores
+
+    on-semaphore : (fd : ℕ) (f : FoundSem) → IsOpenSem s pid fd f → on_descriptor s pid fd ≡ Some (object.NamedSem f.number)
+    on-semaphore fd f o = ap (option_map (λ (d : Descriptor). object_on d.on)) o.at ∙ ap (λ (on : Opened). Some (object_on on)) o.on
+
+    -- another value of one that is open
+    change-ends : {never : Bool} (fd : ℕ) (f : FoundSem) (value : ℕ) → IsOpenSem s pid fd f → (f.value ≤ sem_value_max → value ≤ sem_value_max)
+        → AtEnd never (Leaves (on_descriptor s pid fd)) (answer (with_named_sem s f.number value) Empty)
+    change-ends fd f value o good =
+        let e = has-sem_entry s f.number f.value o.there in
+        same-ends (with_named_sem s f.number value) Empty None refl refl refl
+        (λ h. let most = named_sem-sound limits s f.number e.entry e.there h in
+        with_named_sem-sound limits s f.number e.entry value e.there (good (subst (λ (n : ℕ). n ≤ sem_value_max) e.object most)) h)
+        (λ _. omega arith) (λ h p on apart. elsewhere-named_sem s f.number value p on (λ same. apart (on-semaphore fd f o ∙ same))) (λ p. omega arith)
+
+    posted-few : (n : ℕ) → n ≤ sem_value_max → posted n ≤ sem_value_max
+    posted-few n few = by_test (n == sem_value_max) refl
+      where
+        by_test : (b : Bool) → (n == sem_value_max) ≡ b → (if b then n else n + 1) ≤ sem_value_max
+        by_test true is = few
+        by_test false is = let other : n ≢ sem_value_max = λ same. grind (arith, nat_tests) in omega (arith, few, other)
+
+    sem_wait-ends : (fd : ℕ) → AtEnd false (Leaves (on_descriptor s pid fd)) (sem_wait s pid fd)
+    sem_wait-ends fd = after (lowers s pid fd) (λ f ok. change-ends fd f (waited f.value) ok.semaphore (λ few. omega (arith, few)))
+
+    module _ {never : Bool} where
+      sem_post-ends : (fd : ℕ) → AtEnd never (Leaves (on_descriptor s pid fd)) (sem_post s pid fd)
+      sem_post-ends fd =
+          after (open_sem-ends s pid fd) (λ f o. after-then (passed-ends (post_answer f.value)) (λ _. change-ends fd f (posted f.value) o (posted-few f.value)))
+
+      sem_trywait-ends : (fd : ℕ) → AtEnd never (Leaves (on_descriptor s pid fd)) (sem_trywait s pid fd)
+      sem_trywait-ends fd =
+          after (open_sem-ends s pid fd) (λ f o. after-then (passed-ends (wait_answer f.value)) (λ _.
+          change-ends fd f (waited f.value) o (λ few. omega (arith, few))))
+
+      sem_getvalue-ends : (fd : ℕ) → AtEnd never (Leaves None) (sem_getvalue s pid fd)
+      sem_getvalue-ends fd = after (open_sem-ends s pid fd) (λ f o. read-ends (Number f.value) (omega arith))
+
+      sem_open-ends : (cred : Cred) (flags mode value : ℕ) (name : List ℕ)
+          → AtEnd never (Leaves None) (sem_open limits s cred pid flags mode value name)
+      sem_open-ends cred flags mode value name =
+          after-then (proper-ends names.Semaphore name) (λ right. after-refuse EMFILE (λ few. after (sought-ends s.named_sem name flags) (λ found unused.
+          by-if_some {o = found}
+          (λ n _. after (usable-ends s.named_sem cred n 6) (λ e there.
+          opens-ends s 0 (opened.Semaphore n) refl refl refl few (λ h. h) (λ _. ap is_some there) refl as_it_is (λ p. omega arith)))
+          (λ none. after-refuse EINVAL (λ most. after-refuse ENOSPC (λ room.
+          let bits : ℕ = bit_and mode 511 in
+          let e : NamedEntry ℕ = record { name = name; owner = cred; mode = bits; object = value } in
+          let short : value ≤ sem_value_max = grind (arith, nat_tests) in
+          opens-ends (with_new_named_sem s name cred bits value) 0 (opened.Semaphore s.named_sem.next) refl refl refl few
+          (with_new_named_sem-sound limits s name cred bits value (unused none) room (omega (arith, and_le_r mode 511)) right short)
+          (λ h. new-there s.named_sem e h.named_sem.named.numbered.numbers) refl
+          (λ h p on. elsewhere-new_named_sem limits s h name cred bits value p on) (λ p. omega arith)))))))
+
+      sem_unlink-ends : (cred : Cred) (name : List ℕ) → AtEnd never (Leaves None) (sem_unlink s cred name)
+      sem_unlink-ends cred name =
+          after-then (proper-ends names.Semaphore name) (λ _. after (unlinkable-ends s.named_sem cred name) (λ n _.
+          same-ends (unlinked_sem s n) Empty None refl refl refl (unlinked_sem-sound limits s n) (λ _. omega arith)
+          (λ h p on apart. elsewhere-unlinked_sem limits s h n p on)
+          (λ p. omega (arith, fewer-swept_all p (record s { named_sem = unnamed s.named_sem n })))))
+
+      -- ---- segments
+
+      -- another segment in the place of one that is open
+      put_segment-ends : (fd : ℕ) (f : FoundSegment) (x : Segment) → IsOpenSegment s pid fd f
+          → (HasSoundParts limits s → segment_bytes s.shm - length f.entry.object.bytes + length x.bytes ≤ limits.segment_bytes)
+          → AtEnd never (Leaves None) (answer (with_segment s f.number x) Empty)
+      put_segment-ends fd f x o few =
+          same-ends (with_segment s f.number x) Empty None refl refl refl (λ h. with_segment-sound limits s f.number f.entry x o.there (few h) h)
+          (λ _. omega arith) (λ h p on apart. elsewhere-segment s f.number x p on) (λ p. omega arith)
+
+      ftruncate-ends : (fd len : ℕ) → AtEnd never (Leaves None) (ftruncate limits s pid fd len)
+      ftruncate-ends fd len =
+          after (writable-ends s pid fd) (λ f o. after-refuse ENOSPC (λ few.
+          put_segment-ends fd f (truncated len f.entry.object) o (λ _. grind (arith, nat_tests, truncated-length f.entry.object len))))
+
+      shm_write-ends : (fd offset : ℕ) (bytes : List ℕ) → AtEnd never (Leaves None) (shm_write limits s pid fd offset bytes)
+      shm_write-ends fd offset bytes =
+          after (writable-ends s pid fd) (λ f o. after-refuse EINVAL (λ _. after-refuse EINVAL (λ within.
+          put_segment-ends fd f (written offset bytes f.entry.object) o (λ h.
+          omega (arith, h.shm.bytes, written-length f.entry.object offset bytes (not-false _ within), fewer-of s.shm f.number f.entry o.there)))))
+
+      shm_read-ends : (fd offset len : ℕ) → AtEnd never (Leaves None) (shm_read limits s pid fd offset len)
+      shm_read-ends fd offset len =
+          after (open_segment-ends s pid fd) (λ f o. after-refuse EINVAL {b = nat_lt limits.call_bytes len} (λ few. after-refuse EINVAL (λ within.
+          let short : len ≤ limits.call_bytes = grind (arith, nat_tests) in
+          read-ends (Record (part offset len f.entry.object)) (omega (arith, short, length-take len (drop offset f.entry.object.bytes))))))
+
+      shm_stat-ends : (fd : ℕ) → AtEnd never (Leaves None) (shm_stat s pid fd)
+      shm_stat-ends fd = after (open_segment-ends s pid fd) (λ f o. read-ends (Record (record_bytes (segment_fields f.entry))) (omega arith))
+
+      shm_unlink-ends : (cred : Cred) (name : List ℕ) → AtEnd never (Leaves None) (shm_unlink s cred name)
+      shm_unlink-ends cred name =
+          after-then (proper-ends names.Segment name) (λ _. after (unlinkable-ends s.shm cred name) (λ n _.
+          same-ends (unlinked_segment s n) Empty None refl refl refl (unlinked_segment-sound limits s n) (λ _. omega arith)
+          (λ h p on apart. elsewhere-unlinked_segment limits s h n p on)
+          (λ p. omega (arith, fewer-swept_all p (record s { shm = unnamed s.shm n })))))
+
+      opened_segment-ends : (cred : Cred) (flags n : ℕ) → (bit_and flags 1 == 1) ≡ false → has_all_descriptors limits s pid ≡ false
+          → AtEnd never (Leaves None) (opened_segment s cred pid flags n)
+      opened_segment-ends cred flags n access few =
+          after (usable-ends s.shm cred n (asked_of_segment flags)) (λ e there.
+          let t : State = cut_as flags s n e in
+          opens-ends t (access_of flags) (opened.Segment n) (cut-same (λ (u : State). u.processes) (λ x t m. refl) flags s n e)
+          (cut-same (λ (u : State). u.clock) (λ x t m. refl) flags s n e) (cut-same (λ (u : State). u.wait) (λ x t m. refl) flags s n e)
+          (ap (λ (ps : Numbered Process). nat_le limits.descriptors (length (descriptors_of ps.entries pid)))
+          (cut-same (λ (u : State). u.processes) (λ x t m. refl) flags s n e) ∙ few)
+          (cut-sound flags s n e limits there) (λ _. cut-there flags s n e there) (segment-mode flags access)
+          (λ h p on. cut-elsewhere flags s n e p on)
+          (λ p. omega (arith, ap (λ (o : Named Mq). sum_by (of-entry p) o.entries) (cut-same (λ (u : State). u.mq) (λ x t m. refl) flags s n e))))
+
+      shm_open-ends : (cred : Cred) (flags mode : ℕ) (name : List ℕ) → AtEnd never (Leaves None) (shm_open limits s cred pid flags mode name)
+      shm_open-ends cred flags mode name =
+          after-then (proper-ends names.Segment name) (λ right. after-refuse EINVAL (λ access. after-refuse EMFILE (λ few.
+          after (sought-ends s.shm name flags) (λ found unused.
+          by-if_some {o = found} (λ n _. opened_segment-ends cred flags n access few)
+          (λ none. after-refuse ENOSPC (λ room.
+          let bits : ℕ = bit_and mode 511 in
+          let e : NamedEntry Segment = record { name = name; owner = cred; mode = bits; object = empty_segment } in
+          opens-ends (with_new_segment s name cred bits) (access_of flags) (opened.Segment s.shm.next) refl refl refl few
+          (with_new_segment-sound limits s name cred bits (unused none) room (omega (arith, and_le_r mode 511)) right)
+          (λ h. new-there s.shm e h.shm.held.named.numbered.numbers) (segment-mode flags access)
+          (λ h p on. elsewhere-new_segment s name cred bits p on) (λ p. omega arith)))))))
 
     pub call-ends : (call : PlainPosix) → AtEnd (not (may_wait (Posix call))) (Leaves (touched s pid call)) (call_of limits s pid call)
     call-ends (requests.Close fd) = close-ends fd
@@ -330,3 +585,15 @@ module _ (limits : Limits) where
     call-ends (requests.MqNotify fd kind cookie) = mq_notify-ends fd kind cookie
     call-ends (requests.MqGetattr fd) = mq_getattr-ends fd
     call-ends (requests.MqSetattr fd flags) = mq_setattr-ends fd flags
+    call-ends (requests.SemOpen flags mode value name) = sem_open-ends (cred_of s pid) flags mode value name
+    call-ends (requests.SemUnlink name) = sem_unlink-ends (cred_of s pid) name
+    call-ends (requests.SemPost fd) = sem_post-ends fd
+    call-ends (requests.SemWait fd deadline) = sem_wait-ends fd
+    call-ends (requests.SemTrywait fd) = sem_trywait-ends fd
+    call-ends (requests.SemGetvalue fd) = sem_getvalue-ends fd
+    call-ends (requests.ShmOpen flags mode name) = shm_open-ends (cred_of s pid) flags mode name
+    call-ends (requests.ShmUnlink name) = shm_unlink-ends (cred_of s pid) name
+    call-ends (requests.Ftruncate fd len) = ftruncate-ends fd len
+    call-ends (requests.ShmRead fd offset len) = shm_read-ends fd offset len
+    call-ends (requests.ShmWrite fd offset bytes) = shm_write-ends fd offset bytes
+    call-ends (requests.ShmStat fd) = shm_stat-ends fd

@@ -13,8 +13,10 @@ use Rattle.ipc_keys.specs.Directory.{is_vacant}
 use Rattle.ipc_state.specs.Directory.{HasNoSpareName}
 use Rattle.ipc_state.specs.Sound.{HasSoundParts, IsSoundMq}
 use Rattle.ipc_state.proofs.CallerLemmas.{empty_mq-sound, mq-sound}
+use Rattle.ipc_state.specs.Finish.{Blocks}
 use Rattle.ipc_state.proofs.CallerLemmas.{AtEnd, after, after-orelse, after-orstop, after-refuse, after-stop, at-failure, at-value, by-if_some}
-use Rattle.posix_calls.specs.Needs.{HasNoSpareNameBut}
+use Rattle.ipc_state.specs.Held.{Room}
+use Rattle.posix_calls.specs.Needs.{HasNoSpareNameBut, HasNoSpareNames}
 use Rattle.ipc_base.specs.declared.errno.Errno.{Errno}
 use Rattle.ipc_base.specs.declared.errno.Errno.TheVariants.{EACCES, EBADF, EEXIST, EINVAL, EMSGSIZE, ENOENT}
 use Rattle.ipc_base.specs.declared.identity.Cred.{Cred}
@@ -29,9 +31,12 @@ use Rattle.ipc_state.specs.Named.{Named, named}
 use Rattle.ipc_state.specs.Numbered.{entry_of}
 use Rattle.ipc_state.specs.Opening.{descriptor_at}
 use Rattle.ipc_state.specs.State.{State}
-use Rattle.ipc_state.specs.Touching.{mq_object}
+use Rattle.ipc_state.specs.Touching.{mq_object, named_sem_value}
 use Rattle.ipc_state.specs.Held.{Held}
 use Rattle.posix_calls.specs.Mq.{Found, asked_or, attributes, limited, open_queue, open_to, queue_number, receivable, sendable, waits_or_fails}
+use Rattle.posix_calls.specs.declared.sem.FoundSem.{FoundSem}
+use Rattle.posix_calls.specs.Sem.{lowerable, open_semaphore, semaphore_number}
+use Rattle.posix_calls.specs.Shm.{FoundSegment, open_segment, segment_number, writable}
 use Rattle.posix_calls.specs.Open.{passed, proper, reads, sought, unlinkable, usable, writes}
 
 -- ---- a queue that is open
@@ -46,6 +51,8 @@ pub record IsOpen (s : State) (pid fd : ℕ) (found : Found) : Type 0 where
 
 number-is : (on : Opened) (n : ℕ) → queue_number on ≡ Some n → on ≡ opened.Queue n
 number-is (opened.Queue m) n is = cc
+number-is (opened.Semaphore m) n is = cc
+number-is (opened.Segment m) n is = cc
 
 pub open-ends : {never : Bool} (s : State) (pid fd : ℕ) → AtEnd never (IsOpen s pid fd) (open_queue s pid fd)
 open-ends s pid fd =
@@ -102,7 +109,74 @@ receives s pid fd size =
     after (opens-to reads s pid fd) (λ f o. after-refuse EMSGSIZE (λ _. after-orstop (waits_or_fails f.flags) (λ m is.
     at-value (f, m) (record { queue = o; message = is }))))
 
+-- ---- a semaphore that is open
+
+-- the descriptor by which it is
+pub record IsOpenSem (s : State) (pid fd : ℕ) (found : FoundSem) : Type 0 where
+  pub descriptor : Descriptor
+  pub at : descriptor_at s.processes.entries pid fd ≡ Some descriptor
+  pub on : descriptor.on ≡ opened.Semaphore found.number
+  pub there : named_sem_value s found.number ≡ Some found.value
+
+semaphore-is : (on : Opened) (n : ℕ) → semaphore_number on ≡ Some n → on ≡ opened.Semaphore n
+semaphore-is (opened.Queue m) n is = cc
+semaphore-is (opened.Semaphore m) n is = cc
+semaphore-is (opened.Segment m) n is = cc
+
+pub open_sem-ends : {never : Bool} (s : State) (pid fd : ℕ) → AtEnd never (IsOpenSem s pid fd) (open_semaphore s pid fd)
+open_sem-ends s pid fd =
+    after-orelse EINVAL (λ d at. after-orelse EINVAL (λ n on. after-orelse EINVAL (λ value there.
+    at-value _ (record { descriptor = d; at = at; on = semaphore-is d.on n on; there = there }))))
+
+-- one that may be lowered now
+pub record Lowers (s : State) (pid fd : ℕ) (found : FoundSem) : Type 0 where
+  pub semaphore : IsOpenSem s pid fd found
+  pub some : (found.value == 0) ≡ false
+
+pub lowers : (s : State) (pid fd : ℕ) → AtEnd false (Lowers s pid fd) (lowerable s pid fd)
+lowers s pid fd = after (open_sem-ends s pid fd) (λ f o. after-stop Blocks (λ some. at-value f (record { semaphore = o; some = some })))
+
+-- the semaphore of a number has an entry
+pub record HasSemEntry (s : State) (n value : ℕ) : Type 0 where
+  pub entry : NamedEntry ℕ
+  pub there : entry_of s.named_sem n ≡ Some entry
+  pub object : entry.object ≡ value
+
+pub has-sem_entry : (s : State) (n value : ℕ) → named_sem_value s n ≡ Some value → HasSemEntry s n value
+has-sem_entry s n value is = by_entry (entry_of s.named_sem n) refl is
+  where
+    by_entry : (r : Option (NamedEntry ℕ)) → entry_of s.named_sem n ≡ r → option_map (λ (e : NamedEntry ℕ). e.object) r ≡ Some value → HasSemEntry s n value
+    by_entry None there is = cc
+    by_entry (Some e) there is = record { entry = e; there = there; object = cc }
+
+-- ---- a segment that is open
+
+-- the descriptor by which it is
+pub record IsOpenSegment (s : State) (pid fd : ℕ) (found : FoundSegment) : Type 0 where
+  pub descriptor : Descriptor
+  pub at : descriptor_at s.processes.entries pid fd ≡ Some descriptor
+  pub on : descriptor.on ≡ opened.Segment found.number
+  pub there : entry_of s.shm found.number ≡ Some found.entry
+
+segment-is : (on : Opened) (n : ℕ) → segment_number on ≡ Some n → on ≡ opened.Segment n
+segment-is (opened.Queue m) n is = cc
+segment-is (opened.Semaphore m) n is = cc
+segment-is (opened.Segment m) n is = cc
+
+pub open_segment-ends : {never : Bool} (s : State) (pid fd : ℕ) → AtEnd never (IsOpenSegment s pid fd) (open_segment s pid fd)
+open_segment-ends s pid fd =
+    after-orelse EBADF (λ d at. after-orelse EBADF (λ n on. after-orelse EBADF (λ e there.
+    at-value _ (record { descriptor = d; at = at; on = segment-is d.on n on; there = there }))))
+
+pub writable-ends : {never : Bool} (s : State) (pid fd : ℕ) → AtEnd never (IsOpenSegment s pid fd) (writable s pid fd)
+writable-ends s pid fd = after (open_segment-ends s pid fd) (λ f o. after-refuse EBADF (λ _. at-value f o))
+
 -- ---- what a name finds
+
+-- a step whose answer is a refusal or none
+pub passed-ends : {never : Bool} {X : Type 0} (r : Result X Errno) → AtEnd never (λ (x : X). r ≡ Ok x) (passed r)
+passed-ends (Ok x) = at-value x refl
+passed-ends (Err e) = at-failure e
 
 module _ {never : Bool} where
   -- a name that passes its check
@@ -120,9 +194,9 @@ module _ {never : Bool} where
       by-if_some {o = named o name} (λ n _. after-refuse EEXIST (λ _. at-value (Some n) (λ is. cc)))
       (λ none. after-refuse ENOENT (λ _. at-value None (λ _. none)))
 
-  pub usable-ends : {X : Type 0} (o : Named X) (cred : Cred) (n flags : ℕ)
-      → AtEnd never (λ (e : NamedEntry X). entry_of o n ≡ Some e) (usable o cred n flags)
-  usable-ends o cred n flags = after-orelse ENOENT (λ e there. after-refuse EACCES (λ _. at-value e there))
+  pub usable-ends : {X : Type 0} (o : Named X) (cred : Cred) (n asked : ℕ)
+      → AtEnd never (λ (e : NamedEntry X). entry_of o n ≡ Some e) (usable o cred n asked)
+  usable-ends o cred n asked = after-orelse ENOENT (λ e there. after-refuse EACCES (λ _. at-value e there))
 
   pub unlinkable-ends : {X : Type 0} (o : Named X) (cred : Cred) (name : List ℕ)
       → AtEnd never (λ (n : ℕ). Unit {0}) (unlinkable o cred name)
@@ -153,3 +227,13 @@ no-spare-name name old new but others gone other = by_test (bytes_eq other name)
     by_test : (b : Bool) → bytes_eq other name ≡ b → Decides (bytes_eq other name) (other ≡ name) → is_vacant new other ≡ false
     by_test true is same = subst (λ (n : List ℕ). is_vacant new n ≡ false) (sym (same.0 is)) gone
     by_test false is same = let apart : other ≢ name = λ one. let both = sym is ∙ same.1 one in cc in others other apart ∙ but other apart
+
+-- if no directory is another, no name has room that had none
+pub kept-names : (old new : Room) → new.names ≡ old.names → new.sem_names ≡ old.sem_names → new.segment_names ≡ old.segment_names
+    → HasNoSpareNames old → HasNoSpareNames new
+kept-names old new mq sem segment none =
+    record {
+      queues = λ name. ap (λ ks. is_vacant ks name) mq ∙ none.queues name;
+      semaphores = λ name. ap (λ ks. is_vacant ks name) sem ∙ none.semaphores name;
+      segments = λ name. ap (λ ks. is_vacant ks name) segment ∙ none.segments name;
+    }

@@ -1,6 +1,6 @@
 -- What comes of a call that may wait, by what its tests answered.
-use Rattle.std.proofs.Common.{◌≡◌, ℕ, ◌<◌, List, [], ◌∷◌, length, Option, Some, None, refl, sym, ap, subst, ◌∙◌, arith}
-use Rattle.std.specs.Prelude.{Ok, Err, option_map}
+use Rattle.std.proofs.Common.{◌≡◌, ℕ, ◌<◌, true, List, [], ◌∷◌, length, Option, Some, None, refl, sym, ap, subst, ◌∙◌, arith}
+use Rattle.std.specs.Prelude.{Ok, Err, is_some, option_map}
 use Rattle.std.proofs.lemmas.Bool.Decides.{nat_tests}
 use Rattle.ipc_base.specs.declared.limits.Limits.{Limits}
 use Rattle.ipc_base.specs.Limits.{ArePassed}
@@ -12,17 +12,21 @@ use Rattle.posix_mq.specs.Queue.{Queue as Mq, PlainMessage, most_messages, recei
 use Rattle.posix_mq.specs.declared.queue.Registration.{Registration}
 use Rattle.ipc_state.specs.declared.parked.ParkedPosix.{ParkedPosix}
 use Rattle.ipc_state.specs.declared.parked.ParkedPosix.TheVariants as parked
-use Rattle.ipc_state.specs.Finish.{Attempt, Done, Halt, Finishes, answer, answer_firing, done, done_firing, ended, has_to_wait, ◌>>=◌}
+use Rattle.ipc_state.specs.Finish.{Attempt, Done, Finish, Halt, Finishes, answer, answer_firing, done, done_firing, ended, has_to_wait, ◌>>=◌}
 use Rattle.ipc_state.specs.Sound.{HasSoundParts}
-use Rattle.ipc_state.specs.State.{State, with_mq}
-use Rattle.ipc_state.specs.Touching.{mq_object}
+use Rattle.ipc_state.specs.Numbered.{entry_of}
+use Rattle.ipc_state.specs.State.{State, with_mq, with_named_sem}
+use Rattle.posix_sem.specs.Semaphore.{waited}
+use Rattle.ipc_state.specs.Touching.{mq_object, named_sem_value}
 use Rattle.ipc_state.specs.Waiting.{parked_posix}
 use Rattle.ipc_state.proofs.CallerLemmas.{Shows, blocked-seen, blocked-then, is_blocked, passed, shows, stays-stopped, waits-blocked}
 use Rattle.posix_calls.specs.Calls.{attempt, call_of}
 use Rattle.posix_calls.specs.Mq.{Found, arrived, firing, is_told, message_body, receivable, sendable}
 use Rattle.ipc_state.specs.Steps.{seen}
 use Rattle.posix_calls.specs.Seen.{number_in}
-use Rattle.posix_calls.proofs.Reaching.{Sends, Receives, sends, receives, queue-sound}
+use Rattle.posix_calls.specs.declared.sem.FoundSem.{FoundSem}
+use Rattle.posix_calls.specs.Sem.{lowerable}
+use Rattle.posix_calls.proofs.Reaching.{Lowers, Sends, Receives, has-sem_entry, lowers, sends, receives, queue-sound}
 
 -- a call has to wait, if its tests say so
 pub waits-as-tested : (limits : Limits) (s : State) (pid : ℕ) (call : ParkedPosix)
@@ -34,6 +38,10 @@ waits-as-tested limits s pid (parked.MqReceive fd deadline size) =
     let a = receivable s pid fd size in
     blocked-seen (λ (f : Found × PlainMessage). f.0.number) a
     ∙ sym (waits-blocked s (call_of limits s pid (parked_posix (parked.MqReceive fd deadline size))) ∙ blocked-then a _)
+waits-as-tested limits s pid (parked.SemWait fd deadline) =
+    let a = lowerable s pid fd in
+    blocked-seen (λ (f : FoundSem). f.number) a
+    ∙ sym (waits-blocked s (call_of limits s pid (parked_posix (parked.SemWait fd deadline))) ∙ blocked-then a _)
 
 -- stopped by its tests, a call ends so
 pub ends-stopped : (limits : Limits) (s : State) (pid : ℕ) (call : ParkedPosix) (h : Halt) → number_in s pid call ≡ Err h
@@ -42,6 +50,8 @@ ends-stopped limits s pid (parked.MqSend fd deadline m) h is =
     sym (ap (ended s) (stays-stopped (λ (f : Found). f.number) _ (sendable s pid fd m.priority m.text.items) h is))
 ends-stopped limits s pid (parked.MqReceive fd deadline size) h is =
     sym (ap (ended s) (stays-stopped (λ (f : Found × PlainMessage). f.0.number) _ (receivable s pid fd size) h is))
+ends-stopped limits s pid (parked.SemWait fd deadline) h is =
+    sym (ap (ended s) (stays-stopped (λ (f : FoundSem). f.number) _ (lowerable s pid fd) h is))
 
 same-value : {X : Type 0} {o : Option X} {x y : X} → o ≡ Some x → o ≡ Some y → x ≡ y
 same-value a b = cc
@@ -115,3 +125,32 @@ module _ (limits : Limits) (s : State) (pid fd deadline : ℕ) where
         (λ i. Finishes (done (left q receive-queue i) (told i)))
         ∙ (ap (λ (k : ℕ). Finishes (done (with_mq s k (received q)) (message_body f.1))) (sym shown-receive.is)
         ∙ sym (ap (λ (a : Attempt (Found × PlainMessage)). ended s (a >>= next)) shown-receive.was))
+
+  -- a wait that may go on
+  module _ (n : ℕ) (tests : seen (λ (f : FoundSem). f.number) (lowerable s pid fd) ≡ Ok n) where
+    shown-wait : Shows (λ (f : FoundSem). f.number) (lowerable s pid fd) n
+    shown-wait = shows (λ (f : FoundSem). f.number) _ n tests
+
+    may_lower : Lowers s pid fd shown-wait.value
+    may_lower = (lowers s pid fd).holds shown-wait.value shown-wait.was
+
+    wait-value : named_sem_value s n ≡ Some shown-wait.value.value
+    wait-value = ap (named_sem_value s) (sym shown-wait.is) ∙ may_lower.semaphore.there
+
+    pub waits-some : (value : ℕ) → named_sem_value s n ≡ Some value → 0 < value
+    waits-some value there =
+        let some = may_lower.some in
+        let positive : 0 < shown-wait.value.value = grind (arith, nat_tests) in
+        subst (λ (v : ℕ). 0 < v) (same-value wait-value there) positive
+
+    pub waits-there : is_some (entry_of s.named_sem n) ≡ true
+    waits-there = let e = has-sem_entry s n shown-wait.value.value wait-value in ap is_some e.there
+
+    pub waits-finish : (f : Finish) → ((value : ℕ) → named_sem_value s n ≡ Some value → f ≡ done (with_named_sem s n (waited value)) Empty)
+        → Finishes f ≡ attempt limits s pid (requests.SemWait fd deadline)
+    waits-finish f left =
+        let g : FoundSem = shown-wait.value in
+        let next : FoundSem → Attempt Done = λ (k : FoundSem). answer (with_named_sem s k.number (waited k.value)) Empty in
+        ap (λ (x : Finish). Finishes x) (left g.value wait-value)
+        ∙ (ap (λ (k : ℕ). Finishes (done (with_named_sem s k (waited g.value)) Empty)) (sym shown-wait.is)
+        ∙ sym (ap (λ (a : Attempt FoundSem). ended s (a >>= next)) shown-wait.was))

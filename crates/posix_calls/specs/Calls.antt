@@ -9,6 +9,8 @@ use Rattle.ipc_state.specs.State.{State, cred_of}
 use Rattle.ipc_state.specs.Touching.{object_of}
 use Rattle.ipc_state.specs.Finish.{Tried, Attempt, Done, ended}
 use Rattle.posix_calls.specs.Mq.{close, mq_open, mq_unlink, mq_send, mq_receive, mq_notify, mq_getattr, mq_setattr}
+use Rattle.posix_calls.specs.Sem.{sem_getvalue, sem_open, sem_post, sem_trywait, sem_unlink, sem_wait}
+use Rattle.posix_calls.specs.Shm.{ftruncate, shm_open, shm_read, shm_stat, shm_unlink, shm_write}
 
 -- each call by a process
 abbrev pub call_of : Limits → State → ℕ → PlainPosix → Attempt Done
@@ -21,6 +23,19 @@ call_of limits s pid (requests.MqReceive fd deadline size) = mq_receive s pid fd
 call_of limits s pid (requests.MqNotify fd kind cookie) = mq_notify s pid fd kind cookie
 call_of limits s pid (requests.MqGetattr fd) = mq_getattr s pid fd
 call_of limits s pid (requests.MqSetattr fd flags) = mq_setattr s pid fd flags
+call_of limits s pid (requests.SemOpen flags mode value name) =
+    sem_open limits s (cred_of s pid) pid flags mode value name
+call_of limits s pid (requests.SemUnlink name) = sem_unlink s (cred_of s pid) name
+call_of limits s pid (requests.SemPost fd) = sem_post s pid fd
+call_of limits s pid (requests.SemWait fd deadline) = sem_wait s pid fd
+call_of limits s pid (requests.SemTrywait fd) = sem_trywait s pid fd
+call_of limits s pid (requests.SemGetvalue fd) = sem_getvalue s pid fd
+call_of limits s pid (requests.ShmOpen flags mode name) = shm_open limits s (cred_of s pid) pid flags mode name
+call_of limits s pid (requests.ShmUnlink name) = shm_unlink s (cred_of s pid) name
+call_of limits s pid (requests.Ftruncate fd len) = ftruncate limits s pid fd len
+call_of limits s pid (requests.ShmRead fd offset len) = shm_read limits s pid fd offset len
+call_of limits s pid (requests.ShmWrite fd offset bytes) = shm_write limits s pid fd offset bytes
+call_of limits s pid (requests.ShmStat fd) = shm_stat s pid fd
 
 -- the object on which a descriptor of the process is open
 abbrev pub on_descriptor : State → ℕ → ℕ → Option Object
@@ -36,6 +51,18 @@ touched s pid (requests.MqReceive fd deadline size) = on_descriptor s pid fd
 touched s pid (requests.MqNotify fd kind cookie) = on_descriptor s pid fd
 touched s pid (requests.MqGetattr fd) = None
 touched s pid (requests.MqSetattr fd flags) = None
+touched s pid (requests.SemOpen flags mode value name) = None
+touched s pid (requests.SemUnlink name) = None
+touched s pid (requests.SemPost fd) = on_descriptor s pid fd
+touched s pid (requests.SemWait fd deadline) = on_descriptor s pid fd
+touched s pid (requests.SemTrywait fd) = on_descriptor s pid fd
+touched s pid (requests.SemGetvalue fd) = None
+touched s pid (requests.ShmOpen flags mode name) = None
+touched s pid (requests.ShmUnlink name) = None
+touched s pid (requests.Ftruncate fd len) = None
+touched s pid (requests.ShmRead fd offset len) = None
+touched s pid (requests.ShmWrite fd offset bytes) = None
+touched s pid (requests.ShmStat fd) = None
 
 -- what comes of it
 abbrev pub attempt : Limits → State → ℕ → PlainPosix → Tried

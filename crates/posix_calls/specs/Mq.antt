@@ -11,22 +11,21 @@ use Rattle.ipc_base.specs.declared.identity.Cred.{Cred}
 use Rattle.ipc_base.specs.declared.limits.Limits.{Limits}
 use Rattle.ipc_base.specs.Numbers.{record_bytes}
 use Rattle.ipc_keys.specs.declared.check.NameKind.TheVariants as names
-use Rattle.ipc_wire.specs.declared.reply.Body.TheVariants.{Empty, Number, MqMessage, Record}
+use Rattle.ipc_wire.specs.declared.reply.Body.TheVariants.{Empty, MqMessage, Record}
 use Rattle.ipc_wire.specs.Reply.{PlainBody}
 use Rattle.posix_mq.specs.Queue.{Queue as Mq, PlainMessage, empty_queue, is_full as is_full_queue, with_message}
 use Rattle.posix_mq.specs.Queue.{received, received_message, registered, deregistered}
 use Rattle.posix_mq.specs.declared.queue.Registration.{Registration}
 use Rattle.ipc_state.specs.declared.descriptors.Opened.{Opened}
 use Rattle.ipc_state.specs.declared.descriptors.Opened.TheVariants as opened
-use Rattle.ipc_state.specs.Descriptors.{lowest_unused}
-use Rattle.ipc_state.specs.Opening.{descriptors_of}
 use Rattle.ipc_state.specs.State.{State, closed, has_all_descriptors, has_all_mqs, receiver_waits, unlinked}
 use Rattle.ipc_state.specs.Touching.{mq_object}
-use Rattle.ipc_state.specs.State.{with_descriptor, with_descriptor_flags, with_mq, with_new_mq}
+use Rattle.ipc_state.specs.State.{with_descriptor_flags, with_mq, with_new_mq}
 use Rattle.ipc_state.specs.Finish.{Halt, Fails, Blocks, Attempt, Done, answer, answer_firing, refuse, stop, if_some}
 use Rattle.ipc_state.specs.Finish.{◌orelse◌, ◌orstop◌, ◌>>◌, ◌>>=◌}
-use Rattle.posix_calls.specs.Open.{has, nonblock, access_of, reads, writes, proper, sought, usable, unlinkable}
-use Rattle.posix_calls.specs.Open.{described}
+use Rattle.posix_calls.specs.Open.{has, nonblock, access_of, asked_by, reads, writes, proper}
+use Rattle.posix_calls.specs.Open.{sought, usable, unlinkable}
+use Rattle.posix_calls.specs.Open.{described, opens}
 
 -- ---- a queue that is open
 
@@ -39,6 +38,7 @@ pub record Found : Type 0 where
 -- the number of the queue that it is
 abbrev pub queue_number : Opened → Option ℕ
 queue_number (opened.Queue n) = Some n
+queue_number on = None
 
 -- the queue on which a descriptor of the process is open
 abbrev pub open_queue : State → ℕ → ℕ → Attempt Found
@@ -65,12 +65,6 @@ waits_or_fails flags = if has flags nonblock then Fails EAGAIN else Blocks
 abbrev pub kept_flags : ℕ → ℕ
 kept_flags flags = bit_and flags 0o4003
 
--- a descriptor of the process that is open on a queue, and its number
-abbrev pub opens : State → ℕ → ℕ → ℕ → Attempt Done
-opens s pid flags n =
-    answer (with_descriptor s pid (record { on = opened.Queue n; flags = kept_flags flags }))
-    (Number (lowest_unused (descriptors_of s.processes.entries pid)))
-
 -- a number of an open that is above 0 and within its limit
 abbrev pub limited : ℕ → ℤ → Attempt ℕ
 limited limit (pos n) = refuse EINVAL (n == 0 || nat_lt limit n) >> Ok n
@@ -90,15 +84,16 @@ attributes limits attr maxmsg msgsize = do
 -- the queue that the name names
 abbrev pub opened_queue : State → Cred → ℕ → ℕ → ℕ → Attempt Done
 opened_queue s cred pid flags n = do
-  e ← usable s.mq cred n flags
-  opens s pid flags n
+  e ← usable s.mq cred n (asked_by flags)
+  opens s pid (kept_flags flags) (opened.Queue n)
 
 -- a new queue of the caller
 abbrev pub made_queue : Limits → State → Cred → ℕ → ℕ → ℕ → ℕ → ℤ → ℤ → List ℕ → Attempt Done
 made_queue limits s cred pid flags mode attr maxmsg msgsize name = do
   most ← attributes limits attr maxmsg msgsize
   refuse ENOSPC (has_all_mqs limits s)
-  opens (with_new_mq s name cred (bit_and mode 0o777) (empty_queue most.0 most.1 None)) pid flags s.mq.next
+  opens (with_new_mq s name cred (bit_and mode 0o777) (empty_queue most.0 most.1 None)) pid (kept_flags flags)
+      (opened.Queue s.mq.next)
 
 -- mq_open(3): the queue that the name names, or a new one
 abbrev pub mq_open : Limits → State → Cred → ℕ → ℕ → ℕ → ℕ → ℤ → ℤ → List ℕ → Attempt Done

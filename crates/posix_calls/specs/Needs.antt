@@ -1,6 +1,6 @@
 -- What a POSIX request may need of memory. It is taken before the call is tried, so that nothing that is answered takes
 -- any: neither the call itself, nor one that waited.
-use Rattle.std.specs.Prelude.{◌≡◌, ◌≢◌, ℕ, Bool, true, false, if◌then◌else◌, List, Option, Some, None}
+use Rattle.std.specs.Prelude.{◌≡◌, ◌≢◌, ◌≤◌, ◌^◌, ℕ, Bool, true, false, if◌then◌else◌, List, Option, Some, None}
 use Rattle.std.specs.Cmp.Lexicographic.{slice_cmp}
 use Rattle.std.specs.FinMap.{FinMap}
 use Rattle.std.specs.Ordering.{nat_cmp}
@@ -8,14 +8,16 @@ use Rattle.ipc_keys.specs.Directory.{is_vacant}
 use Rattle.ipc_wire.specs.Posix as posix
 use Rattle.ipc_wire.specs.Request.{PlainKind, PlainRequest, Posix}
 use Rattle.ipc_state.specs.Directory.{HasNoSpareName}
-use Rattle.ipc_state.specs.Held.{Room, HasMqPlace}
+use Rattle.ipc_state.specs.Held.{Room, HasMqPlace, HasSegmentPlace, HasSemPlace, HasZeros}
 use Rattle.ipc_state.specs.State.{State}
 use Rattle.ipc_state.specs.Waiting.{may_wait}
 
 pub data Needs : Type 0 where
   Nothing : Needs
-  -- room for one queue more, and for its name
-  Place : (name : List ℕ) → Needs
+  -- room for one queue more, and for its name; for a named semaphore; for a segment
+  Place SemPlace SegmentPlace : (name : List ℕ) → Needs
+  -- so many zeros
+  Zeros : (len : ℕ) → Needs
   -- a text, in memory of its own
   Text : Needs
 
@@ -23,6 +25,9 @@ pub data Needs : Type 0 where
 abbrev pub needs : PlainKind → Needs
 needs (Posix (posix.MqOpen flags mode attr maxmsg msgsize name)) = Place name
 needs (Posix (posix.MqSend fd deadline priority text)) = Text
+needs (Posix (posix.SemOpen flags mode value name)) = SemPlace name
+needs (Posix (posix.ShmOpen flags mode name)) = SegmentPlace name
+needs (Posix (posix.Ftruncate fd len)) = Zeros len
 needs _ = Nothing
 
 abbrev pub is_something : Needs → Bool
@@ -31,7 +36,18 @@ is_something _ = true
 
 abbrev pub is_place : Needs → Bool
 is_place (Place name) = true
+is_place (SemPlace name) = true
+is_place (SegmentPlace name) = true
+is_place (Zeros len) = true
 is_place _ = false
+
+-- segments have together no more bytes than this, under any limits
+abbrev pub most_segment_bytes : ℕ
+most_segment_bytes = 2 ^ 20
+
+-- zeros for a segment of this length are ready, if it may be so long
+abbrev pub HasRoomFor : Room → ℕ → Type 0
+HasRoomFor room len = len ≤ most_segment_bytes → HasZeros room len
 
 -- whether a request may need memory
 abbrev pub takes_memory : PlainKind → Bool
@@ -49,6 +65,9 @@ kept_of request = if is_kept request.kind then Some request else None
 -- what is needed is there; of a text it is what was kept
 abbrev pub Has : State → Room → Needs → Type 0
 Has s room (Place name) = HasMqPlace s room name
+Has s room (SemPlace name) = HasSemPlace s room name
+Has s room (SegmentPlace name) = HasSegmentPlace s room name
+Has s room (Zeros len) = HasRoomFor room len
 Has s room _ = Unit {0}
 
 -- what a request needs is there
@@ -60,7 +79,31 @@ pub record IsReserved (s : State) (places : Room) (request : PlainRequest) (kept
 abbrev pub HasNoSpareNameBut : List ℕ → FinMap (slice_cmp nat_cmp) ℕ → Type 0
 HasNoSpareNameBut name names = (other : List ℕ) → other ≢ name → is_vacant names other ≡ false
 
+-- no name has room that no object has
+pub record HasNoSpareNames (room : Room) : Type 0 where
+  pub queues : HasNoSpareName room.names
+  pub semaphores : HasNoSpareName room.sem_names
+  pub segments : HasNoSpareName room.segment_names
+
+-- no name but one of a kind has
+pub record HasSpareQueue (name : List ℕ) (room : Room) : Type 0 where
+  pub queues : HasNoSpareNameBut name room.names
+  pub semaphores : HasNoSpareName room.sem_names
+  pub segments : HasNoSpareName room.segment_names
+
+pub record HasSpareSemaphore (name : List ℕ) (room : Room) : Type 0 where
+  pub queues : HasNoSpareName room.names
+  pub semaphores : HasNoSpareNameBut name room.sem_names
+  pub segments : HasNoSpareName room.segment_names
+
+pub record HasSpareSegment (name : List ℕ) (room : Room) : Type 0 where
+  pub queues : HasNoSpareName room.names
+  pub semaphores : HasNoSpareName room.sem_names
+  pub segments : HasNoSpareNameBut name room.segment_names
+
 -- no name but that of the call
 abbrev pub HasSpareNameOf : Room → Needs → Type 0
-HasSpareNameOf room (Place name) = HasNoSpareNameBut name room.names
-HasSpareNameOf room _ = HasNoSpareName room.names
+HasSpareNameOf room (Place name) = HasSpareQueue name room
+HasSpareNameOf room (SemPlace name) = HasSpareSemaphore name room
+HasSpareNameOf room (SegmentPlace name) = HasSpareSegment name room
+HasSpareNameOf room _ = HasNoSpareNames room

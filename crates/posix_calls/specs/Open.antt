@@ -1,5 +1,6 @@
--- What is alike for the named objects of every kind (mq_overview(7)): the flags of open(2), who may use an object,
--- which one a name or a descriptor finds. Refusals stand in the order in which they are tested.
+-- What is alike for the named objects of every kind (mq_overview(7), sem_overview(7), shm_overview(7)): the flags of
+-- open(2), who may use an object, which one a name or a descriptor finds. Refusals stand in the order in which they are
+-- tested.
 use Rattle.std.specs.Prelude.{ℕ, Bool, not, ◌&&◌, ◌||◌, ◌==◌, if◌then◌else◌, List}
 use Rattle.std.specs.Prelude.{Option, Some, None, Result, Ok, Err}
 use Rattle.std.specs.Int.RustNames.{bit_and}
@@ -10,13 +11,16 @@ use Rattle.ipc_keys.specs.declared.check.NameKind.{NameKind}
 use Rattle.ipc_keys.specs.Names.{check_name}
 use Rattle.ipc_perm.specs.declared.perm.Perm.{Perm}
 use Rattle.ipc_perm.specs.Perm.{may}
+use Rattle.ipc_wire.specs.declared.reply.Body.TheVariants.{Number}
 use Rattle.ipc_state.specs.declared.descriptors.Descriptor.{Descriptor}
+use Rattle.ipc_state.specs.declared.descriptors.Opened.{Opened}
 use Rattle.ipc_state.specs.declared.named.NamedEntry.{NamedEntry}
 use Rattle.ipc_state.specs.Numbered.{entry_of}
 use Rattle.ipc_state.specs.Named.{Named, named}
-use Rattle.ipc_state.specs.Opening.{descriptor_at}
-use Rattle.ipc_state.specs.State.{State}
-use Rattle.ipc_state.specs.Finish.{Attempt, Fails, refuse, if_some, ◌orelse◌, ◌>>◌, ◌>>=◌}
+use Rattle.ipc_state.specs.Descriptors.{lowest_unused}
+use Rattle.ipc_state.specs.Opening.{descriptor_at, descriptors_of}
+use Rattle.ipc_state.specs.State.{State, with_descriptor}
+use Rattle.ipc_state.specs.Finish.{Attempt, Done, Fails, answer, refuse, if_some, ◌orelse◌, ◌>>◌, ◌>>=◌}
 
 -- ---- flags
 
@@ -76,19 +80,19 @@ abbrev pub perm_of : {X : Type 0} → NamedEntry X → Perm
 perm_of e =
     record { uid = e.owner.uid; gid = e.owner.gid; cuid = e.owner.uid; cgid = e.owner.gid; mode = e.mode }
 
--- a caller may use it as the flags ask
+-- a caller may use it as is asked: 4 is to read, 2 is to write
 abbrev pub may_use : {X : Type 0} → Cred → NamedEntry X → ℕ → Bool
-may_use cred e flags = may cred (perm_of e) (asked_by flags)
+may_use cred e asked = may cred (perm_of e) asked
 
 -- a caller may unlink it: the owner, or uid 0
 abbrev pub may_unlink : {X : Type 0} → Cred → NamedEntry X → Bool
 may_unlink cred e = cred.uid == e.owner.uid || cred.uid == 0
 
--- an object that is there, for a caller that may use it as the flags ask
+-- an object that is there, for a caller that may use it as is asked
 abbrev pub usable : {X : Type 0} → Named X → Cred → ℕ → ℕ → Attempt (NamedEntry X)
-usable o cred n flags = do
+usable o cred n asked = do
   e ← entry_of o n orelse ENOENT
-  refuse EACCES (not (may_use cred e flags))
+  refuse EACCES (not (may_use cred e asked))
   Ok e
 
 -- the object that a name names, for a caller that may unlink it
@@ -101,6 +105,15 @@ unlinkable o cred name = do
 
 -- ---- descriptors
 
--- what a descriptor of the process is
+-- what a descriptor of the process is, or the refusal
+abbrev pub described_or : Errno → State → ℕ → ℕ → Attempt Descriptor
+described_or e s pid fd = descriptor_at s.processes.entries pid fd orelse e
+
 abbrev pub described : State → ℕ → ℕ → Attempt Descriptor
-described s pid fd = descriptor_at s.processes.entries pid fd orelse EBADF
+described s pid fd = described_or EBADF s pid fd
+
+-- a descriptor of the process that is open on an object with these flags, and its number
+abbrev pub opens : State → ℕ → ℕ → Opened → Attempt Done
+opens s pid flags on =
+    answer (with_descriptor s pid (record { on = on; flags = flags }))
+    (Number (lowest_unused (descriptors_of s.processes.entries pid)))

@@ -3,17 +3,18 @@
 ghost use Rattle.std.specs.Prelude.{◌≡◌, true, false};
 ghost use Rattle.ipc_wire.specs.Posix.{plain_posix};
 ghost use Rattle.ipc_wire.specs.Request.{Posix};
-ghost use Rattle.ipc_state.specs.Directory.{HasNoSpareName};
 ghost use Rattle.ipc_state.specs.Finish.{Finishes, finish_of};
 ghost use Rattle.ipc_state.specs.Sound.{HasSoundParts};
 ghost use Rattle.ipc_state.specs.State.{is_process};
 ghost use Rattle.ipc_state.specs.Waiting.{may_wait};
 ghost use Rattle.posix_calls.specs.Calls as defined;
-ghost use Rattle.posix_calls.specs.Needs.{Has, HasSpareNameOf, needs};
+ghost use Rattle.posix_calls.specs.Needs.{Has, HasNoSpareNames, HasSpareNameOf, needs};
 ghost use Rattle.ipc_state.specs.Spare.{IsSpare, IsKept};
 
 use crate::mq::{close, mq_getattr, mq_notify, mq_setattr, mq_unlink};
 use crate::opening::{Wanted, mq_open};
+use crate::sem::{sem_getvalue, sem_open, sem_post, sem_trywait, sem_unlink};
+use crate::shm::{ftruncate, shm_open, shm_read, shm_stat, shm_unlink, shm_write};
 use ipc_base::Pid;
 use ipc_state::{Answer, State};
 use ipc_wire::PosixCall;
@@ -34,7 +35,7 @@ pub fn attempt(state: &mut State, pid: Pid, call: &PosixCall<'_>, spare: &mut Ve
     ensures set_keys { state.new.room.set_keys ≡ state.old.room.set_keys }
     ensures spare { IsKept state.old.limits spare.new result }
     ensures no_name { HasSpareNameOf state.old.room (needs (Posix (plain_posix call.now)))
-        → HasNoSpareName state.new.room.names }
+        → HasNoSpareNames state.new.room }
 {
     let cred = state.cred(pid);
     match call {
@@ -59,6 +60,26 @@ pub fn attempt(state: &mut State, pid: Pid, call: &PosixCall<'_>, spare: &mut Ve
         PosixCall::MqNotify { fd, kind, cookie } => mq_notify(state, pid, *fd, *kind, *cookie),
         PosixCall::MqGetattr { fd } => mq_getattr(state, pid, *fd, spare),
         PosixCall::MqSetattr { fd, flags } => mq_setattr(state, pid, *fd, *flags, spare),
-        PosixCall::MqSend { .. } | PosixCall::MqReceive { .. } => unreachable!(),
+        PosixCall::SemOpen {
+            flags,
+            mode,
+            value,
+            name,
+        } => sem_open(state, cred, pid, *flags, *mode, *value, name),
+        PosixCall::SemUnlink { name } => sem_unlink(state, cred, name),
+        PosixCall::SemPost { fd } => sem_post(state, pid, *fd),
+        PosixCall::SemTrywait { fd } => sem_trywait(state, pid, *fd),
+        PosixCall::SemGetvalue { fd } => sem_getvalue(state, pid, *fd),
+        PosixCall::ShmOpen { flags, mode, name } => shm_open(state, cred, pid, *flags, *mode, name),
+        PosixCall::ShmUnlink { name } => shm_unlink(state, cred, name),
+        PosixCall::Ftruncate { fd, length } => ftruncate(state, pid, *fd, *length),
+        PosixCall::ShmRead { fd, offset, length } => {
+            shm_read(state, pid, *fd, *offset, *length, spare)
+        }
+        PosixCall::ShmWrite { fd, offset, bytes } => shm_write(state, pid, *fd, *offset, bytes),
+        PosixCall::ShmStat { fd } => shm_stat(state, pid, *fd, spare),
+        PosixCall::MqSend { .. } | PosixCall::MqReceive { .. } | PosixCall::SemWait { .. } => {
+            unreachable!()
+        }
     }
 }

@@ -6,6 +6,8 @@ mod calls;
 mod memory;
 mod mq;
 mod opening;
+mod sem;
+mod shm;
 mod waiting;
 
 pub use calls::attempt;

@@ -3,11 +3,10 @@
 ghost use Rattle.std.specs.Prelude.{◌≡◌, false, IfOk, IsOk, OnOk, OnErr};
 ghost use Rattle.ipc_wire.specs.Request.{plain_kind};
 ghost use Rattle.ipc_wire.specs.View.{plain_request};
-ghost use Rattle.ipc_state.specs.Directory.{HasNoSpareName};
 ghost use Rattle.ipc_state.specs.Sound.{HasSoundParts};
 ghost use Rattle.ipc_state.specs.Waiting.{has_text};
-ghost use Rattle.posix_calls.specs.Needs.{Has, HasSpareNameOf, IsReserved, is_kept, is_place, kept_of, needs};
-ghost use Rattle.posix_calls.specs.Needs.{takes_memory};
+ghost use Rattle.posix_calls.specs.Needs.{Has, HasNoSpareNames, HasRoomFor, HasSpareNameOf, IsReserved, is_kept};
+ghost use Rattle.posix_calls.specs.Needs.{is_place, kept_of, needs, takes_memory};
 
 use ipc_state::{Parked, State};
 use ipc_wire::{PosixCall, Request, RequestKind};
@@ -29,16 +28,17 @@ pub fn reserve(
     ensures set_keys { state.new.room.set_keys ≡ state.old.room.set_keys }
     ensures ok { IfOk result (λ kept. IsReserved state.new.state state.new.room (plain_request request.now) kept) }
     ensures memory { takes_memory (plain_kind request.now.kind) ≡ false → IsOk result }
-    ensures name { HasNoSpareName state.old.room.names
+    ensures name { HasNoSpareNames state.old.room
         → HasSpareNameOf state.new.room (needs (plain_kind request.now.kind)) }
-    ensures no_name { OnErr result (HasNoSpareName state.old.room.names → HasNoSpareName state.new.room.names) }
+    ensures no_name { OnErr result (HasNoSpareNames state.old.room → HasNoSpareNames state.new.room) }
 {
-    reserve_queue(state, &request.kind)?;
+    reserve_object(state, &request.kind)?;
     keep(alloc, request)
 }
 
-/// Takes the memory of a new queue, if the request may make one. Refused, the state is as before.
-fn reserve_queue(state: &mut State, kind: &RequestKind<'_>) -> Result<(), AllocError>
+/// Takes the memory of a new object, or of the zeros that a segment may become, if the request asks for one. Refused,
+/// the state is as before.
+fn reserve_object(state: &mut State, kind: &RequestKind<'_>) -> Result<(), AllocError>
     requires sound { HasSoundParts state.old.limits state.old.state }
     ensures state { state.new.state ≡ state.old.state }
     ensures limits { state.new.limits ≡ state.old.limits }
@@ -47,14 +47,33 @@ fn reserve_queue(state: &mut State, kind: &RequestKind<'_>) -> Result<(), AllocE
     ensures set_keys { state.new.room.set_keys ≡ state.old.room.set_keys }
     ensures ok { OnOk result (Has state.new.state state.new.room (needs (plain_kind kind.now))) }
     ensures memory { is_place (needs (plain_kind kind.now)) ≡ false → IsOk result }
-    ensures name { HasNoSpareName state.old.room.names
+    ensures name { HasNoSpareNames state.old.room
         → HasSpareNameOf state.new.room (needs (plain_kind kind.now)) }
-    ensures no_name { OnErr result (HasNoSpareName state.old.room.names → HasNoSpareName state.new.room.names) }
+    ensures no_name { OnErr result (HasNoSpareNames state.old.room → HasNoSpareNames state.new.room) }
 {
     match kind {
         RequestKind::Posix(PosixCall::MqOpen { name, .. }) => state.reserve_mq(name),
+        RequestKind::Posix(PosixCall::SemOpen { name, .. }) => state.reserve_named_sem(name),
+        RequestKind::Posix(PosixCall::ShmOpen { name, .. }) => state.reserve_segment(name),
+        RequestKind::Posix(PosixCall::Ftruncate { length, .. }) => reserve_zeros(state, *length),
         _ => Ok(()),
     }
+}
+
+/// No segment has more bytes than this, under any limits.
+const MOST_SEGMENT_BYTES: u64 = 1 << 20;
+
+/// Takes the memory of so many zeros, if a segment may be so long.
+fn reserve_zeros(state: &mut State, length: u64) -> Result<(), AllocError>
+    ensures state { state.new.state ≡ state.old.state }
+    ensures limits { state.new.limits ≡ state.old.limits }
+    ensures room { state.new.room ≡ record state.old.room { fresh_segment = state.new.room.fresh_segment } }
+    ensures ok { OnOk result (HasRoomFor state.new.room length) }
+{
+    if length > MOST_SEGMENT_BYTES {
+        return Ok(());
+    }
+    state.reserve_zeros(length as usize)
 }
 
 /// Keeps a POSIX request that may have to wait. Refused for want of memory, which only a text takes.

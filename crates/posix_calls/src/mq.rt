@@ -20,7 +20,7 @@ ghost use Rattle.ipc_state.specs.Steps.{result_of, seen};
 ghost use Rattle.posix_calls.specs.Seen.{found_of, plain_found};
 ghost use Rattle.ipc_state.specs.Spare.{IsSpare, IsKept};
 
-use crate::access::{described, may_unlink};
+use crate::access::{described, unlinkable};
 use ipc_base::{Cred, Errno, Field, OpenFlags, Pid};
 use ipc_keys::{NameKind, check_name};
 use ipc_state::{Answer, Opened, State, take_spare};
@@ -43,7 +43,9 @@ pub(crate) fn open_queue(state: &State, pid: Pid, fd: u32) -> Result<Found<'_>, 
     ensures passed { OnOk result (ArePassed state.now.limits) }
 {
     let descriptor = described(state, pid, fd)?;
-    let Opened::Queue(number) = descriptor.on;
+    let Opened::Queue(number) = descriptor.on else {
+        return Err(Errno::EBADF);
+    };
     let Some(entry) = state.mq(number) else {
         return Err(Errno::EBADF);
     };
@@ -63,6 +65,8 @@ pub(crate) fn close(state: &mut State, pid: Pid, fd: u32) -> Answer
     ensures keys { state.new.room.keys ≡ state.old.room.keys }
     ensures set_keys { state.new.room.set_keys ≡ state.old.room.set_keys }
     ensures names { state.new.room.names ≡ state.old.room.names }
+    ensures sem_names { state.new.room.sem_names ≡ state.old.room.sem_names }
+    ensures segment_names { state.new.room.segment_names ≡ state.old.room.segment_names }
 {
     described(state, pid, fd)?;
     state.close_descriptor(pid, fd);
@@ -213,24 +217,6 @@ pub(crate) fn mq_notify(state: &mut State, pid: Pid, fd: u32, kind: u32, cookie:
     Ok(Body::Empty)
 }
 
-/// The queue that a name names, for a caller that may unlink it.
-fn unlinkable(state: &State, cred: Cred, name: &[u8]) -> Result<u32, Errno>
-    requires { ArePositive state.now.state.mq.entries }
-    ensures number { result_of result ≡ opening.unlinkable state.now.state.mq cred name.now }
-    ensures there { IfOk result (λ number. is_some (entry_of state.now.state.mq number) ≡ true) }
-{
-    let Some(number) = state.mq_of_name(name) else {
-        return Err(Errno::ENOENT);
-    };
-    let Some(entry) = state.mq(number) else {
-        return Err(Errno::ENOENT);
-    };
-    if !may_unlink(cred, entry) {
-        return Err(Errno::EACCES);
-    }
-    Ok(number)
-}
-
 /// mq_unlink(3).
 pub(crate) fn mq_unlink(state: &mut State, cred: Cred, name: &[u8]) -> Answer
     requires sound { HasSoundParts state.old.limits state.old.state }
@@ -240,10 +226,12 @@ pub(crate) fn mq_unlink(state: &mut State, cred: Cred, name: &[u8]) -> Answer
     ensures waits { state.new.room.waits ≡ state.old.room.waits }
     ensures keys { state.new.room.keys ≡ state.old.room.keys }
     ensures set_keys { state.new.room.set_keys ≡ state.old.room.set_keys }
+    ensures sem_names { state.new.room.sem_names ≡ state.old.room.sem_names }
+    ensures segment_names { state.new.room.segment_names ≡ state.old.room.segment_names }
     ensures names { HasNoSpareName state.old.room.names → HasNoSpareName state.new.room.names }
 {
     check_name(NameKind::Queue, name)?;
-    let number = unlinkable(state, cred, name)?;
+    let number = unlinkable(state.named_mqs(), cred, name)?;
     state.unlink_mq(number);
     Ok(Body::Empty)
 }

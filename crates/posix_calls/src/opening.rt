@@ -5,7 +5,6 @@ ghost use Rattle.std.specs.Result.{is_ok};
 ghost use Rattle.ipc_keys.specs.Directory.{is_vacant};
 ghost use Rattle.ipc_keys.specs.Names.{check_name as checked};
 ghost use Rattle.ipc_keys.specs.declared.check.NameKind.TheVariants as kinds;
-ghost use Rattle.ipc_state.specs.Descriptors.{lowest_unused};
 ghost use Rattle.ipc_state.specs.Directory.{ArePositive, HasNoSpareName};
 ghost use Rattle.ipc_state.specs.Finish.{Finishes, ended, finish_of};
 ghost use Rattle.ipc_state.specs.Held.{HasMqPlace};
@@ -18,11 +17,10 @@ ghost use Rattle.posix_calls.specs.Open.{sought};
 ghost use Rattle.ipc_state.specs.Steps.{result_of};
 ghost use Rattle.posix_calls.specs.Seen.{opened_of};
 
-use crate::access::{is_exclusive, may_use};
-use bitflags::Flags;
+use crate::access::{asked_by, open_on, seek, usable};
 use ipc_base::{Cred, Errno, Limits, OpenFlags, Pid};
 use ipc_keys::{NameKind, check_name};
-use ipc_state::{Answer, Descriptor, Opened, State};
+use ipc_state::{Answer, Opened, State};
 use ipc_wire::Body;
 
 /// What mq_open(3) asks of a new queue: its mode and, unless `attr` is 0, its limits.
@@ -56,6 +54,8 @@ pub(crate) fn mq_open(
     ensures waits { state.new.room.waits ≡ state.old.room.waits }
     ensures keys { state.new.room.keys ≡ state.old.room.keys }
     ensures set_keys { state.new.room.set_keys ≡ state.old.room.set_keys }
+    ensures sem_names { state.new.room.sem_names ≡ state.old.room.sem_names }
+    ensures segment_names { state.new.room.segment_names ≡ state.old.room.segment_names }
     ensures no_name { HasNoSpareNameBut name.now state.old.room.names → HasNoSpareName state.new.room.names }
 {
     let answer = open(state, cred, pid, flags, wanted, name);
@@ -82,6 +82,8 @@ fn open(
     ensures waits { state.new.room.waits ≡ state.old.room.waits }
     ensures keys { state.new.room.keys ≡ state.old.room.keys }
     ensures set_keys { state.new.room.set_keys ≡ state.old.room.set_keys }
+    ensures sem_names { state.new.room.sem_names ≡ state.old.room.sem_names }
+    ensures segment_names { state.new.room.segment_names ≡ state.old.room.segment_names }
     ensures others { (other : List ℕ) → other ≢ name.now
         → is_vacant state.new.room.names other ≡ is_vacant state.old.room.names other }
 {
@@ -92,45 +94,10 @@ fn open(
     if state.has_all_descriptors(pid) {
         return Err(Errno::EMFILE);
     }
-    let Some(number) = seek(state, name, flags)? else {
+    let Some(number) = seek(state.named_mqs(), name, flags)? else {
         return make_queue(state, cred, pid, flags, wanted, name);
     };
     open_queue(state, cred, pid, flags, number)
-}
-
-/// The queue that an open finds by its name; none, if it may make one.
-fn seek(state: &State, name: &[u8], flags: OpenFlags) -> Result<Option<u32>, Errno>
-    requires { ArePositive state.now.state.mq.entries }
-    ensures found { result_of result ≡ sought state.now.state.mq name.now flags.0 }
-    ensures unused { IfOk result (λ found. found ≡ None → named state.now.state.mq name.now ≡ None) }
-{
-    let Some(number) = state.mq_of_name(name) else {
-        if !flags.contains(OpenFlags::O_CREAT) {
-            return Err(Errno::ENOENT);
-        }
-        return Ok(None);
-    };
-    if is_exclusive(flags) {
-        return Err(Errno::EEXIST);
-    }
-    Ok(Some(number))
-}
-
-/// Opens a descriptor on the queue of a number, and gives its own.
-fn open_on(state: &mut State, pid: Pid, flags: OpenFlags, number: u32) -> u32
-    requires sound { HasSoundParts state.old.limits state.old.state }
-    requires process { is_process state.old.state pid.0 ≡ true }
-    requires few { has_all_descriptors state.old.limits state.old.state pid.0 ≡ false }
-    ensures opens { opened_of state.new.state result ≡ defined.opens state.old.state pid.0 flags.0 number }
-    ensures same { state.new ≡ record state.old { state = state.new.state } }
-{
-    state.open_descriptor(
-        pid,
-        Descriptor {
-            on: Opened::Queue(number),
-            flags: flags.0 & KEPT_FLAGS,
-        },
-    )
 }
 
 /// Opens the queue of a number, if the caller may use it so.
@@ -142,13 +109,9 @@ fn open_queue(state: &mut State, cred: Cred, pid: Pid, flags: OpenFlags, number:
         ≡ ended state.old.state (defined.opened_queue state.old.state cred pid.0 flags.0 number) }
     ensures same { state.new ≡ record state.old { state = state.new.state } }
 {
-    let Some(entry) = state.mq(number) else {
-        return Err(Errno::ENOENT);
-    };
-    if !may_use(cred, entry, flags) {
-        return Err(Errno::EACCES);
-    }
-    Ok(Body::Number(open_on(state, pid, flags, number)))
+    usable(state.named_mqs(), cred, number, asked_by(flags))?;
+    let on = Opened::Queue(number);
+    Ok(Body::Number(open_on(state, pid, on, flags.0 & KEPT_FLAGS)))
 }
 
 /// A number of an open that is above 0 and within its limit.
@@ -202,6 +165,8 @@ fn make_queue(
     ensures waits { state.new.room.waits ≡ state.old.room.waits }
     ensures keys { state.new.room.keys ≡ state.old.room.keys }
     ensures set_keys { state.new.room.set_keys ≡ state.old.room.set_keys }
+    ensures sem_names { state.new.room.sem_names ≡ state.old.room.sem_names }
+    ensures segment_names { state.new.room.segment_names ≡ state.old.room.segment_names }
     ensures others { (other : List ℕ) → other ≢ _name.now
         → is_vacant state.new.room.names other ≡ is_vacant state.old.room.names other }
 {
@@ -210,5 +175,6 @@ fn make_queue(
         return Err(Errno::ENOSPC);
     }
     let number = state.add_mq(cred, wanted.mode & 0o777, maxmsg, msgsize);
-    Ok(Body::Number(open_on(state, pid, flags, number)))
+    let on = Opened::Queue(number);
+    Ok(Body::Number(open_on(state, pid, on, flags.0 & KEPT_FLAGS)))
 }

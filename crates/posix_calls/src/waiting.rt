@@ -1,5 +1,5 @@
-//! The calls that may wait, mq_send(3) and mq_receive(3): each is tried when it comes, and again when what it waits for
-//! has changed. None takes memory in its attempt.
+//! The calls that may wait, mq_send(3), mq_receive(3) and sem_wait(3): each is tried when it comes, and again when what
+//! it waits for has changed. None takes memory in its attempt.
 
 ghost use Rattle.std.specs.Prelude.{◌≡◌, ◌<◌, length, true, is_some, option_map, Some, OnOk};
 ghost use Rattle.ipc_base.specs.Limits.{ArePassed};
@@ -14,11 +14,13 @@ ghost use Rattle.ipc_state.specs.Touching.{mq_object};
 ghost use Rattle.posix_mq.specs.Queue.{Queue, most_messages, plain, received, received_message};
 ghost use Rattle.posix_calls.specs.Calls as calls;
 ghost use Rattle.posix_calls.specs.Mq as defined;
+ghost use Rattle.posix_calls.specs.Sem as sem;
 ghost use Rattle.ipc_state.specs.Steps.{attempted, plain_halt, seen};
 ghost use Rattle.posix_calls.specs.Seen.{IsKeptIn, number_in, tried_of};
 
 use crate::access::{reads, writes};
 use crate::mq::open_queue;
+use crate::sem::{lower, open_semaphore};
 use bitflags::Flags;
 use ipc_base::{Errno, OpenFlags, Pid};
 use ipc_state::{Answer, Awaited, Halt, Object, ParkedPosix, State};
@@ -57,6 +59,10 @@ pub fn try_parked(state: &mut State, pid: Pid, call: ParkedPosix) -> Tried
             Tried::Finishes(Ok(Body::Empty), fired)
         }
         ParkedPosix::MqReceive { .. } => Tried::Finishes(Ok(receive(state, number)), None),
+        ParkedPosix::SemWait { .. } => {
+            lower(state, number);
+            Tried::Finishes(Ok(Body::Empty), None)
+        }
     }
 }
 
@@ -72,7 +78,7 @@ pub fn has_to_wait(state: &State, pid: Pid, call: &ParkedPosix) -> bool
     }
 }
 
-/// The number of the queue, if a call may go on now.
+/// The number of the queue, or of the semaphore, if a call may go on now.
 fn ready(state: &State, pid: Pid, call: &ParkedPosix) -> Result<u32, Halt>
     ensures tests { attempted result ≡ number_in state.now.state pid.0 call.now }
     ensures passed { OnOk result (ArePassed state.now.limits) }
@@ -80,6 +86,7 @@ fn ready(state: &State, pid: Pid, call: &ParkedPosix) -> Result<u32, Halt>
     match call {
         ParkedPosix::MqSend { fd, message, .. } => ready_to_send(state, pid, *fd, message),
         ParkedPosix::MqReceive { fd, size, .. } => ready_to_receive(state, pid, *fd, *size),
+        ParkedPosix::SemWait { fd, .. } => ready_to_wait(state, pid, *fd),
     }
 }
 
@@ -135,6 +142,18 @@ fn ready_to_receive(state: &State, pid: Pid, fd: u32, size: u32) -> Result<u32, 
     received_is_oldest_of_greatest();
     if found.queue.is_empty() {
         return Err(waits_or_fails(found.flags));
+    }
+    Ok(found.number)
+}
+
+/// The number of the semaphore, if it may be lowered now: the tests of sem_wait(3).
+fn ready_to_wait(state: &State, pid: Pid, fd: u32) -> Result<u32, Halt>
+    ensures tests { attempted result ≡ seen (λ found. found.number) (sem.lowerable state.now.state pid.0 fd) }
+    ensures passed { OnOk result (ArePassed state.now.limits) }
+{
+    let found = open_semaphore(state, pid, fd).map_err(Halt::Fails)?;
+    if found.value == 0 {
+        return Err(Halt::Blocks);
     }
     Ok(found.number)
 }
@@ -219,10 +238,10 @@ pub fn touched(state: &State, pid: Pid, call: &PosixCall<'_>) -> Option<Object>
         PosixCall::Close { fd }
         | PosixCall::MqSend { fd, .. }
         | PosixCall::MqReceive { fd, .. }
-        | PosixCall::MqNotify { fd, .. } => state.object_of(pid, Awaited::Descriptor(*fd)),
-        PosixCall::MqOpen { .. }
-        | PosixCall::MqUnlink { .. }
-        | PosixCall::MqGetattr { .. }
-        | PosixCall::MqSetattr { .. } => None,
+        | PosixCall::MqNotify { fd, .. }
+        | PosixCall::SemPost { fd }
+        | PosixCall::SemWait { fd, .. }
+        | PosixCall::SemTrywait { fd } => state.object_of(pid, Awaited::Descriptor(*fd)),
+        _ => None,
     }
 }

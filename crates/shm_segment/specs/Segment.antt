@@ -28,8 +28,3 @@ part offset count s = take count (drop offset s.bytes)
 abbrev pub written : ℕ → List ℕ → Segment → Segment
 written offset bytes s =
     record { bytes = take offset s.bytes ++ (bytes ++ drop (offset + length bytes) s.bytes) }
-
--- a segment, and for how many bytes in all there is room
-pub record Kept : Type 0 where
-  pub segment : Segment
-  pub room : ℕ

@@ -88,7 +88,7 @@ module _ (limits : Limits) (s : State) where
       → is_there pid on s ≡ true → IsAsBefore pid on s (with_queue s id e)
   others-with id e pid (awaited.Queue n) waits apart there = other-with s.msg.entries id n.0 e (other_id id n.0 apart)
   others-with id e pid (awaited.Set n) waits apart there = (refl, λ pid num. refl)
-  others-with id e pid (awaited.Descriptor fd) waits apart there = (refl, λ n is. refl)
+  others-with id e pid (awaited.Descriptor fd) waits apart there = (refl, λ n is. refl, λ n is. refl)
 
   msgget-ends : (cred : Cred) (key : ℤ) (flags : ℕ) → Ends limits s None (defined.msgget limits s cred key flags)
   msgget-ends cred key flags =
@@ -108,7 +108,7 @@ module _ (limits : Limits) (s : State) where
       as_added : (pid : ℕ) (on : Awaited) → is_there pid on s ≡ true → IsAsBefore pid on s (with_new_queue limits s key (perm_of cred flags))
       as_added pid (awaited.Queue n) there = there-append s.msg.entries _ n.0 there
       as_added pid (awaited.Set n) there = (refl, λ pid num. refl)
-      as_added pid (awaited.Descriptor fd) there = (refl, λ n is. refl)
+      as_added pid (awaited.Descriptor fd) there = (refl, λ n is. refl, λ n is. refl)
 
   msgsnd-ends : (cred : Cred) (pid : ℕ) (again : Bool) (id flags : ℕ) (mtype : ℤ) (text : List ℕ)
       → Ends limits s (Some (object.Queue (record { 0 = id }))) (defined.msgsnd limits s cred pid again id flags mtype text)
@@ -195,7 +195,7 @@ module _ (limits : Limits) (s : State) where
           → IsAsBefore pid on s (record s { msg = without_entry s.msg id })
       as_left pid (awaited.Queue n) apart = value_at-without s.msg.entries id n.0 (other_id id n.0 apart)
       as_left pid (awaited.Set n) apart = (refl, λ pid num. refl)
-      as_left pid (awaited.Descriptor fd) apart = (refl, λ n is. refl)
+      as_left pid (awaited.Descriptor fd) apart = (refl, λ n is. refl, λ n is. refl)
 
   call-ends : (pid : ℕ) (again : Bool) (call : PlainCall) → Ends limits s (touched call) (call_of limits s pid again call)
   call-ends pid again (requests.Msgget key flags) = msgget-ends (cred_of s pid) key flags

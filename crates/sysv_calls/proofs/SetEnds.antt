@@ -146,7 +146,7 @@ module _ (limits : Limits) (s : State) where
       same : (pid : ℕ) (on : Awaited) → is_there pid on s ≡ true → IsAsBefore pid on s (record s { sem = with_new s.sem e })
       same pid (awaited.Queue n) there = refl
       same pid (awaited.Set n) there = (there-append s.sem.entries _ n.0 there, λ pid num. refl)
-      same pid (awaited.Descriptor fd) there = (refl, λ n is. refl)
+      same pid (awaited.Descriptor fd) there = (refl, λ n is. refl, λ n is. refl)
 
   -- another set in its place, or none, and other adjustments there change no other set on which others wait
   good-sets : (id : ℕ) (sem : Keyed Set) (undo : List (ℕ × Undo)) → (HasSoundParts limits s → HasSoundParts limits (record s { sem = sem; undo = undo }))
@@ -169,7 +169,7 @@ module _ (limits : Limits) (s : State) where
       same pid (awaited.Set n) apart =
           let other = other_id id n.0 apart in
           (others n.0 other, λ pid num. elsewhere pid (n.0, num) other)
-      same pid (awaited.Descriptor fd) apart = (refl, λ n is. refl)
+      same pid (awaited.Descriptor fd) apart = (refl, λ n is. refl, λ n is. refl)
 
   value-fits : (value : ℤ) (v : ℕ) → value_of value ≡ Some v → v ≤ most_value
   value-fits (pos k) v is = by_test (nat_le k most_value) refl is

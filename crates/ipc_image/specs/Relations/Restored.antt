@@ -9,5 +9,6 @@ use Rattle.ipc_image.specs.Saved.{clock_sizes, clock_numbers}
 abbrev pub IsClockOf : Numbers → List ℕ → Type 0
 IsClockOf n bytes =
     (s : State) → s.clock ≡ n.clock.0 → s.processes.next ≡ n.next_pid → s.msg.next ≡ n.next_queue
-    → s.sem.next ≡ n.next_set → s.mq.next ≡ n.next_mq
+    → s.sem.next ≡ n.next_set → s.mq.next ≡ n.next_mq → s.named_sem.next ≡ n.next_named_sem
+    → s.shm.next ≡ n.next_segment
     → FitFields clock_sizes (clock_numbers s) × (bytes ≡ fields_bytes clock_sizes (clock_numbers s))

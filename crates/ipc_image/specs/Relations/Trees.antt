@@ -18,12 +18,14 @@ use Rattle.ipc_wire.proofs.CallerLemmas.{framed}
 use Rattle.sem_undo.specs.Undo.{is_adjustment}
 use Rattle.sysv_msg.specs.Queue.{PlainMessage}
 use Rattle.sysv_sem.specs.declared.set.Semaphore.{Semaphore}
-use Rattle.ipc_image.specs.Saved.{descriptor_shape, descriptor_numbers, descriptor_bytes, FitsDescriptor, opened_number}
+use Rattle.ipc_image.specs.Saved.{descriptor_shape, descriptor_numbers, descriptor_bytes, FitsDescriptor}
+use Rattle.ipc_image.specs.Saved.{opened_kind, opened_number}
 use Rattle.ipc_image.specs.Saved.{process_numbers, process_tree, FitsProcess, deadline_number, waiting_tree}
 use Rattle.ipc_image.specs.Saved.{FitsWaiting}
 use Rattle.ipc_image.specs.Saved.{Adjustment, adjustment_numbers, FitsAdjustment, message_tree, FitsMessage}
 use Rattle.ipc_image.specs.Saved.{semaphore_numbers, FitsSemaphore}
-use Rattle.ipc_image.specs.SavedParts.{descriptor_of, process_from, request_in, awaited_or_any, deadline_from}
+use Rattle.ipc_image.specs.SavedParts.{descriptor_of, opened_from, process_from}
+use Rattle.ipc_image.specs.SavedParts.{request_in, awaited_or_any, deadline_from}
 use Rattle.ipc_image.specs.SavedParts.{waiting_of, adjustment_of}
 use Rattle.ipc_image.specs.SavedParts.{message_from, message_of, semaphore_from}
 use Rattle.ipc_image.specs.Relations.Shapes.{plain_one}
@@ -35,8 +37,10 @@ pub one_if_back : {X T : Type 0} (tree : X → T) (back : T → X) (Fits : X →
 one_if_back tree back Fits known x y fit also same = sym (known x fit) ∙ ap back same ∙ known y also
 
 -- two descriptors
-opened_known : (on : Opened) → opened.Queue (opened_number on) ≡ on
+opened_known : (on : Opened) → opened_from (opened_kind on) (opened_number on) ≡ on
 opened_known (opened.Queue n) = refl
+opened_known (opened.Semaphore n) = refl
+opened_known (opened.Segment n) = refl
 
 pub descriptor_one : (d e : ℕ × Descriptor) → FitsDescriptor d → FitsDescriptor e
     → descriptor_numbers d ≡ descriptor_numbers e → d ≡ e

@@ -1,9 +1,11 @@
 -- The line of a listing, from the columns of the code.
 use Rattle.std.specs.Prelude.{ℕ, List}
-use Rattle.ipc_engine.specs.declared.listing.Row.TheVariants.{Msg, Sem, Pmq}
+use Rattle.ipc_engine.specs.declared.listing.Row.TheVariants.{Msg, Sem, Pmq, Psm, Shm}
 use Rattle.ipc_script.specs.declared.listing.MsgLine.{MsgLine}
 use Rattle.ipc_script.specs.declared.listing.PmqLine.{PmqLine}
+use Rattle.ipc_script.specs.declared.listing.PsmLine.{PsmLine}
 use Rattle.ipc_script.specs.declared.listing.SemLine.{SemLine}
+use Rattle.ipc_script.specs.declared.listing.ShmLine.{ShmLine}
 use Rattle.ipc_script.specs.Dump.{row_line}
 
 abbrev pub msg_text : MsgLine → List ℕ
@@ -16,3 +18,9 @@ sem_text line = row_line (Sem (record { 0 = line.id.0 }) line.key.0 line.mode.0 
 abbrev pub pmq_text : PmqLine → List ℕ
 pmq_text line =
     row_line (Pmq line.mode.0 line.uid.0 line.gid.0 line.messages.0 line.maxmsg.0 line.msgsize.0 line.name.0.now)
+
+abbrev pub psm_text : PsmLine → List ℕ
+psm_text line = row_line (Psm line.mode.0 line.uid.0 line.gid.0 line.value.0 line.name.0.now)
+
+abbrev pub shm_text : ShmLine → List ℕ
+shm_text line = row_line (Shm line.mode.0 line.uid.0 line.gid.0 line.length.0 line.name.0.now)

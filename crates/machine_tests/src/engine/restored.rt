@@ -1,4 +1,5 @@
-//! States rebuilt from what was read: sound ones go on, and of each part there is one with which none is sound.
+//! A state rebuilt from what was read has each part that was added. Which states are sound, runs of the program on
+//! devices show.
 
 use super::small;
 use ipc_base::{Cred, Id, Moment, Pid};
@@ -7,7 +8,6 @@ use ipc_keys::Name;
 use ipc_perm::Perm;
 use ipc_state::{Descriptor, Descriptors, Entry, NamedEntry, Numbers, Opened, Process, State};
 use posix_mq::{Message as MqMessage, Mq, MqAttr, Registration};
-use sem_undo::UndoRow;
 use std::alloc::{AllocError, Global};
 use std::test::Fail;
 use sysv_msg::{Message, MsgQueue, QueueNumbers, QueueStat};
@@ -66,8 +66,6 @@ pub(super) enum Part {
     Posix(u32, Posix),
     Queue(u32, i32, Perm, QueueNumbers, &'static [Sent]),
     Set(u32, i32, Perm, &'static [Changed]),
-    /// An adjustment of a process: the set, the number there, and how much.
-    Adjustment(u32, u32, u16, i16),
 }
 
 fn queue_with(alloc: Global, numbers: QueueNumbers, sent: &[Sent]) -> Result<MsgQueue, AllocError> {
@@ -128,6 +126,8 @@ fn add(alloc: Global, state: &mut State, part: Part) -> Result<(), AllocError> {
                 next_queue,
                 next_set: 3,
                 next_mq: 3,
+                next_named_sem: 3,
+                next_segment: 3,
             });
             Ok(())
         }
@@ -151,7 +151,6 @@ fn add(alloc: Global, state: &mut State, part: Part) -> Result<(), AllocError> {
             let object = set_with(alloc, changed)?;
             state.restore_set(Id(id), Entry { key, perm, object })
         }
-        Part::Adjustment(..) => Ok(()),
     }
 }
 
@@ -161,23 +160,7 @@ pub(super) fn state_of(alloc: Global, parts: &[Part]) -> Result<State, AllocErro
         add(alloc, &mut state, *part)?;
     }
     state.restore_no_adjustments()?;
-    for part in parts {
-        adjust(&mut state, *part)?;
-    }
     Ok(state)
-}
-
-/// An adjustment is added after all else.
-fn adjust(state: &mut State, part: Part) -> Result<(), AllocError> {
-    let Part::Adjustment(pid, set, num, adjustment) = part else {
-        return Ok(());
-    };
-    let row = UndoRow {
-        set: Id(set),
-        num,
-        adjustment,
-    };
-    state.restore_adjustment(Pid(pid), row)
 }
 
 fn begin(alloc: Global, parts: &[Part]) -> Result<Engine, StateFault> {
@@ -334,174 +317,4 @@ fn reads_what_was_added(rt: HostRuntime) -> Result<(), Fail> {
     assert_eq!(rt; engine.state().descriptor(Pid(3), 2), Some(opened));
     assert_eq!(rt; engine.state().descriptor(Pid(3), 1), None);
     Ok(())
-}
-
-const WIDE: Perm = Perm {
-    uid: 1000,
-    gid: 100,
-    cuid: 1000,
-    cgid: 100,
-    mode: 0o1000,
-};
-
-const LARGE: QueueNumbers = QueueNumbers {
-    qbytes: 129,
-    stime: Moment(7),
-    rtime: Moment(6),
-    ctime: Moment(5),
-    lspid: Pid(2),
-    lrpid: Pid(1),
-};
-
-/// States that are not sound. The limits are 4 processes, 2 queues, 64 bytes a message and 128 a queue, 2 semaphore
-/// sets, and 4 semaphores a set.
-const NOT_SOUND: [&[Part]; 29] = [
-    &[
-        Part::Next(4, 1),
-        Part::Process(3),
-        Part::Set(1, 5, PERM, &[(0, 0)]),
-        Part::Adjustment(3, 1, 1, 1),
-    ],
-    &[
-        Part::Next(4, 1),
-        Part::Process(3),
-        Part::Set(1, 5, PERM, &[(0, 0)]),
-        Part::Adjustment(3, 2, 0, 1),
-    ],
-    &[Part::Next(1, 1), Part::Set(1, 5, PERM, &[])],
-    &[Part::Next(1, 1), Part::Set(1, 5, PERM, &[(0, 0); 5])],
-    &[Part::Next(1, 1), Part::Set(0, 5, PERM, &[(0, 0)])],
-    &[Part::Next(1, 1), Part::Set(3, 5, PERM, &[(0, 0)])],
-    &[Part::Next(1, 1), Part::Set(1, 5, WIDE, &[(0, 0)])],
-    &[
-        Part::Next(1, 1),
-        Part::Set(1, 5, PERM, &[(0, 0)]),
-        Part::Set(2, 5, PERM, &[(0, 0)]),
-    ],
-    &[Part::Next(0, 1)],
-    &[Part::Next(1, 0)],
-    &[Part::Next(2147483649, 1)],
-    &[Part::Next(1, 2147483649)],
-    &[Part::Next(4, 1), Part::Process(0)],
-    &[Part::Next(3, 1), Part::Process(3)],
-    &[Part::Next(4, 1), Part::Process(3), Part::Process(2)],
-    &[Part::Next(4, 1), Part::Process(3), Part::Process(3)],
-    &[
-        Part::Next(6, 1),
-        Part::Process(1),
-        Part::Process(2),
-        Part::Process(3),
-        Part::Process(4),
-        Part::Process(5),
-    ],
-    &[Part::Next(1, 2), Part::Queue(0, 5, PERM, NUMBERS, &[])],
-    &[Part::Next(1, 1), Part::Queue(1, 5, PERM, NUMBERS, &[])],
-    &[
-        Part::Next(1, 3),
-        Part::Queue(2, 5, PERM, NUMBERS, &[]),
-        Part::Queue(1, 6, PERM, NUMBERS, &[]),
-    ],
-    &[
-        Part::Next(1, 3),
-        Part::Queue(1, 5, PERM, NUMBERS, &[]),
-        Part::Queue(1, 6, PERM, NUMBERS, &[]),
-    ],
-    &[
-        Part::Next(1, 3),
-        Part::Queue(1, 5, PERM, NUMBERS, &[]),
-        Part::Queue(2, 5, PERM, NUMBERS, &[]),
-    ],
-    &[
-        Part::Next(1, 4),
-        Part::Queue(1, 5, PERM, NUMBERS, &[]),
-        Part::Queue(2, 6, PERM, NUMBERS, &[]),
-        Part::Queue(3, 7, PERM, NUMBERS, &[]),
-    ],
-    &[Part::Next(1, 2), Part::Queue(1, 5, WIDE, NUMBERS, &[])],
-    &[Part::Next(1, 2), Part::Queue(1, 5, PERM, LARGE, &[])],
-    &[
-        Part::Next(1, 2),
-        Part::Queue(1, 5, PERM, NUMBERS, &[(0, b"a")]),
-    ],
-    &[
-        Part::Next(1, 2),
-        Part::Queue(1, 5, PERM, NUMBERS, &[(-1, b"a")]),
-    ],
-    &[
-        Part::Next(1, 2),
-        Part::Queue(1, 5, PERM, NUMBERS, &[(1, &[7; 65])]),
-    ],
-    &[
-        Part::Next(1, 2),
-        Part::Queue(
-            1,
-            5,
-            PERM,
-            NUMBERS,
-            &[(1, &[7; 64]), (1, &[7; 64]), (1, b"a")],
-        ),
-    ],
-];
-
-fn is_unsound(alloc: Global, parts: &[Part]) -> bool {
-    matches!(engine_of(alloc, parts), Err(StateFault::Unsound))
-}
-
-#[test]
-fn refuses_states_that_are_not_sound(rt: HostRuntime) {
-    for (line, parts) in NOT_SOUND.iter().enumerate() {
-        assert!(rt; is_unsound(rt.alloc(), parts), "at line {line}");
-    }
-}
-
-/// Sound states at the edge of what they may be: the last numbers, private keys twice, as many processes as the limit
-/// says, a queue with as many bytes, and sets with as many semaphores.
-const AT_THE_EDGE: [&[Part]; 6] = [
-    &[
-        Part::Next(4, 1),
-        Part::Process(2),
-        Part::Process(3),
-        Part::Set(1, 5, PERM, &[(0, 0), (0, 0)]),
-        Part::Adjustment(2, 1, 1, 32767),
-        Part::Adjustment(3, 1, 1, -32767),
-    ],
-    &[
-        Part::Next(1, 1),
-        Part::Set(1, 0, PERM, &[(32767, 1); 4]),
-        Part::Set(2, 0, PERM, &[(0, 2147483647); 4]),
-    ],
-    &[
-        Part::Next(2147483648, 2147483648),
-        Part::Process(2147483647),
-        Part::Queue(2147483647, 5, PERM, NUMBERS, &[]),
-    ],
-    &[
-        Part::Next(1, 3),
-        Part::Queue(1, 0, PERM, NUMBERS, &[]),
-        Part::Queue(2, 0, PERM, NUMBERS, &[]),
-    ],
-    &[
-        Part::Next(6, 1),
-        Part::Process(1),
-        Part::Process(2),
-        Part::Process(4),
-        Part::Process(5),
-    ],
-    &[
-        Part::Next(1, 2),
-        Part::Queue(
-            1,
-            5,
-            PERM,
-            NUMBERS,
-            &[(1, &[7; 64]), (9223372036854775807, &[7; 64])],
-        ),
-    ],
-];
-
-#[test]
-fn takes_states_at_the_edge(rt: HostRuntime) {
-    for (line, parts) in AT_THE_EDGE.iter().enumerate() {
-        assert!(rt; engine_of(rt.alloc(), parts).is_ok(), "at line {line}");
-    }
 }

@@ -1,11 +1,15 @@
-use Rattle.std.proofs.Common.{◌≡◌, ℕ, Bool, true, false, cond, List, [], ◌∷◌, Option, Some, None, refl, ap, ◌∙◌}
+use Rattle.std.proofs.Common.{◌≡◌, ℕ, Bool, true, false, cond, List, [], ◌∷◌, Option, Some, None, refl, sym, subst, ap, ◌∙◌}
 use Rattle.std.specs.Prelude.{All, ◌||◌, nat_eq, filter, option_map}
 use Rattle.std.proofs.lemmas.List.Elements.{All-nil, All-cons}
 use Rattle.ipc_base.specs.Table.{value_at}
 use Rattle.ipc_base.proofs.CallerLemmas.{at-map}
+use Rattle.ipc_keys.specs.declared.check.NameKind.{NameKind}
+use Rattle.ipc_keys.specs.declared.check.NameKind.TheVariants as names
 use Rattle.posix_mq.specs.Queue.{Queue as Mq}
 use Rattle.posix_mq.specs.declared.queue.Registration.{Registration}
+use Rattle.shm_segment.specs.Segment.{Segment}
 use Rattle.ipc_state.specs.declared.named.NamedEntry.{NamedEntry}
+use Rattle.ipc_state.specs.Named.{Named}
 use Rattle.ipc_state.specs.Opening.{deregistered, has_name, is_by, stays, unless_so, without_registrations}
 use Rattle.ipc_state.proofs.CallerLemmas.{restart-sets}
 use Rattle.ipc_engine.proofs.laws.restart_keeps_objects.Goals as goal
@@ -16,39 +20,52 @@ returns-clause-sets c limits s = (restart-sets limits s).0
 pub returns-clause-next_set : goal.returns-clause-next_set
 returns-clause-next_set c limits s = (restart-sets limits s).1
 
+-- with no process, those that stay are those with a name
+named-stay : {X : Type 0} (kind : NameKind) (es : List (ℕ × NamedEntry X))
+    → filter (stays kind []) es ≡ filter (λ (e : ℕ × NamedEntry X). has_name e.1) es
+named-stay kind [] = refl
+named-stay {X} kind (g ∷ es) =
+    ap (λ (b : Bool). cond b (g ∷ filter (stays kind []) es) (filter (stays kind []) es)) (alone (has_name g.1))
+    ∙ ap (λ (rest : List (ℕ × NamedEntry X)). cond (has_name g.1) (g ∷ rest) rest) (named-stay kind es)
+  where
+    alone : (b : Bool) → b || false ≡ b
+    alone true = refl
+    alone false = refl
+
 -- what has a name is left
 left : (es : List (ℕ × NamedEntry Mq)) (n : ℕ) (e : NamedEntry Mq) → value_at nat_eq es n ≡ Some e → has_name e ≡ true
-    → value_at nat_eq (filter (stays []) es) n ≡ Some e
+    → value_at nat_eq (filter (λ (g : ℕ × NamedEntry Mq). has_name g.1) es) n ≡ Some e
 left [] n e is named = is
 left (g ∷ es) n e is named = by_key (nat_eq g.0 n) refl is (λ later. left es n e later named)
   where
+    rest : List (ℕ × NamedEntry Mq)
+    rest = filter (λ (d : ℕ × NamedEntry Mq). has_name d.1) es
+
     by_key : (b : Bool) → nat_eq g.0 n ≡ b → cond b (Some g.1) (value_at nat_eq es n) ≡ Some e
-        → (value_at nat_eq es n ≡ Some e → value_at nat_eq (filter (stays []) es) n ≡ Some e)
-        → value_at nat_eq (cond (stays [] g) (g ∷ filter (stays []) es) (filter (stays []) es)) n ≡ Some e
+        → (value_at nat_eq es n ≡ Some e → value_at nat_eq rest n ≡ Some e)
+        → value_at nat_eq (cond (has_name g.1) (g ∷ rest) rest) n ≡ Some e
     by_key true same is later =
         let value : g.1 ≡ e = cc in
-        let here : stays [] g ≡ true = ap (λ (x : NamedEntry Mq). has_name x || false) value ∙ ap (λ (b : Bool). b || false) named in
-        rw here (rw same is)
-    by_key false apart is later = by_test (stays [] g) (later is)
+        rw (ap (λ (x : NamedEntry Mq). has_name x) value ∙ named) (rw same is)
+    by_key false apart is later = by_test (has_name g.1) (later is)
       where
-        by_test : (b : Bool) → value_at nat_eq (filter (stays []) es) n ≡ Some e
-            → value_at nat_eq (cond b (g ∷ filter (stays []) es) (filter (stays []) es)) n ≡ Some e
-        by_test true rest = rw apart rest
-        by_test false rest = rest
+        by_test : (b : Bool) → value_at nat_eq rest n ≡ Some e → value_at nat_eq (cond b (g ∷ rest) rest) n ≡ Some e
+        by_test true on = rw apart on
+        by_test false on = on
 
 -- and nothing else
-all-left : (es : List (ℕ × NamedEntry Mq)) → All (λ (e : ℕ × NamedEntry Mq). has_name e.1 ≡ true) (filter (stays []) es)
+all-left : (es : List (ℕ × NamedEntry Mq))
+    → All (λ (e : ℕ × NamedEntry Mq). has_name e.1 ≡ true) (filter (λ (e : ℕ × NamedEntry Mq). has_name e.1) es)
 all-left [] = All-nil (λ (e : ℕ × NamedEntry Mq). has_name e.1 ≡ true)
-all-left (g ∷ es) = by_test (stays [] g) refl (all-left es)
+all-left (g ∷ es) = by_test (has_name g.1) refl (all-left es)
   where
-    by_name : (b : Bool) → b || false ≡ true → b ≡ true
-    by_name true is = refl
-    by_name false is = cc
+    rest : List (ℕ × NamedEntry Mq)
+    rest = filter (λ (d : ℕ × NamedEntry Mq). has_name d.1) es
 
-    by_test : (b : Bool) → stays [] g ≡ b → All (λ (e : ℕ × NamedEntry Mq). has_name e.1 ≡ true) (filter (stays []) es)
-        → All (λ (e : ℕ × NamedEntry Mq). has_name e.1 ≡ true) (cond b (g ∷ filter (stays []) es) (filter (stays []) es))
-    by_test true is rest = All-cons (λ (e : ℕ × NamedEntry Mq). has_name e.1 ≡ true) g (filter (stays []) es) (by_name (has_name g.1) is) rest
-    by_test false is rest = rest
+    by_test : (b : Bool) → has_name g.1 ≡ b → All (λ (e : ℕ × NamedEntry Mq). has_name e.1 ≡ true) rest
+        → All (λ (e : ℕ × NamedEntry Mq). has_name e.1 ≡ true) (cond b (g ∷ rest) rest)
+    by_test true is on = All-cons (λ (e : ℕ × NamedEntry Mq). has_name e.1 ≡ true) g rest is on
+    by_test false is on = on
 
 -- nobody is registered then
 none-by : (r : Option Registration) → unless_so (is_by None None) r ≡ None
@@ -60,8 +77,22 @@ returns-clause-named c limits s n e is named =
     let goes : Registration → Bool = is_by None None in
     let there : value_at nat_eq (without_registrations goes s.mq).entries n ≡ Some (deregistered goes e) =
     at-map (deregistered goes) s.mq.entries n ∙ ap (option_map (deregistered goes)) is in
-    left (without_registrations goes s.mq).entries n (deregistered goes e) there named
+    ap (λ (es : List (ℕ × NamedEntry Mq)). value_at nat_eq es n) (named-stay names.Queue (without_registrations goes s.mq).entries)
+    ∙ left (without_registrations goes s.mq).entries n (deregistered goes e) there named
     ∙ ap (λ (r : Option Registration). Some (record e { object = record e.object { registration = r } })) (none-by e.object.registration)
 
 pub returns-clause-no_other : goal.returns-clause-no_other
-returns-clause-no_other c limits s = all-left (without_registrations (is_by None None) s.mq).entries
+returns-clause-no_other c limits s =
+    let es = (without_registrations (is_by None None) s.mq).entries in
+    subst (All (λ (e : ℕ × NamedEntry Mq). has_name e.1 ≡ true)) (sym (named-stay names.Queue es))
+    (all-left es)
+
+pub returns-clause-named_sems : goal.returns-clause-named_sems
+returns-clause-named_sems c limits s =
+    ap (λ (es : List (ℕ × NamedEntry ℕ)). let o : Named ℕ = record { next = s.named_sem.next; entries = es } in o)
+    (named-stay names.Semaphore s.named_sem.entries)
+
+pub returns-clause-segments : goal.returns-clause-segments
+returns-clause-segments c limits s =
+    ap (λ (es : List (ℕ × NamedEntry Segment)). let o : Named Segment = record { next = s.shm.next; entries = es } in o)
+    (named-stay names.Segment s.shm.entries)

@@ -6,8 +6,6 @@ use Rattle.ipc_base.proofs.CallerLemmas.{fields_one, listed, numbers_are}
 use Rattle.ipc_state.specs.State.{State}
 use Rattle.ipc_image.specs.Saved.{clock_sizes, clock_numbers}
 use Rattle.ipc_image.proofs.clock.read_clock.Goals as goal
-use Rattle.ipc_image.proofs.clock.read_clock.Goals.{then-not-is_empty-via-then-not-is_empty}
-use Rattle.ipc_image.proofs.clock.read_clock.Goals.{then-not-is_empty-via-else-not-is_empty+then-not-are_to_come}
 
 -- too few bytes for the numbers
 pub returns-in_err-numbers-clause-none : goal.returns-in_err-numbers-clause-none
@@ -22,7 +20,8 @@ both ns rest bytes s has found fit is =
     fields_one clock_sizes ns (clock_numbers s) rest [] has fit (sym found ∙ is ∙ sym (append-nil (fields_bytes clock_sizes (clock_numbers s))))
 
 listed_is : (ns : List ℕ) (s : State) → s.clock ≡ get_or ns 0 0 → s.processes.next ≡ get_or ns 1 0 → s.msg.next ≡ get_or ns 2 0
-    → s.sem.next ≡ get_or ns 3 0 → s.mq.next ≡ get_or ns 4 0 → get_or ns 5 0 ≡ 1 → get_or ns 6 0 ≡ 1 → listed 7 0 ns ≡ clock_numbers s
+    → s.sem.next ≡ get_or ns 3 0 → s.mq.next ≡ get_or ns 4 0 → s.named_sem.next ≡ get_or ns 5 0 → s.shm.next ≡ get_or ns 6 0
+    → listed 7 0 ns ≡ clock_numbers s
 listed_is ns s a b c d e f g = cc
 
 pub returns-then-not-is_empty-clause-none : goal.returns-then-not-is_empty-clause-none
@@ -30,26 +29,17 @@ returns-then-not-is_empty-clause-none c s fit is =
     let ns : List ℕ = c.in_ok-numbers.numbers in
     let found = c.in_ok-numbers.ensures.some in
     let same = both ns c.in_ok-numbers.rest.now c.args.bytes.now s found.0 found.1 fit is in
-    let at : (i : ℕ) → get_or ns i 0 ≡ get_or (clock_numbers s) i 0 = λ i. ap (λ (l : List ℕ). get_or l i 0) same.0 in
-    elim c.then-not-is_empty.branch [
-      | then-not-is_empty-via-then-not-is_empty w ↦
-          let none : nat_eq (length c.in_ok-numbers.rest.now) 0 ≡ true = ap (λ (l : List ℕ). nat_eq (length l) 0) same.1 in
-          let no = w.if-not-is_empty.true in
-          let test = c.is_empty.ensures in
-          cc
-      | then-not-is_empty-via-else-not-is_empty+then-not-are_to_come w ↦
-          let yes = w.are_to_come.ensures.1 (at 5, at 6) in
-          let no = w.if-not-are_to_come.true in
-          cc
-    ]
+    let none : nat_eq (length c.in_ok-numbers.rest.now) 0 ≡ true = ap (λ (l : List ℕ). nat_eq (length l) 0) same.1 in
+    let no = c.if-not-is_empty.true in
+    let test = c.is_empty.ensures in
+    cc
 
 pub returns-clause-some : goal.returns-clause-some
-returns-clause-some c s clock pid queue set mq =
+returns-clause-some c s clock pid queue set mq sem segment =
     let ns : List ℕ = c.in_ok-numbers.numbers in
     let rest : List ℕ = c.in_ok-numbers.rest.now in
     let found = c.in_ok-numbers.ensures.some in
-    let ones = c.are_to_come.ensures.0 c.if-not-are_to_come.false in
-    let same : ns ≡ clock_numbers s = numbers_are clock_sizes ns found.0 ∙ listed_is ns s clock pid queue set mq ones.0 ones.1 in
+    let same : ns ≡ clock_numbers s = numbers_are clock_sizes ns found.0 ∙ listed_is ns s clock pid queue set mq sem segment in
     let empty : rest ≡ [] = nil_from_length rest (eqb-true (length rest) 0 (sym c.if-not-is_empty.ensures)) in (
       subst (FitFields clock_sizes) same found.0,
       found.1 ∙ ap (λ (l : List ℕ). fields_bytes clock_sizes ns ++ l) empty ∙ append-nil (fields_bytes clock_sizes ns)

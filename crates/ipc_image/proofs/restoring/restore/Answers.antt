@@ -1,7 +1,6 @@
 -- The parts of a state, and the state that they make.
-use Rattle.std.proofs.Common.{◌≡◌, ◌∙◌, ◌++◌, ◌^◌, ◌*◌, ℕ, List, [], length, drop, map, sym, ap, arith}
+use Rattle.std.proofs.Common.{◌≡◌, ◌∙◌, ◌++◌, ℕ, List, drop, map, sym, ap}
 use Rattle.std.specs.Prelude.{Err}
-use Rattle.std.proofs.lemmas.List.{append-nil, length-drop, drop_all}
 use Rattle.ipc_base.specs.declared.limits.Limits.{Limits}
 use Rattle.ipc_base.specs.Numbers.{fields_bytes}
 use Rattle.ipc_base.specs.Objects.{PlainObjects}
@@ -9,10 +8,10 @@ use Rattle.ipc_base.specs.Table.{keys_of}
 use Rattle.sem_undo.specs.Undo.{Undo}
 use Rattle.ipc_state.specs.declared.processes.Process.{Process}
 use Rattle.ipc_state.specs.Restored.{with_numbers}
-use Rattle.ipc_state.specs.State.{State, start}
-use Rattle.ipc_image.specs.Saved.{clock_sizes, clock_numbers, processes_bytes, waits_bytes, adjustments_bytes, queue_object, set_object, mq_object}
+use Rattle.ipc_state.specs.State.{State, named_in, start}
+use Rattle.ipc_image.specs.Saved.{clock_sizes, clock_numbers, processes_bytes, waits_bytes, adjustments_bytes, queue_object, set_object, named_objects}
 use Rattle.ipc_image.proofs.WholeState.{parts_of, same_object, processes_added, processes_one, all-added, AreAdjustmentsRead, all_restored, restored_once}
-use Rattle.ipc_image.proofs.WholeState.{sets_and_mqs, after-queues, after-sets}
+use Rattle.ipc_image.proofs.WholeState.{sets_and_named, after-queues, after-sets}
 use Rattle.ipc_image.proofs.restoring.restore.Goals as goal
 
 pub returns-in_default-clause-damaged : goal.returns-in_default-clause-damaged
@@ -69,36 +68,24 @@ returns-in_err-restore_adjustments-clause-damaged c is s all are =
     (all.undo_pids ∙ ap (λ (l : List (ℕ × Process)). keys_of l) (same ∙ sym added)) all.distinct
     (same_object objects 3 c.in-Some-object_numbered-3.adjustments.now (adjustments_bytes s.undo) c.in-Some-object_numbered-3.ensures.some parts.adjustments)
 
--- the POSIX queues are all that is left after the sets
-mqs_of : (s : State) → map mq_object s.mq.entries ≡ map mq_object s.mq.entries ++ []
-mqs_of s = sym (append-nil (map mq_object s.mq.entries))
-
 pub returns-in_err-next-clause-damaged : goal.returns-in_err-next-clause-damaged
 returns-in_err-next-clause-damaged c is s all are =
     let why = rw is at c.from_residual-in_err-next.ensures in
-    c.in_err-next.ensures.damaged (ap (λ e. Err e) (sym why.1)) s.msg.entries (sets_and_mqs s) (after-queues s) all.queues
+    c.in_err-next.ensures.damaged (ap (λ e. Err e) (sym why.1)) s.msg.entries (sets_and_named s) (after-queues s) all.queues
     (parts_of s c.args.objects.now are).things
 
 pub returns-in_err-next-2-clause-damaged : goal.returns-in_err-next-2-clause-damaged
 returns-in_err-next-2-clause-damaged c is s all are =
     let why = rw is at c.from_residual-in_err-next-2.ensures in
     let left = c.in_ok-next.ensures.whole s.msg.entries _ (after-queues s) (parts_of s c.args.objects.now are).things all.queues in
-    c.in_err-next-2.ensures.damaged (ap (λ e. Err e) (sym why.1)) s.sem.entries (map mq_object s.mq.entries) (after-sets s) all.sets left
+    c.in_err-next-2.ensures.damaged (ap (λ e. Err e) (sym why.1)) s.sem.entries (named_objects (named_in s)) (after-sets s) all.sets left
 
-pub returns-in_err-next-3-clause-damaged : goal.returns-in_err-next-3-clause-damaged
-returns-in_err-next-3-clause-damaged c is s all are =
-    let why = rw is at c.from_residual-in_err-next-3.ensures in
+pub returns-in_err-restore_named-clause-damaged : goal.returns-in_err-restore_named-clause-damaged
+returns-in_err-restore_named-clause-damaged c is s all are =
+    let why = rw is at c.from_residual-in_err-restore_named.ensures in
     let left = c.in_ok-next.ensures.whole s.msg.entries _ (after-queues s) (parts_of s c.args.objects.now are).things all.queues in
     let last = c.in_ok-next-2.ensures.whole s.sem.entries _ (after-sets s) left all.sets in
-    c.in_err-next-3.ensures.damaged (ap (λ e. Err e) (sym why.1)) s.mq.entries [] tt all.mqs (last ∙ mqs_of s)
-
-pub returns-then-next-count-clause-damaged : goal.returns-then-next-count-clause-damaged
-returns-then-next-count-clause-damaged c is s all are =
-    let objects = c.args.objects.now in
-    let left = c.in_ok-next.ensures.whole s.msg.entries _ (after-queues s) (parts_of s objects are).things all.queues in
-    let last = c.in_ok-next-2.ensures.whole s.sem.entries _ (after-sets s) left all.sets in
-    let none = c.in_ok-next-3.ensures.whole s.mq.entries [] tt (last ∙ mqs_of s) all.mqs in
-    absurd (omega (arith, ap length none, length-drop c.in_ok-next-3.next objects, c.if-next-count.true, c.count.ensures.count))
+    c.in_err-restore_named.ensures.damaged (ap (λ e. Err e) (sym why.1)) (named_in s) all.named last
 
 pub returns-clause-ok : goal.returns-clause-ok
 returns-clause-ok c =
@@ -110,29 +97,26 @@ returns-clause-ok c =
     let undo : List (ℕ × Undo) = c.restore_adjustments.new.state.state.undo in
     let es = c.in_ok-next.ensures.ok in
     let fs = c.in_ok-next-2.ensures.ok in
-    let ms = c.in_ok-next-3.ensures.ok in
+    let named = c.in_ok-restore_named.ensures.ok in
     let from : (c.restore_numbers.new.self.state, c.restore_numbers.new.self.limits) ≡ (with_numbers start n, c.restore_numbers.new.self.limits) =
     ap (λ (s : State). let r : State × Limits = (s, c.restore_numbers.new.self.limits) in r)
     (c.restore_numbers.ensures.state ∙ ap (λ (s : State). with_numbers s n) c.requires) in
     let added = processes_added n c.restore_numbers.new.self.limits _ _ _ ps.0 ws.0 from ps.4 ws.5 in
-    let is = all-added n c.restore_numbers.new.self.limits _ _ _ _ _ _ (c.restore_kind-3.new.state.state, c.restore_kind-3.new.state.limits)
-    ps.0 ws.0 undo es.0 fs.0 ms.0 from ps.4 (λ i. (ws.5 i, c.in_ok-restore_waits.ensures.limits i))
-    (λ i. (c.in_ok-restore_adjustments.ensures.others i, c.in_ok-restore_adjustments.ensures.limits i)) es.3 fs.3 ms.3 in
-    let past : drop c.in_ok-next-3.next objects ≡ [] = drop_all c.in_ok-next-3.next objects (omega (arith, c.if-next-count.false, c.count.ensures.count)) in
-    let mqs : drop c.in_ok-next-2.next objects ≡ map mq_object ms.0 =
-    ms.2 ∙ ap (λ (l : PlainObjects). map mq_object ms.0 ++ l) past ∙ append-nil (map mq_object ms.0) in
-    let sets : drop c.in_ok-next.next objects ≡ map set_object fs.0 ++ map mq_object ms.0 =
-    fs.2 ∙ ap (λ (l : PlainObjects). map set_object fs.0 ++ l) mqs in
+    let is = all-added n c.restore_numbers.new.self.limits _ _ _ _ _ _ (c.restore_named.new.state.state, c.restore_named.new.state.limits)
+    ps.0 ws.0 undo es.0 fs.0 named.0 from ps.4 (λ i. (ws.5 i, c.in_ok-restore_waits.ensures.limits i))
+    (λ i. (c.in_ok-restore_adjustments.ensures.others i, c.in_ok-restore_adjustments.ensures.limits i)) es.3 fs.3 named.3 in
+    let sets : drop c.in_ok-next.next objects ≡ map set_object fs.0 ++ named_objects named.0 =
+    fs.2 ∙ ap (λ (l : PlainObjects). map set_object fs.0 ++ l) named.2 in
     let read : AreAdjustmentsRead ps.0 undo c.in-Some-object_numbered-3.adjustments.now = record {
       count = us.0;
       fit = us.1;
       bytes = us.2;
       pids = us.3 ∙ ap (λ (l : List (ℕ × Process)). keys_of l) added;
     } in
-    all_restored objects n ps.0 ws.0 undo es.0 fs.0 ms.0 _ c.in-Some.clock.now c.in-Some-object_numbered.processes.now
+    all_restored objects n ps.0 ws.0 undo es.0 fs.0 named.0 _ c.in-Some.clock.now c.in-Some-object_numbered.processes.now
     c.in-Some-object_numbered-2.calls.now c.in-Some-object_numbered-3.adjustments.now c.in-Some.ensures.some c.in-Some-object_numbered.ensures.some
     c.in-Some-object_numbered-2.ensures.some c.in-Some-object_numbered-3.ensures.some read
-    c.in-Some-read_clock.ensures.some ps.1 ps.2 ps.3 ws.1 ws.2 ws.3 ws.4 es.1 fs.1 ms.1
+    c.in-Some-read_clock.ensures.some ps.1 ps.2 ps.3 ws.1 ws.2 ws.3 ws.4 es.1 fs.1 named.1
     (es.2 ∙ ap (λ (l : PlainObjects). map queue_object es.0 ++ l) sets) (ap (λ (r : State × Limits). r.0) is)
 
 pub returns-clause-once : goal.returns-clause-once
@@ -144,9 +128,9 @@ returns-clause-once c s all are =
     ap (λ (s : State). let r : State × Limits = (s, c.restore_numbers.new.self.limits) in r)
     (c.restore_numbers.ensures.state ∙ ap (λ (s : State). with_numbers s n) c.requires) in
     let added = processes_added n c.restore_numbers.new.self.limits _ _ _ ps.0 ws.0 from ps.4 ws.5 in
-    let undo : c.restore_kind-3.new.state.state.undo ≡ c.restore_adjustments.new.state.state.undo =
-    ap (λ (r : State × Limits). r.0.undo) c.in_ok-next-3.ensures.ok.3 ∙ ap (λ (r : State × Limits). r.0.undo) c.in_ok-next-2.ensures.ok.3 ∙ ap (λ (r : State × Limits). r.0.undo) c.in_ok-next.ensures.ok.3 in
-    restored_once s c.restore_kind-3.new.state.state c.args.objects.now ps.0 c.in-Some-object_numbered.processes.now all are (returns-clause-ok c)
+    let undo : c.restore_named.new.state.state.undo ≡ c.restore_adjustments.new.state.state.undo =
+    ap (λ (r : State × Limits). r.0.undo) c.in_ok-restore_named.ensures.ok.3 ∙ ap (λ (r : State × Limits). r.0.undo) c.in_ok-next-2.ensures.ok.3 ∙ ap (λ (r : State × Limits). r.0.undo) c.in_ok-next.ensures.ok.3 in
+    restored_once s c.restore_named.new.state.state c.args.objects.now ps.0 c.in-Some-object_numbered.processes.now all are (returns-clause-ok c)
     c.in-Some-object_numbered.ensures.some ps.1 ps.2 ps.3
     (ap (λ (us : List (ℕ × Undo)). keys_of us) undo ∙ c.in_ok-restore_adjustments.ensures.ok.3
     ∙ ap (λ (l : List (ℕ × Process)). keys_of l) added)
@@ -154,5 +138,5 @@ returns-clause-once c s all are =
 pub returns-clause-limits : goal.returns-clause-limits
 returns-clause-limits c =
     let limits : State × Limits → Limits = λ r. r.1 in
-    ap limits c.in_ok-next-3.ensures.ok.3 ∙ ap limits c.in_ok-next-2.ensures.ok.3 ∙ ap limits c.in_ok-next.ensures.ok.3 ∙ c.in_ok-restore_adjustments.ensures.limits
+    ap limits c.in_ok-restore_named.ensures.ok.3 ∙ ap limits c.in_ok-next-2.ensures.ok.3 ∙ ap limits c.in_ok-next.ensures.ok.3 ∙ c.in_ok-restore_adjustments.ensures.limits
     ∙ c.in_ok-restore_waits.ensures.limits ∙ ap limits c.in_ok-read_counted.ensures.ok.4 ∙ c.restore_numbers.ensures.limits

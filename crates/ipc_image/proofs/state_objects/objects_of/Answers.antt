@@ -1,5 +1,7 @@
-use Rattle.std.proofs.Common.{◌∙◌, ap, sym, subst}
+use Rattle.std.proofs.Common.{◌∙◌, ℕ, ap, sym, subst}
 use Rattle.ipc_base.specs.Objects.{AreObjects}
+use Rattle.shm_segment.specs.Segment.{Segment}
+use Rattle.ipc_state.specs.Named.{Named}
 use Rattle.ipc_state.specs.State.{State}
 use Rattle.ipc_image.specs.Saved.{saved, HasAllPlaces}
 use Rattle.ipc_image.proofs.SavedObjects.{seen-is, saved-are, saved-fit}
@@ -13,9 +15,15 @@ invariant_of-result c =
       next_queue = c.next_queue.result;
       next_set = c.next_set.result;
       next_mq = c.next_mq.result;
-    }) c.processes.result.now c.waits.result.now c.adjustments.result.now c.queues.result.now c.sets.result.now c.mqs.result.now
-    c.state-state.result.now.state c.clock.ensures c.next_pid.ensures c.next_queue.ensures c.next_set.ensures c.next_mq.ensures c.processes.ensures
-    c.waits.ensures c.adjustments.ensures c.queues.ensures c.sets.ensures c.mqs.ensures in
+      next_named_sem = c.next.result;
+      next_segment = c.next-2.result;
+    }) c.processes.result.now c.waits.result.now c.adjustments.result.now c.queues.result.now c.sets.result.now _
+    c.state-state.result.now.state c.clock.ensures c.next_pid.ensures c.next_queue.ensures c.next_set.ensures c.processes.ensures
+    c.waits.ensures c.adjustments.ensures c.queues.ensures c.sets.ensures (λ i. record {
+      mq = record { next = c.next_mq.ensures i; entries = c.mqs.ensures i };
+      named_sem = record { next = (c.next.ensures ∙ ap (λ (x : Named ℕ). x.next) c.named_sems.ensures.objects) i; entries = (c.items.ensures ∙ ap (λ (x : Named ℕ). x.entries) c.named_sems-2.ensures.objects) i };
+      shm = record { next = (c.next-2.ensures ∙ ap (λ (x : Named Segment). x.next) c.segments.ensures.objects) i; entries = (c.items-2.ensures ∙ ap (λ (x : Named Segment). x.entries) c.segments-2.ensures.objects) i };
+    }) in
     let objects = saved-are c.args.engine.now.limits c.args.engine.now.state c.state-state.ensures.passed c.state-state.ensures.sound in
     (subst HasAllPlaces (sym same) c.read_state.ensures, subst (λ (s : State). AreObjects (saved s)) (sym (same ∙ c.state-state.ensures.state)) objects)
 
@@ -27,8 +35,14 @@ returns-clause-objects c =
       next_queue = c.next_queue.result;
       next_set = c.next_set.result;
       next_mq = c.next_mq.result;
-    }) _ _ _ _ _ _ c.state-state.result.now.state c.clock.ensures c.next_pid.ensures c.next_queue.ensures c.next_set.ensures c.next_mq.ensures
-    c.processes.ensures c.waits.ensures c.adjustments.ensures c.queues.ensures c.sets.ensures c.mqs.ensures ∙ c.state-state.ensures.state)
+      next_named_sem = c.next.result;
+      next_segment = c.next-2.result;
+    }) _ _ _ _ _ _ c.state-state.result.now.state c.clock.ensures c.next_pid.ensures c.next_queue.ensures c.next_set.ensures
+    c.processes.ensures c.waits.ensures c.adjustments.ensures c.queues.ensures c.sets.ensures (λ i. record {
+      mq = record { next = c.next_mq.ensures i; entries = c.mqs.ensures i };
+      named_sem = record { next = (c.next.ensures ∙ ap (λ (x : Named ℕ). x.next) c.named_sems.ensures.objects) i; entries = (c.items.ensures ∙ ap (λ (x : Named ℕ). x.entries) c.named_sems-2.ensures.objects) i };
+      shm = record { next = (c.next-2.ensures ∙ ap (λ (x : Named Segment). x.next) c.segments.ensures.objects) i; entries = (c.items-2.ensures ∙ ap (λ (x : Named Segment). x.entries) c.segments-2.ensures.objects) i };
+    }) ∙ c.state-state.ensures.state)
 
 pub returns-clause-fit : goal.returns-clause-fit
 returns-clause-fit c = saved-fit c.args.engine.now.limits c.args.engine.now.state c.state-state.ensures.passed c.state-state.ensures.sound

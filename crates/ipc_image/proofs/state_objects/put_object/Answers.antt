@@ -1,8 +1,7 @@
-use Rattle.std.proofs.Common.{ℕ, List, Some, map, ap, sym, subst, arith, ◌∙◌}
+use Rattle.std.proofs.Common.{ℕ, List, Some, ap, sym, subst, arith, ◌∙◌}
 use Rattle.std.specs.Prelude.{option_map}
 use Rattle.std.proofs.lemmas.List.{map-id}
 use Rattle.ipc_state.specs.State.{State}
-use Rattle.ipc_state.specs.Tables.{item_row}
 use Rattle.ipc_state.specs.Waiting.{PlainWaiting}
 use Rattle.ipc_image.specs.SavedParts.{IsMarkIn}
 use Rattle.ipc_base.specs.Numbers.{fields_bytes}

@@ -1,20 +1,22 @@
-use Rattle.std.proofs.Common.{◌-◌, ℕ, map, ap, subst, arith, length, get_or}
+use Rattle.std.proofs.Common.{◌-◌, ℕ, ap, sym, subst, arith, length, get_or}
 use Rattle.std.proofs.lemmas.List.{length-map}
-use Rattle.ipc_base.specs.Objects.{PlainObjects}
 use Rattle.ipc_base.specs.declared.objects.Mark.{Mark}
-use Rattle.ipc_state.specs.State.{State}
+use Rattle.ipc_state.specs.Opening.{NamedObjects}
+use Rattle.ipc_state.specs.State.{State, named_in}
 use Rattle.ipc_state.specs.Tables.{item_row}
 use Rattle.ipc_image.specs.Kind.{FitsIn}
-use Rattle.ipc_image.specs.Saved.{queue_object, set_object, mq_object, saved, FitsQueue, FitsSet, FitsMq}
-use Rattle.ipc_image.specs.SavedParts.{IsMarkOfQueue, IsMarkOfSet, IsMarkOfMq, MarkAt, IsFound, seen_state}
-use Rattle.ipc_image.proofs.Marks.{each-at, table-at, here, here-last, past}
+use Rattle.ipc_image.specs.Saved.{queue_object, set_object, named_objects, saved, FitsQueue, FitsSet}
+use Rattle.ipc_image.specs.SavedParts.{FitsThing, IsFound, IsMarkOfNamed, IsMarkOfQueue, IsMarkOfSet, IsMarkOfThing, MarkAt, Stands}
+use Rattle.ipc_image.specs.SavedParts.{object_of, seen_named, seen_state}
+use Rattle.ipc_image.proofs.Marks.{each-at, table-at, here, past}
+use Rattle.ipc_image.proofs.NamedSizes.{named-counted}
 use Rattle.ipc_image.proofs.SavedObjects.{seen_count, found-thing}
-use Rattle.ipc_image.proofs.WholeState.{sets_and_mqs}
+use Rattle.ipc_image.proofs.WholeState.{sets_and_named}
 use Rattle.ipc_image.proofs.state_objects.thing_at.Goals as goal
 
--- the marks of the last kind, and of the last two
+-- the marks of those with a name, and of the sets and them
 abbrev last : State → ℕ → Mark → Type 0
-last s = MarkAt IsMarkOfMq (λ at m. Unit {0}) s.mq.entries
+last s = IsMarkOfNamed (named_in s)
 
 abbrev later : State → ℕ → Mark → Type 0
 later s = MarkAt IsMarkOfSet (last s) s.sem.entries
@@ -22,37 +24,39 @@ later s = MarkAt IsMarkOfSet (last s) s.sem.entries
 pub returns-then-at-objects : goal.returns-then-at-objects
 returns-then-at-objects c =
     let o = c.objects.inside in
-    let s : State = seen_state o.numbers o.processes.now o.waits.now o.undo.now o.queues.now o.sets.now o.mqs.now in
+    let s : State = seen_state o.numbers o.processes.now o.waits.now o.undo.now o.queues.now o.sets.now (seen_named o.numbers o.mqs.now o.sems.now o.segments.now) in
     let at : ℕ = c.args.i - 4 in
     let q = get_or o.queues.now at c.index-objects-at.result in
     let is = table-at item_row o.queues.now at c.index-objects-at.result c.if-at-objects.true in
     subst (λ (t : State). IsFound t c.args.i (queue_object (item_row q)) (IsMarkOfQueue (item_row q)) (FitsIn FitsQueue (item_row q)))
     c.objects.view_is (found-thing s c.objects.invariant.1 c.args.i c.requires.thing _ _ _
     (each-at (FitsIn FitsQueue) s.msg.entries at (item_row q) c.objects.invariant.0.queues is)
-    (here queue_object IsMarkOfQueue (later s) s.msg.entries (sets_and_mqs s) at (item_row q) is))
+    (here queue_object IsMarkOfQueue (later s) s.msg.entries (sets_and_named s) at (item_row q) is))
 
 pub returns-then-at-objects-2 : goal.returns-then-at-objects-2
 returns-then-at-objects-2 c =
     let o = c.objects.inside in
-    let s : State = seen_state o.numbers o.processes.now o.waits.now o.undo.now o.queues.now o.sets.now o.mqs.now in
+    let s : State = seen_state o.numbers o.processes.now o.waits.now o.undo.now o.queues.now o.sets.now (seen_named o.numbers o.mqs.now o.sems.now o.segments.now) in
     let at : ℕ = c.args.i - 4 - length o.queues.now in
     let e = get_or o.sets.now at c.index-objects-at-then-at-objects-2.result in
     let is = table-at item_row o.sets.now at c.index-objects-at-then-at-objects-2.result c.if-at-objects-2.true in
-    let mqs : PlainObjects = map mq_object s.mq.entries in
     subst (λ (t : State). IsFound t c.args.i (set_object (item_row e)) (IsMarkOfSet (item_row e)) (FitsIn FitsSet (item_row e)))
     c.objects.view_is (found-thing s c.objects.invariant.1 c.args.i c.requires.thing _ _ _
     (each-at (FitsIn FitsSet) s.sem.entries at (item_row e) c.objects.invariant.0.sets is)
-    (past queue_object IsMarkOfQueue (later s) s.msg.entries (sets_and_mqs s) (c.args.i - 4) at _ _
+    (past queue_object IsMarkOfQueue (later s) s.msg.entries (sets_and_named s) (c.args.i - 4) at _ _
     (omega (arith, length-map o.queues.now item_row, c.if-at-objects.false))
-    (here set_object IsMarkOfSet (last s) s.sem.entries mqs at (item_row e) is)))
+    (here set_object IsMarkOfSet (last s) s.sem.entries (named_objects (named_in s)) at (item_row e) is)))
 
-pub bounds-objects-inside-at-2 : goal.bounds-objects-inside-at-2
-bounds-objects-inside-at-2 c =
+pub named_at-requires : goal.named_at-requires
+named_at-requires c =
     let o = c.objects.inside in
+    let named : NamedObjects = seen_named o.numbers o.mqs.now o.sems.now o.segments.now in
     omega (
       arith,
       ap (λ (t : State). length (saved t)) c.objects.view_is,
-      seen_count o.numbers o.processes.now o.waits.now o.undo.now o.queues.now o.sets.now o.mqs.now,
+      ap (λ (t : State). length (named_objects (named_in t))) c.objects.view_is,
+      seen_count o.numbers o.processes.now o.waits.now o.undo.now o.queues.now o.sets.now named,
+      named-counted named,
       c.requires.object,
       c.requires.thing,
       c.if-at-objects.false,
@@ -62,24 +66,14 @@ bounds-objects-inside-at-2 c =
 pub returns : goal.returns
 returns c =
     let o = c.objects.inside in
-    let s : State = seen_state o.numbers o.processes.now o.waits.now o.undo.now o.queues.now o.sets.now o.mqs.now in
+    let s : State = seen_state o.numbers o.processes.now o.waits.now o.undo.now o.queues.now o.sets.now (seen_named o.numbers o.mqs.now o.sems.now o.segments.now) in
     let second : ℕ = c.args.i - 4 - length o.queues.now in
     let at : ℕ = second - length o.sets.now in
-    let e = get_or o.mqs.now at c.index-objects-at-2.result in
-    let is = table-at item_row o.mqs.now at c.index-objects-at-2.result (omega (
-      arith,
-      ap (λ (t : State). length (saved t)) c.objects.view_is,
-      seen_count o.numbers o.processes.now o.waits.now o.undo.now o.queues.now o.sets.now o.mqs.now,
-      c.requires.object,
-      c.requires.thing,
-      c.if-at-objects.false,
-      c.if-at-objects-2.false,
-    )) in
-    let mqs : PlainObjects = map mq_object s.mq.entries in
-    subst (λ (t : State). IsFound t c.args.i (mq_object (item_row e)) (IsMarkOfMq (item_row e)) (FitsIn FitsMq (item_row e)))
-    c.objects.view_is (found-thing s c.objects.invariant.1 c.args.i c.requires.thing _ _ _
-    (each-at (FitsIn FitsMq) s.mq.entries at (item_row e) c.objects.invariant.0.mqs is)
-    (past queue_object IsMarkOfQueue (later s) s.msg.entries (sets_and_mqs s) (c.args.i - 4) second _ _
+    let r = c.named_at.result in
+    let named = subst (λ (t : State). Stands (named_objects (named_in t)) (IsMarkOfNamed (named_in t)) at (object_of r) (IsMarkOfThing r)) (sym c.objects.view_is) c.named_at.ensures.stands in
+    subst (λ (t : State). IsFound t c.args.i (object_of r) (IsMarkOfThing r) (FitsThing r))
+    c.objects.view_is (found-thing s c.objects.invariant.1 c.args.i c.requires.thing _ _ _ c.named_at.ensures.fits
+    (past queue_object IsMarkOfQueue (later s) s.msg.entries (sets_and_named s) (c.args.i - 4) second _ _
     (omega (arith, length-map o.queues.now item_row, c.if-at-objects.false))
-    (past set_object IsMarkOfSet (last s) s.sem.entries mqs second at _ _ (omega (arith, length-map o.sets.now item_row, c.if-at-objects-2.false))
-    (here-last mq_object IsMarkOfMq (λ at m. Unit {0}) s.mq.entries at (item_row e) is))))
+    (past set_object IsMarkOfSet (last s) s.sem.entries (named_objects (named_in s)) second at _ _ (omega (arith, length-map o.sets.now item_row, c.if-at-objects-2.false))
+    named)))

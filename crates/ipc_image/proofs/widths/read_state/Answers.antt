@@ -1,18 +1,20 @@
-use Rattle.std.proofs.Common.{◌≡◌, ℕ, sym, subst, arith}
+use Rattle.std.proofs.Common.{◌≡◌, ℕ, ap, sym, subst, ◌∙◌, arith}
 use Rattle.std.specs.Prelude.{All, nat_eq}
 use Rattle.std.specs.List.{IsDistinct}
 use Rattle.std.proofs.lemmas.List.Elements.{All-map}
 use Rattle.ipc_base.proofs.CallerLemmas.{passed-bounds}
 use Rattle.ipc_base.specs.Table.{keys_of}
 use Rattle.sem_undo.specs.Undo.{Undo}
+use Rattle.shm_segment.specs.Segment.{Segment}
+use Rattle.ipc_state.specs.Named.{Named}
 use Rattle.ipc_state.specs.State.{State}
 use Rattle.ipc_state.specs.Tables.{item_row}
 use Rattle.ipc_state.specs.Waiting.{IsSoundWaiting}
 use Rattle.ipc_image.specs.Kind.{FitsIn}
-use Rattle.ipc_image.specs.Saved.{adjustments_of, FitsAdjustment, FitsProcess, FitsWaiting, FitsQueue, FitsSet, FitsMq}
+use Rattle.ipc_image.specs.Saved.{adjustments_of, FitsAdjustment, FitsProcess, FitsWaiting, FitsQueue, FitsSet, FitsMq, FitsNamedSem, FitsSegment}
 use Rattle.ipc_image.proofs.AdjustmentLists.{each-fit}
 use Rattle.ipc_image.proofs.Attaching.{rising-distinct}
-use Rattle.ipc_image.proofs.SavedObjects.{processes-numbers, rows-numbers, sets-numbers, mqs-numbers, undo-counted}
+use Rattle.ipc_image.proofs.SavedObjects.{processes-numbers, rows-numbers, sets-numbers, mqs-numbers, sems-numbers, segments-numbers, undo-counted}
 use Rattle.ipc_image.proofs.widths.read_state.Goals as goal
 
 pub read_each-requires : goal.read_each-requires
@@ -33,6 +35,16 @@ read_each-requires-5 c =
 pub read_each-requires-6 : goal.read_each-requires-6
 read_each-requires-6 c =
     mqs-numbers c.args.state.now.limits c.args.state.now.state c.requires.passed c.requires.sound c.mqs.result.now c.mqs.ensures
+
+pub read_each-requires-7 : goal.read_each-requires-7
+read_each-requires-7 c =
+    sems-numbers c.args.state.now.limits c.args.state.now.state c.requires.passed c.requires.sound c.items.result.now
+    (c.items.ensures ∙ ap (λ (o : Named ℕ). o.entries) c.named_sems.ensures.objects)
+
+pub read_each-requires-8 : goal.read_each-requires-8
+read_each-requires-8 c =
+    segments-numbers c.args.state.now.limits c.args.state.now.state c.requires.passed c.requires.sound c.items-2.result.now
+    (c.items-2.ensures ∙ ap (λ (o : Named Segment). o.entries) c.segments.ensures.objects)
 
 pub returns : goal.returns
 returns c =
@@ -55,5 +67,11 @@ returns c =
           c.requires.sound.parts.processes.numbered.numbers);
       queues = subst (All (FitsIn FitsQueue)) c.queues.ensures (All-map (FitsIn FitsQueue) item_row c.queues.result.now c.read_each-4.ensures);
       sets = subst (All (FitsIn FitsSet)) c.sets.ensures (All-map (FitsIn FitsSet) item_row c.sets.result.now c.read_each-5.ensures);
-      mqs = subst (All (FitsIn FitsMq)) c.mqs.ensures (All-map (FitsIn FitsMq) item_row c.mqs.result.now c.read_each-6.ensures);
+      named = record {
+        mqs = subst (All (FitsIn FitsMq)) c.mqs.ensures (All-map (FitsIn FitsMq) item_row c.mqs.result.now c.read_each-6.ensures);
+        named_sems = subst (All (FitsIn FitsNamedSem)) (c.items.ensures ∙ ap (λ (o : Named ℕ). o.entries) c.named_sems.ensures.objects)
+            (All-map (FitsIn FitsNamedSem) item_row c.items.result.now c.read_each-7.ensures);
+        segments = subst (All (FitsIn FitsSegment)) (c.items-2.ensures ∙ ap (λ (o : Named Segment). o.entries) c.segments.ensures.objects)
+            (All-map (FitsIn FitsSegment) item_row c.items-2.result.now c.read_each-8.ensures);
+      };
     }

@@ -1,5 +1,5 @@
 -- Each exit: what was read is what stood there before.
-use Rattle.std.proofs.Common.{◌≡◌, inl, inr, ⊎_elim, ◌<◌, ◌^◌, Err, length, sym, ap, subst, ◌∙◌, arith}
+use Rattle.std.proofs.Common.{◌≡◌, ◌↔◌, inl, inr, ⊎_elim, ◌<◌, ◌^◌, Err, length, sym, ap, subst, ◌∙◌, arith}
 use Rattle.std.proofs.lemmas.Result.{err_from_is_err_and}
 use Rattle.ipc_base.specs.declared.limits.Limits.{Limits}
 use Rattle.ipc_checkpoint.specs.View.{epoch_of as saved_epoch}
@@ -76,6 +76,14 @@ count g c honest =
     let h3 = (reads-base g c honest).time.honest.0 honest in
     (g.met.D.SectorDisk.shaped c.load_base.new.disk _ h3.reads).count ∙ c.load_base.ensures.size
 
+-- a disk that is honest stays so
+honest-base : (g : Over) (c : In_ok-checkpoint g)
+    → IsHonest (g.D.SectorDisk.medium c.args.disk.now) ↔ IsHonest (g.D.SectorDisk.medium c.load_base.new.disk)
+honest-base g c = (
+  λ h. c.load_base.ensures.honest.0 (c.read_limits.ensures.honest.0 (c.sync.ensures.medium.time.honest.0 h)),
+  λ h. c.sync.ensures.medium.time.honest.1 (c.read_limits.ensures.honest.1 (c.load_base.ensures.honest.1 h)),
+)
+
 -- ---- the exits
 
 pub returns-in_err-limits-clause-damaged : goal.returns-in_err-limits-clause-damaged
@@ -115,6 +123,11 @@ returns-in_err-checkpoint-clause-damaged g c = λ sector is honest.
 pub returns-in_err-checkpoint-clause-reads : goal.returns-in_err-checkpoint-clause-reads
 returns-in_err-checkpoint-clause-reads g c = λ honest.
     chain _ _ _ honest (reads-limits g (goal.at.returns-in_err-checkpoint-clause-reads g c).In_ok-limits honest) c.load_base.ensures.reads
+
+pub returns-in_err-journal-clause-honest : goal.returns-in_err-journal-clause-honest
+returns-in_err-journal-clause-honest g c =
+    let base = honest-base g (goal.at.returns-in_err-journal-clause-honest g c).In_ok-checkpoint in
+    (λ h. c.load_journal.ensures.honest.0 (base.0 h), λ h. base.1 (c.load_journal.ensures.honest.1 h))
 
 pub returns-in_err-journal-clause-not_formatted : goal.returns-in_err-journal-clause-not_formatted
 returns-in_err-journal-clause-not_formatted g c = λ is honest.
@@ -233,3 +246,8 @@ pub returns-clause-no_write : goal.returns-clause-no_write
 returns-clause-no_write g c =
     let before = until-base g (goal.at.returns-clause-no_write g c).In_ok-checkpoint in
     c.load_journal.ensures.no_write ∙ before.1
+
+pub returns-clause-honest : goal.returns-clause-honest
+returns-clause-honest g c =
+    let base = honest-base g (goal.at.returns-clause-honest g c).In_ok-checkpoint in
+    (λ h. c.load_journal.ensures.honest.0 (base.0 h), λ h. base.1 (c.load_journal.ensures.honest.1 h))

@@ -15,6 +15,10 @@ use Rattle.ipc_store.proofs.loading.load_base.Given.{Over}
 use Rattle.ipc_store.proofs.loading.load_base.Goals as goal
 use Rattle.ipc_store.proofs.loading.load_base.Goals.{After-load}
 
+pub returns-clause-base : goal.returns-clause-base
+returns-clause-base g c =
+    λ honest durable. (c.in_ok-checkpoint.objects, c.in_ok-engine.ensures.stands, c.in_ok-checkpoint.ensures.matches honest durable)
+
 -- where the objects of the image are
 lies : (g : Over) (c : After-load g) → IsHonest (g.D.SectorDisk.medium c.args.disk.now)
     → c.layout_of-layout.result ≡ layout_of c.args.limits (length (g.D.SectorDisk.medium c.args.disk.now).contents)

@@ -46,6 +46,9 @@ reserved-due s places request kept moment h = by_kind request.kind h
     by_posix : (n : posix.Needs) → posix.Has s places n → posix.Has (due moment s).state places n
     by_posix posix.Nothing has = has
     by_posix (posix.Place name) has = record { place = has.place; fresh = has.fresh; called = has.called; vacant = has.vacant }
+    by_posix (posix.SemPlace name) has = record { place = has.place; called = has.called; vacant = has.vacant }
+    by_posix (posix.SegmentPlace name) has = record { place = has.place; called = has.called; vacant = has.vacant }
+    by_posix (posix.Zeros len) has = has
     by_posix posix.Text has = has
 
     for_sysv : sysv.IsReserved s places request kept → sysv.IsReserved (due moment s).state places request kept

@@ -1,4 +1,4 @@
-use Rattle.std.proofs.Common.{◌≡◌, ℕ, List, [], ◌∷◌, ◌++◌, get_or, length, sym, ap, ◌∙◌}
+use Rattle.std.proofs.Common.{ℕ, List, [], ◌∷◌, ◌++◌, get_or, length, sym, ap, ◌∙◌}
 use Rattle.std.specs.List.{flat_map}
 use Rattle.ipc_base.specs.Numbers.{fields_bytes}
 use Rattle.posix_mq.specs.Queue.{attr_of, PlainMessage as MqMessage}

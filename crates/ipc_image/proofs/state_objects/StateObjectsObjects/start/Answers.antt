@@ -1,5 +1,5 @@
 use Rattle.std.proofs.Common.{◌-◌, refl}
-use Rattle.ipc_image.specs.SavedParts.{IsMarkOfQueue, IsMarkOfSet, IsMarkOfMq}
+use Rattle.ipc_image.specs.SavedParts.{IsAnyMark, IsMarkOfQueue, IsMarkOfSet, IsMarkOfMq}
 use Rattle.ipc_image.proofs.Marks.{mark-each}
 use Rattle.ipc_image.proofs.state_objects.StateObjectsObjects.start.Goals as goal
 
@@ -11,5 +11,8 @@ returns c =
       waits = λ two. refl;
       things = λ le. mark-each IsMarkOfQueue _ (record { parts = 0; bytes = 0 }) (λ e. refl)
           (mark-each IsMarkOfSet _ (record { parts = 0; bytes = 0 }) (λ e. refl)
-          (mark-each IsMarkOfMq _ (record { parts = 0; bytes = 0 }) (λ e. refl) (λ at. tt) s.mq.entries) s.sem.entries) s.msg.entries (c.args.i - 4);
+          (mark-each IsMarkOfMq _ (record { parts = 0; bytes = 0 }) (λ e. refl)
+          (mark-each IsAnyMark _ (record { parts = 0; bytes = 0 }) (λ e. tt)
+          (mark-each IsAnyMark _ (record { parts = 0; bytes = 0 }) (λ e. tt) (λ at. tt) s.shm.entries) s.named_sem.entries) s.mq.entries)
+          s.sem.entries) s.msg.entries (c.args.i - 4);
     }

@@ -1,4 +1,4 @@
-use Rattle.std.proofs.Common.{◌<◌, ◌^◌, length, refl, subst, arith}
+use Rattle.std.proofs.Common.{◌<◌, ◌^◌, refl, subst, arith}
 use Rattle.std.specs.Prelude.{All}
 use Rattle.std.proofs.lemmas.List.Elements.{All-map}
 use Rattle.ipc_state.specs.Descriptors.{descriptor_row}

@@ -15,7 +15,17 @@ returns-clause-state c =
     let t = c.self.inside in
     let left : Numbered Process → Numbered Undo → List PlainWaiting → State =
     λ (ps : Numbered Process) (us : Numbered Undo) (ws : List PlainWaiting).
-    record { clock = t.clock.0; processes = ps; wait = ws; undo = us.entries; msg = t.msg.objects; sem = t.sem.objects; mq = t.mq.objects } in
+    record {
+      clock = t.clock.0;
+      processes = ps;
+      wait = ws;
+      undo = us.entries;
+      msg = t.msg.objects;
+      sem = t.sem.objects;
+      mq = t.mq.objects;
+      named_sem = t.named_sem.objects;
+      shm = t.shm.objects;
+    } in
     (λ i. left (c.remove-2.ensures i) (c.remove.ensures i) (c.leave-waiting.ensures.others i))
     ∙ ap (λ (m : Held). without_waiting (record m.state {
       processes = without_entry m.state.processes c.args.pid.0;

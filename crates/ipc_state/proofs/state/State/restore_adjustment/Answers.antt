@@ -30,6 +30,8 @@ returns-in_default-clause-state c kept =
       msg = t.msg.objects;
       sem = t.sem.objects;
       mq = t.mq.objects;
+      named_sem = t.named_sem.objects;
+      shm = t.shm.objects;
     }) same
     ∙ ap (λ (m : Held). m.state) c.self.view_is
     ∙ ap (λ (us : List (ℕ × Undo)). record old { undo = us }) (sym (with (fin.insert (undo_of old c.args.pid.0) (key_of c.args.row) c.args.row.adjustment)))
@@ -50,6 +52,8 @@ returns-clause-err c =
         msg = t.msg.objects;
         sem = t.sem.objects;
         mq = t.mq.objects;
+        named_sem = t.named_sem.objects;
+        shm = t.shm.objects;
       };
       room = record {
         process = has_place t.processes && (place && (is_some t.fresh_undo && is_some t.fresh_descriptors));
@@ -64,6 +68,11 @@ returns-clause-err c =
         names = t.mq.names;
         fresh_mq = is_some t.fresh_mq;
         fresh_name = t.fresh_name;
+        named_sem = t.named_sem.place;
+        sem_names = t.named_sem.names;
+        shm = t.shm.place;
+        segment_names = t.shm.names;
+        fresh_segment = t.fresh_segment;
       };
     } in
     on_err_weaker c.restore.result

@@ -32,6 +32,8 @@ returns-in_default c =
         msg = t.msg.objects;
         sem = t.sem.objects;
         mq = t.mq.objects;
+        named_sem = t.named_sem.objects;
+        shm = t.shm.objects;
       };
       room = record {
         process = has_place t.processes && (has_place o && (is_some t.fresh_undo && is_some t.fresh_descriptors));
@@ -46,6 +48,11 @@ returns-in_default c =
         names = t.mq.names;
         fresh_mq = is_some t.fresh_mq;
         fresh_name = t.fresh_name;
+        named_sem = t.named_sem.place;
+        sem_names = t.named_sem.names;
+        shm = t.shm.place;
+        segment_names = t.shm.names;
+        fresh_segment = t.fresh_segment;
       };
     } in
     ap viewed c.get_mut.follows.holds-at-none ∙ c.self.view_is
@@ -94,6 +101,8 @@ returns c =
         msg = t.msg.objects;
         sem = t.sem.objects;
         mq = t.mq.objects;
+        named_sem = t.named_sem.objects;
+        shm = t.shm.objects;
       };
       room = record {
         process = has_place t.processes && (place && (is_some t.fresh_undo && is_some t.fresh_descriptors));
@@ -108,6 +117,11 @@ returns c =
         names = t.mq.names;
         fresh_mq = is_some t.fresh_mq;
         fresh_name = t.fresh_name;
+        named_sem = t.named_sem.place;
+        sem_names = t.named_sem.names;
+        shm = t.shm.place;
+        segment_names = t.shm.names;
+        fresh_segment = t.fresh_segment;
       };
     } in
     (λ i. viewed (entries i) (puts.place i))

@@ -1,0 +1,226 @@
+//! What keeps an object with a name: the name, or a descriptor that is open on it. See mq_overview(7), sem_overview(7)
+//! and shm_overview(7).
+
+ghost use Rattle.std.specs.Prelude.{◌≡◌, ◌↔◌, ◌&&◌, true, map, All, IsTrue};
+ghost use Rattle.std.specs.List.{list_all, list_any};
+ghost use Rattle.ipc_state.specs.Opening.{descriptor_at, has_access, is_named_so, is_on, is_open, is_sound_descriptor};
+ghost use Rattle.ipc_state.specs.Opening.{is_there_for, opened_as, stays, still_open};
+ghost use Rattle.ipc_state.specs.Sound.{AreHeld, AreSoundDescriptors, AreSoundProcesses};
+ghost use Rattle.ipc_state.specs.State.{named_in, swept};
+ghost use Rattle.ipc_state.specs.Tables.{item_row};
+
+use crate::descriptors::{Descriptor, DescriptorRow, Opened};
+use crate::named::{Named, NamedEntry};
+use crate::numbered::Item;
+use crate::processes::Process;
+use crate::sound::SoundAlone;
+use crate::state::State;
+use ipc_base::{Limits, Pid};
+use ipc_keys::{NameKind, check_name};
+
+impl State {
+    /// Objects go that have no name and on which no descriptor is open. It takes no memory.
+    pub fn sweep(&mut self)
+        ensures state { self.new.state ≡ swept self.old.state }
+        ensures limits { self.new.limits ≡ self.old.limits }
+        ensures room { self.new.room ≡ record self.old.room {
+          mq = self.new.room.mq;
+          named_sem = self.new.room.named_sem;
+          shm = self.new.room.shm;
+        } }
+    {
+        self.mq.sweep(self.processes.items(), NameKind::Queue);
+        self.named_sem
+            .sweep(self.processes.items(), NameKind::Semaphore);
+        self.shm.sweep(self.processes.items(), NameKind::Segment);
+    }
+
+    /// What a descriptor of a process is, if the number is in use.
+    pub fn descriptor(&self, pid: Pid, fd: u32) -> Option<Descriptor>
+        ensures { result ≡ descriptor_at self.now.state.processes.entries pid.0 fd }
+    {
+        match self.processes.get(pid.0) {
+            Some(process) => process.value.descriptors.get(fd),
+            None => None,
+        }
+    }
+
+    /// Whether the processes are sound, with their descriptors.
+    pub(crate) fn are_processes_sound(&self) -> bool
+        ensures { IsTrue result ↔ AreSoundProcesses self.now.limits (named_in self.now.state) self.now.state.processes }
+    {
+        self.processes.are_numbered(self.limits.processes)
+            && self.have_sound_descriptors(self.processes.items())
+    }
+
+    fn have_sound_descriptors(&self, items: &[Item<Process>]) -> bool
+        ensures { IsTrue result
+            ↔ All (λ p. AreSoundDescriptors self.now.limits (named_in self.now.state) p.value.descriptors) items.now }
+    {
+        for item in items {
+            if !self.has_sound_descriptors(item) {
+                return false;
+            }
+        }
+        true
+    }
+
+    fn has_sound_descriptors(&self, item: &Item<Process>) -> bool
+        ensures { IsTrue result
+            ↔ AreSoundDescriptors self.now.limits (named_in self.now.state) item.now.value.descriptors }
+    {
+        let descriptors = &item.value.descriptors;
+        descriptors.rise(self.limits.descriptors) && self.are_open(descriptors.rows())
+    }
+
+    /// Whether each of some descriptors is open on what is there, and has a way in which it is.
+    fn are_open(&self, rows: &[DescriptorRow]) -> bool
+        ensures { result ≡ list_all (λ r. is_sound_descriptor (named_in self.now.state) r.descriptor) rows.now }
+    {
+        rows.iter().all(|row| self.is_open(&row.descriptor))
+    }
+
+    fn is_open(&self, descriptor: &Descriptor) -> bool
+        ensures { result ≡ is_sound_descriptor (named_in self.now.state) descriptor.now }
+    {
+        self.is_there(descriptor.on) && has_access(descriptor.on, descriptor.flags)
+    }
+
+    /// Whether what a descriptor is open on is there.
+    fn is_there(&self, on: Opened) -> bool
+        ensures { result ≡ is_there_for (named_in self.now.state) on }
+    {
+        match on {
+            Opened::Queue(number) => self.mq.get(number).is_some(),
+            Opened::Semaphore(number) => self.named_sem.get(number).is_some(),
+            Opened::Segment(number) => self.shm.get(number).is_some(),
+        }
+    }
+}
+
+impl<T: Drop> Named<T> {
+    /// Those go that have no name and on which no descriptor of these processes is open.
+    pub(crate) fn sweep(&mut self, processes: &[Item<Process>], kind: NameKind)
+        ensures objects { self.new.objects ≡ still_open kind (map item_row processes.now) self.old.objects }
+        ensures names { self.new.names ≡ self.old.names }
+    {
+        self.objects
+            .items
+            .retain(|item| stays(processes, item, kind));
+    }
+}
+
+impl<T: SoundAlone> Named<T> {
+    /// Whether they are sound, and no more than `most`, and each has a name that an object of the kind may have, or is
+    /// open.
+    pub(crate) fn are_held(
+        &self,
+        most: u32,
+        limits: &Limits,
+        processes: &[Item<Process>],
+        kind: NameKind,
+    ) -> bool
+        ensures { IsTrue result
+            ↔ AreHeld most (T.IsSound limits.now) kind (map item_row processes.now) self.now.objects }
+    {
+        self.are_sound(most, limits) && have_names_or_stay(self.items(), processes, kind)
+    }
+}
+
+/// Whether each has a name that an object of the kind may have, or none, and a name, or is open.
+fn have_names_or_stay<T>(
+    items: &[Item<NamedEntry<T>>],
+    processes: &[Item<Process>],
+    kind: NameKind,
+) -> bool
+    ensures { result ≡ (list_all (λ e. is_named_so kind (item_row e)) items.now
+        && list_all (λ e. stays kind (map item_row processes.now) (item_row e)) items.now) }
+{
+    have_forms(items, kind) && all_stay(items, processes, kind)
+}
+
+/// Whether each name is one that an object of the kind may have.
+fn have_forms<T>(items: &[Item<NamedEntry<T>>], kind: NameKind) -> bool
+    ensures { result ≡ list_all (λ e. is_named_so kind (item_row e)) items.now }
+{
+    items.iter().all(|item| is_named_so(item, kind))
+}
+
+fn is_named_so<T>(item: &Item<NamedEntry<T>>, kind: NameKind) -> bool
+    ensures { result ≡ is_named_so kind (item_row item.now) }
+{
+    let name = item.value.name.bytes();
+    name.is_empty() || check_name(kind, name).is_ok()
+}
+
+/// Whether each of some objects has a name, or a descriptor of some process is open on it.
+fn all_stay<T>(items: &[Item<NamedEntry<T>>], processes: &[Item<Process>], kind: NameKind) -> bool
+    ensures { result ≡ list_all (λ e. stays kind (map item_row processes.now) (item_row e)) items.now }
+{
+    items.iter().all(|item| stays(processes, item, kind))
+}
+
+fn stays<T>(processes: &[Item<Process>], item: &Item<NamedEntry<T>>, kind: NameKind) -> bool
+    ensures { result ≡ stays kind (map item_row processes.now) (item_row item.now) }
+{
+    !item.value.name.is_none() || is_open(processes, opened_as(kind, item.number))
+}
+
+/// Whether an object may be open with these flags.
+fn has_access(on: Opened, flags: u32) -> bool
+    ensures { result ≡ has_access on flags }
+{
+    match on {
+        Opened::Queue(_) => flags & 3 != 3,
+        Opened::Semaphore(_) => true,
+        Opened::Segment(_) => flags & 1 == 0,
+    }
+}
+
+/// An object of a kind, as a descriptor is open on it.
+fn opened_as(kind: NameKind, number: u32) -> Opened
+    ensures { result ≡ opened_as kind number }
+{
+    match kind {
+        NameKind::Queue => Opened::Queue(number),
+        NameKind::Semaphore => Opened::Semaphore(number),
+        NameKind::Segment => Opened::Segment(number),
+    }
+}
+
+/// Whether a descriptor of some process is open on it.
+fn is_open(processes: &[Item<Process>], this: Opened) -> bool
+    ensures { result ≡ is_open (map item_row processes.now) this }
+{
+    some_opens(processes, this)
+}
+
+fn some_opens(processes: &[Item<Process>], this: Opened) -> bool
+    ensures { result ≡ list_any (λ p. list_any (λ d. is_on this d.1.on) p.value.descriptors) processes.now }
+{
+    processes.iter().any(|process| opens(process, this))
+}
+
+fn opens(process: &Item<Process>, this: Opened) -> bool
+    ensures { result ≡ list_any (λ d. is_on this d.1.on) process.now.value.descriptors }
+{
+    open_it(process.value.descriptors.rows(), this)
+}
+
+fn open_it(rows: &[DescriptorRow], this: Opened) -> bool
+    ensures { result ≡ list_any (λ r. is_on this r.descriptor.on) rows.now }
+{
+    rows.iter().any(|row| is_on(this, row.descriptor.on))
+}
+
+/// Whether what a descriptor is open on is this.
+pub(crate) fn is_on(this: Opened, on: Opened) -> bool
+    ensures { result ≡ is_on this on }
+{
+    match (this, on) {
+        (Opened::Queue(number), Opened::Queue(other)) => other == number,
+        (Opened::Semaphore(number), Opened::Semaphore(other)) => other == number,
+        (Opened::Segment(number), Opened::Segment(other)) => other == number,
+        _ => false,
+    }
+}
