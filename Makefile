@@ -6,14 +6,14 @@
 .PHONY: help run test edits imports runs serves memory program install bench bench-serve
 
 help:
-	@echo "make run    proves and builds what is needed, which takes half an hour or more the first time, and says how"
+	@echo "make run    proves and builds what is needed, which takes an hour or more the first time, and says how"
 	@echo "            far it is; then it runs examples/device.sh: a message outlives the program. It may be stopped:"
 	@echo "            crates that are proved stay proved, and the next run goes on after them"
 	@echo "make install  puts the program, which 'make program' has built, its manual page and its unit for systemd below"
 	@echo "            PREFIX, which is /usr/local if it is not given, in the folder DESTDIR"
 	@echo "make test   what 'make imports' runs; the gate: every proof, the wrong bodies that stand for a promise, the"
 	@echo "            tests, the program; and then what 'make runs', 'make serves' and 'make memory' run, on what the gate has"
-	@echo "            built. It takes 40 to 100 minutes on four cores"
+	@echo "            built. It takes some two hours on four cores, the first time"
 	@echo "make edits  the other wrong bodies, of all crates, or of those of 'make edits CRATE=\"ipc_wire ipc_hub\"'. Each"
 	@echo "            takes 15 to 60 seconds of a processor, the first of a crate a proof of the crate"
 	@echo "make imports  that no crate names what is another's own, nor one that carries requests a call"
@@ -26,11 +26,12 @@ help:
 	@echo "            examples/lock.sh, a lock whose holder is killed; examples/notify.sh, one who is told of a message;"
 	@echo "            clients that wait by the dozen; semaphore sets; POSIX queues, named semaphores and segments; and its"
 	@echo "            calls of the system, watched, and each refused in turn. Two minutes, once built"
-	@echo "make memory the engine's tests and the program, with each allocation refused in turn"
+	@echo "make memory the program, with each allocation refused in turn"
 	@echo "make bench  processor time of runs, lines and ticks on both devices, peak memory, what a commit writes, and"
 	@echo "            commits a second on a file beside the same writes and syncs done bare; it ends with an error while"
 	@echo "            calls that wait on other queues add more to a request than they may"
-	@echo "make bench-serve  sends and receives, and locks, a second over the socket, beside the same, and their processor time"
+	@echo "make bench-serve  sends and receives, locks, writes and reads of segments, and hand-overs by named semaphores"
+	@echo "            a second over the socket, beside the same, and their processor time"
 
 run: program
 	@sh examples/device.sh crates/ipcd/out/ipcd
@@ -52,18 +53,11 @@ install:
 	install -m 0644 contrib/ipcd.service "$(DESTDIR)$(UNITS)/ipcd.service"
 	sed -i "s|/usr/local/bin/|$(PREFIX)/bin/|" "$(DESTDIR)$(UNITS)/ipcd.service"
 
-# The engine's tests take a step again that was refused for memory, and look for the replies that it would have had.
-MACHINE_TESTS = crates/machine_tests/out/machine_tests_tests
-REFUSE_EACH = sh tests/refuse_each.sh $(MACHINE_TESTS) engine crates/ipcd/out/ipcd \
-	examples/first_queue.script examples/waiting.script examples/lock.script
+REFUSE_EACH = sh tests/refuse_each.sh crates/ipcd/out/ipcd examples/first_queue.script examples/waiting.script \
+	examples/lock.script examples/posix.script
 
-memory: program $(MACHINE_TESTS)
+memory: program
 	@$(REFUSE_EACH)
-
-$(MACHINE_TESTS): $(wildcard crates/*/src/*.rt)
-	@echo "proving and building crates/machine_tests"
-	@cd crates/machine_tests && rt test > out.log 2>&1 || { cat out.log; exit 1; }
-	@rm -f crates/machine_tests/out.log
 
 # It takes no time, and so it comes first.
 imports:

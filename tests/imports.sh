@@ -13,7 +13,8 @@ set -eu
 
 cd "${1:-.}"
 carriers="ipc_hub ipc_script ipc_server"
-calls="msgget msgsnd msgrcv msgctl semget semop semctl"
+calls="msgget msgsnd msgrcv msgctl semget semop semctl mq_open mq_unlink mq_send mq_receive mq_notify mq_getattr
+	mq_setattr sem_open sem_unlink sem_post sem_wait sem_trywait sem_getvalue shm_open shm_unlink ftruncate"
 
 fail() {
 	echo "imports: $1" >&2
@@ -66,7 +67,7 @@ foreign_proofs() {
 # Prints each line of the files that names a call, in capitals or not, alone or within a longer name.
 named_calls() {
 	awk -v calls="$calls" '
-		BEGIN { gsub(/ /, "|", calls) }
+		BEGIN { gsub(/[ \n\t]+/, "|", calls) }
 		tolower($0) ~ calls { print FILENAME ":" FNR ": " $0 }' $1
 }
 

@@ -1,23 +1,22 @@
 #!/bin/sh
-# Programs with their first allocation refused, then with their second, and so on, until a run has no more of them.
+# The program with its first allocation refused, then with its second, and so on, until a run has no more of them.
 #
-#     sh tests/refuse_each.sh TEST_PROGRAM MODULE IPCD SCRIPT..
+#     sh tests/refuse_each.sh IPCD SCRIPT..
 #
-# Each test of MODULE in TEST_PROGRAM passes whichever allocation is refused. `IPCD replay --small` on each SCRIPT, a line
-# of which holds one request at most, either says that there is no memory, with status 1, or writes all that it writes with
-# ample memory, or refuses one request: then it writes that request's ENOMEM frame, and all else as on the script without it.
+# `IPCD replay --small` on each SCRIPT, a line of which holds one request at most, either says that there is no
+# memory, with status 1, or writes all that it writes with ample memory, or refuses one request: then it writes that
+# request's ENOMEM frame, and all else as on the script without it. `IPCD dump` of a device on which the SCRIPT was run
+# either says that there is no memory, or that the device failed, where memory of the device itself was refused, or
+# lists all.
 #
-# It needs a C compiler; without one it says so and ends well. The programs are built once, and a run takes
-# milliseconds. More than 20 seconds are a hang.
+# It needs a C compiler; without one it says so and ends well. A run takes milliseconds; one of 20 seconds is a hang.
 
 set -eu
 
-usage="usage: sh tests/refuse_each.sh TEST_PROGRAM MODULE IPCD SCRIPT.."
-tests=${1:?$usage}
-module=${2:?$usage}
-ipcd=${3:?$usage}
-: "${4:?$usage}"
-shift 3
+usage="usage: sh tests/refuse_each.sh IPCD SCRIPT.."
+ipcd=${1:?$usage}
+: "${2:?$usage}"
+shift
 folder=${TMPDIR:-/tmp}/ipcd-refuse.$$
 runs=0
 
@@ -48,6 +47,11 @@ refuse() {
 	fi
 }
 
+# What is written is what was written with ample memory.
+check_all() {
+	cmp -s "$folder/out" "$folder/ample" || fail "the output is another than with ample memory"
+}
+
 # Checks the output of a replay that was refused memory and went on. It is the ample one, if the program found another
 # way. Else one line is an ENOMEM frame (errno 12), and the others are those of the script without that request.
 check_replay() {
@@ -65,44 +69,50 @@ check_replay() {
 	sed "${at}d" "$folder/out" | cmp -s - "$folder/wanted" || fail "more than one request is answered otherwise"
 }
 
+# Runs the program with these words on $folder/in, first with ample memory, then with each allocation refused. A run
+# that ends well is looked at by the function $1, and one that does not says one of the lines $2.
+try_each() {
+	check=$1
+	lines=$2
+	shift 2
+	"$ipcd" "$@" < "$folder/in" > "$folder/ample" || exit 1
+	call=1
+	refuse "$ipcd" "$@"
+	while [ "$met" = yes ]; do
+		case $status in
+		0) "$check" ;;
+		1) echo "$lines" | grep -qxF "$(cat "$folder/err")" || fail "status 1 without its message" ;;
+		*) fail "status $status" ;;
+		esac
+		call=$((call + 1))
+		refuse "$ipcd" "$@"
+	done
+	check_all
+}
+
 # A crash is to leave no core file.
 ulimit -c 0
 mkdir "$folder"
 trap 'rm -rf "$folder"' EXIT
 cc -shared -fPIC -o "$folder/refuse_malloc.so" "$(dirname "$0")/refuse_malloc.c"
 
-: > "$folder/in"
-for name in $("$tests" --list | sed -n "s/^\\($module::.*\\): test\$/\\1/p"); do
-	call=1
-	refuse "$tests" "$name"
-	while [ "$met" = yes ]; do
-		[ "$status" -eq 0 ] || fail "test $name fails, status $status"
-		call=$((call + 1))
-		refuse "$tests" "$name"
-	done
-	[ "$status" -eq 0 ] || fail "test $name fails with all its memory, status $status"
-done
-of_tests=$runs
-
 for script in "$@"; do
 	cp "$script" "$folder/in"
-	"$ipcd" replay --small < "$folder/in" > "$folder/ample" || exit 1
-	call=1
-	refuse "$ipcd" replay --small
-	while [ "$met" = yes ]; do
-		case $status in
-		0) check_replay ;;
-		1) [ "$(cat "$folder/err")" = "ipcd: no memory" ] || fail "status 1 without its message" ;;
-		*) fail "status $status" ;;
-		esac
-		call=$((call + 1))
-		refuse "$ipcd" replay --small
-	done
-	cmp -s "$folder/out" "$folder/ample" || fail "the output differs though nothing was refused"
+	try_each check_replay "ipcd: no memory" replay --small
+done
+replays=$runs
+
+for script in "$@"; do
+	rm -f "$folder/device"
+	"$ipcd" format "$folder/device" --small > "$folder/out"
+	"$ipcd" run "$folder/device" < "$script" > "$folder/out"
+	: > "$folder/in"
+	try_each check_all "ipcd: no memory
+ipcd: device fault" dump "$folder/device"
 done
 
-if [ "$of_tests" -eq 0 ] || [ "$runs" -eq "$of_tests" ]; then
-	echo "refuse_each: a program took no memory that could be refused: is it linked dynamically?" >&2
+if [ "$replays" -eq 0 ] || [ "$runs" -eq "$replays" ]; then
+	echo "refuse_each: the program took no memory that could be refused: is it linked dynamically?" >&2
 	exit 1
 fi
-echo "refuse_each: $of_tests runs of tests and $((runs - of_tests)) of replay, each with one allocation refused"
+echo "refuse_each: $replays runs of replay and $((runs - replays)) of dump, each with one allocation refused"

@@ -230,9 +230,10 @@ impl Engine {
     }
 
     /// One step on an event: `outcomes` are its replies and notifications. Memory is taken only by a HELLO that gets a
-    /// process, and by a call that may make an object, or that has a text or a list. If it is refused, nothing has
-    /// changed, the clock included. A call that waits already, and what is answered to one that waited, takes none. The
-    /// state is sound before and after, and no body of a reply is longer than `Limits::longest_reply` says.
+    /// process, and by a call that may make an object or change a segment's length, or that has a text or a list. If it
+    /// is refused, nothing has changed, the clock included. A call that waits already, and what is answered to one that
+    /// waited, takes none. The state is sound before and after, and no body of a reply is longer than
+    /// `Limits::longest_reply` says.
     pub fn step(&mut self, event: Event<'_>) -> Result<(), AllocError>
         requires { IsForProcess self.old.state (plain_event event) }
         ensures state { OnOk result (self.new.state

@@ -1,4 +1,4 @@
--- How large a device must be, what its superblock says, and how events stand on it.
+-- How large a device must be, what its superblock says, and how events and a state stand on it.
 pub mod Shape
 pub mod Kind
 pub mod Saved

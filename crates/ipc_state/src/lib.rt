@@ -1,5 +1,5 @@
 //! The state between two events: processes, calls that wait, and the objects of each kind with their keys or names.
-//! See sysvipc(7).
+//! See sysvipc(7), mq_overview(7), sem_overview(7) and shm_overview(7).
 #![tactic(auto)]
 
 mod adjustments;

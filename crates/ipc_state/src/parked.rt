@@ -146,7 +146,7 @@ impl ParkedCall {
     }
 }
 
-/// A POSIX call that waits, with its fields. See mq_send(3) and mq_receive(3).
+/// A POSIX call that waits, with its fields. See mq_send(3), mq_receive(3) and sem_wait(3).
 #[derive(Drop)]
 pub enum ParkedPosix {
     /// A send to a full queue. The message is ready to be sent.

@@ -4,8 +4,6 @@
 #[cfg(test)]
 mod base;
 #[cfg(test)]
-mod engine;
-#[cfg(test)]
 mod memory;
 #[cfg(test)]
 mod queue;

@@ -1,4 +1,4 @@
--- The numbers that IPC_STAT answers, in their order: what is alike for the objects of every kind, and what a queue has.
+-- The numbers that IPC_STAT answers, in their order: what is alike for queues and sets, and what each of them has.
 use Rattle.std.specs.Prelude.{List, [], ◌∷◌, length}
 use Rattle.ipc_base.specs.declared.field.Field.{Field}
 use Rattle.ipc_base.specs.declared.field.Field.TheVariants.{I32, U32, U64}
