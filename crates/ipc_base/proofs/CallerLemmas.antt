@@ -21,6 +21,7 @@ pub use Rattle.ipc_base.proofs.Numbers.{AreBytes, bytes-all, bytes-take, bytes-d
 pub use Rattle.ipc_base.proofs.Numbers.{Found, Got, number_got, number_known, number_one, length-number, read_below}
 pub use Rattle.ipc_base.proofs.Numbers.{number32_got, number32_known, number64_got, number64_known}
 pub use Rattle.ipc_base.proofs.Numbers.{length-values, values_again, values_back, values_range}
+pub use Rattle.ipc_base.proofs.Rising.{rising-up, first-at, nowhere-at, passed-over, last_below, below_last}
 pub use Rattle.ipc_base.proofs.FieldLists.{fields_one, listed, listed-drop, length-fit, numbers_are}
 
 -- ---- a table kept as a list of entries, each seen as a row of a key and a value

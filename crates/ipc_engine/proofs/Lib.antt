@@ -6,6 +6,7 @@ pub mod Tries
 pub mod Settled
 pub mod Soundness
 pub mod Answered
+pub mod Early
 pub mod Waiting
 pub mod CallerLemmas
 pub mod Going

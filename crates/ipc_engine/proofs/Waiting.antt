@@ -12,7 +12,7 @@ use Rattle.ipc_base.proofs.CallerLemmas.{choice}
 use Rattle.ipc_base.specs.declared.identity.Moment.{Moment}
 use Rattle.ipc_wait.specs.Waits.{call_of, calls_due, calls_left, without, is_due, is_of, HaveDistinctPids}
 use Rattle.ipc_wait.proofs.CallerLemmas.{due-or-left, without-here}
-use Rattle.ipc_wire.specs.Request.{PlainCall, PlainKind, PlainRequest, Hello, Interrupt as Interrupts, Calls, Posix}
+use Rattle.ipc_wire.specs.Request.{PlainKind, PlainRequest, Hello, Interrupt as Interrupts, Calls, Posix}
 use Rattle.ipc_wire.specs.declared.reply.Body.TheVariants.{Empty}
 use Rattle.ipc_state.specs.declared.parked.Awaited.{Awaited}
 use Rattle.ipc_state.specs.Finish.{Tried, Finishes, Waits, IfFinishes, has_to_wait, done, refused}
@@ -20,13 +20,12 @@ use Rattle.ipc_state.specs.Sound.{HasSoundParts}
 use Rattle.ipc_state.specs.State.{State, due_calls, has_all_processes, is_waiting, exit, without_due, without_waiting, with_waiting}
 use Rattle.ipc_state.specs.Waiting.{PlainWaiting, IsSoundWaiting, awaited_by, expiry}
 use Rattle.ipc_state.proofs.CallerLemmas.{HasSameProcesses, exit-sound, same-processes}
-use Rattle.sysv_calls.specs.Calls.{attempt}
 use Rattle.ipc_engine.specs.Bytes.{IsAnswered}
 use Rattle.ipc_engine.specs.Event.{PlainEvent, Connect, Call, Interrupt, Tick, Exit, Restart, PlainOutcome, moment_of}
 use Rattle.ipc_engine.specs.Settling.{touched_by}
-use Rattle.ipc_engine.specs.Sound.{IsSound}
+use Rattle.ipc_engine.specs.Sound.{IsSound, NoneIsDue}
 use Rattle.ipc_engine.specs.Step.{Step, silent, after, step, due, expired, waiting_on, asked, called, told, joins, interrupt, interrupted}
-use Rattle.ipc_engine.specs.Step.{replied, connect, settle, settle_within, resumed, resumed_first, tried}
+use Rattle.ipc_engine.specs.Step.{replied, connect, settle, settle_within, resumed, resumed_first, tried, is_call}
 use Rattle.ipc_engine.specs.Step.{answered, can_go_on, most_replies}
 use Rattle.ipc_engine.proofs.Settled.{as-before, left-free, replied-few, same-then, settle-has, settle-kept, resumed-has}
 use Rattle.ipc_engine.proofs.Tries.{HasEnded, tried-alike, tried-ended}
@@ -217,42 +216,51 @@ module _ (limits : Limits) where
 
   -- ---- a call that is refused, or waits
 
-  module _ (s : State) (pid moment : ℕ) (request : PlainRequest) (call : PlainCall) (is : request.kind ≡ Calls call) where
+  asked-called : (s : State) (pid : ℕ) (request : PlainRequest) (kind : PlainKind) → is_call kind ≡ true
+      → asked limits pid request kind s ≡ called limits pid request s
+  asked-called s pid request (Hello cred) never = cc
+  asked-called s pid request Interrupts never = cc
+  asked-called s pid request (Calls call) is = refl
+  asked-called s pid request (Posix call) is = refl
+
+  -- what is no call never waits
+  call-if-waits : (s : State) (pid : ℕ) (kind : PlainKind) → tried limits s pid false kind ≡ Waits → is_call kind ≡ true
+  call-if-waits s pid (Hello cred) never = cc
+  call-if-waits s pid Interrupts never = cc
+  call-if-waits s pid (Calls call) waits = refl
+  call-if-waits s pid (Posix call) waits = refl
+
+  module _ (s : State) (pid moment : ℕ) (request : PlainRequest) where
     abbrev here : State
     here = (due moment s).state
 
-    -- what an event of this call comes to
-    as-called : step limits s (Call pid request moment) ≡ after (due moment s) (called limits pid request)
-    as-called = ap (λ (kind : PlainKind). after (due moment s) (asked limits pid request kind)) is
+    -- what an event of a call comes to
+    comes-to : is_call request.kind ≡ true → (next : State → Step) → called limits pid request here ≡ next here
+        → step limits s (Call pid request moment) ≡ after (due moment s) next
+    comes-to is next same =
+        ap (λ (t : Step). let u : Step = record { state = t.state; outcomes = (due moment s).outcomes ++ t.outcomes } in u)
+        (asked-called here pid request request.kind is ∙ same)
 
     by-waiting : (b : Bool) → is_waiting here pid ≡ b → called limits pid request here
-        ≡ (if b then replied pid request.serial (refused here EALREADY) else told limits pid request here (attempt limits here pid false call))
+        ≡ (if b then replied pid request.serial (refused here EALREADY) else told limits pid request here (tried limits here pid false request.kind))
     by-waiting b same =
         ap (λ (w : Bool).
         if w then replied pid request.serial (refused here EALREADY) else told limits pid request here (tried limits here pid false request.kind)) same
-        ∙ ap (λ (kind : PlainKind).
-        if b then replied pid request.serial (refused here EALREADY) else told limits pid request here (tried limits here pid false kind)) is
 
-    -- with what it comes to at that moment
-    comes-to : (next : State → Step) → called limits pid request here ≡ next here → step limits s (Call pid request moment) ≡ after (due moment s) next
-    comes-to next same =
-        as-called ∙ ap (λ (t : Step). let u : Step = record { state = t.state; outcomes = (due moment s).outcomes ++ t.outcomes } in u) same
-
-    pub refused-same : (e : Errno) → IsSound limits s → attempt limits here pid false call ≡ Finishes (refused here e)
-        → (step limits s (Call pid request moment)).state ≡ here
-    refused-same e h comes =
-        ap (λ (t : Step). t.state) as-called
+    pub refused-same : (e : Errno) → IsSound limits s → is_call request.kind ≡ true
+        → tried limits here pid false request.kind ≡ Finishes (refused here e) → (step limits s (Call pid request moment)).state ≡ here
+    refused-same e h is comes =
+        ap (λ (t : Step). t.state) (comes-to is (called limits pid request) refl)
         ∙ choice (λ (u : Step). u.state ≡ here) (is_waiting here pid) _ _ (λ _. refl)
-        (λ _. ap (λ (kind : PlainKind). (told limits pid request here (tried limits here pid false kind)).state) is
-        ∙ (ap (λ (r : Tried). (told limits pid request here r).state) comes
-        ∙ ap (λ (u : Step). u.state) (sound-settled limits here (due-sound limits s moment h))))
+        (λ _. ap (λ (r : Tried). (told limits pid request here r).state) comes
+        ∙ ap (λ (u : Step). u.state) (sound-settled limits here (due-sound limits s moment h)))
 
-    pub already-same : is_waiting here pid ≡ true
+    pub already-same : is_call request.kind ≡ true → is_waiting here pid ≡ true
         → step limits s (Call pid request moment) ≡ after (due moment s) (λ t. replied pid request.serial (refused t EALREADY))
-    already-same waits = comes-to (λ t. replied pid request.serial (refused t EALREADY)) (by-waiting true waits)
+    already-same is waits = comes-to is (λ t. replied pid request.serial (refused t EALREADY)) (by-waiting true waits)
 
     module _ (on : Awaited) (awaits : awaited_by request.kind ≡ Some on) (free : is_waiting here pid ≡ false)
-        (comes : attempt limits here pid false call ≡ Waits) where
+        (comes : tried limits here pid false request.kind ≡ Waits) where
       by-due : (b : Bool) → is_due (record { 0 = max s.clock moment }) (waiting_on here pid request on) ≡ b → called limits pid request here
           ≡ (if b then replied pid request.serial (refused here (expiry request.kind)) else silent (with_waiting here (waiting_on here pid request on)))
       by-due b same =
@@ -263,11 +271,13 @@ module _ (limits : Limits) where
 
       pub waits-joins : is_due (record { 0 = max s.clock moment }) (waiting_on here pid request on) ≡ false
           → step limits s (Call pid request moment) ≡ after (due moment s) (λ t. silent (with_waiting t (waiting_on t pid request on)))
-      waits-joins early = comes-to (λ t. silent (with_waiting t (waiting_on t pid request on))) (by-due false early)
+      waits-joins early =
+          comes-to (call-if-waits here pid request.kind comes) (λ t. silent (with_waiting t (waiting_on t pid request on))) (by-due false early)
 
       pub waits-ends : is_due (record { 0 = max s.clock moment }) (waiting_on here pid request on) ≡ true
           → step limits s (Call pid request moment) ≡ after (due moment s) (λ t. replied pid request.serial (refused t (expiry request.kind)))
-      waits-ends late = comes-to (λ t. replied pid request.serial (refused t (expiry request.kind))) (by-due true late)
+      waits-ends late =
+          comes-to (call-if-waits here pid request.kind comes) (λ t. replied pid request.serial (refused t (expiry request.kind))) (by-due true late)
 
   -- ---- a moment that has been
 
@@ -280,10 +290,10 @@ module _ (limits : Limits) where
       let rest = none-due-of now ws (All-tail (λ (v : PlainWaiting). is_due now v ≡ false) w ws all) in
       (rw early rest.0, rw early (ap (λ (vs : List PlainWaiting). w ∷ vs) rest.1))
 
-  pub late-nothing : (s : State) (moment : ℕ) → IsSound limits s → moment ≤ s.clock → step limits s (Tick moment) ≡ silent s
+  pub late-nothing : (s : State) (moment : ℕ) → NoneIsDue s → moment ≤ s.clock → step limits s (Tick moment) ≡ silent s
   late-nothing s moment h late =
       let same : max s.clock moment ≡ s.clock = omega arith in
-      let none = none-due-of (record { 0 = s.clock }) s.wait (λ k d i. (h.waits k d i).early) in
+      let none = none-due-of (record { 0 = s.clock }) s.wait h in
       ap (λ (n : ℕ). let t : State = record s { clock = n } in
       let u : Step = record { state = without_due t; outcomes = map expired (due_calls t) } in u) same
       ∙ (λ i. let u : Step = record { state = record s { wait = none.1 i }; outcomes = map expired (none.0 i) } in u)

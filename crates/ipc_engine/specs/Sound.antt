@@ -16,3 +16,7 @@ pub record HasToWait (limits : Limits) (s : State) (w : PlainWaiting) : Type 0 w
 pub record IsSound (limits : Limits) (s : State) : Type 0 where
   pub parts : HasSoundParts limits s
   pub waits : All (HasToWait limits s) s.wait
+
+-- no call waits whose deadline has come
+abbrev pub NoneIsDue : State → Type 0
+NoneIsDue s = All (λ w. is_due (record { 0 = s.clock }) w ≡ false) s.wait

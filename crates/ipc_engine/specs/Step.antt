@@ -142,6 +142,12 @@ abbrev pub interrupt : ℕ → ℕ → State → Step
 interrupt pid serial s =
     after (interrupted s pid (call_of (record { 0 = pid }) s.wait)) (λ t. replied pid serial (done t Empty))
 
+-- it is a call: HELLO and INTERRUPT are none
+abbrev pub is_call : PlainKind → Bool
+is_call (Calls call) = true
+is_call (Posix call) = true
+is_call kind = false
+
 -- A request of a process. HELLO has no place there: the process has said it. INTERRUPT is done at once.
 abbrev pub asked : Limits → ℕ → PlainRequest → PlainKind → State → Step
 asked limits pid request (Hello cred) s = replied pid request.serial (refused s EPROTO)

@@ -9,7 +9,7 @@ ghost use Rattle.ipc_base.specs.declared.errno.Errno.{Errno};
 ghost use Rattle.ipc_base.specs.declared.errno.Errno.TheVariants.{EALREADY};
 ghost use Rattle.ipc_base.specs.declared.limits.Limits.{Limits};
 ghost use Rattle.ipc_base.specs.declared.identity.Cred.{Cred};
-ghost use Rattle.ipc_wire.specs.Request.{PlainCall, PlainRequest, Calls, Interrupt as Interrupts};
+ghost use Rattle.ipc_wire.specs.Request.{PlainRequest, Interrupt as Interrupts};
 ghost use Rattle.ipc_state.specs.declared.parked.Awaited.{Awaited};
 ghost use Rattle.ipc_state.specs.declared.named.NamedEntry.{NamedEntry};
 ghost use Rattle.ipc_state.specs.Finish.{Finishes, Waits, refused};
@@ -20,15 +20,14 @@ ghost use Rattle.posix_mq.specs.Queue.{Queue as Mq, deregistered};
 ghost use Rattle.ipc_state.specs.State.{State, start, cred_of, is_process, is_waiting, restart, undone, with_waiting};
 ghost use Rattle.ipc_state.specs.Waiting.{PlainWaiting, awaited_by, expiry};
 ghost use Rattle.ipc_wait.specs.Waits.{calls_due, calls_left, is_due};
-ghost use Rattle.sysv_calls.specs.Calls.{attempt};
 ghost use Rattle.ipc_engine.specs.Event.{PlainEvent, Connect, Call, Interrupt, Tick, Exit, Restart, moment_of};
 ghost use Rattle.ipc_engine.specs.Step.{step, run, silent, replied, after, settle, resumed, can_go_on, most_replies};
-ghost use Rattle.ipc_engine.specs.Step.{due, expired, waiting_on};
+ghost use Rattle.ipc_engine.specs.Step.{due, expired, is_call, tried, waiting_on};
 ghost use Rattle.ipc_state.specs.Sound.{HasSoundParts, FitsBody};
 ghost use Rattle.ipc_engine.specs.Bytes.{IsAnswered, IsGreeted, allowed, asked_by, asks, bytes_to, most_owed, owed};
 ghost use Rattle.ipc_engine.specs.Bytes.{replies_to, unanswered};
 ghost use Rattle.ipc_engine.specs.Engine.{IsForProcess, HasRequest};
-ghost use Rattle.ipc_engine.specs.Sound.{IsSound};
+ghost use Rattle.ipc_engine.specs.Sound.{IsSound, NoneIsDue};
 
 /// The state is sound before the first event, and after each event if it was before. The process that the event names
 /// is connected, and the request of a call has a frame.
@@ -38,14 +37,12 @@ pub fn step_keeps_soundness()
         → IsSound limits s → IsForProcess s e → HasRequest e → IsSound limits (step limits s e).state }
 {}
 
-/// After an event no call waits that could go on, and none whose deadline has come.
+/// After an event no call waits that could go on, and none whose deadline has come; the latter whatever the state was.
 pub fn nobody_waits_who_could_go_on()
     ensures waits { (limits : Limits) (s : State) (e : PlainEvent)
         → IsSound limits s → IsForProcess s e → HasRequest e
         → All (λ w. can_go_on limits (step limits s e).state w ≡ false) (step limits s e).state.wait }
-    ensures early { (limits : Limits) (s : State) (e : PlainEvent)
-        → IsSound limits s → IsForProcess s e → HasRequest e
-        → All (λ w. is_due (record { 0 = (step limits s e).state.clock }) w ≡ false) (step limits s e).state.wait }
+    ensures early { (limits : Limits) (s : State) (e : PlainEvent) → NoneIsDue (step limits s e).state }
 {}
 
 /// If none of those before a call in the list can go on, and it can, then it is the first that is answered: it leaves
@@ -115,10 +112,12 @@ pub fn hello_is_answered_last()
         → IsGreeted s (step limits s (Connect cred serial moment)) }
 {}
 
-/// A tick at a moment that has been changes nothing and says nothing.
+/// A tick at a moment that has been changes nothing and says nothing, if no call waits whose deadline has come: so
+/// after every event, and in every sound state.
 pub fn late_tick_does_nothing()
-    ensures { (limits : Limits) (s : State) (moment : ℕ) → IsSound limits s → moment ≤ s.clock
-        → step limits s (Tick moment) ≡ silent s }
+    ensures tick { (limits : Limits) (s : State) (moment : ℕ)
+        → NoneIsDue s → moment ≤ s.clock → step limits s (Tick moment) ≡ silent s }
+    ensures sound { (limits : Limits) (s : State) → IsSound limits s → NoneIsDue s }
 {}
 
 /// A run is a run of its parts: the second part begins where the first ends, and the replies of the first come
@@ -140,12 +139,12 @@ pub fn event_sets_clock()
 /// A call that is refused leaves what its moment leaves, and so does one of a process of which a call waits: it is
 /// refused with EALREADY.
 pub fn refused_call_changes_nothing()
-    ensures refused { (limits : Limits) (s : State) (pid moment : ℕ) (request : PlainRequest) (call : PlainCall)
-        (e : Errno) → IsSound limits s → request.kind ≡ Calls call
-        → attempt limits (due moment s).state pid false call ≡ Finishes (refused (due moment s).state e)
+    ensures refused { (limits : Limits) (s : State) (pid moment : ℕ) (request : PlainRequest) (e : Errno)
+        → IsSound limits s → is_call request.kind ≡ true
+        → tried limits (due moment s).state pid false request.kind ≡ Finishes (refused (due moment s).state e)
         → (step limits s (Call pid request moment)).state ≡ (due moment s).state }
-    ensures waiting { (limits : Limits) (s : State) (pid moment : ℕ) (request : PlainRequest) (call : PlainCall)
-        → request.kind ≡ Calls call → is_waiting (due moment s).state pid ≡ true
+    ensures waiting { (limits : Limits) (s : State) (pid moment : ℕ) (request : PlainRequest)
+        → is_call request.kind ≡ true → is_waiting (due moment s).state pid ≡ true
         → step limits s (Call pid request moment)
         ≡ after (due moment s) (λ t. replied pid request.serial (refused t EALREADY)) }
 {}
@@ -153,15 +152,15 @@ pub fn refused_call_changes_nothing()
 /// A call that cannot go on joins the end of those that wait, and is not answered yet. If its deadline is at or before
 /// the clock, it is answered instead, as if the deadline had come while it waited.
 pub fn call_that_cannot_go_on_waits()
-    ensures joins { (limits : Limits) (s : State) (pid moment : ℕ) (request : PlainRequest) (call : PlainCall)
-        (on : Awaited) → request.kind ≡ Calls call → awaited_by request.kind ≡ Some on
-        → is_waiting (due moment s).state pid ≡ false → attempt limits (due moment s).state pid false call ≡ Waits
+    ensures joins { (limits : Limits) (s : State) (pid moment : ℕ) (request : PlainRequest) (on : Awaited)
+        → awaited_by request.kind ≡ Some on → is_waiting (due moment s).state pid ≡ false
+        → tried limits (due moment s).state pid false request.kind ≡ Waits
         → is_due (record { 0 = max s.clock moment }) (waiting_on (due moment s).state pid request on) ≡ false
         → step limits s (Call pid request moment)
         ≡ after (due moment s) (λ t. silent (with_waiting t (waiting_on t pid request on))) }
-    ensures ends { (limits : Limits) (s : State) (pid moment : ℕ) (request : PlainRequest) (call : PlainCall)
-        (on : Awaited) → request.kind ≡ Calls call → awaited_by request.kind ≡ Some on
-        → is_waiting (due moment s).state pid ≡ false → attempt limits (due moment s).state pid false call ≡ Waits
+    ensures ends { (limits : Limits) (s : State) (pid moment : ℕ) (request : PlainRequest) (on : Awaited)
+        → awaited_by request.kind ≡ Some on → is_waiting (due moment s).state pid ≡ false
+        → tried limits (due moment s).state pid false request.kind ≡ Waits
         → is_due (record { 0 = max s.clock moment }) (waiting_on (due moment s).state pid request on) ≡ true
         → step limits s (Call pid request moment)
         ≡ after (due moment s) (λ t. replied pid request.serial (refused t (expiry request.kind))) }

@@ -6,6 +6,7 @@ pub mod Ending
 pub mod Requests
 pub mod Answering
 pub mod Pieces
+pub mod Unmarked
 pub mod Taking
 pub mod Receiving
 pub mod Changes

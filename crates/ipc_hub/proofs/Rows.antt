@@ -1,17 +1,14 @@
 -- The connections of the code as a table: each seen in another way, and one of a number that is found, lent, put in or taken out.
-use Rattle.std.proofs.Common.{◌≡◌, ◌≢◌, ℕ, zero, suc, ◌+◌, ◌<◌, ◌≤◌, ◌^◌, List, [], ◌∷◌, length, get_or, refl, sym, ap, ◌∙◌, subst, inl, inr, arith}
+use Rattle.std.proofs.Common.{◌≡◌, ◌≢◌, ℕ, zero, suc, ◌<◌, ◌≤◌, ◌^◌, List, [], ◌∷◌, length, get_or, refl, sym, ap, ◌∙◌, subst, inl, inr, arith}
 use Rattle.std.proofs.lemmas.Bool.{cases_eq, eqb-true}
 use Rattle.std.proofs.lemmas.List.{length-set, get_or_default, get_or-set_same, get_or-set_other}
 use Rattle.std.proofs.lemmas.List.Quantifiers.{position-Some}
-use Rattle.std.proofs.lemmas.List.Sums.{position_or_len_is}
 use Rattle.std.proofs.lemmas.Option.{slice_get-get_or, slice_get-map}
-use Rattle.std.specs.Prelude.{nat_eq, nat_lt, Option, option_and_then, option_map, slice_get, if◌then◌else◌, Bool, true, false, Some, None, position}
+use Rattle.std.specs.Prelude.{nat_eq, nat_lt, Option, option_and_then, option_map, slice_get, true, false, Some, None, position}
 use Rattle.std.specs.Prelude.{insert, set}
-use Rattle.std.specs.List.{position_or_len}
-use Rattle.std.specs.List.Sorted.{IsNonDecreasingBy}
 use Rattle.std.proofs.lemmas.Bool.Decides.{nat_tests}
 use Rattle.ipc_base.specs.Table.{seen_as, EachValue, IsRising, keys_of, value_at, with_value, with_entry}
-use Rattle.ipc_base.proofs.CallerLemmas.{value_at_place, value_nowhere, same_key, other_key, test_cases}
+use Rattle.ipc_base.proofs.CallerLemmas.{first-at, value_at_place, value_nowhere, same_key, test_cases}
 use Rattle.ipc_engine.specs.Event.{PlainOutcome}
 use Rattle.ipc_engine.specs.View.{reply_of}
 use Rattle.ipc_hub.specs.declared.connection.Connection.{Connection}
@@ -58,51 +55,7 @@ pub seen-all : (f : ConnectionView → ConnectionView) (i : ℕ) (initial now : 
     → rows now ≡ seen_as f (rows initial)
 seen-all f i initial now seen all = rows-seen f initial now seen.count (λ k d within. seen.done k d (omega (arith, within, all)))
 
--- ---- the connection at a place
-
-number-above : (low : ℕ) (cs : List Connection) (high k : ℕ) (d : Connection) → IsRising low (keys_of (rows cs)) high → k < length cs
-    → low ≤ (get_or cs k d).number
-number-above low [] high k d rising within = absurd (omega (arith, within))
-number-above low (c ∷ cs) high zero d rising within = rising.0
-number-above low (c ∷ cs) high (suc k) d rising within =
-    omega (arith, rising.0, number-above (c.number + 1) cs high k d rising.1 (omega (arith, within)))
-
-first-place : (low : ℕ) (cs : List Connection) (high k n : ℕ) (d : Connection) → IsRising low (keys_of (rows cs)) high → k < length cs
-    → n ≡ (get_or cs k d).number → position_or_len (λ (c : Connection). nat_eq c.number n) cs ≡ k
-first-place low [] high k n d rising within is = absurd (omega (arith, within))
-first-place low (c ∷ cs) high zero n d rising within is = rw is (rw (same_key c.number) refl)
-first-place low (c ∷ cs) high (suc k) n d rising within is =
-    let above = number-above (c.number + 1) cs high k d rising.1 (omega (arith, within)) in
-    let other : nat_eq c.number n ≡ false = other_key c.number n (λ same. omega (arith, same, is, above)) in
-    rw other (ap (λ (m : ℕ). 1 + m) (first-place (c.number + 1) cs high k n d rising.1 (omega (arith, within)) is) ∙ omega arith)
-
--- where the numbers rise, the connection at a place is the first that has its number
-pub first-at : (cs : List Connection) (place high : ℕ) (was : Connection) → IsRising 0 (keys_of (rows cs)) high → place < length cs
-    → was ≡ get_or cs place was → position (λ (c : Connection). nat_eq c.number was.number) cs ≡ Some place
-first-at cs place high was rising within is =
-    let first = first-place 0 cs high place was.number was rising within (ap (λ (c : Connection). c.number) is) in
-    let inside : nat_lt place (length cs) ≡ true = grind (arith, nat_tests) in
-    ap (λ (k : ℕ). if nat_lt k (length cs) then Some k else None) first ∙ ap (λ (b : Bool). if b then Some place else None) inside
-
 -- ---- where a number stands, or would
-
--- where no element passes a test, there is no first one
-none_passes : {X : Type 0} (p : X → Bool) (xs : List X) → ((k : ℕ) (d : X) → k < length xs → p (get_or xs k d) ≡ false) → position p xs ≡ None
-none_passes p [] none = refl
-none_passes p (x ∷ xs) none =
-    let last : position_or_len p (x ∷ xs) ≡ length (x ∷ xs) =
-    position_or_len_is p (x ∷ xs) (length (x ∷ xs)) x (omega arith) (λ k lt. none k x lt) (λ lt. absurd (omega (arith, lt))) in
-    let past : nat_lt (length (x ∷ xs)) (length (x ∷ xs)) ≡ false = grind (arith, nat_tests) in
-    ap (λ (k : ℕ). if nat_lt k (length (x ∷ xs)) then Some k else None) last ∙ ap (λ (b : Bool). if b then Some (length (x ∷ xs)) else None) past
-
-pub rising-up : (low : ℕ) (cs : List Connection) (high : ℕ) → IsRising low (keys_of (rows cs)) high → IsNonDecreasingBy (λ (c : Connection). c.number) cs
-rising-up low [] high rising i j d le lt = absurd (omega (arith, lt))
-rising-up low (c ∷ cs) high rising zero zero d le lt = omega arith
-rising-up low (c ∷ cs) high rising zero (suc j) d le lt =
-    omega (arith, number-above (c.number + 1) cs high j d rising.1 (omega (arith, lt)))
-rising-up low (c ∷ cs) high rising (suc i) zero d le lt = absurd (omega (arith, le))
-rising-up low (c ∷ cs) high rising (suc i) (suc j) d le lt =
-    rising-up (c.number + 1) cs high rising.1 i j d (omega (arith, le)) (omega (arith, lt))
 
 -- a connection put in at the place of its number
 pub entry-there : (cs : List Connection) (place : ℕ) (new : Connection) → place ≤ length cs
@@ -119,18 +72,6 @@ entry-there (c ∷ cs) (suc p) new within below above =
     rw behind (ap (λ (t : Table). row c ∷ t) (entry-there cs p new (omega (arith, within))
     (λ k d lt. below (suc k) d (omega (arith, lt)))
     (λ k d le lt. above (suc k) d (omega (arith, le)) (omega (arith, lt)))))
-
--- a number that no connection has: those before a place have smaller ones, and those from there on greater ones
-pub nowhere-at : (cs : List Connection) (place n : ℕ) → ((k : ℕ) (d : Connection) → k < place → (get_or cs k d).number < n)
-    → ((k : ℕ) (d : Connection) → place ≤ k → k < length cs → n < (get_or cs k d).number)
-    → position (λ (c : Connection). nat_eq c.number n) cs ≡ None
-nowhere-at cs place n below above =
-    let other = λ (k : ℕ) (d : Connection) (within : k < length cs). other_key (get_or cs k d).number n (λ same.
-    elim (test_cases (nat_lt k place)) [
-      | inl before ↦ let lt = below k d (grind (arith, nat_tests, before)) in omega (arith, lt, same)
-      | inr behind ↦ let lt = above k d (grind (arith, nat_tests, behind)) within in omega (arith, lt, same)
-    ]) in
-    none_passes (λ (c : Connection). nat_eq c.number n) cs other
 
 -- what a search over the elements of a vector found, or did not
 module _ (items cs : List Connection) (conn : ℕ) (same : cs ≡ items) where
@@ -194,7 +135,7 @@ place-at items cs place c same rising within is =
           ∙ ap (option_map (λ (e : ℕ × ConnectionView). e.0)) (slice_get-map row items place)
           ∙ ap (λ (o : Option Connection). option_map (λ (e : ℕ × ConnectionView). e.0) (option_map row o))
           (slice_get-get_or items place c long ∙ ap (λ (d : Connection). Some d) (sym one)),
-      value_at_place row nat_eq c.number items place c (first-at items place (2 ^ 32) c rising long one) one,
+      value_at_place row nat_eq c.number items place c (first-at row items place (2 ^ 32) c rising long one) one,
     )
 
 -- ---- the connection that has a process
@@ -231,7 +172,9 @@ module _ (o : PlainOutcome) (cs : List Connection) (rising : IsRising 0 (keys_of
           elim (test_cases (is_for o.pid (view_of (get_or cs k d)).process)) [
             | inl t ↦
                 let same = apart (get_or cs place was).number (get_or cs k d).number o.pid (has-it place was within mine) (has-it k d inside t) in
-                let at = λ (j : ℕ) (e : Connection). first-place 0 cs (2 ^ 32) j (get_or cs place was).number e rising in
-                absurd (other (sym (at k d inside same) ∙ at place was within refl))
+                let at = λ (j : ℕ) (e : Connection) (lt : j < length cs).
+                first-at row cs j (2 ^ 32) (get_or cs j e) rising lt (get_or_default cs j e (get_or cs j e) lt) in
+                let one = ap (λ (n : ℕ). position (λ (c : Connection). nat_eq c.number n) cs) (sym same) in
+                absurd (other (same_value k place (sym (at k d inside) ∙ (one ∙ at place was within))))
             | inr f ↦ f
           ]

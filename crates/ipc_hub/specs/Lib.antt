@@ -1,4 +1,5 @@
 pub mod Clients
+pub mod Unmarked
 pub mod Lives
 pub mod Replies
 pub mod View

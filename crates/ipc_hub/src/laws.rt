@@ -3,7 +3,8 @@
 
 ghost use Rattle.std.specs.Prelude.{◌≡◌, ℕ, Bool, List, ◌++◌, length, drop};
 ghost use Rattle.ipc_base.specs.declared.limits.Limits.{Limits};
-ghost use Rattle.ipc_hub.specs.Clients.{Client, Clients, client_at, take_in, arriving, fitted, all_bytes, shown};
+ghost use Rattle.ipc_hub.specs.Clients.{Client, Clients, client_at, feed, take_in, arriving, fitted, all_bytes, shown};
+ghost use Rattle.ipc_hub.specs.Unmarked.{unmarked};
 ghost use Rattle.ipc_engine.specs.Event.{PlainEvent};
 ghost use Rattle.ipc_store.specs.Lives.{StandsAfter};
 ghost use Rattle.ipc_store.specs.View.{StoreView};
@@ -11,6 +12,7 @@ ghost use Rattle.ipc_hub.specs.Lives.{Life, Lives, HasHistory};
 ghost use Rattle.ipc_hub.specs.Relations.Matches.{AreFrames};
 
 use ipc_disk::SectorDisk;
+use ipc_engine::{event_sets_clock, late_tick_does_nothing, nobody_waits_who_could_go_on};
 use ipc_store::{
     a_stop_leaves_what_was_acknowledged, an_open_finds_what_stands_there,
     an_open_finds_what_was_acknowledged,
@@ -24,6 +26,19 @@ pub fn bytes_come_in_any_pieces()
         ≡ take_in limits h conn (bytes ++ more) moment
         (fitted (length (arriving (client_at h conn) bytes)) refused ++ later) }
 {}
+
+/// Bytes that are fed in two pieces at one moment do what they do at once, with the same requests refused for memory.
+/// Only the second tick is counted, too, so that the marks of later frames are greater by one.
+pub fn feeds_come_in_any_pieces()
+    ensures { (limits : Limits) (h : Clients) (conn moment : ℕ) (bytes more : List ℕ) (refused later : List Bool)
+        → unmarked (feed limits (feed limits h conn bytes moment refused) conn more moment later)
+        ≡ unmarked (feed limits h conn (bytes ++ more) moment
+        (fitted (length (arriving (client_at h conn) bytes)) refused ++ later)) }
+{
+    event_sets_clock();
+    late_tick_does_nothing();
+    nobody_waits_who_could_go_on();
+}
 
 /// When all events are confirmed, as after a release, a client may see all its frames.
 pub fn released_frames_are_all_shown()

@@ -13,4 +13,7 @@ mod serving;
 pub use connection::Connection;
 pub use fault::{ConnectError, ServeError};
 pub use hub::Hub;
-pub use laws::{bytes_come_in_any_pieces, no_answer_is_taken_back, released_frames_are_all_shown};
+pub use laws::{
+    bytes_come_in_any_pieces, feeds_come_in_any_pieces, no_answer_is_taken_back,
+    released_frames_are_all_shown,
+};

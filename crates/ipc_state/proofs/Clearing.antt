@@ -1,6 +1,10 @@
 -- A loop over items with numbers that changes each value.
-use Rattle.std.proofs.Common.{◌≡◌, ℕ, zero, suc, ◌<◌, ◌≤◌, List, [], ◌∷◌, length, map, get_or, refl, ap, ◌∙◌, arith}
-use Rattle.ipc_base.specs.Table.{keys_of, seen_as}
+use Rattle.std.proofs.Common.{◌≡◌, ℕ, zero, suc, ◌<◌, ◌≤◌, ◌^◌, List, [], ◌∷◌, length, map, get_or, refl, sym, ap, subst, ◌∙◌, arith}
+use Rattle.std.proofs.lemmas.List.{length-map, with_items_is}
+use Rattle.std.specs.Global.{Vec}
+use Rattle.std.specs.Vec.{with_items}
+use Rattle.ipc_base.specs.Table.{keys_of, seen_as, IsRising}
+use Rattle.ipc_base.proofs.CallerLemmas.{keys-map}
 use Rattle.ipc_state.specs.declared.numbered.Item.{Item}
 use Rattle.ipc_state.specs.Tables.{item_row}
 
@@ -24,6 +28,27 @@ rows-seen {X} f (o ∷ old) (n ∷ new) count each =
 pub seen-all : {X : Type 0} (f : X → X) (i : ℕ) (initial now : List (Item X)) → SeenUpTo f i initial now → length initial ≤ i
     → map item_row now ≡ seen_as f (map item_row initial)
 seen-all f i initial now seen all = rows-seen f initial now seen.count (λ k d within. seen.done k d (omega (arith, within, all)))
+
+same-long : {X : Type 0} (f : X → X) (xs ys : List (Item X)) → map item_row xs ≡ seen_as f (map item_row ys) → length xs ≡ length ys
+same-long {X} f xs ys same =
+    omega (
+      arith,
+      length-map xs item_row,
+      length-map ys item_row,
+      length-map (map item_row ys) (λ (e : ℕ × X). let g : ℕ × X = (e.0, f e.1) in g),
+      ap length same,
+    )
+
+-- what is written back has the numbers that were there, so they rise if they did
+pub rises-after : {X : Type 0} (f : X → X) (old : Vec (Item X)) (lent new : List (Item X)) → lent ≡ old.items
+    → map item_row new ≡ seen_as f (map item_row lent) → IsRising 0 (keys_of (map item_row old.items)) (2 ^ 32)
+    → IsRising 0 (keys_of (map item_row (with_items old new).items)) (2 ^ 32)
+rises-after f old lent new same seen rising =
+    let long : length new ≡ length old.items = same-long f new lent seen ∙ ap length same in
+    let put : (with_items old new).items ≡ new = with_items_is old new (omega (arith, long)) in
+    let keys = ap (λ (es : List (Item _)). keys_of (map item_row es)) put ∙ (ap keys_of seen
+    ∙ (ap (λ (es : List (Item _)). keys_of (seen_as f (map item_row es))) same ∙ keys-map f (map item_row old.items))) in
+    subst (λ (ks : List ℕ). IsRising 0 ks (2 ^ 32)) (sym keys) rising
 
 -- ---- two tables with the same numbers
 

@@ -15,5 +15,6 @@ mod Naming
 mod Adjusting
 mod Clearing
 mod Few
+mod Inside
 mod Opening
 mod Steps

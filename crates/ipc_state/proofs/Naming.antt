@@ -48,7 +48,7 @@ absent-without {X} (e ∷ es) n none = by_test (nat_eq e.0 n) none (absent-witho
     by_test false none rest = ap (λ (fs : List (ℕ × X)). e ∷ fs) (rest none)
 
 -- numbers stay in order if some go
-rising-filter : {X : Type 0} (p : ℕ × X → Bool) (low : ℕ) (es : List (ℕ × X)) (high : ℕ) → IsRising low (keys_of es) high
+pub rising-filter : {X : Type 0} (p : ℕ × X → Bool) (low : ℕ) (es : List (ℕ × X)) (high : ℕ) → IsRising low (keys_of es) high
     → IsRising low (keys_of (filter p es)) high
 rising-filter p low [] high h = h
 rising-filter p low (e ∷ es) high h = by_test (p e) (rising-filter p (e.0 + 1) es high h.1)

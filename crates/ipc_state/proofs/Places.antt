@@ -1,13 +1,12 @@
--- What has a number, found and changed at its place in a table.
+-- What has a number, found and changed at its place in a list.
 use Rattle.std.proofs.Common.{◌≡◌, ℕ, Bool, true, false, cond, List, [], ◌∷◌, Option, Some, None, refl, ap}
 use Rattle.std.specs.Prelude.{nat_eq, position}
 use Rattle.ipc_base.specs.Table.{value_at, with_value}
 use Rattle.ipc_state.specs.declared.numbered.Item.{Item}
-use Rattle.ipc_state.specs.declared.numbered.Numbered.{Numbered as Table}
 
 -- the place of the one that has the number
-abbrev pub place_of : {T : Type 0} → Table T → ℕ → Option ℕ
-place_of {T} o n = position (λ (e : Item T). nat_eq e.number n) o.items.items
+abbrev pub place_of : {T : Type 0} → List (Item T) → ℕ → Option ℕ
+place_of {T} items n = position (λ (e : Item T). nat_eq e.number n) items
 
 -- another at a number that is not there changes nothing
 pub with-none : {X : Type 0} (es : List (ℕ × X)) (n : ℕ) (x : X) → value_at nat_eq es n ≡ None → with_value nat_eq es n x ≡ es

@@ -24,10 +24,7 @@ use Rattle.shm_segment.specs.Segment.{Segment}
 use Rattle.ipc_state.specs.declared.descriptors.Descriptor.{Descriptor}
 use Rattle.ipc_state.specs.declared.descriptors.Opened.{Opened}
 use Rattle.ipc_state.specs.declared.descriptors.Opened.TheVariants as opened
-use Rattle.std.proofs.lemmas.List.{length-map}
 use Rattle.ipc_state.specs.declared.named.NamedEntry.{NamedEntry}
-use Rattle.ipc_state.specs.declared.numbered.Item.{Item}
-use Rattle.ipc_state.specs.Tables.{item_row}
 use Rattle.ipc_state.specs.declared.processes.Process.{Process}
 use Rattle.ipc_state.specs.Descriptors.{Table}
 use Rattle.ipc_state.specs.Directory.{Agrees}
@@ -471,18 +468,6 @@ module _ (limits : Limits) where
 -- a test of each of a list
 pub all-tests : {X Y : Type 0} (test : Y → Bool) (row : X → Y) (xs : List X) → Decides (list_all (λ x. test (row x)) xs) (All (λ y. test y ≡ true) (map row xs))
 all-tests test row xs = each-decides test (λ y. test y ≡ true) row xs (λ y. (λ yes. yes, λ yes. yes))
-
--- there are as many of them without their registrations
-pub same-long : (f : NamedEntry Mq → NamedEntry Mq) (xs ys : List (Item (NamedEntry Mq))) → length (map item_row xs) ≡ length (seen_as f (map item_row ys))
-    → length xs ≡ length ys
-same-long f xs ys same =
-    omega (
-      arith,
-      length-map xs item_row,
-      length-map ys item_row,
-      length-map (map item_row ys) (λ (e : ℕ × NamedEntry Mq). let g : ℕ × NamedEntry Mq = (e.0, f e.1) in g),
-      same,
-    )
 
 -- ---- a restart twice
 

@@ -11,11 +11,13 @@ pub mod Held
 pub mod Directory
 pub mod Tables
 pub mod Restored
+pub mod Rows
 pub mod Lends
 pub mod LendsMsg
 pub mod LendsSem
 pub mod LendsMq
 pub mod LendsNamed
+pub mod LendsRow
 pub mod Touching
 pub mod Finish
 pub mod Spare

@@ -1,25 +1,22 @@
 -- How the state is kept: each part of the tables as a value of the definitions.
-use Rattle.std.specs.Prelude.{◌≡◌, ◌≢◌, ℕ, ℤ, pos, Bool, true, nat_lt, List, [], map, None, vec_len, vec_capacity}
+use Rattle.std.specs.Prelude.{◌≡◌, ◌≢◌, ℕ, ℤ, pos, Bool, true, List, [], map, None}
 use Rattle.std.specs.FinMap.{FinMap}
 use Rattle.std.specs.Cmp.Lexicographic.{slice_cmp}
 use Rattle.std.specs.Ordering.{int_cmp, nat_cmp}
 use Rattle.ipc_keys.specs.Directory.{is_vacant}
-use Rattle.ipc_state.specs.declared.numbered.Item.{Item}
 use Rattle.ipc_state.specs.declared.numbered.Numbered.{Numbered as Table}
+use Rattle.ipc_state.specs.Rows.{has_room}
+pub use Rattle.ipc_state.specs.Rows.{item_row}
 use Rattle.ipc_state.specs.Numbered.{Numbered}
 use Rattle.ipc_state.specs.Keyed.{Keyed, keyed}
 use Rattle.ipc_state.specs.Named.{Named, named}
-
--- one with its number
-abbrev pub item_row : {T : Type 0} → Item T → ℕ × T
-item_row e = (e.number, e.value)
 
 abbrev pub numbered_of : {T : Type 0} → Table T → Numbered T
 numbered_of o = record { next = o.next; entries = map item_row o.items.items }
 
 -- room for one more
 abbrev pub has_place : {T : Type 0} → Table T → Bool
-has_place o = nat_lt (vec_len o.items) (vec_capacity o.items)
+has_place o = has_room o.items
 
 -- what a contract sees of the objects of one kind that are held: these, whether there is room for one more, and the
 -- directory of their keys, with those that no object has and that have room

@@ -9,11 +9,13 @@ ghost use Rattle.sem_undo.specs.Undo.{adjustment, subtracted, is_adjustment, mos
 ghost use Rattle.ipc_state.specs.Restored.{with_adjustment, with_no_adjustments};
 ghost use Rattle.ipc_state.specs.Sound.{has_semaphore, AreAdjustments};
 ghost use Rattle.ipc_state.specs.State.{adjusted, undone, undo_of, with_undo, without_adjustments};
-ghost use Rattle.ipc_state.specs.Tables.{item_row, numbered_of};
+ghost use Rattle.ipc_state.specs.Rows.{has_room, item_row};
+ghost use Rattle.ipc_state.specs.Tables.{numbered_of};
 
 use crate::keyed::Keyed;
 use crate::numbered::{Item, Numbered};
 use crate::processes::Process;
+use crate::rows::Rows;
 use crate::state::State;
 use ipc_base::{Id, Pid};
 use sem_undo::{SemUndo, UndoRow};
@@ -59,7 +61,7 @@ impl State {
     pub fn clear_adjustments(&mut self, set: Id, num: Option<u16>)
         ensures { self.new ≡ record self.old { state = without_adjustments set.0 num self.old.state } }
     {
-        clear_each(&mut self.undo.items, set, num);
+        self.undo.items.clear_at(set, num);
     }
 
     /// Each process that was read has adjustments, which are none.
@@ -157,6 +159,16 @@ fn add_adjustment(sets: &mut Keyed<SemSet>, pid: Pid, row: &UndoRow)
         if (row.num as usize) < set.semaphores().len() {
             set.adjust(row.num, row.adjustment, pid);
         }
+    }
+}
+
+impl Rows<SemUndo> {
+    /// Drops the adjustments of each process at the semaphore of this number of a set, or at all of the set.
+    fn clear_at(&mut self, set: Id, num: Option<u16>)
+        ensures rows { map item_row self.new.items ≡ seen_as (cleared set.0 num) (map item_row self.old.items) }
+        ensures room { has_room self.new ≡ has_room self.old }
+    {
+        clear_each(&mut self.items, set, num);
     }
 }
 

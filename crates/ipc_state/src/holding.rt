@@ -2,6 +2,7 @@
 //! and shm_overview(7).
 
 ghost use Rattle.std.specs.Prelude.{◌≡◌, ◌↔◌, ◌&&◌, true, map, All, IsTrue};
+ghost use Rattle.std.specs.Prelude.{filter};
 ghost use Rattle.std.specs.List.{list_all, list_any};
 ghost use Rattle.ipc_state.specs.Opening.{descriptor_at, has_access, is_named_so, is_on, is_open, is_sound_descriptor};
 ghost use Rattle.ipc_state.specs.Opening.{is_there_for, opened_as, stays, still_open};
@@ -13,6 +14,7 @@ use crate::descriptors::{Descriptor, DescriptorRow, Opened};
 use crate::named::{Named, NamedEntry};
 use crate::numbered::Item;
 use crate::processes::Process;
+use crate::rows::Rows;
 use crate::sound::SoundAlone;
 use crate::state::State;
 use ipc_base::{Limits, Pid};
@@ -104,9 +106,17 @@ impl<T: Drop> Named<T> {
         ensures objects { self.new.objects ≡ still_open kind (map item_row processes.now) self.old.objects }
         ensures names { self.new.names ≡ self.old.names }
     {
-        self.objects
-            .items
-            .retain(|item| stays(processes, item, kind));
+        self.objects.items.sweep(processes, kind);
+    }
+}
+
+impl<T: Drop> Rows<NamedEntry<T>> {
+    /// The same.
+    fn sweep(&mut self, processes: &[Item<Process>], kind: NameKind)
+        ensures rows { map item_row self.new.items
+            ≡ filter (stays kind (map item_row processes.now)) (map item_row self.old.items) }
+    {
+        self.items.retain(|item| stays(processes, item, kind));
     }
 }
 

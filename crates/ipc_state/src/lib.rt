@@ -17,6 +17,7 @@ mod operations;
 mod parked;
 mod processes;
 mod queues;
+mod rows;
 mod segments;
 mod sets;
 mod sound;

@@ -21,7 +21,7 @@ ghost use Rattle.ipc_state.specs.Restored.{with_last_mq};
 ghost use Rattle.ipc_state.specs.Sound.{AreHeld, AreSoundMqs, IsSoundMq};
 ghost use Rattle.ipc_state.specs.State.{deregistered_by, has_all_mqs, receives_from, receiver_waits};
 ghost use Rattle.ipc_state.specs.State.{unlinked, with_new_mq};
-ghost use Rattle.ipc_state.specs.Tables.{item_row};
+ghost use Rattle.ipc_state.specs.Rows.{has_room, item_row};
 ghost use Rattle.ipc_state.specs.Tests.{is_sound_mq, is_sound_mq_message};
 ghost use Rattle.ipc_state.specs.Waiting.{parked_kind};
 
@@ -30,6 +30,7 @@ use crate::holding::is_on;
 use crate::named::{Named, NamedEntry};
 use crate::numbered::Item;
 use crate::parked::{ParkedKind, ParkedPosix};
+use crate::rows::Rows;
 use crate::sound::SoundAlone;
 use crate::state::State;
 use ipc_base::{Cred, Limits, Pid};
@@ -281,7 +282,17 @@ impl Named<Mq> {
     fn deregister(&mut self, pid: Option<u32>, fd: Option<u32>)
         ensures { self.new ≡ record self.old { objects = without_registrations (is_by pid fd) self.old.objects } }
     {
-        deregister_each(&mut self.objects.items, pid, fd);
+        self.objects.items.deregister(pid, fd);
+    }
+}
+
+impl Rows<NamedEntry<Mq>> {
+    /// The same.
+    fn deregister(&mut self, pid: Option<u32>, fd: Option<u32>)
+        ensures rows { map item_row self.new.items ≡ seen_as (deregistered (is_by pid fd)) (map item_row self.old.items) }
+        ensures room { has_room self.new ≡ has_room self.old }
+    {
+        deregister_each(&mut self.items, pid, fd);
     }
 }
 

@@ -1,4 +1,4 @@
-//! What has numbers of its own, as a plain list: at most some dozens, found from the front.
+//! What has numbers of its own, and the number of the next one.
 
 ghost use Rattle.std.specs.Prelude.{
   ◌≡◌,
@@ -34,6 +34,7 @@ ghost use Rattle.ipc_state.specs.Numbered.{
 };
 ghost use Rattle.ipc_state.specs.Tables.{numbered_of, has_place};
 
+use crate::rows::Rows;
 use std::alloc::{AllocError, Global};
 
 /// One of those that have numbers, with its number.
@@ -77,7 +78,7 @@ pub(crate) fn rise<T: HasNumber>(items: &[T], low: u32, high: u32) -> bool
 #[derive(Drop)]
 pub(crate) struct Numbered<T> {
     next: u32,
-    pub(crate) items: Vec<Item<T>>,
+    pub(crate) items: Rows<T>,
 }
 
 /// Identifiers and pids end here.
@@ -90,7 +91,7 @@ impl<T> Numbered<T> {
     {
         Numbered {
             next: 1,
-            items: Vec::new(alloc),
+            items: Rows::new(alloc),
         }
     }
 
@@ -101,7 +102,7 @@ impl<T> Numbered<T> {
         ensures succeeds { has_place self.old ≡ true → IsOk result }
         ensures err { OnErr result (has_place self.new ≡ has_place self.old) }
     {
-        self.items.reserve(1)
+        self.items.reserve()
     }
 
     /// Whether none can be added: there are `most`, or no number is left.
@@ -115,7 +116,7 @@ impl<T> Numbered<T> {
     pub(crate) fn items(&self) -> &[Item<T>]
         ensures { result.now ≡ self.now.items.items }
     {
-        &self.items
+        self.items.all()
     }
 
     /// The number of the next one.
@@ -125,19 +126,11 @@ impl<T> Numbered<T> {
         self.next
     }
 
-    /// The place of a number.
-    fn place(&self, number: u32) -> Option<usize>
-        ensures { result ≡ position (λ e. e.number == number) self.now.items.items }
-    {
-        self.items.iter().position(|item| item.number == number)
-    }
-
     /// The one that has a number.
     pub(crate) fn get(&self, number: u32) -> Option<&Item<T>>
         ensures { option_map (λ e. e.value) (option_copied result) ≡ entry_of (numbered_of self.now) number }
     {
-        let place = self.place(number)?;
-        Some(&self.items[place])
+        self.items.get(number)
     }
 
     /// The one that has a number, to be changed.
@@ -145,9 +138,7 @@ impl<T> Numbered<T> {
         ensures* writes_back { sem 𝓛 (lends_numbered T.row self.entry number result) }
         ensures value { option_copied_mut result ≡ entry_of (numbered_of self.old) number }
     {
-        let place = self.place(number)?;
-        let item = &mut self.items[place];
-        Some(&mut item.value)
+        self.items.get_mut(number)
     }
 
     /// Adds one under the next number, which it gives. It takes no memory.
@@ -159,7 +150,7 @@ impl<T> Numbered<T> {
     {
         let number = self.next;
         self.next += 1;
-        self.items.push_reserved(Item { number, value });
+        self.items.push(number, value);
         number
     }
 
@@ -168,7 +159,7 @@ impl<T> Numbered<T> {
         requires { has_place self.old ≡ true }
         ensures { numbered_of self.new ≡ with_last (numbered_of self.old) number value }
     {
-        self.items.push_reserved(Item { number, value });
+        self.items.push(number, value);
     }
 
     /// Replaces the number of the next one.
@@ -183,7 +174,7 @@ impl<T> Numbered<T> {
     fn rise(&self) -> bool
         ensures { IsTrue result ↔ IsRising 1 (keys_of (numbered_of self.now).entries) self.now.next }
     {
-        rise(&self.items, 1, self.next)
+        rise(self.items.all(), 1, self.next)
     }
 
     /// Whether the numbers are in order, and there are no more than `most`.
@@ -199,9 +190,7 @@ impl<T: Drop> Numbered<T> {
     pub(crate) fn remove(&mut self, number: u32)
         ensures { numbered_of self.new ≡ without_entry (numbered_of self.old) number }
     {
-        if let Some(place) = self.place(number) {
-            self.items.remove(place);
-        }
+        self.items.remove(number);
     }
 
     /// Takes all out.

@@ -1,4 +1,4 @@
-use Rattle.std.proofs.Common.{◌≡◌, ap, ◌∙◌, Err}
+use Rattle.std.proofs.Common.{◌≡◌, ap, ◌∙◌, Err, inl, inr}
 use Rattle.ipc_store.specs.declared.fault.OpenError.TheVariants as errors
 use Rattle.ipc_store.proofs.opening.read_device.Goals as goal
 
@@ -6,3 +6,6 @@ pub returns-in-Err-load-clause-damaged : goal.returns-in-Err-load-clause-damaged
 returns-in-Err-load-clause-damaged g c = λ sector is honest.
     let e : c.in-Err-load.error ≡ errors.Damaged sector = cc in
     c.load.ensures.damaged sector (c.in-Err-load.is ∙ ap Err e) honest
+
+pub returns-in-Ok-load-clause-no_failure : goal.returns-in-Ok-load-clause-no_failure
+returns-in-Ok-load-clause-no_failure g c = elim c.in-Ok-load.ensures.no_failure [ inl failed ↦ cc | inr same ↦ inr same ]

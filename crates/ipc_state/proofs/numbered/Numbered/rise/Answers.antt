@@ -9,4 +9,4 @@ pub returns : goal.returns
 returns g c =
     let es = c.args.self.now.items.items in
     subst (λ (ns : List ℕ). Decides c.rise.result (IsRising 1 ns c.args.self.now.next))
-    (ap (map (λ (e : Item _). e.number)) c.deref.ensures.value ∙ sym (item-numbers es)) c.rise.ensures
+    (ap (map (λ (e : Item _). e.number)) c.all.ensures ∙ sym (item-numbers es)) c.rise.ensures

@@ -1,0 +1,32 @@
+use Rattle.std.proofs.Common.{◌≡◌, ◌<◌, ◌^◌, ℕ, length, ap, sym, ◌∙◌, arith}
+use Rattle.std.specs.Prelude.{nat_eq, position}
+use Rattle.ipc_base.proofs.CallerLemmas.{first-at, nowhere-at, passed-over}
+use Rattle.ipc_state.specs.declared.numbered.Item.{Item}
+use Rattle.ipc_state.specs.Rows.{item_row}
+use Rattle.ipc_state.proofs.rows.place_of.Goals as goal
+
+pub returns-then-place-items : goal.returns-then-place-items
+returns-then-place-items g c =
+    sym (nowhere-at item_row c.args.items.now c.place_for-place.result c.args.number c.place_for-place.ensures.below
+    (λ k d past within. absurd (omega (arith, past, within, c.if-place-items.true))))
+
+pub returns-then-item-number : goal.returns-then-item-number
+returns-then-item-number g c =
+    let xs = c.args.items.now in
+    let place = c.place_for-place.result in
+    let found = c.place_for-place.ensures in
+    let was = c.index-items-place.result in
+    let inside : place < length xs = omega (arith, found.within, c.if-place-items.false) in
+    let here : c.args.number < was.number = omega
+    (arith, found.rest place was (omega arith) inside, c.if-item-number.true, ap (λ (e : Item _). e.number) c.index-items-place.is) in
+    sym (passed-over item_row xs place c.args.number (2 ^ 32) was c.requires c.index-items-place.is found.below here)
+
+pub returns : goal.returns
+returns g c =
+    let xs = c.args.items.now in
+    let place = c.place_for-place.result in
+    let was = c.index-items-place.result in
+    let inside : place < length xs = omega (arith, c.place_for-place.ensures.within, c.if-place-items.false) in
+    let number : was.number ≡ c.args.number = c.if-item-number.false in
+    sym (ap (λ (n : ℕ). position (λ (e : Item _). nat_eq e.number n) xs) (sym number)
+    ∙ first-at item_row xs place (2 ^ 32) was c.requires inside c.index-items-place.is)
