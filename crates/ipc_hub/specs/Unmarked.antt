@@ -1,5 +1,5 @@
--- What a server is but for how many events it has accepted, which the marks of frames count: a tick that does nothing is
--- counted, too.
+-- What a server is but for how many events it has accepted, which the marks of frames count: a tick that does nothing
+-- is counted, too.
 use Rattle.std.specs.Prelude.{[], map}
 use Rattle.ipc_base.specs.Table.{seen_as}
 use Rattle.ipc_hub.specs.Clients.{Client, Clients, Frame}

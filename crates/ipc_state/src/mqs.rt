@@ -289,7 +289,8 @@ impl Named<Mq> {
 impl Rows<NamedEntry<Mq>> {
     /// The same.
     fn deregister(&mut self, pid: Option<u32>, fd: Option<u32>)
-        ensures rows { map item_row self.new.items ≡ seen_as (deregistered (is_by pid fd)) (map item_row self.old.items) }
+        ensures rows { map item_row self.new.items
+            ≡ seen_as (deregistered (is_by pid fd)) (map item_row self.old.items) }
         ensures room { has_room self.new ≡ has_room self.old }
     {
         deregister_each(&mut self.items, pid, fd);
