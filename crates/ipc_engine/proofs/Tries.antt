@@ -73,24 +73,8 @@ posix-touched : (s : State) (pid : ℕ) (call : PlainPosix) (on : Awaited) → a
 posix-touched s pid (requests.MqSend fd deadline priority text) on is =
     let same : awaited.Descriptor fd ≡ on = cc in ap (object_of s pid) same
 posix-touched s pid (requests.MqReceive fd deadline size) on is = let same : awaited.Descriptor fd ≡ on = cc in ap (object_of s pid) same
-posix-touched s pid (requests.Close fd) on is = cc
-posix-touched s pid (requests.MqOpen flags mode attr maxmsg msgsize name) on is = cc
-posix-touched s pid (requests.MqUnlink name) on is = cc
-posix-touched s pid (requests.MqNotify fd kind cookie) on is = cc
-posix-touched s pid (requests.MqGetattr fd) on is = cc
-posix-touched s pid (requests.MqSetattr fd flags) on is = cc
-posix-touched s pid (requests.SemOpen flags mode value name) on is = cc
-posix-touched s pid (requests.SemUnlink name) on is = cc
-posix-touched s pid (requests.SemPost fd) on is = cc
 posix-touched s pid (requests.SemWait fd deadline) on is = let same : awaited.Descriptor fd ≡ on = cc in ap (object_of s pid) same
-posix-touched s pid (requests.SemTrywait fd) on is = cc
-posix-touched s pid (requests.SemGetvalue fd) on is = cc
-posix-touched s pid (requests.ShmOpen flags mode name) on is = cc
-posix-touched s pid (requests.ShmUnlink name) on is = cc
-posix-touched s pid (requests.Ftruncate fd len) on is = cc
-posix-touched s pid (requests.ShmRead fd offset len) on is = cc
-posix-touched s pid (requests.ShmWrite fd offset bytes) on is = cc
-posix-touched s pid (requests.ShmStat fd) on is = cc
+posix-touched s pid call on is = cc
 
 -- What is known of a call of a process that has come to its end, if it may change this object alone: it changes nothing
 -- else, the objects of the other processes are the same, and it leaves no more registrations than there were.

@@ -1,6 +1,6 @@
 -- What the crates above cite: each change of the state leads from a sound state to a sound state, and so does a call
 -- whose steps do.
-use Rattle.std.proofs.Common.{◌≡◌, ℕ, ℤ, ◌+◌, ◌<◌, ◌≤◌, Bool, true, false, Option, Some, None, refl, arith, sym, ap, subst, ◌∙◌, List}
+use Rattle.std.proofs.Common.{◌≡◌, ℕ, ℤ, ◌+◌, ◌<◌, ◌≤◌, Bool, true, false, Option, Some, None, refl, arith, rules, sym, ap, subst, ◌∙◌, List}
 use Rattle.std.proofs.Common.{[], ◌∷◌, ◌++◌, not, suc, drop, take, length, length-append}
 use Rattle.std.proofs.lemmas.Nat.{and_le_r}
 use Rattle.std.specs.Prelude.{⊤, option_map, unwrap_or, All, nat_eq, nat_lt, IfSome, if◌then◌else◌, ◌^◌, ◌-◌}
@@ -34,7 +34,7 @@ use Rattle.ipc_keys.specs.declared.check.NameKind.TheVariants as names
 use Rattle.sysv_msg.specs.Queue.{Queue, new_queue}
 use Rattle.sysv_sem.specs.Set.{Set, new_set, after_exit}
 use Rattle.ipc_wire.specs.Posix as posix
-use Rattle.ipc_wire.specs.Request.{PlainKind, PlainRequest, Hello, Interrupt, Calls, Posix}
+use Rattle.ipc_wire.specs.Request.{PlainKind, PlainRequest, Interrupt, Calls, Posix}
 use Rattle.ipc_wire.specs.Request as requests
 use Rattle.ipc_state.specs.declared.keyed.Entry.{Entry}
 use Rattle.ipc_perm.specs.declared.perm.Perm.{Perm}
@@ -570,46 +570,9 @@ after-sound now timeout = by_test (nat_lt (now + timeout) (2 ^ 64 - 1)) refl
 -- the deadline of a call that comes is one that it may have
 pub deadline-sound : (now : ℕ) (kind : PlainKind) → IfSome (deadline_of now kind) (λ d. (has_deadline kind ≡ true) × (d.0 < 2 ^ 64 - 1))
 unfolding deadline_of
-deadline-sound now (Hello cred) = tt
-deadline-sound now Interrupt = tt
 deadline-sound now (Calls (requests.Semop id timeout operations)) = after-sound now timeout
-deadline-sound now (Calls (requests.Msgget key flags)) = tt
-deadline-sound now (Calls (requests.Msgsnd id flags mtype text)) = tt
-deadline-sound now (Calls (requests.Msgrcv id flags size mtype)) = tt
-deadline-sound now (Calls (requests.MsgctlStat id)) = tt
-deadline-sound now (Calls (requests.MsgctlSet id uid gid mode qbytes)) = tt
-deadline-sound now (Calls (requests.MsgctlRmid id)) = tt
-deadline-sound now (Calls (requests.Semget key nsems flags)) = tt
-deadline-sound now (Calls (requests.SemctlGetVal id num)) = tt
-deadline-sound now (Calls (requests.SemctlGetPid id num)) = tt
-deadline-sound now (Calls (requests.SemctlGetNcnt id num)) = tt
-deadline-sound now (Calls (requests.SemctlGetZcnt id num)) = tt
-deadline-sound now (Calls (requests.SemctlSetVal id num value)) = tt
-deadline-sound now (Calls (requests.SemctlGetAll id)) = tt
-deadline-sound now (Calls (requests.SemctlSetAll id values)) = tt
-deadline-sound now (Calls (requests.SemctlStat id)) = tt
-deadline-sound now (Calls (requests.SemctlSet id uid gid mode)) = tt
-deadline-sound now (Calls (requests.SemctlRmid id)) = tt
-deadline-sound now (Posix (posix.MqSend fd deadline priority text)) = after-sound 0 deadline
-deadline-sound now (Posix (posix.MqReceive fd deadline size)) = after-sound 0 deadline
-deadline-sound now (Posix (posix.Close fd)) = tt
-deadline-sound now (Posix (posix.MqOpen flags mode attr maxmsg msgsize name)) = tt
-deadline-sound now (Posix (posix.MqUnlink name)) = tt
-deadline-sound now (Posix (posix.MqNotify fd kind cookie)) = tt
-deadline-sound now (Posix (posix.MqGetattr fd)) = tt
-deadline-sound now (Posix (posix.MqSetattr fd flags)) = tt
-deadline-sound now (Posix (posix.SemOpen flags mode value name)) = tt
-deadline-sound now (Posix (posix.SemUnlink name)) = tt
-deadline-sound now (Posix (posix.SemPost fd)) = tt
 deadline-sound now (Posix (posix.SemWait fd deadline)) = after-sound 0 deadline
-deadline-sound now (Posix (posix.SemTrywait fd)) = tt
-deadline-sound now (Posix (posix.SemGetvalue fd)) = tt
-deadline-sound now (Posix (posix.ShmOpen flags mode name)) = tt
-deadline-sound now (Posix (posix.ShmUnlink name)) = tt
-deadline-sound now (Posix (posix.Ftruncate fd length)) = tt
-deadline-sound now (Posix (posix.ShmRead fd offset length)) = tt
-deadline-sound now (Posix (posix.ShmWrite fd offset bytes)) = tt
-deadline-sound now (Posix (posix.ShmStat fd)) = tt
+deadline-sound now kind = search (rules, after-sound)
 
 -- ---- objects that are held, and those of the definitions
 

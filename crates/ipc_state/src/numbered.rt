@@ -2,14 +2,12 @@
 
 ghost use Rattle.std.specs.Prelude.{
   ◌≡◌,
-  ◌==◌,
   ◌<◌,
   ◌≤◌,
   ◌^◌,
   ◌↔◌,
   true,
   [],
-  position,
   option_map,
   option_copied,
   ℕ,

@@ -153,11 +153,16 @@ fn place_for<T>(items: &[Item<T>], number: u32) -> usize
     items.partition_point(|item| item.number < number)
 }
 
-/// The place of the one that has a number, where the numbers rise.
+/// The place of the one that has a number, where the numbers rise. As long as none was removed it stands as many places
+/// from the front as its number says, and the newest stands last: there it is looked for first.
 fn place_of<T>(items: &[Item<T>], number: u32) -> Option<usize>
     requires { IsRising 0 (keys_of (map item_row items.now)) (2 ^ 32) }
     ensures { result ≡ position (λ e. e.number == number) items.now }
 {
+    let near = items.len().min(number as usize);
+    if 0 < near && items[near - 1].number == number {
+        return Some(near - 1);
+    }
     let place = place_for(items, number);
     if place == items.len() {
         return None;

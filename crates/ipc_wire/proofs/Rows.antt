@@ -8,7 +8,7 @@ use Rattle.std.proofs.lemmas.List.{length-append, length-drop, drop_at}
 use Rattle.ipc_base.specs.Numbers.{Values, total, values_of, values_bytes, AreInRange}
 use Rattle.ipc_wire.specs.Fields.{Rest, Nothing, Bytes, Units, MayHave, fits}
 use Rattle.ipc_wire.specs.Posix as posix
-use Rattle.ipc_wire.specs.Request.{PlainKind, Hello, Interrupt, Calls, Posix}
+use Rattle.ipc_wire.specs.Request.{PlainKind, Calls, Posix}
 use Rattle.ipc_wire.specs.Request as requests
 use Rattle.ipc_wire.specs.Spelling.{opcode_of, fields_of}
 use Rattle.ipc_wire.specs.Stream.{fits_row, made_by, made_by_some, kind_of}
@@ -29,46 +29,9 @@ record HasRow (kind : PlainKind) : Type 0 where
   made : (parts_of kind).row.make (parts_of kind).values (parts_of kind).rest ≡ kind
 
 has_row : (kind : PlainKind) → HasRow kind
-has_row (Hello cred) = record { row = refl; made = refl }
-has_row Interrupt = record { row = refl; made = refl }
-has_row (Posix (posix.Close fd)) = record { row = refl; made = refl }
-has_row (Calls (requests.Msgget key flags)) = record { row = refl; made = refl }
-has_row (Calls (requests.Msgsnd id flags mtype text)) = record { row = refl; made = refl }
-has_row (Calls (requests.Msgrcv id flags size mtype)) = record { row = refl; made = refl }
-has_row (Calls (requests.MsgctlStat id)) = record { row = refl; made = refl }
-has_row (Calls (requests.MsgctlSet id uid gid mode qbytes)) = record { row = refl; made = refl }
-has_row (Calls (requests.MsgctlRmid id)) = record { row = refl; made = refl }
-has_row (Calls (requests.Semget key nsems flags)) = record { row = refl; made = refl }
-has_row (Calls (requests.Semop id timeout operations)) = record { row = refl; made = refl }
-has_row (Calls (requests.SemctlGetNcnt id num)) = record { row = refl; made = refl }
-has_row (Calls (requests.SemctlGetZcnt id num)) = record { row = refl; made = refl }
-has_row (Calls (requests.SemctlGetVal id num)) = record { row = refl; made = refl }
-has_row (Calls (requests.SemctlGetPid id num)) = record { row = refl; made = refl }
-has_row (Calls (requests.SemctlSetVal id num value)) = record { row = refl; made = refl }
-has_row (Calls (requests.SemctlGetAll id)) = record { row = refl; made = refl }
-has_row (Calls (requests.SemctlSetAll id values)) = record { row = refl; made = refl }
-has_row (Calls (requests.SemctlStat id)) = record { row = refl; made = refl }
-has_row (Calls (requests.SemctlSet id uid gid mode)) = record { row = refl; made = refl }
 has_row (Calls (requests.SemctlRmid id)) = record { row = refl; made = refl }
-has_row (Posix (posix.MqOpen flags mode attr maxmsg msgsize name)) = record { row = refl; made = refl }
-has_row (Posix (posix.MqUnlink name)) = record { row = refl; made = refl }
-has_row (Posix (posix.MqSend fd deadline priority text)) = record { row = refl; made = refl }
-has_row (Posix (posix.MqReceive fd deadline size)) = record { row = refl; made = refl }
-has_row (Posix (posix.MqNotify fd kind cookie)) = record { row = refl; made = refl }
-has_row (Posix (posix.MqGetattr fd)) = record { row = refl; made = refl }
-has_row (Posix (posix.MqSetattr fd flags)) = record { row = refl; made = refl }
-has_row (Posix (posix.SemOpen flags mode value name)) = record { row = refl; made = refl }
-has_row (Posix (posix.SemUnlink name)) = record { row = refl; made = refl }
-has_row (Posix (posix.SemPost fd)) = record { row = refl; made = refl }
-has_row (Posix (posix.SemWait fd deadline)) = record { row = refl; made = refl }
-has_row (Posix (posix.SemTrywait fd)) = record { row = refl; made = refl }
-has_row (Posix (posix.SemGetvalue fd)) = record { row = refl; made = refl }
-has_row (Posix (posix.ShmOpen flags mode name)) = record { row = refl; made = refl }
-has_row (Posix (posix.ShmUnlink name)) = record { row = refl; made = refl }
-has_row (Posix (posix.Ftruncate fd length)) = record { row = refl; made = refl }
-has_row (Posix (posix.ShmRead fd offset length)) = record { row = refl; made = refl }
-has_row (Posix (posix.ShmWrite fd offset bytes)) = record { row = refl; made = refl }
 has_row (Posix (posix.ShmStat fd)) = record { row = refl; made = refl }
+has_row kind = record { row = refl; made = refl }
 
 -- the requests of a row are taken apart into what made them
 abbrev Undoes : Row → Type 0

@@ -6,7 +6,11 @@ ghost use Rattle.ipc_wire.specs.Request.{plain_kind};
 ghost use Rattle.ipc_wire.specs.Stream.{kind_of, made_by};
 ghost use Rattle.ipc_wire.specs.Table as table;
 
-use crate::opcodes::{
+use crate::pairs::Pairs;
+use crate::posix::PosixCall;
+use crate::request::{Call, RequestKind};
+use crate::sixes::Sixes;
+use crate::spelling::{
     CLOSE, FTRUNCATE, HELLO, INTERRUPT, MQ_GETATTR, MQ_NOTIFY, MQ_OPEN, MQ_RECEIVE, MQ_SEND,
     MQ_SETATTR, MQ_UNLINK, MSGCTL_RMID, MSGCTL_SET, MSGCTL_STAT, MSGGET, MSGRCV, MSGSND,
     SEM_GETVALUE, SEM_OPEN, SEM_POST, SEM_TRYWAIT, SEM_UNLINK, SEM_WAIT, SEMCTL_GET_ALL,
@@ -14,10 +18,6 @@ use crate::opcodes::{
     SEMCTL_SET_ALL, SEMCTL_SET_VAL, SEMCTL_STAT, SEMGET, SEMOP, SHM_OPEN, SHM_READ, SHM_STAT,
     SHM_UNLINK, SHM_WRITE,
 };
-use crate::pairs::Pairs;
-use crate::posix::PosixCall;
-use crate::request::{Call, RequestKind};
-use crate::sixes::Sixes;
 use ipc_base::{Cred, Cursor, GetFlags, Id, MsgFlags, OpenFlags};
 
 /// What a request with this opcode asks, or `None` where none has it or its fields have another size.

@@ -3,7 +3,6 @@
 
 mod fields;
 mod laws;
-mod opcodes;
 mod pairs;
 mod posix;
 mod reading;

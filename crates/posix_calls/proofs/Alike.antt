@@ -160,23 +160,7 @@ module _ (limits : Limits) (pid : ℕ) where
   waits-on (requests.MqSend fd deadline priority text) on is = record { fd = fd; is = cc; waits = send-waits fd deadline priority text }
   waits-on (requests.MqReceive fd deadline size) on is = record { fd = fd; is = cc; waits = receive-waits fd deadline size }
   waits-on (requests.SemWait fd deadline) on is = record { fd = fd; is = cc; waits = wait-waits fd deadline }
-  waits-on (requests.Close fd) on is = absurd (some-none is)
-  waits-on (requests.MqOpen flags mode attr maxmsg msgsize name) on is = absurd (some-none is)
-  waits-on (requests.MqUnlink name) on is = absurd (some-none is)
-  waits-on (requests.MqNotify fd kind cookie) on is = absurd (some-none is)
-  waits-on (requests.MqGetattr fd) on is = absurd (some-none is)
-  waits-on (requests.MqSetattr fd flags) on is = absurd (some-none is)
-  waits-on (requests.SemOpen flags mode value name) on is = absurd (some-none is)
-  waits-on (requests.SemUnlink name) on is = absurd (some-none is)
-  waits-on (requests.SemPost fd) on is = absurd (some-none is)
-  waits-on (requests.SemTrywait fd) on is = absurd (some-none is)
-  waits-on (requests.SemGetvalue fd) on is = absurd (some-none is)
-  waits-on (requests.ShmOpen flags mode name) on is = absurd (some-none is)
-  waits-on (requests.ShmUnlink name) on is = absurd (some-none is)
-  waits-on (requests.Ftruncate fd len) on is = absurd (some-none is)
-  waits-on (requests.ShmRead fd offset len) on is = absurd (some-none is)
-  waits-on (requests.ShmWrite fd offset bytes) on is = absurd (some-none is)
-  waits-on (requests.ShmStat fd) on is = absurd (some-none is)
+  waits-on call on is = absurd (some-none is)
 
 pub waits-alike : (limits : Limits) (s t : State) (pid : ℕ) (call : PlainPosix) (on : Awaited) → awaited_by (Posix call) ≡ Some on → IsAsBefore pid on s t
     → has_to_wait (attempt limits t pid call) ≡ has_to_wait (attempt limits s pid call)

@@ -44,25 +44,13 @@ on_descriptor s pid fd = object_of s pid (awaited.Descriptor fd)
 -- the object that a call may change, so that those that wait on it may go on
 abbrev pub touched : State → ℕ → PlainPosix → Option Object
 touched s pid (requests.Close fd) = on_descriptor s pid fd
-touched s pid (requests.MqOpen flags mode attr maxmsg msgsize name) = None
-touched s pid (requests.MqUnlink name) = None
 touched s pid (requests.MqSend fd deadline priority text) = on_descriptor s pid fd
 touched s pid (requests.MqReceive fd deadline size) = on_descriptor s pid fd
 touched s pid (requests.MqNotify fd kind cookie) = on_descriptor s pid fd
-touched s pid (requests.MqGetattr fd) = None
-touched s pid (requests.MqSetattr fd flags) = None
-touched s pid (requests.SemOpen flags mode value name) = None
-touched s pid (requests.SemUnlink name) = None
 touched s pid (requests.SemPost fd) = on_descriptor s pid fd
 touched s pid (requests.SemWait fd deadline) = on_descriptor s pid fd
 touched s pid (requests.SemTrywait fd) = on_descriptor s pid fd
-touched s pid (requests.SemGetvalue fd) = None
-touched s pid (requests.ShmOpen flags mode name) = None
-touched s pid (requests.ShmUnlink name) = None
-touched s pid (requests.Ftruncate fd len) = None
-touched s pid (requests.ShmRead fd offset len) = None
-touched s pid (requests.ShmWrite fd offset bytes) = None
-touched s pid (requests.ShmStat fd) = None
+touched s pid call = None
 
 -- what comes of it
 abbrev pub attempt : Limits → State → ℕ → PlainPosix → Tried

@@ -1,4 +1,4 @@
-//! The attempt of a call that never waits. It takes no memory.
+//! The attempt of a call that never waits, which takes no memory; and which object a call may change.
 
 ghost use Rattle.std.specs.Prelude.{◌≡◌, true, false};
 ghost use Rattle.ipc_wire.specs.Posix.{plain_posix};
@@ -16,7 +16,7 @@ use crate::opening::{Wanted, mq_open};
 use crate::sem::{sem_getvalue, sem_open, sem_post, sem_trywait, sem_unlink};
 use crate::shm::{ftruncate, shm_open, shm_read, shm_stat, shm_unlink, shm_write};
 use ipc_base::Pid;
-use ipc_state::{Answer, State};
+use ipc_state::{Answer, Awaited, Object, State};
 use ipc_wire::PosixCall;
 
 /// The attempt of a call by a process, whose memory is reserved and that never waits. It takes none: a record is made
@@ -81,5 +81,21 @@ pub fn attempt(state: &mut State, pid: Pid, call: &PosixCall<'_>, spare: &mut Ve
         PosixCall::MqSend { .. } | PosixCall::MqReceive { .. } | PosixCall::SemWait { .. } => {
             unreachable!()
         }
+    }
+}
+
+/// The object that a call may change, so that those that wait on it may go on.
+pub fn touched(state: &State, pid: Pid, call: &PosixCall<'_>) -> Option<Object>
+    ensures { result ≡ defined.touched state.now.state pid.0 (plain_posix call.now) }
+{
+    match call {
+        PosixCall::Close { fd }
+        | PosixCall::MqSend { fd, .. }
+        | PosixCall::MqReceive { fd, .. }
+        | PosixCall::MqNotify { fd, .. }
+        | PosixCall::SemPost { fd }
+        | PosixCall::SemWait { fd, .. }
+        | PosixCall::SemTrywait { fd } => state.object_of(pid, Awaited::Descriptor(*fd)),
+        _ => None,
     }
 }

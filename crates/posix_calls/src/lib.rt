@@ -10,7 +10,7 @@ mod sem;
 mod shm;
 mod waiting;
 
-pub use calls::attempt;
+pub use calls::{attempt, touched};
 pub use memory::reserve;
 pub use mq::registrations;
-pub use waiting::{Tried, has_to_wait, touched, try_parked};
+pub use waiting::{Tried, has_to_wait, try_parked};

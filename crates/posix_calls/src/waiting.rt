@@ -3,7 +3,6 @@
 
 ghost use Rattle.std.specs.Prelude.{◌≡◌, ◌<◌, length, true, is_some, option_map, Some, OnOk};
 ghost use Rattle.ipc_base.specs.Limits.{ArePassed};
-ghost use Rattle.ipc_wire.specs.Posix.{plain_posix};
 ghost use Rattle.ipc_wire.specs.Reply.{body_of};
 ghost use Rattle.ipc_state.specs.Finish as finish;
 ghost use Rattle.ipc_state.specs.Numbered.{entry_of};
@@ -23,8 +22,8 @@ use crate::mq::open_queue;
 use crate::sem::{lower, open_semaphore};
 use bitflags::Flags;
 use ipc_base::{Errno, OpenFlags, Pid};
-use ipc_state::{Answer, Awaited, Halt, Object, ParkedPosix, State};
-use ipc_wire::{Body, PosixCall};
+use ipc_state::{Answer, Halt, ParkedPosix, State};
+use ipc_wire::Body;
 use posix_mq::{Message, Mq, Registration, received_is_oldest_of_greatest};
 
 /// What comes of a call that may wait.
@@ -227,21 +226,5 @@ fn receive(state: &mut State, number: u32) -> Body<Vec<u8>>
     Body::MqMessage {
         priority: message.priority,
         text: message.text,
-    }
-}
-
-/// The object that a call may change, so that those that wait on it may go on.
-pub fn touched(state: &State, pid: Pid, call: &PosixCall<'_>) -> Option<Object>
-    ensures { result ≡ calls.touched state.now.state pid.0 (plain_posix call.now) }
-{
-    match call {
-        PosixCall::Close { fd }
-        | PosixCall::MqSend { fd, .. }
-        | PosixCall::MqReceive { fd, .. }
-        | PosixCall::MqNotify { fd, .. }
-        | PosixCall::SemPost { fd }
-        | PosixCall::SemWait { fd, .. }
-        | PosixCall::SemTrywait { fd } => state.object_of(pid, Awaited::Descriptor(*fd)),
-        _ => None,
     }
 }

@@ -24,25 +24,4 @@ pub by-waiting : (P : PlainCall → Type 0) → ((id flags : ℕ) (mtype : ℤ) 
 by-waiting P sends receives operates others (requests.Msgsnd id flags mtype text) = sends id flags mtype text
 by-waiting P sends receives operates others (requests.Msgrcv id flags size mtype) = receives id flags size mtype
 by-waiting P sends receives operates others (requests.Semop id timeout operations) = operates id timeout operations
-by-waiting P sends receives operates others (requests.Msgget key flags) = others _ (record { never = refl; no_receive = refl; untested = λ _ _ _ _ _. refl })
-by-waiting P sends receives operates others (requests.MsgctlStat id) = others _ (record { never = refl; no_receive = refl; untested = λ _ _ _ _ _. refl })
-by-waiting P sends receives operates others (requests.MsgctlSet id uid gid mode qbytes) =
-    others _ (record { never = refl; no_receive = refl; untested = λ _ _ _ _ _. refl })
-by-waiting P sends receives operates others (requests.MsgctlRmid id) = others _ (record { never = refl; no_receive = refl; untested = λ _ _ _ _ _. refl })
-by-waiting P sends receives operates others (requests.Semget key nsems flags) =
-    others _ (record { never = refl; no_receive = refl; untested = λ _ _ _ _ _. refl })
-by-waiting P sends receives operates others (requests.SemctlGetVal id num) = others _ (record { never = refl; no_receive = refl; untested = λ _ _ _ _ _. refl })
-by-waiting P sends receives operates others (requests.SemctlGetPid id num) = others _ (record { never = refl; no_receive = refl; untested = λ _ _ _ _ _. refl })
-by-waiting P sends receives operates others (requests.SemctlGetNcnt id num) =
-    others _ (record { never = refl; no_receive = refl; untested = λ _ _ _ _ _. refl })
-by-waiting P sends receives operates others (requests.SemctlGetZcnt id num) =
-    others _ (record { never = refl; no_receive = refl; untested = λ _ _ _ _ _. refl })
-by-waiting P sends receives operates others (requests.SemctlSetVal id num value) =
-    others _ (record { never = refl; no_receive = refl; untested = λ _ _ _ _ _. refl })
-by-waiting P sends receives operates others (requests.SemctlGetAll id) = others _ (record { never = refl; no_receive = refl; untested = λ _ _ _ _ _. refl })
-by-waiting P sends receives operates others (requests.SemctlSetAll id values) =
-    others _ (record { never = refl; no_receive = refl; untested = λ _ _ _ _ _. refl })
-by-waiting P sends receives operates others (requests.SemctlStat id) = others _ (record { never = refl; no_receive = refl; untested = λ _ _ _ _ _. refl })
-by-waiting P sends receives operates others (requests.SemctlSet id uid gid mode) =
-    others _ (record { never = refl; no_receive = refl; untested = λ _ _ _ _ _. refl })
-by-waiting P sends receives operates others (requests.SemctlRmid id) = others _ (record { never = refl; no_receive = refl; untested = λ _ _ _ _ _. refl })
+by-waiting P sends receives operates others call = others _ (record { never = refl; no_receive = refl; untested = λ _ _ _ _ _. refl })

@@ -39,24 +39,16 @@ call_of limits s pid again (requests.SemctlRmid id) = semctl_rmid s (cred_of s p
 
 -- the object that a call may change, so that those that wait on it may go on
 abbrev pub touched : PlainCall → Option Object
-touched (requests.Msgget key flags) = None
 touched (requests.Msgsnd id flags mtype text) = Some (object.Queue (record { 0 = id }))
 touched (requests.Msgrcv id flags size mtype) = Some (object.Queue (record { 0 = id }))
-touched (requests.MsgctlStat id) = None
 touched (requests.MsgctlSet id uid gid mode qbytes) = Some (object.Queue (record { 0 = id }))
 touched (requests.MsgctlRmid id) = Some (object.Queue (record { 0 = id }))
-touched (requests.Semget key nsems flags) = None
 touched (requests.Semop id timeout operations) = Some (object.Set (record { 0 = id }))
-touched (requests.SemctlGetVal id num) = None
-touched (requests.SemctlGetPid id num) = None
-touched (requests.SemctlGetNcnt id num) = None
-touched (requests.SemctlGetZcnt id num) = None
 touched (requests.SemctlSetVal id num value) = Some (object.Set (record { 0 = id }))
-touched (requests.SemctlGetAll id) = None
 touched (requests.SemctlSetAll id values) = Some (object.Set (record { 0 = id }))
-touched (requests.SemctlStat id) = None
 touched (requests.SemctlSet id uid gid mode) = Some (object.Set (record { 0 = id }))
 touched (requests.SemctlRmid id) = Some (object.Set (record { 0 = id }))
+touched call = None
 
 -- whether it is a receive from a queue: one takes a message away, so that no other receive goes on by it
 abbrev pub is_receive : PlainKind → Bool

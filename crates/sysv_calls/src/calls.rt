@@ -1,4 +1,5 @@
-//! The memory of each request, and the attempt of a call that never waits, which takes none.
+//! The memory of each request, the attempt of a call that never waits, which takes none, and which object a call may
+//! change.
 
 ghost use Rattle.std.specs.Prelude.{◌≡◌, true, false, IfOk, IsOk, OnOk, OnErr};
 ghost use Rattle.ipc_wire.specs.Request.{Calls, plain_call, plain_kind};
@@ -21,7 +22,7 @@ use crate::sem::{
 };
 use crate::semop::semctl_getcnt;
 use ipc_base::{Errno, Pid};
-use ipc_state::{Answer, Parked, State};
+use ipc_state::{Answer, Object, Parked, State};
 use ipc_wire::{Body, Call, Request, RequestKind};
 use std::alloc::{AllocError, Global};
 
@@ -122,5 +123,31 @@ pub fn attempt(state: &mut State, pid: Pid, call: &Call<'_>, spare: &mut Vec<u8>
         }
         Call::SemctlRmid { id } => semctl_rmid(state, cred, *id),
         Call::Msgsnd { .. } | Call::Msgrcv { .. } | Call::Semop { .. } => unreachable!(),
+    }
+}
+
+/// The object that a call may change, so that those that wait on it may go on.
+pub fn touched(call: &Call<'_>) -> Option<Object>
+    ensures { result ≡ defined.touched (plain_call call.now) }
+{
+    match call {
+        Call::Msgsnd { id, .. }
+        | Call::Msgrcv { id, .. }
+        | Call::MsgctlSet { id, .. }
+        | Call::MsgctlRmid { id } => Some(Object::Queue(*id)),
+        Call::Semop { id, .. }
+        | Call::SemctlSetVal { id, .. }
+        | Call::SemctlSetAll { id, .. }
+        | Call::SemctlSet { id, .. }
+        | Call::SemctlRmid { id } => Some(Object::Set(*id)),
+        Call::Msgget { .. }
+        | Call::MsgctlStat { .. }
+        | Call::Semget { .. }
+        | Call::SemctlGetVal { .. }
+        | Call::SemctlGetPid { .. }
+        | Call::SemctlGetNcnt { .. }
+        | Call::SemctlGetZcnt { .. }
+        | Call::SemctlGetAll { .. }
+        | Call::SemctlStat { .. } => None,
     }
 }

@@ -10,5 +10,5 @@ mod sem;
 mod semop;
 mod waiting;
 
-pub use calls::{attempt, reserve};
-pub use waiting::{Tried, has_to_wait, is_receive, touched, try_parked};
+pub use calls::{attempt, reserve, touched};
+pub use waiting::{Tried, has_to_wait, is_receive, try_parked};

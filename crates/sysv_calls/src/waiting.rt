@@ -2,7 +2,7 @@
 
 ghost use Rattle.std.specs.Prelude.{◌≡◌, true, OnOk};
 ghost use Rattle.ipc_base.specs.Limits.{ArePassed};
-ghost use Rattle.ipc_wire.specs.Request.{Calls, plain_call};
+ghost use Rattle.ipc_wire.specs.Request.{Calls};
 ghost use Rattle.ipc_state.specs.Finish as finish;
 ghost use Rattle.ipc_state.specs.Sound.{HasSoundParts};
 ghost use Rattle.ipc_state.specs.State.{is_process};
@@ -14,8 +14,8 @@ ghost use Rattle.sysv_calls.specs.Seen.{IsKeptIn, place_in, tried_of};
 use crate::msg::{ready_to_receive, ready_to_send, receive, send};
 use crate::semop::{operate, ready_to_operate};
 use ipc_base::{Cred, Pid};
-use ipc_state::{Answer, Halt, Object, ParkedCall, State};
-use ipc_wire::{Body, Call};
+use ipc_state::{Answer, Halt, ParkedCall, State};
+use ipc_wire::Body;
 
 /// What comes of a call that may wait.
 #[derive(Drop)]
@@ -104,31 +104,5 @@ pub fn is_receive(call: &ParkedCall) -> bool
     match call {
         ParkedCall::Msgrcv { .. } => true,
         ParkedCall::Msgsnd { .. } | ParkedCall::Semop { .. } => false,
-    }
-}
-
-/// The object that a call may change, so that those that wait on it may go on.
-pub fn touched(call: &Call<'_>) -> Option<Object>
-    ensures { result ≡ defined.touched (plain_call call.now) }
-{
-    match call {
-        Call::Msgsnd { id, .. }
-        | Call::Msgrcv { id, .. }
-        | Call::MsgctlSet { id, .. }
-        | Call::MsgctlRmid { id } => Some(Object::Queue(*id)),
-        Call::Semop { id, .. }
-        | Call::SemctlSetVal { id, .. }
-        | Call::SemctlSetAll { id, .. }
-        | Call::SemctlSet { id, .. }
-        | Call::SemctlRmid { id } => Some(Object::Set(*id)),
-        Call::Msgget { .. }
-        | Call::MsgctlStat { .. }
-        | Call::Semget { .. }
-        | Call::SemctlGetVal { .. }
-        | Call::SemctlGetPid { .. }
-        | Call::SemctlGetNcnt { .. }
-        | Call::SemctlGetZcnt { .. }
-        | Call::SemctlGetAll { .. }
-        | Call::SemctlStat { .. } => None,
     }
 }
