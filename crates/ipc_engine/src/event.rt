@@ -6,7 +6,7 @@ use ipc_base::{Cred, Errno, Moment, Pid};
 use ipc_wire::{Body, Reply, Request};
 
 /// What happens, each at a moment, but a restart, which has none.
-#[derive(Clone, Copy, Debug)]
+#[derive(Clone, Copy)]
 pub enum Event<'a> {
     /// A HELLO, which asks for a process.
     Connect {
@@ -60,7 +60,7 @@ impl Event<'_> {
 
 /// A reply: `pid` is the process that gets it, or 0 for the HELLO that got none; `errno` is `None`
 /// for success. Or the notification of mq_notify(3), which has serial 0 and no error.
-#[derive(Debug, Drop)]
+#[derive(Drop)]
 pub struct Outcome {
     pub pid: Pid,
     pub serial: u32,

@@ -62,11 +62,19 @@ pub struct Entry<T> {
 }
 
 /// The objects of one kind. A contract sees them by identifier, and what there is room for.
-#[derive(Drop)]
 pub struct Keyed<T> {
     objects: Numbered<Entry<T>>,
     /// The identifier of each key but `IPC_PRIVATE`.
     keys: KeyDir,
+}
+
+impl<T: Drop> Drop for Keyed<T> {
+    fn drop(self) {
+        let Keyed {
+            objects: _,
+            keys: _,
+        } = self;
+    }
 }
 
 impl<T> Model for Keyed<T> {

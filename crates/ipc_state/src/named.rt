@@ -67,11 +67,19 @@ pub struct NamedEntry<T> {
 }
 
 /// The objects of one kind. A contract sees them by number, and what there is room for.
-#[derive(Drop)]
 pub struct Named<T> {
     pub(crate) objects: Numbered<NamedEntry<T>>,
     /// The number of each name.
     names: NameDir,
+}
+
+impl<T: Drop> Drop for Named<T> {
+    fn drop(self) {
+        let Named {
+            objects: _,
+            names: _,
+        } = self;
+    }
 }
 
 impl<T> Model for Named<T> {

@@ -73,10 +73,15 @@ pub(crate) fn rise<T: HasNumber>(items: &[T], low: u32, high: u32) -> bool
 }
 
 /// What has numbers, and the next number.
-#[derive(Drop)]
 pub(crate) struct Numbered<T> {
     next: u32,
     pub(crate) items: Rows<T>,
+}
+
+impl<T: Drop> Drop for Numbered<T> {
+    fn drop(self) {
+        let Numbered { next: _, items: _ } = self;
+    }
 }
 
 /// Identifiers and pids end here.

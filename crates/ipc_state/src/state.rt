@@ -26,7 +26,6 @@ use sysv_sem::SemSet;
 
 /// The state between two events. A contract sees its limits, the state of the definitions, and the room
 /// that is reserved. It lends its objects, and so it need not be sound: whoever keeps it says so.
-#[derive(Drop)]
 pub struct State {
     pub(crate) alloc: Global,
     pub(crate) limits: Limits,
@@ -54,6 +53,31 @@ pub struct State {
     pub(crate) shm: Named<Segment>,
     /// Zeros that are ready to be a longer segment.
     pub(crate) fresh_segment: Option<Segment>,
+}
+
+impl Drop for State {
+    fn drop(self) {
+        let State {
+            alloc: _,
+            limits: _,
+            clock: _,
+            processes: _,
+            fresh_descriptors: _,
+            wait: _,
+            undo: _,
+            fresh_undo: _,
+            msg: _,
+            fresh: _,
+            sem: _,
+            fresh_set: _,
+            mq: _,
+            fresh_mq: _,
+            fresh_name: _,
+            named_sem: _,
+            shm: _,
+            fresh_segment: _,
+        } = self;
+    }
 }
 
 impl Model for State {

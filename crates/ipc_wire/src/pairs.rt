@@ -3,7 +3,7 @@
 ghost use Rattle.std.specs.Prelude.{◌≡◌, ◌%◌, length};
 
 /// An even count of bytes: numbers of two bytes side by side, each with its most significant byte first.
-#[derive(Clone, Copy, Debug)]
+#[derive(Clone, Copy)]
 pub struct Pairs<'a> {
     bytes: &'a [u8],
     ghost even: { length bytes.now % 2 ≡ 0 },

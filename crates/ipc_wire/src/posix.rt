@@ -3,7 +3,7 @@
 use ipc_base::OpenFlags;
 
 /// A POSIX call with its fields, as they stand in the frame: no value is tested.
-#[derive(Clone, Copy, Debug)]
+#[derive(Clone, Copy)]
 pub enum PosixCall<'a> {
     /// close(2), of a descriptor of any kind.
     Close {

@@ -6,7 +6,7 @@ ghost use Rattle.ipc_wire.specs.Reply.{plain_body, body_of};
 use ipc_base::Errno;
 
 /// What the server answers to the request with this serial; 0 where no request has one, as in a notification.
-#[derive(Debug, Drop)]
+#[derive(Drop)]
 pub struct Reply<'a> {
     pub serial: u32,
     /// `None` for success.
@@ -16,7 +16,7 @@ pub struct Reply<'a> {
 
 /// What a reply brings besides its error number; a refusal brings nothing. Bytes are a `T`: they lie elsewhere,
 /// or in a buffer of the body's own.
-#[derive(Debug, Drop)]
+#[derive(Drop)]
 pub enum Body<T> {
     Empty,
     /// A pid, an identifier, a descriptor or a value.

@@ -15,7 +15,7 @@ use ipc_base::{Cred, GetFlags, Id, MsgFlags};
 const GREATEST_FIELDS: usize = (GREATEST_LENGTH - LEAST_LENGTH) as usize;
 
 /// What a client asks, under a serial by which it knows the reply. Each has a frame, so none is too long for one.
-#[derive(Clone, Copy, Debug)]
+#[derive(Clone, Copy)]
 pub struct Request<'a> {
     /// Not 0. The server does not require serials to differ.
     pub serial: u32,
@@ -41,7 +41,7 @@ impl<'a> Request<'a> {
 }
 
 /// Who is to answer: the connection itself, or the machine.
-#[derive(Clone, Copy, Debug)]
+#[derive(Clone, Copy)]
 pub enum RequestKind<'a> {
     /// HELLO: the connection becomes a process of this user and group.
     Hello(Cred),
@@ -54,7 +54,7 @@ pub enum RequestKind<'a> {
 }
 
 /// A System V call with its fields, as they stand in the frame: no value is tested.
-#[derive(Clone, Copy, Debug)]
+#[derive(Clone, Copy)]
 pub enum Call<'a> {
     /// msgget(2).
     Msgget {
@@ -157,7 +157,7 @@ pub enum Call<'a> {
 }
 
 /// What stands at the front of a stream.
-#[derive(Clone, Copy, Debug)]
+#[derive(Clone, Copy)]
 pub enum Frame<'a> {
     /// No whole frame yet.
     More,

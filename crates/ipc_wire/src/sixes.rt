@@ -12,7 +12,7 @@ pub struct SemBuf {
 }
 
 /// A count of bytes in whole sixes: operations side by side, each number with its most significant byte first.
-#[derive(Clone, Copy, Debug)]
+#[derive(Clone, Copy)]
 pub struct Sixes<'a> {
     bytes: &'a [u8],
     ghost whole: { length bytes.now % 6 ≡ 0 },
