@@ -3,7 +3,7 @@
 # refuse calls of the system: without it these two say so, and refuse nothing. `runs` renders the manual page if there
 # is a man.
 
-.PHONY: help run test edits imports runs serves memory program install bench bench-serve
+.PHONY: help run test edits imports runs serves memory trials program install bench bench-serve
 
 help:
 	@echo "make run    proves and builds what is needed, which takes an hour or more the first time, and says how"
@@ -14,8 +14,8 @@ help:
 	@echo "make test   what 'make imports' runs; the gate: every proof, the wrong bodies that stand for a promise, the"
 	@echo "            tests, the program; and then what 'make runs', 'make serves' and 'make memory' run, on what the gate has"
 	@echo "            built. It takes some two hours on four cores, the first time"
-	@echo "make edits  the other wrong bodies, of all crates, or of those of 'make edits CRATE=\"ipc_wire ipc_hub\"'. Each"
-	@echo "            takes 15 to 60 seconds of a processor, the first of a crate a proof of the crate"
+	@echo "make edits  the other wrong bodies, of all crates, or of those of 'make edits CRATE=\"ipc_wire ipc_hub\"', and"
+	@echo "            writes their records. Each takes 15 to 60 seconds of a processor, if its crate is proved here"
 	@echo "make imports  that no crate names what is another's own, nor one that carries requests a call"
 	@echo "make runs   the program on scripts, also random ones beside a model of semaphore sets, command lines, a terminal"
 	@echo "            and devices, also with each byte of one wrong: what it prints and says, its exit status, and what it"
@@ -27,6 +27,8 @@ help:
 	@echo "            clients that wait by the dozen; semaphore sets; POSIX queues, named semaphores and segments; and its"
 	@echo "            calls of the system, watched, and each refused in turn. Two minutes, once built"
 	@echo "make memory the program, with each allocation refused in turn"
+	@echo "make trials scripts that are stopped at each call on their disk, with each choice of what a crash keeps, openings"
+	@echo "            and formats too: what opens is what was answered, or one line more"
 	@echo "make bench  processor time of runs, lines and ticks on both devices, peak memory, what a commit writes, and"
 	@echo "            commits a second on a file beside the same writes and syncs done bare; it ends with an error while"
 	@echo "            calls that wait on other queues add more to a request than they may"
@@ -59,6 +61,13 @@ REFUSE_EACH = sh tests/refuse_each.sh crates/ipcd/out/ipcd examples/first_queue.
 memory: program
 	@$(REFUSE_EACH)
 
+# Each opening of each device that a stop leaves is stopped too; what the gate runs of it stops some.
+TRIALS = crates/trials/out/trials stopped 1 < crates/trials/stdin
+
+trials:
+	@python3 tools/build.py trials
+	@$(TRIALS)
+
 # It takes no time, and so it comes first.
 imports:
 	@sh tests/imports.sh
@@ -84,15 +93,17 @@ serves: program
 	@$(SERVES)
 
 test: imports
-	@sh tests/edits.sh --apply
+	@python3 tests/edits.py --record
 	rt ci
+	@$(TRIALS)
 	@$(RUNS)
 	@$(SERVES)
 	@$(REFUSE_EACH)
 
-# For each crate that a change touches, and for all before a release; docs/PROOF.md says when that was.
+# For each crate that a change touches, and for all before a release. Each that is refused has a line in
+# tests/edits.record, of which `make test` says whether it is of today's sources.
 edits:
-	@sh tests/edits.sh $(CRATE)
+	@python3 tests/edits.py $(CRATE)
 
 # Twenty groups of runs of each script, and turns of commits on a file. It needs awk, and for the turns a C compiler.
 bench: program

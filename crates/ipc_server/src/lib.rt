@@ -12,8 +12,3 @@ mod server;
 pub use fault::{ServeFault, ServerError};
 pub use laws::turns_are_calls_on_a_hub;
 pub use server::{Server, Unserved};
-
-#[cfg(test)]
-mod scripted;
-#[cfg(test)]
-mod tests;

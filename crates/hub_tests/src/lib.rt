@@ -1,6 +1,0 @@
-//! Tests of connections: what no clause says.
-#![tactic(auto)]
-
-#[cfg(test)]
-mod hub;
-pub mod lives;

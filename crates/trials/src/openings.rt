@@ -1,0 +1,56 @@
+//! The opening of a device that a stop left, stopped at each of its calls.
+
+use crate::fault::Fault;
+use crate::runs::{MOST_CALLS, MOST_CHOICES, choice, found_on, run};
+use crate::stages::Trial;
+use crate::stopped::left;
+use ipc_disk::FuseDisk;
+
+/// Stops the opening of what a stop left at each of its calls, with each choice of a crash: what opens then is the same.
+/// How many calls it makes.
+pub(crate) fn stop_openings(
+    trial: &Trial<'_>,
+    stop: (u64, u64),
+    found: &[u8],
+) -> Result<u64, Fault> {
+    for more in 0..MOST_CALLS {
+        if !stop_at(trial, stop, more, found)? {
+            return Ok(more);
+        }
+    }
+    Err(Fault::NoEnd)
+}
+
+/// Stops it after so many calls. Whether it was stopped.
+fn stop_at(trial: &Trial<'_>, stop: (u64, u64), more: u64, found: &[u8]) -> Result<bool, Fault> {
+    let mut unsynced = 0;
+    for before in 0..MOST_CHOICES {
+        let Some(other) = choice(before, unsynced) else {
+            return Ok(true);
+        };
+        let ran = run(
+            trial.alloc,
+            FuseDisk::new(left(trial, stop)?, more, other),
+            &[],
+        );
+        match ran.outcome {
+            Ok(()) => return Ok(false),
+            Err(Fault::Device) => {}
+            Err(fault) => return Err(fault),
+        }
+        if before == 0 {
+            unsynced = ran.disk.unsynced();
+        }
+        let again = found_on(trial.alloc, ran.disk.crash(), trial.probe)?;
+        if again.as_slice() != found {
+            let (calls, keep) = stop;
+            return Err(Fault::Opening {
+                calls,
+                keep,
+                more,
+                other,
+            });
+        }
+    }
+    Err(Fault::NoEnd)
+}

@@ -1,0 +1,73 @@
+//! Runs of a script on a disk, which each give the disk back.
+
+use crate::fault::Fault;
+use ipc_base::Limits;
+use ipc_disk::{MemoryDisk, SectorDisk};
+use ipc_script::run_script;
+use ipc_store::Store;
+use std::alloc::Global;
+
+/// How many sectors a device needs under small limits.
+const SMALL_DEVICE: u32 = 448;
+
+/// A run of a script: what it wrote, whether it came to its end, and the disk.
+#[derive(Drop)]
+pub(crate) struct Ran<D> {
+    pub(crate) output: Vec<u8>,
+    pub(crate) outcome: Result<(), Fault>,
+    pub(crate) disk: D,
+}
+
+/// Runs a script on the device of a disk.
+pub(crate) fn run<D: SectorDisk>(alloc: Global, disk: D, script: &[u8]) -> Ran<D> {
+    let mut output = Vec::new(alloc);
+    match Store::open(alloc, disk) {
+        Ok(store) => {
+            let mut reader = script;
+            let (outcome, disk) = run_script(alloc, store, &mut reader, &mut output);
+            Ran {
+                output,
+                outcome: outcome.map_err(Fault::from),
+                disk,
+            }
+        }
+        Err(unopened) => Ran {
+            output,
+            outcome: Err(Fault::from(unopened.error)),
+            disk: unopened.disk,
+        },
+    }
+}
+
+/// A new device under small limits.
+pub(crate) fn device(alloc: Global) -> Result<MemoryDisk, Fault> {
+    let mut disk = MemoryDisk::new(alloc, SMALL_DEVICE)?;
+    Store::format(&mut disk, &Limits::small())?;
+    Ok(disk)
+}
+
+/// What the answers to a probe tell of a device.
+pub(crate) fn found_on(alloc: Global, disk: MemoryDisk, probe: &[u8]) -> Result<Vec<u8>, Fault> {
+    let ran = run(alloc, disk, probe);
+    ran.outcome?;
+    Ok(ran.output)
+}
+
+/// The choice of a crash after `before` other ones: each combination of up to six unsynced sectors, and of more none,
+/// all and each alone.
+pub(crate) fn choice(before: u32, unsynced: u32) -> Option<u64> {
+    if let Some(combinations) = [1, 2, 4, 8, 16, 32, 64].get(unsynced as usize) {
+        return (before < *combinations).then_some(u64::from(before));
+    }
+    match before.checked_sub(2) {
+        Some(place) if place < unsynced => 1_u64.checked_shl(place),
+        Some(_) => None,
+        None if before == 0 => Some(0),
+        None => Some(u64::MAX),
+    }
+}
+
+/// More choices than a crash has, and more calls than a run makes.
+pub(crate) const MOST_CHOICES: u32 = 70;
+
+pub(crate) const MOST_CALLS: u64 = 10000;

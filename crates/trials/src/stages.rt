@@ -1,0 +1,116 @@
+//! What a script comes to after each of its lines, found by runs that nothing stops.
+
+use crate::fault::Fault;
+use crate::runs::{device, found_on, run};
+use std::alloc::Global;
+
+/// A run of the first lines of a script: what it writes, and what is found on its device then.
+#[derive(Drop)]
+struct Stage {
+    output: Vec<u8>,
+    found: Vec<u8>,
+}
+
+/// A script, its probe, and its stages, from that of no line on.
+#[derive(Drop)]
+pub(crate) struct Trial<'a> {
+    pub(crate) alloc: Global,
+    pub(crate) script: &'a [u8],
+    pub(crate) probe: &'a [u8],
+    stages: Vec<Stage>,
+}
+
+/// The trial of a text: a script, a line `-`, and a probe.
+pub(crate) fn trial_of(alloc: Global, text: &[u8]) -> Result<Trial<'_>, Fault> {
+    let ends = ends_of(alloc, text)?;
+    let mut stages = Vec::new(alloc);
+    for end in &ends {
+        let (script, rest) = text.split_at((*end).min(text.len()));
+        if let Some(probe) = rest.strip_prefix(b"-\n") {
+            add_stages(alloc, &mut stages, &ends, script, probe)?;
+            return Ok(Trial {
+                alloc,
+                script,
+                probe,
+                stages,
+            });
+        }
+    }
+    Err(Fault::Input)
+}
+
+/// Where lines end, and where the first begins.
+fn ends_of(alloc: Global, text: &[u8]) -> Result<Vec<usize>, Fault> {
+    let mut ends = Vec::new(alloc);
+    ends.push(0)?;
+    for (place, byte) in (1..).zip(text) {
+        if *byte == b'\n' {
+            ends.push(place)?;
+        }
+    }
+    Ok(ends)
+}
+
+/// Adds the stage after each line of a script.
+fn add_stages(
+    alloc: Global,
+    stages: &mut Vec<Stage>,
+    ends: &[usize],
+    script: &[u8],
+    probe: &[u8],
+) -> Result<(), Fault> {
+    for end in ends {
+        let Some(lines) = script.get(..*end) else {
+            break;
+        };
+        let ran = run(alloc, device(alloc)?, lines);
+        ran.outcome?;
+        stages.push(Stage {
+            output: ran.output,
+            found: found_on(alloc, ran.disk, probe)?,
+        })?;
+    }
+    Ok(())
+}
+
+/// Where what was found stands beside what was answered.
+#[derive(Clone, Copy, PartialEq, Eq)]
+pub(crate) enum Place {
+    /// As after the lines that were answered.
+    Answered,
+    /// As after one line more, which was stopped.
+    Ahead,
+}
+
+impl Trial<'_> {
+    /// Where the state that is found stands, if it is one that a stop may leave: the output of the run that was stopped
+    /// begins with that of some first lines; all that were answered are done, and at most one more.
+    pub(crate) fn place(&self, output: &[u8], found: &[u8]) -> Option<Place> {
+        let mut answered = 0;
+        for stage in &self.stages {
+            if output.starts_with(&stage.output) {
+                answered = answered.max(stage.output.len());
+            }
+        }
+        let mut place = None;
+        let mut last = false;
+        for stage in &self.stages {
+            let is_answered = stage.output.len() == answered;
+            if is_answered && stage.found.as_slice() == found {
+                return Some(Place::Answered);
+            }
+            if last && !is_answered && stage.found.as_slice() == found {
+                place = Some(Place::Ahead);
+            }
+            last = is_answered;
+        }
+        place
+    }
+
+    /// What is found on a new device, and after the whole script.
+    pub(crate) fn ends(&self) -> (&[u8], &[u8]) {
+        let first = self.stages.first().map_or(&[][..], |stage| &stage.found);
+        let last = self.stages.last().map_or(&[][..], |stage| &stage.found);
+        (first, last)
+    }
+}

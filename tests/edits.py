@@ -1,0 +1,271 @@
+"""The wrong bodies of crates/NAME/edits/: the contracts of NAME must refuse each. The gate tries those of
+crates/NAME/must-fail/, which have the same format (`rt help` says it); of these it looks at the record.
+
+    python3 tests/edits.py --record        looks whether each can be applied, and whether its record is of today's sources
+    python3 tests/edits.py [NAME ..]       tries these, each CRATE or CRATE/EDIT, or all, and writes their records
+
+It tries each in a copy of the crate and of those below it, with what was proved of them in this folder: crates are best
+proved first, as by `make program`. A record is a line of tests/edits.record, which only this program writes: the crate,
+the edit, two sums, the verdict, and the goal that could not be proved. The first sum is of the edit, of the crate's
+sources and line of crates.txt, and of the toolchain's logic; the second of the definitions and code of the crates below.
+Comments count in neither. If the first differs today, the record is stale and this fails. If only the second does, it
+says how many: what is below may have become stronger, and the body right. It needs `rt` to try them.
+"""
+
+from __future__ import annotations
+
+import hashlib
+import os
+import re
+import shutil
+import subprocess
+import sys
+import tempfile
+import time
+from collections.abc import Iterator
+from concurrent.futures import ThreadPoolExecutor
+from pathlib import Path
+
+ROOT = Path(__file__).resolve().parent.parent
+RECORD = ROOT / "tests" / "edits.record"
+# Tries at a time, each with a copy of the crates.
+LANES = int(os.environ.get("LANES", "2"))
+# Seconds after which a check has no verdict.
+LIMIT = 1200
+# A goal for which there is no proof: none was written, or the one that is there proves something else.
+OPEN = re.compile(r"^note: `(\S+)` of proofs/(\S+?)/\w+\.antt must prove: ", re.MULTILINE)
+OTHER = re.compile(r"^(?:\./)?proofs/(\S+?)/\w+\.antt:\d+:\d+: error: `([^`]+)`: (.*)$", re.MULTILINE)
+# The proof that is there speaks of a step that the wrong body has not.
+LOST = re.compile(r"has no field|is not in scope|unknown name|not found|no such")
+
+
+def fail(text: str) -> None:
+    sys.exit(f"edits: {text}")
+
+
+def crates() -> dict[str, list[str]]:
+    """The crates of crates.txt, with what each stands on."""
+    lines = (line.partition("#")[0].partition(":") for line in (ROOT / "crates.txt").read_text().splitlines())
+    return {first.split()[0]: rest.split() for first, colon, rest in lines if colon}
+
+
+def below(all_of: dict[str, list[str]], crate: str) -> set[str]:
+    """The crates of this repository that a crate stands on, also by others."""
+    lower = [name for name in all_of[crate] if name in all_of]
+    return set(lower).union(*(below(all_of, name) for name in lower))
+
+
+def edits_of(crate: str) -> list[Path]:
+    return sorted((ROOT / "crates" / crate / "edits").glob("*.edit"))
+
+
+def pairs(edit: Path) -> Iterator[tuple[str, str, str]]:
+    """The changes of an edit: a file, what stands in it, and what takes its place."""
+    name = old = ""
+    for line in edit.read_text().splitlines():
+        if line.startswith("file: "):
+            name = line[6:]
+        elif line.startswith("old: "):
+            old = line[5:]
+        elif line.startswith("new:"):
+            yield name, old, line[5:]
+
+
+def edited(crate: Path, edit: Path) -> dict[Path, str]:
+    """The files of a crate that an edit changes, as it leaves them."""
+    texts: dict[Path, str] = {}
+    for name, old, new in pairs(edit):
+        file = crate / name
+        text = texts.get(file) or file.read_text()
+        if text.count(old) != 1:
+            fail(f"{edit.relative_to(ROOT)}: not once in {name}: {old}")
+        texts[file] = text.replace(old, new)
+    if not texts:
+        fail(f"{edit.relative_to(ROOT)}: it changes nothing")
+    return texts
+
+
+def bare(file: Path) -> str:
+    """A file without its comments and empty lines."""
+    mark = {".rt": "//", ".antt": "--"}.get(file.suffix)
+    lines = []
+    for line in file.read_text().splitlines():
+        if mark and line.lstrip().startswith(mark):
+            continue
+        head, comment, tail = line.partition(f" {mark} ")
+        lines.append(head.rstrip() if comment and '"' not in tail else line.rstrip())
+    return "\n".join(line for line in lines if line)
+
+
+def digest(texts: list[str]) -> str:
+    return hashlib.sha256("\0".join(texts).encode()).hexdigest()[:16]
+
+
+def sources(crate: str, parts: tuple[str, ...]) -> list[str]:
+    top = ROOT / "crates" / crate
+    files = sorted(file for part in parts for file in (top / part).rglob("*") if file.is_file())
+    return [f"{crate} {file.relative_to(top)}\n{bare(file)}" for file in files]
+
+
+class Sums:
+    """The two sums of each edit, as the sources are today."""
+
+    def __init__(self, logic: str) -> None:
+        self.all_of = crates()
+        self.logic = logic
+        self.own: dict[str, str] = {}
+        self.under: dict[str, str] = {}
+        lower = {crate: sources(crate, ("src", "specs")) for crate in self.all_of}
+        for crate in self.all_of:
+            self.own[crate] = digest([*self.all_of[crate], *sources(crate, ("src", "specs", "proofs"))])
+            self.under[crate] = digest([text for name in sorted(below(self.all_of, crate)) for text in lower[name]])
+
+    def of(self, edit: Path) -> tuple[str, str]:
+        crate = edit.parent.parent.name
+        return digest([edit.read_text(), self.own[crate], self.logic]), self.under[crate]
+
+
+def records() -> dict[tuple[str, str], list[str]]:
+    if not RECORD.is_file():
+        return {}
+    rows = (line.split(" ", 5) for line in RECORD.read_text().splitlines() if line and line[0] != "#")
+    return {(row[0], row[1]): row[2:] for row in rows}
+
+
+def write(rows: dict[tuple[str, str], list[str]]) -> None:
+    head = (
+        "# Wrong bodies that were tried, as `make edits` writes it: the crate, the edit, the sum of the edit and its\n"
+        "# crate, the sum of the crates below, the verdict, and the goal that could not be proved.\n"
+    )
+    RECORD.write_text(head + "".join(" ".join([*key, *row]) + "\n" for key, row in sorted(rows.items())))
+
+
+def logic() -> str:
+    said = subprocess.run(["rt", "version"], check=True, capture_output=True, text=True).stdout
+    return said.split("logic ")[1].split()[0]
+
+
+def look() -> None:
+    """Whether each edit can be applied and has a record that is of today's sources."""
+    sums, rows = Sums(logic()), records()
+    found, stale, older, missing = 0, [], 0, 0
+    for crate in sums.all_of:
+        for edit in (*edits_of(crate), *sorted((ROOT / "crates" / crate / "must-fail").glob("*.edit"))):
+            edited(ROOT / "crates" / crate, edit)
+            found += 1
+            if edit.parent.name != "edits":
+                continue
+            row = rows.pop((crate, edit.stem), None)
+            if row is None:
+                missing += 1
+            elif row[2] != "refused" or row[0] != sums.of(edit)[0]:
+                stale.append(f"{crate} {edit.stem}")
+            elif row[1] != sums.of(edit)[1]:
+                older += 1
+    if stale or rows:
+        gone = [" ".join(key) for key in rows]
+        fail("these records are of other sources; `make edits` with their crates:\n" + "\n".join(stale + gone))
+    print(f"edits: {found} wrong bodies, each can be applied; of those in edits/ {missing} have no record yet, and for")
+    print(f"edits: {older} a crate below has changed since it was tried")
+
+
+def copied(all_of: dict[str, list[str]], crate: str, folder: Path) -> Path:
+    """A copy of a crate and those below it, with what was proved of them."""
+    names = {crate} | below(all_of, crate)
+    (folder / "crates").mkdir()
+    shutil.copy(ROOT / "HANDLES", folder)
+    for name in names:
+        (folder / "crates" / name).mkdir()
+        for part in ("src", "specs", "proofs", "out"):
+            if (ROOT / "crates" / name / part).is_dir():
+                subprocess.run(["cp", "-a", ROOT / "crates" / name / part, folder / "crates" / name], check=True)
+    rows = [f"{name}: {' '.join(all_of[name])}\n" for name in sorted(names)]
+    (folder / "crates.txt").write_text("".join(rows))
+    return folder / "crates" / crate
+
+
+def check(crate: Path) -> str:
+    try:
+        done = subprocess.run(
+            ["rt", "check"], cwd=crate, stdout=subprocess.PIPE, stderr=subprocess.STDOUT, text=True, timeout=LIMIT
+        )
+    except subprocess.TimeoutExpired:
+        return ""
+    return done.stdout
+
+
+def verdict(said: str) -> tuple[str, str]:
+    """What a check says of a wrong body: refused by a goal, or proved, or neither, as for a name or a limit."""
+    if "logic=proved" in said:
+        return "proved", "-"
+    if "logic=not-proved" in said and "error[" not in said:
+        goals = [(place, goal) for goal, place in OPEN.findall(said)]
+        goals += [(place, goal) for place, goal, text in OTHER.findall(said) if not LOST.search(text)]
+        # A lemma of its own may stand before the goals in a proof.
+        goals.sort(key=lambda row: not re.search("returns|requires|invariant", row[1]))
+        if goals:
+            return "refused", " ".join(goals[0])
+    wrong = re.search(r"^.*\berror\b.*$", said, re.MULTILINE)
+    return "unread", wrong[0] if wrong else "no end"
+
+
+def tried(all_of: dict[str, list[str]], crate: str, edits: list[Path]) -> dict[Path, tuple[str, str]]:
+    """Tries wrong bodies of a crate, one after the other."""
+    found: dict[Path, tuple[str, str]] = {}
+    with tempfile.TemporaryDirectory(prefix="ipcd-edits.") as folder:
+        copy = copied(all_of, crate, Path(folder))
+        if "logic=proved" not in check(copy):
+            fail(f"{crate} is not proved as it stands")
+        for edit in edits:
+            began = time.monotonic()
+            texts = edited(copy, edit)
+            before = {file: file.read_text() for file in texts}
+            for file, text in texts.items():
+                file.write_text(text)
+            word, reason = verdict(check(copy))
+            for file, text in before.items():
+                file.write_text(text)
+            print(f"edits: {crate} {edit.stem}: {word}, {time.monotonic() - began:.0f} s: {reason}", flush=True)
+            found[edit] = word, reason
+    return found
+
+
+def chosen(all_of: dict[str, list[str]], names: list[str]) -> dict[str, list[Path]]:
+    """The wrong bodies that are named, by crate."""
+    found: dict[str, list[Path]] = {}
+    for name in names or all_of:
+        crate, _, word = name.partition("/")
+        if crate not in all_of:
+            fail(f"crates.txt names no crate {crate}")
+        edits = [edit for edit in edits_of(crate) if word in ("", edit.stem)]
+        if word and not edits:
+            fail(f"there is no crates/{crate}/edits/{word}.edit")
+        found.setdefault(crate, []).extend(edits)
+    return {crate: edits for crate, edits in found.items() if edits}
+
+
+def try_all(names: list[str]) -> None:
+    sums = Sums(logic())
+    edits = chosen(sums.all_of, names)
+    if not edits:
+        fail(f"none of these crates has wrong bodies in edits/: {' '.join(names)}")
+    accepted = []
+    with ThreadPoolExecutor(LANES) as lanes:
+        for found in lanes.map(lambda crate: tried(sums.all_of, crate, edits[crate]), edits):
+            rows = records()
+            for edit, (word, reason) in found.items():
+                key = edit.parent.parent.name, edit.stem
+                rows.pop(key, None)
+                if word == "refused":
+                    rows[key] = [*sums.of(edit), word, reason]
+                else:
+                    accepted.append(f"{key[0]} {key[1]}: {word}, {reason}")
+            write(rows)
+            refused = sum(word == "refused" for word, _ in found.values())
+            print(f"edits: {next(iter(found)).parent.parent.name}: {refused} of {len(found)} refused", flush=True)
+    if accepted:
+        fail("not each was refused:\n" + "\n".join(accepted))
+
+
+if __name__ == "__main__":
+    look() if sys.argv[1:] == ["--record"] else try_all(sys.argv[1:])
