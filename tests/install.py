@@ -22,6 +22,19 @@ ROOT = Path(__file__).resolve().parent.parent
 PAGE = "share/man/man8/ipcd.8"
 UNIT = "lib/systemd/system/ipcd.service"
 FILES = {"bin/ipcd": 0o755, PAGE: 0o644, UNIT: 0o644}
+CLIENTS = {
+    "bin/ipcd-run": 0o755,
+    "include/ipcd.h": 0o644,
+    "lib/libipcd.so": 0o644,
+    "lib/libipcd.so.0": 0o644,
+    "lib/ipcd/libipcd-preload.so": 0o644,
+    "lib/pkgconfig/ipcd.pc": 0o644,
+    "share/man/man1/ipcd-run.1": 0o644,
+    "share/man/man3/libipcd.3": 0o644,
+}
+# They are installed if they are built.
+if (ROOT / "clients/c/out/ipcd-run").exists():
+    FILES |= CLIENTS
 
 
 def check(holds: bool, text: str) -> None:

@@ -1,0 +1,368 @@
+// A client: which link a call takes, what becomes of links in a forked process, and how a call begins and ends.
+#define _GNU_SOURCE
+#include "client.h"
+
+#include <errno.h>
+#include <fcntl.h>
+#include <stdio.h>
+#include <stdlib.h>
+#include <string.h>
+#include <sys/mman.h>
+#include <sys/socket.h>
+#include <sys/stat.h>
+#include <sys/syscall.h>
+#include <unistd.h>
+
+#include "changes.h"
+#include "handles.h"
+#include "memory.h"
+#include "processes.h"
+
+struct changes changes;
+
+static struct ipcd of_process = {.lock = PTHREAD_MUTEX_INITIALIZER};
+static struct ipcd *all = &of_process;
+static pthread_mutex_t all_lock = PTHREAD_MUTEX_INITIALIZER;
+static _Thread_local struct ipcd *used;
+static _Thread_local char thread;
+
+// A page that the system clears in a forked process, however it was forked.
+static atomic_int *same_process;
+
+static void after_fork(void)
+{
+    all_lock = (pthread_mutex_t) PTHREAD_MUTEX_INITIALIZER;
+    for (struct ipcd *client = all; client != NULL; client = client->next) {
+        client->lock = (pthread_mutex_t) PTHREAD_MUTEX_INITIALIZER;
+        for (size_t i = 0; i < PROCESSES_MOST; i++) {
+            struct link *link = client->links[i];
+            if (link == NULL)
+                continue;
+            link_drop(link);
+            link->owner = NULL;
+            link->busy = 0;
+        }
+        forget_registrations(client);
+    }
+    if (same_process != NULL)
+        *same_process = 1;
+}
+
+__attribute__((constructor)) static void prepare(void)
+{
+    pthread_atfork(NULL, NULL, after_fork);
+    void *page = mmap(NULL, 4096, PROT_READ | PROT_WRITE, MAP_PRIVATE | MAP_ANONYMOUS, -1, 0);
+    if (page == MAP_FAILED)
+        return;
+    if (madvise(page, 4096, MADV_WIPEONFORK) == 0) {
+        same_process = page;
+        *same_process = 1;
+    }
+}
+
+// What the process has told of itself is taken back, so that the folder stays small.
+__attribute__((destructor)) static void leave(void)
+{
+    for (size_t i = 0; i < PROCESSES_MOST; i++)
+        if (of_process.links[i] != NULL && of_process.links[i]->socket >= 0)
+            no_more(of_process.path, of_process.links[i]->pid);
+}
+
+void lock_handles(struct ipcd *client, sigset_t *mask)
+{
+    sigset_t all_signals;
+    sigfillset(&all_signals);
+    pthread_sigmask(SIG_BLOCK, &all_signals, mask);
+    pthread_mutex_lock(&client->lock);
+}
+
+void unlock_handles(struct ipcd *client, const sigset_t *mask)
+{
+    pthread_mutex_unlock(&client->lock);
+    pthread_sigmask(SIG_SETMASK, mask, NULL);
+}
+
+static void set_path(struct ipcd *client, const char *path)
+{
+    if (path == NULL)
+        path = secure_getenv("IPCD_SOCKET");
+    if (path == NULL || *path == 0)
+        path = "/run/ipcd/socket";
+    snprintf(client->path, sizeof client->path, "%s", path);
+}
+
+struct ipcd *current_client(void)
+{
+    if (same_process != NULL && *same_process == 0)
+        after_fork();
+    if (used != NULL)
+        return used;
+    if (of_process.path[0] == 0)
+        set_path(&of_process, NULL);
+    return &of_process;
+}
+
+// A new link, which is busy, in a place that is free, or NULL.
+static struct link *add_link(struct ipcd *client)
+{
+    struct link *made = mmap(NULL, sizeof *made, PROT_READ | PROT_WRITE, MAP_PRIVATE | MAP_ANONYMOUS, -1, 0);
+    if (made == MAP_FAILED) {
+        errno = ENOMEM;
+        return NULL;
+    }
+    made->busy = 1;
+    made->socket = -1;
+    for (size_t i = 0; i < PROCESSES_MOST; i++) {
+        struct link *none = NULL;
+        if (atomic_compare_exchange_strong(&client->links[i], &none, made))
+            return made;
+    }
+    munmap(made, sizeof *made);
+    errno = ENFILE;
+    return NULL;
+}
+
+static bool try_take(struct link *link)
+{
+    return link != NULL && atomic_exchange(&link->busy, 1) == 0;
+}
+
+// The effective user and group. What else is preloaded may tell the program of others.
+static uint64_t current_user(void)
+{
+    static _Atomic uint64_t known;
+    static atomic_uint known_at = UINT32_MAX;
+    unsigned at = changes.of_users;
+    if (!changes.are_heard || known_at != at) {
+        known = (uint64_t) (uid_t) syscall(SYS_geteuid) << 32 | (gid_t) syscall(SYS_getegid);
+        known_at = at;
+    }
+    return known;
+}
+
+// An idle link of this user: the one that this thread used last, else the first, else a new one.
+static struct link *find(struct ipcd *client, bool of_any_user)
+{
+    uint64_t user = of_any_user ? 0 : current_user();
+    for (int others = 0; others < 2; others++) {
+        for (size_t i = 0; i < PROCESSES_MOST && client->links[i] != NULL; i++) {
+            struct link *link = client->links[i];
+            if ((!others && link->owner != &thread) || !try_take(link))
+                continue;
+            if (of_any_user || link->socket < 0 || ((uint64_t) link->uid << 32 | link->gid) == user)
+                return link;
+            link->busy = 0;
+        }
+    }
+    return add_link(client);
+}
+
+static bool is_still_there(struct link *link)
+{
+    unsigned at = changes.of_files;
+    if (changes.are_heard && link->file_changes == at && link->socket >= 0)
+        return true;
+    link->file_changes = at;
+    return link_is_there(link);
+}
+
+// Connects the link if need be. A socket that the program has closed is lost, with what the process had to undo.
+static int wake(struct ipcd *client, struct link *link)
+{
+    bool is_first = client->links[0] == link;
+    link->owner = is_first ? NULL : &thread;
+    if (link->socket >= 0 && !is_still_there(link)) {
+        bool has_undone = link->has_undone;
+        link_drop(link);
+        if (has_undone) {
+            errno = ECONNRESET;
+            return -1;
+        }
+    }
+    if (link->socket < 0) {
+        if (link_connect(link, client->path) < 0)
+            return -1;
+        tell_process(client->path, link->pid);
+        if (is_first && open_all_again(client, link) < 0)
+            return -1;
+    }
+    return close_stale(client, link);
+}
+
+static struct link *take(struct ipcd *client, bool of_any_user)
+{
+    int saved = errno;
+    struct link *link = find(client, of_any_user);
+    if (link == NULL)
+        return NULL;
+    link->saved_errno = saved;
+    if (wake(client, link) == 0)
+        return link;
+    end(link, -1);
+    return NULL;
+}
+
+struct link *begin(enum opcode opcode)
+{
+    struct link *link = take(current_client(), false);
+    if (link != NULL)
+        link_begin(link, opcode);
+    return link;
+}
+
+// An idle link on which a handle is open.
+static struct link *take_with(struct ipcd *client, size_t number, uint32_t generation)
+{
+    for (size_t i = 0; i < PROCESSES_MOST && client->links[i] != NULL; i++) {
+        struct link *link = client->links[i];
+        if (!try_take(link))
+            continue;
+        link->saved_errno = errno;
+        if (link->opened[number].generation == generation && is_still_there(link))
+            return link;
+        link->busy = 0;
+    }
+    return NULL;
+}
+
+struct link *begin_on(struct ipcd *client, size_t number, enum kind kind, int wrong, enum opcode opcode)
+{
+    struct handle *handle = number < HANDLES ? &client->handles[number] : NULL;
+    if (handle == NULL || !handle->is_open || handle->kind != kind) {
+        errno = wrong;
+        return NULL;
+    }
+    struct link *link = take_with(client, number, handle->generation);
+    if (link == NULL)
+        link = take(client, true);
+    if (link == NULL)
+        return NULL;
+    if (close_stale(client, link) < 0 || open_again(client, link, number) < 0) {
+        if (errno == ENOENT)
+            errno = wrong;
+        end(link, -1);
+        return NULL;
+    }
+    link_begin(link, opcode);
+    put_u32(link, link->opened[number].descriptor);
+    return link;
+}
+
+// After a restart of the server idle links have ended too: they are closed, so that the program hears of it once.
+static void drop_ended(struct ipcd *client)
+{
+    for (size_t i = 0; i < PROCESSES_MOST && client->links[i] != NULL; i++) {
+        struct link *link = client->links[i];
+        char byte;
+        if (!try_take(link))
+            continue;
+        if (link->socket >= 0 && recv(link->socket, &byte, 1, MSG_PEEK | MSG_DONTWAIT) == 0)
+            link_drop(link);
+        link->busy = 0;
+    }
+}
+
+int close_on_idle_links(struct ipcd *client)
+{
+    int result = 0, error = errno;
+    for (size_t i = 0; i < PROCESSES_MOST && client->links[i] != NULL; i++) {
+        struct link *link = client->links[i];
+        if (!try_take(link))
+            continue;
+        if (link_is_there(link) && close_stale(client, link) < 0) {
+            result = -1;
+            error = errno;
+        }
+        link->busy = 0;
+    }
+    errno = error;
+    return result;
+}
+
+long end(struct link *link, long result)
+{
+    int error = errno;
+    bool is_lost = result < 0 && error == ECONNRESET && link->socket < 0;
+    errno = link->saved_errno;
+    atomic_store(&link->busy, 0);
+    if (is_lost)
+        drop_ended(current_client());
+    if (result < 0)
+        errno = error;
+    return result;
+}
+
+int end_empty(struct link *link, enum waiting waiting)
+{
+    return (int) end(link, link_exchange(link, waiting, 0, 0));
+}
+
+int end_number(struct link *link)
+{
+    if (link_exchange(link, ANSWERED_AT_ONCE, 4, 4) < 0)
+        return (int) end(link, -1);
+    uint32_t number = read_u32(link->body);
+    if (number > INT32_MAX) {
+        link_drop(link);
+        errno = EPROTO;
+        return (int) end(link, -1);
+    }
+    return (int) end(link, (long) number);
+}
+
+struct ipcd *ipcd_connect(const char *socket)
+{
+    current_client();
+    if (socket != NULL && text_length(socket, sizeof of_process.path) < 0)
+        return NULL;
+    struct ipcd *made = calloc(1, sizeof *made);
+    if (made == NULL)
+        return NULL;
+    pthread_mutex_init(&made->lock, NULL);
+    set_path(made, socket);
+    struct link *link = take(made, false);
+    if (link == NULL) {
+        int error = errno;
+        made->next = NULL;
+        ipcd_disconnect(made);
+        errno = error;
+        return NULL;
+    }
+    end(link, 0);
+    pthread_mutex_lock(&all_lock);
+    made->next = of_process.next;
+    of_process.next = made;
+    pthread_mutex_unlock(&all_lock);
+    return made;
+}
+
+void ipcd_disconnect(struct ipcd *connection)
+{
+    if (connection == NULL || connection == &of_process)
+        return;
+    if (used == connection)
+        used = NULL;
+    pthread_mutex_lock(&all_lock);
+    for (struct ipcd *it = &of_process; it != NULL; it = it->next)
+        if (it->next == connection)
+            it->next = connection->next;
+    pthread_mutex_unlock(&all_lock);
+    end_registrations(connection);
+    for (size_t i = 0; i < PROCESSES_MOST; i++) {
+        struct link *link = connection->links[i];
+        if (link == NULL)
+            continue;
+        if (link->socket >= 0)
+            no_more(connection->path, link->pid);
+        link_drop(link);
+        munmap(link, sizeof *link);
+    }
+    free(connection);
+}
+
+struct ipcd *ipcd_use(struct ipcd *connection)
+{
+    struct ipcd *before = used;
+    used = connection;
+    return before;
+}

@@ -1,0 +1,77 @@
+// A client: its links, the handles that it has open, and how each call begins and ends.
+#ifndef IPCD_CLIENT_H
+#define IPCD_CLIENT_H
+
+#include <pthread.h>
+#include <semaphore.h>
+#include <signal.h>
+#include <stdatomic.h>
+#include <stdbool.h>
+
+#include "ipcd.h"
+#include "link.h"
+
+#define HIDDEN __attribute__((visibility("hidden")))
+
+// Handles from 0 are descriptors of POSIX queues and segments, from DESCRIPTORS on named semaphores. The first
+// descriptor is the first number that no file has: fs.nr_open ends below it.
+enum { DESCRIPTORS = 64, SEMAPHORES = HANDLES - DESCRIPTORS, FIRST_DESCRIPTOR = 0x7fffffc0 };
+
+enum kind { POSIX_QUEUE, SEGMENT, NAMED_SEMAPHORE };
+
+struct handle {
+    uint32_t generation;      // is another after each close
+    bool is_open;
+    bool is_unlinked;         // by this process: its name is of nothing, or of something else
+    enum kind kind;
+    uint32_t access;
+    bool nonblocking;
+    unsigned opens;           // how many times sem_open answered it
+    size_t length;
+    char name[NAME_MOST + 1];
+};
+
+struct registration;
+
+struct ipcd {
+    struct ipcd *next;
+    pthread_mutex_t lock;     // of handles and registrations; whoever has it blocks all signals
+    atomic_uint closings;     // how many handles were closed
+    _Atomic(struct link *) links[PROCESSES_MOST];
+    struct handle handles[HANDLES];
+    sem_t semaphores[SEMAPHORES];
+    struct registration *registrations;
+    char path[256];
+};
+
+HIDDEN struct ipcd *current_client(void);
+
+HIDDEN void lock_handles(struct ipcd *client, sigset_t *mask);
+HIDDEN void unlock_handles(struct ipcd *client, const sigset_t *mask);
+
+// A call begins over a link that is idle, of the effective user and group, or NULL with an error of link_connect.
+HIDDEN struct link *begin(enum opcode opcode);
+
+// A call on a handle begins: the server's descriptor is its first field. NULL with `wrong`, if it is not open as this.
+HIDDEN struct link *begin_on(struct ipcd *client, size_t number, enum kind kind, int wrong, enum opcode opcode);
+
+// The call ends, with this result: the link is idle. errno is as it was before, unless the result is negative.
+HIDDEN long end(struct link *link, long result);
+
+// It ends by a reply without a body, or with a number.
+HIDDEN int end_empty(struct link *link, enum waiting waiting);
+HIDDEN int end_number(struct link *link);
+
+// The name of a new object or of one that is sought: how many bytes it has, or -1 with EFAULT or ENAMETOOLONG.
+HIDDEN ssize_t name_length(const char *name);
+
+// What is left of a mode with the umask of the process.
+HIDDEN uint32_t masked(mode_t mode);
+
+// A time of timespec in milliseconds, rounded up: 0, or EINVAL. Without a time it is NO_TIME.
+HIDDEN int milliseconds(const struct timespec *time, uint64_t *answer);
+
+// Closes a link's copies in a process that was forked, and those of registrations: see notifications.c.
+HIDDEN void forget_registrations(struct ipcd *client);
+
+#endif

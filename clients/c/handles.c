@@ -1,0 +1,212 @@
+// Handles: opening by name, on each link that needs it, and closing.
+#define _GNU_SOURCE
+#include "handles.h"
+
+#include <errno.h>
+#include <fcntl.h>
+#include <string.h>
+
+// Writes the request of an open and answers the server's descriptor, or -1.
+static long open_on_link(struct link *link, const char *name, size_t length, const struct wanted *wanted)
+{
+    static const enum opcode opcodes[] = {
+        [POSIX_QUEUE] = MQ_OPEN, [SEGMENT] = SHM_OPEN, [NAMED_SEMAPHORE] = SEM_OPEN};
+    link_begin(link, opcodes[wanted->kind]);
+    put_u32(link, wanted->flags);
+    put_u32(link, wanted->mode);
+    if (wanted->kind == NAMED_SEMAPHORE)
+        put_u32(link, wanted->value);
+    if (wanted->kind == POSIX_QUEUE) {
+        put_number(link, wanted->has_attributes, 1);
+        put_u32(link, (uint32_t) wanted->maxmsg);
+        put_u32(link, (uint32_t) wanted->msgsize);
+    }
+    put_bytes(link, name, length);
+    if (link_exchange(link, ANSWERED_AT_ONCE, 4, 4) < 0)
+        return -1;
+    return (long) read_u32(link->body);
+}
+
+static int close_on_link(struct link *link, uint32_t descriptor)
+{
+    link_begin(link, CLOSE);
+    put_u32(link, descriptor);
+    return (int) link_exchange(link, ANSWERED_AT_ONCE, 0, 0);
+}
+
+int close_stale(struct ipcd *client, struct link *link)
+{
+    uint32_t closings = client->closings;
+    if (link->closings == closings)
+        return 0;
+    int saved = errno;
+    for (size_t i = 0; i < HANDLES; i++) {
+        struct opened *opened = &link->opened[i];
+        if (opened->generation == 0 || opened->generation == client->handles[i].generation)
+            continue;
+        opened->generation = 0;
+        if (close_on_link(link, opened->descriptor) < 0 && link->socket < 0)
+            return -1;
+    }
+    link->closings = closings;
+    errno = saved;
+    return 0;
+}
+
+static int set_nonblocking(struct link *link, struct opened *opened, bool nonblocking)
+{
+    link_begin(link, MQ_SETATTR);
+    put_u32(link, opened->descriptor);
+    put_u32(link, nonblocking ? O_NONBLOCK : 0);
+    if (link_exchange(link, ANSWERED_AT_ONCE, 16, 16) < 0)
+        return -1;
+    opened->nonblocking = nonblocking;
+    return 0;
+}
+
+int open_again(struct ipcd *client, struct link *link, size_t number)
+{
+    const struct handle *handle = &client->handles[number];
+    struct opened *opened = &link->opened[number];
+    if (opened->generation == handle->generation) {
+        bool is_same = handle->kind != POSIX_QUEUE || opened->nonblocking == handle->nonblocking;
+        return is_same ? 0 : set_nonblocking(link, opened, handle->nonblocking);
+    }
+    if (handle->is_unlinked) {
+        errno = ENOENT;
+        return -1;
+    }
+    uint32_t flags = handle->access | (handle->nonblocking ? O_NONBLOCK : 0);
+    struct wanted wanted = {.kind = handle->kind, .flags = flags};
+    long descriptor = open_on_link(link, handle->name, handle->length, &wanted);
+    if (descriptor < 0)
+        return -1;
+    *opened = (struct opened){handle->generation, (uint32_t) descriptor, handle->nonblocking};
+    return 0;
+}
+
+int open_all_again(struct ipcd *client, struct link *link)
+{
+    int saved = errno;
+    for (size_t i = 0; i < HANDLES; i++) {
+        struct handle *handle = &client->handles[i];
+        if (!handle->is_open || open_again(client, link, i) == 0)
+            continue;
+        if (link->socket < 0)
+            return -1;
+        // An object that is made under the name later is another.
+        if (errno == ENOENT)
+            handle->is_unlinked = true;
+    }
+    errno = saved;
+    return 0;
+}
+
+static bool is_named(const struct handle *handle, enum kind kind, const char *name, size_t length)
+{
+    return handle->is_open && !handle->is_unlinked && handle->kind == kind && handle->length == length &&
+        memcmp(handle->name, name, length) == 0;
+}
+
+// A handle that is open on a semaphore of this name, else one that is free, else -1.
+static int find_handle(const struct ipcd *client, enum kind kind, const char *name, size_t length)
+{
+    int begin = kind == NAMED_SEMAPHORE ? DESCRIPTORS : 0;
+    int past = kind == NAMED_SEMAPHORE ? HANDLES : DESCRIPTORS;
+    for (int i = begin; kind == NAMED_SEMAPHORE && i < past; i++)
+        if (is_named(&client->handles[i], kind, name, length))
+            return i;
+    for (int i = begin; i < past; i++)
+        if (!client->handles[i].is_open)
+            return i;
+    errno = EMFILE;
+    return -1;
+}
+
+// Notes that an object was opened on a link. One that had its handle already is closed there once.
+static int note(struct ipcd *client, struct link *link, int number, struct handle named, uint32_t descriptor)
+{
+    struct handle *handle = &client->handles[number];
+    struct opened *opened = &link->opened[number];
+    if (handle->is_open) {
+        handle->opens++;
+        if (opened->generation == handle->generation)
+            return close_on_link(link, descriptor);
+    } else {
+        named.generation = handle->generation + (handle->generation == 0);
+        *handle = named;
+    }
+    *opened = (struct opened){handle->generation, descriptor, handle->nonblocking};
+    return 0;
+}
+
+int open_handle(struct ipcd *client, const char *name, const struct wanted *wanted)
+{
+    ssize_t length = name_length(name);
+    if (length < 0)
+        return -1;
+    struct link *link = begin(CLOSE);
+    if (link == NULL)
+        return -1;
+    long descriptor = open_on_link(link, name, (size_t) length, wanted);
+    if (descriptor < 0)
+        return (int) end(link, -1);
+    struct handle named = {.is_open = true, .kind = wanted->kind, .opens = 1, .length = (size_t) length};
+    named.access = wanted->kind == NAMED_SEMAPHORE ? 0 : wanted->flags & O_ACCMODE;
+    named.nonblocking = wanted->kind == POSIX_QUEUE && (wanted->flags & O_NONBLOCK);
+    memcpy(named.name, name, length <= NAME_MOST ? (size_t) length : 0);
+    sigset_t mask;
+    lock_handles(client, &mask);
+    int number = find_handle(client, wanted->kind, named.name, named.length);
+    int noted = number < 0 ? -1 : note(client, link, number, named, (uint32_t) descriptor);
+    unlock_handles(client, &mask);
+    if (number < 0) {
+        close_on_link(link, (uint32_t) descriptor);
+        errno = EMFILE;
+    }
+    return (int) end(link, noted < 0 ? -1 : number);
+}
+
+int close_handle(struct ipcd *client, size_t number, enum kind kind, int wrong)
+{
+    sigset_t mask;
+    lock_handles(client, &mask);
+    struct handle *handle = number < HANDLES ? &client->handles[number] : NULL;
+    bool is_open = handle != NULL && handle->is_open && handle->kind == kind;
+    bool is_last = is_open && --handle->opens == 0;
+    if (is_last) {
+        handle->is_open = false;
+        handle->generation++;
+        handle->generation += handle->generation == 0;
+        client->closings++;
+    }
+    unlock_handles(client, &mask);
+    if (!is_open) {
+        errno = wrong;
+        return -1;
+    }
+    if (!is_last)
+        return 0;
+    end_registration_of(client, number);
+    return close_on_idle_links(client);
+}
+
+int unlink_name(struct ipcd *client, const char *name, enum kind kind, enum opcode opcode)
+{
+    ssize_t length = name_length(name);
+    if (length < 0)
+        return -1;
+    struct link *link = begin(opcode);
+    if (link == NULL)
+        return -1;
+    put_bytes(link, name, (size_t) length);
+    if (end_empty(link, ANSWERED_AT_ONCE) < 0)
+        return -1;
+    sigset_t mask;
+    lock_handles(client, &mask);
+    for (size_t i = 0; i < HANDLES; i++)
+        if (is_named(&client->handles[i], kind, name, (size_t) length))
+            client->handles[i].is_unlinked = true;
+    unlock_handles(client, &mask);
+    return 0;
+}

@@ -1,0 +1,43 @@
+// Handles: descriptors of POSIX queues and segments, and named semaphores, which each link opens by name.
+#ifndef IPCD_HANDLES_H
+#define IPCD_HANDLES_H
+
+#include "client.h"
+
+// What an open asks beside the name.
+struct wanted {
+    enum kind kind;
+    uint32_t flags;
+    uint32_t mode;
+    uint32_t value;           // of a new semaphore
+    bool has_attributes;
+    int32_t maxmsg;
+    int32_t msgsize;
+};
+
+// Opens an object by its name: the number of its handle, or -1. A semaphore that is open has its handle again.
+HIDDEN int open_handle(struct ipcd *client, const char *name, const struct wanted *wanted);
+
+// Closes a handle: 0, or -1 with `wrong` if it is not open as this, or ECONNRESET; then it is closed too.
+HIDDEN int close_handle(struct ipcd *client, size_t number, enum kind kind, int wrong);
+
+// Takes a name off an object: 0, or -1.
+HIDDEN int unlink_name(struct ipcd *client, const char *name, enum kind kind, enum opcode opcode);
+
+// Opens a handle on a link too, if it is not open there: 0, or -1; ENOENT if its name is gone.
+HIDDEN int open_again(struct ipcd *client, struct link *link, size_t number);
+
+// Opens all handles on a new link, as far as their names are there: 0, or -1 if the link is lost.
+HIDDEN int open_all_again(struct ipcd *client, struct link *link);
+
+// Closes what is open on the link of handles that were closed since: 0, or -1 if the link is lost.
+HIDDEN int close_stale(struct ipcd *client, struct link *link);
+
+// Closes them on each link on which no call waits: 0, or -1 if one is lost.
+HIDDEN int close_on_idle_links(struct ipcd *client);
+
+// Ends what waits for notifications of a handle, or of all: see notifications.c.
+HIDDEN void end_registration_of(struct ipcd *client, size_t number);
+HIDDEN void end_registrations(struct ipcd *client);
+
+#endif

@@ -1,0 +1,91 @@
+// A link: one connection to a server, which is one process there, and one request at a time over it.
+#ifndef IPCD_LINK_H
+#define IPCD_LINK_H
+
+#include <stdatomic.h>
+#include <stdbool.h>
+#include <stddef.h>
+#include <stdint.h>
+#include <sys/types.h>
+
+#include "wire.h"
+
+enum { HANDLES = 128 };
+
+// How a signal handler ends the call: not at all; always; or as SA_RESTART has it, see signal(7).
+enum waiting { ANSWERED_AT_ONCE, ENDED_BY_HANDLERS, RESTARTED };
+
+// A descriptor of the server for a handle of the client, if the generation is that of the handle.
+struct opened {
+    uint32_t generation;
+    uint32_t descriptor;
+    bool nonblocking;
+};
+
+struct link {
+    atomic_int busy;
+    int socket;               // -1 if there is none
+    uint64_t cookie;          // the system's number of the socket, which no other has
+    const void *owner;        // the thread that used it last, if it is not the first link
+    uid_t uid;
+    gid_t gid;
+    char *into;               // where a body is to go
+    size_t into_size;
+    size_t placed;            // how many bytes of it are there
+    uint32_t pid;             // the server's number of the process
+    uint32_t serial;
+    uint32_t file_changes;    // when it was last seen that the socket is there
+    uint32_t closings;        // how many handles were closed when it was last looked through
+    bool ends_always;         // whether a handler ends each read
+    bool has_undone;          // whether adjustments may have been made
+    int saved_errno;
+    size_t filled;            // bytes of input that have come
+    size_t taken;             // bytes of input that were answered already
+    unsigned char *end;       // of the request
+    const void *text;         // the caller's bytes that follow it
+    size_t text_size;
+    const unsigned char *body; // of the reply
+    struct opened opened[HANDLES];
+    unsigned char request[FRAME_BYTES];
+    unsigned char input[2 * FRAME_BYTES];
+};
+
+// Connects and says HELLO, as the effective user and group. 0, or -1: ECONNREFUSED without a server, ENFILE if it has
+// no room for a process, or another error of connect(2). A HELLO that is ENFILE is said again for a while.
+int link_connect(struct link *link, const char *path);
+
+// Closes the socket. It is forgotten only, if the program has closed it: then its number may be another's.
+void link_drop(struct link *link);
+
+// Whether the socket is still the one that was connected.
+bool link_is_there(const struct link *link);
+
+// A request begins, and has fields. What does not fit is left out, so callers keep to TEXT_MOST and NAME_MOST.
+void link_begin(struct link *link, enum opcode opcode);
+void put_number(struct link *link, uint64_t number, size_t bytes);
+void put_u16(struct link *link, uint32_t number);
+void put_u32(struct link *link, uint32_t number);
+void put_u64(struct link *link, uint64_t number);
+void put_bytes(struct link *link, const void *bytes, size_t size);
+
+// The request ends with bytes of the caller's, which the system reads: if it cannot, the exchange is EFAULT.
+void put_text(struct link *link, const void *text, size_t size);
+
+// The reply's body may go there at once, if it comes whole and it can be written: then `placed` is how many bytes did.
+void read_into(struct link *link, void *into, size_t size);
+
+// How many bytes a request may have still.
+size_t room_left(const struct link *link);
+
+// Sends the request, and waits for its reply: how many bytes its body has, from `least` to `most`, or -1 with the
+// server's error, ECONNRESET if the connection has ended, EPROTO if the reply is none. After the last two, and EIO,
+// the link is dropped.
+ssize_t link_exchange(struct link *link, enum waiting waiting, size_t least, size_t most);
+
+// The next frame of a link on which nobody waits for a reply, without its length: its size, or -1.
+ssize_t link_next_frame(struct link *link, unsigned char *frame, size_t most);
+
+// Sends the request and does not wait. 0, or -1.
+int link_send(struct link *link);
+
+#endif

@@ -1,0 +1,156 @@
+// Message queues: msgget(2), msgop(2), msgctl(2).
+#define _GNU_SOURCE
+#include <errno.h>
+#include <limits.h>
+#include <string.h>
+#include <sys/ipc.h>
+#include <sys/msg.h>
+
+#include "client.h"
+#include "memory.h"
+#include "processes.h"
+
+enum { RECORD = 68 };
+
+int ipcd_msgget(key_t key, int msgflg)
+{
+    struct link *link = begin(MSGGET);
+    if (link == NULL)
+        return -1;
+    put_u32(link, (uint32_t) key);
+    put_u32(link, (uint32_t) msgflg);
+    return end_number(link);
+}
+
+int ipcd_msgsnd(int msqid, const void *msgp, size_t msgsz, int msgflg)
+{
+    long type;
+    if (msgsz > TEXT_MOST) {
+        errno = EINVAL;
+        return -1;
+    }
+    bool is_short = is_in_page(msgp, sizeof type + msgsz);
+    if (!is_readable(msgp, is_short ? sizeof type + msgsz : sizeof type)) {
+        errno = EFAULT;
+        return -1;
+    }
+    struct link *link = begin(MSGSND);
+    if (link == NULL)
+        return -1;
+    memcpy(&type, msgp, sizeof type);
+    put_u32(link, (uint32_t) msqid);
+    put_u32(link, (uint32_t) msgflg);
+    put_u64(link, (uint64_t) type);
+    if (is_short)
+        put_bytes(link, (const char *) msgp + sizeof type, msgsz);
+    else
+        put_text(link, (const char *) msgp + sizeof type, msgsz);
+    return end_empty(link, ENDED_BY_HANDLERS);
+}
+
+static int refusal_of_receive(size_t msgsz, int msgflg)
+{
+    if (msgflg & MSG_COPY)
+        return msgflg & IPC_NOWAIT ? ENOSYS : EINVAL;
+    return msgsz > INT_MAX ? EINVAL : 0;
+}
+
+ssize_t ipcd_msgrcv(int msqid, void *msgp, size_t msgsz, long msgtyp, int msgflg)
+{
+    int refusal = refusal_of_receive(msgsz, msgflg);
+    if (refusal != 0) {
+        errno = refusal;
+        return -1;
+    }
+    struct link *link = begin(MSGRCV);
+    if (link == NULL)
+        return -1;
+    put_u32(link, (uint32_t) msqid);
+    put_u32(link, (uint32_t) msgflg);
+    put_u32(link, (uint32_t) msgsz);
+    put_u64(link, (uint64_t) msgtyp);
+    size_t most = msgsz < TEXT_MOST ? msgsz : TEXT_MOST;
+    read_into(link, msgp, sizeof(long) + most);
+    ssize_t size = link_exchange(link, ENDED_BY_HANDLERS, 8, 8 + most);
+    if (size < 0)
+        return end(link, -1);
+    // The message is taken, as the kernel's is when its buffer turns out to be bad.
+    if (link->placed == 0 && !is_writable(msgp, (size_t) size)) {
+        errno = EFAULT;
+        return end(link, -1);
+    }
+    if (link->placed == 0)
+        memcpy(msgp, link->body, (size_t) size);
+    long type = (long) read_u64(msgp);
+    memcpy(msgp, &type, sizeof type);
+    return end(link, size - 8);
+}
+
+static void read_record(const char *socket, const unsigned char *body, struct msqid_ds *record)
+{
+    memset(record, 0, sizeof *record);
+    record->msg_perm.__key = (key_t) read_u32(body);
+    record->msg_perm.uid = read_u32(body + 4);
+    record->msg_perm.gid = read_u32(body + 8);
+    record->msg_perm.cuid = read_u32(body + 12);
+    record->msg_perm.cgid = read_u32(body + 16);
+    record->msg_perm.mode = (mode_t) read_u32(body + 20);
+    record->msg_stime = (time_t) (read_u64(body + 24) / 1000);
+    record->msg_rtime = (time_t) (read_u64(body + 32) / 1000);
+    record->msg_ctime = (time_t) (read_u64(body + 40) / 1000);
+    record->msg_lspid = system_pid(socket, read_u32(body + 48));
+    record->msg_lrpid = system_pid(socket, read_u32(body + 52));
+    record->msg_qbytes = read_u32(body + 56);
+    record->msg_qnum = read_u32(body + 60);
+    record->__msg_cbytes = read_u32(body + 64);
+}
+
+static int stat_queue(int msqid, struct msqid_ds *buf)
+{
+    struct link *link = begin(MSG_IPC_STAT);
+    if (link == NULL)
+        return -1;
+    put_u32(link, (uint32_t) msqid);
+    if (link_exchange(link, ANSWERED_AT_ONCE, RECORD, RECORD) < 0)
+        return (int) end(link, -1);
+    if (!is_writable(buf, sizeof *buf)) {
+        errno = EFAULT;
+        return (int) end(link, -1);
+    }
+    read_record(current_client()->path, link->body, buf);
+    return (int) end(link, 0);
+}
+
+static int set_queue(int msqid, const struct msqid_ds *buf)
+{
+    if (!is_readable(buf, sizeof *buf)) {
+        errno = EFAULT;
+        return -1;
+    }
+    struct link *link = begin(MSG_IPC_SET);
+    if (link == NULL)
+        return -1;
+    put_u32(link, (uint32_t) msqid);
+    put_u32(link, buf->msg_perm.uid);
+    put_u32(link, buf->msg_perm.gid);
+    put_u32(link, buf->msg_perm.mode);
+    put_u32(link, buf->msg_qbytes > UINT32_MAX ? UINT32_MAX : (uint32_t) buf->msg_qbytes);
+    return end_empty(link, ANSWERED_AT_ONCE);
+}
+
+int ipcd_msgctl(int msqid, int cmd, struct msqid_ds *buf)
+{
+    if (cmd == IPC_STAT)
+        return stat_queue(msqid, buf);
+    if (cmd == IPC_SET)
+        return set_queue(msqid, buf);
+    if (cmd != IPC_RMID) {
+        errno = EINVAL;
+        return -1;
+    }
+    struct link *link = begin(MSG_IPC_RMID);
+    if (link == NULL)
+        return -1;
+    put_u32(link, (uint32_t) msqid);
+    return end_empty(link, ANSWERED_AT_ONCE);
+}

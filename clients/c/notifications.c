@@ -1,0 +1,238 @@
+// Notifications of mq_notify(3): each registration is a process of the server with a thread that reads its frame.
+#define _GNU_SOURCE
+#include <errno.h>
+#include <mqueue.h>
+#include <stdlib.h>
+#include <string.h>
+#include <sys/mman.h>
+#include <sys/socket.h>
+#include <sys/syscall.h>
+#include <unistd.h>
+
+#include "client.h"
+#include "handles.h"
+#include "memory.h"
+#include "processes.h"
+
+enum { NOTIFICATION = 14 };
+
+struct registration {
+    struct registration *next;
+    struct ipcd *client;
+    size_t number;            // of the handle that registered
+    pthread_t thread;
+    struct link *link;
+    struct sigevent event;
+    pthread_attr_t attributes;
+    bool has_attributes;
+};
+
+static void free_registration(struct registration *it)
+{
+    no_more(it->client->path, it->link->pid);
+    link_drop(it->link);
+    munmap(it->link, sizeof *it->link);
+    free(it);
+}
+
+// A function that is told has a copy of its own of what it is told.
+static void *run_function(void *argument)
+{
+    struct sigevent event = *(struct sigevent *) argument;
+    free(argument);
+    event.sigev_notify_function(event.sigev_value);
+    return NULL;
+}
+
+static void start_function(struct registration *it)
+{
+    struct sigevent *event = malloc(sizeof *event);
+    if (event == NULL)
+        return;
+    *event = it->event;
+    pthread_t thread;
+    if (pthread_create(&thread, it->has_attributes ? &it->attributes : NULL, run_function, event) != 0)
+        free(event);
+    else if (!it->has_attributes)
+        pthread_detach(thread);
+}
+
+static void deliver(struct registration *it)
+{
+    siginfo_t info = {.si_signo = it->event.sigev_signo, .si_code = SI_MESGQ, .si_value = it->event.sigev_value};
+    if (it->event.sigev_notify == SIGEV_SIGNAL && info.si_signo != 0)
+        syscall(SYS_rt_sigqueueinfo, getpid(), info.si_signo, &info);
+    if (it->event.sigev_notify == SIGEV_THREAD)
+        start_function(it);
+}
+
+// Takes a registration off the list: whether it was there. Who took it off frees it.
+static bool take_off(struct ipcd *client, struct registration *wanted)
+{
+    for (struct registration **at = &client->registrations; *at != NULL; at = &(*at)->next) {
+        if (*at != wanted)
+            continue;
+        *at = wanted->next;
+        return true;
+    }
+    return false;
+}
+
+static void *read_notification(void *argument)
+{
+    struct registration *it = argument;
+    struct ipcd *client = it->client;
+    unsigned char frame[NOTIFICATION];
+    ssize_t size = link_next_frame(it->link, frame, sizeof frame);
+    bool is_told = size == NOTIFICATION && read_u32(frame) == 0 && read_u16(frame + 4) == 0;
+    sigset_t mask;
+    lock_handles(client, &mask);
+    bool is_mine = take_off(client, it);
+    unlock_handles(client, &mask);
+    if (is_told)
+        deliver(it);
+    if (is_mine) {
+        pthread_detach(pthread_self());
+        free_registration(it);
+    }
+    return NULL;
+}
+
+// The server sees that this process ends, and closes: then the registration is gone.
+static void end_one(struct registration *it)
+{
+    shutdown(it->link->socket, SHUT_WR);
+    pthread_join(it->thread, NULL);
+    free_registration(it);
+}
+
+// Ends the registrations by this handle, by any of the queue of this name, or all.
+static void end_each(struct ipcd *client, size_t number, const char *name)
+{
+    for (;;) {
+        sigset_t mask;
+        lock_handles(client, &mask);
+        struct registration *it = client->registrations;
+        for (; it != NULL; it = it->next) {
+            bool is_named = name != NULL && strcmp(client->handles[it->number].name, name) == 0;
+            if (number == HANDLES || it->number == number || is_named)
+                break;
+        }
+        if (it != NULL)
+            take_off(client, it);
+        unlock_handles(client, &mask);
+        if (it == NULL)
+            return;
+        end_one(it);
+    }
+}
+
+void end_registration_of(struct ipcd *client, size_t number)
+{
+    if (client->registrations != NULL)
+        end_each(client, number, NULL);
+}
+
+void end_registrations(struct ipcd *client)
+{
+    end_each(client, HANDLES, NULL);
+}
+
+void forget_registrations(struct ipcd *client)
+{
+    for (struct registration *it = client->registrations; it != NULL; it = it->next)
+        link_drop(it->link);
+    client->registrations = NULL;
+}
+
+// Connects, opens the queue and registers: 0, or -1.
+static int connect_registration(struct registration *it)
+{
+    it->link->socket = -1;
+    if (link_connect(it->link, it->client->path) < 0)
+        return -1;
+    tell_process(it->client->path, it->link->pid);
+    if (open_again(it->client, it->link, it->number) < 0) {
+        if (errno == ENOENT)
+            errno = EBADF;
+        return -1;
+    }
+    link_begin(it->link, MQ_NOTIFY);
+    put_u32(it->link, it->link->opened[it->number].descriptor);
+    put_u32(it->link, NOTIFY_FRAME);
+    put_u32(it->link, 0);
+    return (int) link_exchange(it->link, ANSWERED_AT_ONCE, 0, 0);
+}
+
+static int start_thread(struct registration *it)
+{
+    sigset_t mask;
+    lock_handles(it->client, &mask);
+    int error = pthread_create(&it->thread, NULL, read_notification, it);
+    if (error == 0) {
+        it->next = it->client->registrations;
+        it->client->registrations = it;
+    }
+    unlock_handles(it->client, &mask);
+    errno = error == 0 ? errno : ENOMEM;
+    return error == 0 ? 0 : -1;
+}
+
+static struct registration *make_registration(struct ipcd *client, size_t number, const struct sigevent *event)
+{
+    struct registration *made = calloc(1, sizeof *made);
+    if (made == NULL)
+        return NULL;
+    made->client = client;
+    made->number = number;
+    made->event = *event;
+    made->has_attributes = event->sigev_notify == SIGEV_THREAD && event->sigev_notify_attributes != NULL;
+    if (made->has_attributes)
+        made->attributes = *event->sigev_notify_attributes;
+    made->link = mmap(NULL, sizeof *made->link, PROT_READ | PROT_WRITE, MAP_PRIVATE | MAP_ANONYMOUS, -1, 0);
+    if (made->link != MAP_FAILED)
+        return made;
+    free(made);
+    errno = ENOMEM;
+    return NULL;
+}
+
+static int refusal_of(const struct sigevent *event)
+{
+    if (event == NULL)
+        return 0;
+    if (!is_readable(event, sizeof *event))
+        return EFAULT;
+    if (event->sigev_notify == SIGEV_SIGNAL)
+        return event->sigev_signo < 0 || event->sigev_signo > SIGRTMAX ? EINVAL : 0;
+    return event->sigev_notify == SIGEV_NONE || event->sigev_notify == SIGEV_THREAD ? 0 : EINVAL;
+}
+
+int ipcd_mq_notify(mqd_t mqdes, const struct sigevent *sevp)
+{
+    struct ipcd *client = current_client();
+    size_t number = mqdes < FIRST_DESCRIPTOR ? HANDLES : (size_t) (mqdes - FIRST_DESCRIPTOR);
+    struct handle *handle = number < HANDLES ? &client->handles[number] : NULL;
+    bool is_open = handle != NULL && handle->is_open && handle->kind == POSIX_QUEUE;
+    int refusal = is_open ? refusal_of(sevp) : EBADF;
+    if (refusal != 0) {
+        errno = refusal;
+        return -1;
+    }
+    if (sevp == NULL) {
+        end_each(client, number, handle->name);
+        return 0;
+    }
+    int saved = errno;
+    struct registration *made = make_registration(client, number, sevp);
+    if (made == NULL)
+        return -1;
+    if (connect_registration(made) < 0 || start_thread(made) < 0) {
+        int error = errno;
+        free_registration(made);
+        errno = error;
+        return -1;
+    }
+    errno = saved;
+    return 0;
+}

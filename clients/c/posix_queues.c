@@ -1,0 +1,175 @@
+// POSIX queues: mq_open(3), mq_send(3), mq_receive(3) and their kin; mq_notify(3) has a file of its own.
+#define _GNU_SOURCE
+#include <errno.h>
+#include <fcntl.h>
+#include <limits.h>
+#include <stdarg.h>
+#include <string.h>
+
+#include "client.h"
+#include "handles.h"
+#include "memory.h"
+
+static size_t number_of(mqd_t mqdes)
+{
+    return mqdes < FIRST_DESCRIPTOR ? HANDLES : (size_t) (mqdes - FIRST_DESCRIPTOR);
+}
+
+// Attributes that are beyond any limit stay so.
+static int32_t bounded(long attribute)
+{
+    return attribute > INT_MAX ? INT_MAX : attribute < 0 ? 0 : (int32_t) attribute;
+}
+
+mqd_t ipcd_mq_open(const char *name, int oflag, ...)
+{
+    struct wanted wanted = {.kind = POSIX_QUEUE, .flags = (uint32_t) oflag};
+    if (oflag & O_CREAT) {
+        va_list rest;
+        va_start(rest, oflag);
+        mode_t mode = va_arg(rest, mode_t);
+        const struct mq_attr *attributes = va_arg(rest, const struct mq_attr *);
+        va_end(rest);
+        if (attributes != NULL && !is_readable(attributes, sizeof *attributes)) {
+            errno = EFAULT;
+            return -1;
+        }
+        wanted.mode = masked(mode);
+        wanted.has_attributes = attributes != NULL;
+        wanted.maxmsg = attributes == NULL ? 0 : bounded(attributes->mq_maxmsg);
+        wanted.msgsize = attributes == NULL ? 0 : bounded(attributes->mq_msgsize);
+    }
+    int number = open_handle(current_client(), name, &wanted);
+    return number < 0 ? -1 : FIRST_DESCRIPTOR + number;
+}
+
+int ipcd_mq_close(mqd_t mqdes)
+{
+    return close_handle(current_client(), number_of(mqdes), POSIX_QUEUE, EBADF);
+}
+
+int ipcd_mq_unlink(const char *name)
+{
+    return unlink_name(current_client(), name, POSIX_QUEUE, MQ_UNLINK);
+}
+
+static struct link *begin_on_queue(mqd_t mqdes, enum opcode opcode)
+{
+    return begin_on(current_client(), number_of(mqdes), POSIX_QUEUE, EBADF, opcode);
+}
+
+int ipcd_mq_timedsend(mqd_t mqdes, const char *msg_ptr, size_t msg_len, unsigned int msg_prio,
+                      const struct timespec *abs_timeout)
+{
+    uint64_t deadline;
+    int refusal = milliseconds(abs_timeout, &deadline);
+    if (refusal != 0) {
+        errno = refusal;
+        return -1;
+    }
+    struct link *link = begin_on_queue(mqdes, MQ_SEND);
+    if (link == NULL)
+        return -1;
+    put_u64(link, deadline);
+    put_u32(link, msg_prio);
+    // A longer text is EMSGSIZE as this one is.
+    if (msg_len <= TEXT_MOST)
+        put_text(link, msg_ptr, msg_len);
+    else
+        link->end += TEXT_MOST + 1;
+    return end_empty(link, RESTARTED);
+}
+
+int ipcd_mq_send(mqd_t mqdes, const char *msg_ptr, size_t msg_len, unsigned int msg_prio)
+{
+    return ipcd_mq_timedsend(mqdes, msg_ptr, msg_len, msg_prio, NULL);
+}
+
+ssize_t ipcd_mq_timedreceive(mqd_t mqdes, char *msg_ptr, size_t msg_len, unsigned int *msg_prio,
+                             const struct timespec *abs_timeout)
+{
+    uint64_t deadline;
+    int refusal = milliseconds(abs_timeout, &deadline);
+    if (refusal == 0 && msg_prio != NULL && !is_writable(msg_prio, sizeof *msg_prio))
+        refusal = EFAULT;
+    if (refusal == 0 && msg_len > 0 && !is_writable(msg_ptr, 1))
+        refusal = EFAULT;
+    if (refusal != 0) {
+        errno = refusal;
+        return -1;
+    }
+    struct link *link = begin_on_queue(mqdes, MQ_RECEIVE);
+    if (link == NULL)
+        return -1;
+    put_u64(link, deadline);
+    put_u32(link, msg_len > UINT32_MAX ? UINT32_MAX : (uint32_t) msg_len);
+    size_t most = msg_len < TEXT_MOST ? msg_len : TEXT_MOST;
+    ssize_t size = link_exchange(link, RESTARTED, 4, 4 + most);
+    if (size < 0)
+        return end(link, -1);
+    size -= 4;
+    if (!is_writable_on(msg_ptr, 1, (size_t) size)) {
+        errno = EFAULT;
+        return end(link, -1);
+    }
+    memcpy(msg_ptr, link->body + 4, (size_t) size);
+    if (msg_prio != NULL)
+        *msg_prio = read_u32(link->body);
+    return end(link, size);
+}
+
+ssize_t ipcd_mq_receive(mqd_t mqdes, char *msg_ptr, size_t msg_len, unsigned int *msg_prio)
+{
+    return ipcd_mq_timedreceive(mqdes, msg_ptr, msg_len, msg_prio, NULL);
+}
+
+// The attributes that a call answers: 0, or -1.
+static int read_attributes(struct link *link, struct mq_attr *attributes)
+{
+    if (link_exchange(link, ANSWERED_AT_ONCE, 16, 16) < 0)
+        return -1;
+    if (attributes != NULL) {
+        memset(attributes, 0, sizeof *attributes);
+        attributes->mq_flags = read_u32(link->body);
+        attributes->mq_maxmsg = read_u32(link->body + 4);
+        attributes->mq_msgsize = read_u32(link->body + 8);
+        attributes->mq_curmsgs = read_u32(link->body + 12);
+    }
+    return 0;
+}
+
+int ipcd_mq_getattr(mqd_t mqdes, struct mq_attr *attr)
+{
+    if (!is_writable(attr, sizeof *attr)) {
+        errno = EFAULT;
+        return -1;
+    }
+    struct link *link = begin_on_queue(mqdes, MQ_GETATTR);
+    return link == NULL ? -1 : (int) end(link, read_attributes(link, attr));
+}
+
+int ipcd_mq_setattr(mqd_t mqdes, const struct mq_attr *newattr, struct mq_attr *oldattr)
+{
+    if (newattr == NULL)
+        return ipcd_mq_getattr(mqdes, oldattr);
+    if (!is_readable(newattr, sizeof *newattr) || (oldattr != NULL && !is_writable(oldattr, sizeof *oldattr))) {
+        errno = EFAULT;
+        return -1;
+    }
+    long flags = newattr->mq_flags;
+    if (flags & ~(long) O_NONBLOCK) {
+        errno = EINVAL;
+        return -1;
+    }
+    struct ipcd *client = current_client();
+    struct link *link = begin_on_queue(mqdes, MQ_SETATTR);
+    if (link == NULL)
+        return -1;
+    put_u32(link, (uint32_t) flags);
+    int result = read_attributes(link, oldattr);
+    if (result == 0) {
+        client->handles[number_of(mqdes)].nonblocking = flags != 0;
+        link->opened[number_of(mqdes)].nonblocking = flags != 0;
+    }
+    return (int) end(link, result);
+}

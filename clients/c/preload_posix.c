@@ -1,0 +1,189 @@
+// The calls of POSIX queues and semaphores of the C library, redirected. Unnamed semaphores stay its own.
+#define _GNU_SOURCE
+#include <dlfcn.h>
+#include <errno.h>
+#include <fcntl.h>
+#include <stdarg.h>
+
+#include "named_semaphores.h"
+#include "preload.h"
+
+mqd_t redirected_mq_open(const char *name, int oflag, ...) IN_PLACE_OF(mq_open);
+mqd_t redirected_mq_open_2(const char *name, int oflag) IN_PLACE_OF(__mq_open_2);
+int redirected_mq_close(mqd_t mqdes) IN_PLACE_OF(mq_close);
+int redirected_mq_unlink(const char *name) IN_PLACE_OF(mq_unlink);
+int redirected_mq_send(mqd_t mqdes, const char *text, size_t size, unsigned int priority) IN_PLACE_OF(mq_send);
+int redirected_mq_timedsend(mqd_t mqdes, const char *text, size_t size, unsigned int priority,
+                            const struct timespec *deadline) IN_PLACE_OF(mq_timedsend);
+ssize_t redirected_mq_receive(mqd_t mqdes, char *text, size_t size, unsigned int *priority)
+    IN_PLACE_OF(mq_receive);
+ssize_t redirected_mq_timedreceive(mqd_t mqdes, char *text, size_t size, unsigned int *priority,
+                                   const struct timespec *deadline) IN_PLACE_OF(mq_timedreceive);
+int redirected_mq_getattr(mqd_t mqdes, struct mq_attr *attributes) IN_PLACE_OF(mq_getattr);
+int redirected_mq_setattr(mqd_t mqdes, const struct mq_attr *wanted, struct mq_attr *before)
+    IN_PLACE_OF(mq_setattr);
+int redirected_mq_notify(mqd_t mqdes, const struct sigevent *event) IN_PLACE_OF(mq_notify);
+sem_t *redirected_sem_open(const char *name, int oflag, ...) IN_PLACE_OF(sem_open);
+int redirected_sem_close(sem_t *sem) IN_PLACE_OF(sem_close);
+int redirected_sem_unlink(const char *name) IN_PLACE_OF(sem_unlink);
+int redirected_sem_wait(sem_t *sem) IN_PLACE_OF(sem_wait);
+int redirected_sem_trywait(sem_t *sem) IN_PLACE_OF(sem_trywait);
+int redirected_sem_timedwait(sem_t *sem, const struct timespec *deadline) IN_PLACE_OF(sem_timedwait);
+int redirected_sem_clockwait(sem_t *sem, clockid_t clock, const struct timespec *deadline)
+    IN_PLACE_OF(sem_clockwait);
+int redirected_sem_post(sem_t *sem) IN_PLACE_OF(sem_post);
+int redirected_sem_getvalue(sem_t *sem, int *value) IN_PLACE_OF(sem_getvalue);
+
+// The C library's own calls of unnamed semaphores. A program whose library has none of a name does not call it.
+static struct {
+    int (*wait)(sem_t *);
+    int (*trywait)(sem_t *);
+    int (*timedwait)(sem_t *, const struct timespec *);
+    int (*clockwait)(sem_t *, clockid_t, const struct timespec *);
+    int (*post)(sem_t *);
+    int (*getvalue)(sem_t *, int *);
+} own;
+
+static void find(void *place, const char *name)
+{
+    *(void **) place = dlsym(RTLD_NEXT, name);
+}
+
+__attribute__((constructor)) static void find_own(void)
+{
+    find(&own.wait, "sem_wait");
+    find(&own.trywait, "sem_trywait");
+    find(&own.timedwait, "sem_timedwait");
+    find(&own.clockwait, "sem_clockwait");
+    find(&own.post, "sem_post");
+    find(&own.getvalue, "sem_getvalue");
+}
+
+// Another library's constructor may call before that of this one.
+static bool is_unnamed(const sem_t *sem)
+{
+    if (is_named_semaphore(sem))
+        return false;
+    if (own.post == NULL)
+        find_own();
+    return true;
+}
+
+mqd_t redirected_mq_open(const char *name, int oflag, ...)
+{
+    if (!(oflag & O_CREAT))
+        return ipcd_mq_open(name, oflag);
+    va_list rest;
+    va_start(rest, oflag);
+    mode_t mode = va_arg(rest, mode_t);
+    struct mq_attr *attributes = va_arg(rest, struct mq_attr *);
+    va_end(rest);
+    return ipcd_mq_open(name, oflag, mode, attributes);
+}
+
+mqd_t redirected_mq_open_2(const char *name, int oflag)
+{
+    if (!(oflag & O_CREAT))
+        return ipcd_mq_open(name, oflag);
+    errno = EINVAL;
+    return -1;
+}
+
+int redirected_mq_close(mqd_t mqdes)
+{
+    return ipcd_mq_close(mqdes);
+}
+
+int redirected_mq_unlink(const char *name)
+{
+    return ipcd_mq_unlink(name);
+}
+
+int redirected_mq_send(mqd_t mqdes, const char *text, size_t size, unsigned int priority)
+{
+    return ipcd_mq_send(mqdes, text, size, priority);
+}
+
+int redirected_mq_timedsend(mqd_t mqdes, const char *text, size_t size, unsigned int priority,
+                            const struct timespec *deadline)
+{
+    return ipcd_mq_timedsend(mqdes, text, size, priority, deadline);
+}
+
+ssize_t redirected_mq_receive(mqd_t mqdes, char *text, size_t size, unsigned int *priority)
+{
+    return ipcd_mq_receive(mqdes, text, size, priority);
+}
+
+ssize_t redirected_mq_timedreceive(mqd_t mqdes, char *text, size_t size, unsigned int *priority,
+                                   const struct timespec *deadline)
+{
+    return ipcd_mq_timedreceive(mqdes, text, size, priority, deadline);
+}
+
+int redirected_mq_getattr(mqd_t mqdes, struct mq_attr *attributes)
+{
+    return ipcd_mq_getattr(mqdes, attributes);
+}
+
+int redirected_mq_setattr(mqd_t mqdes, const struct mq_attr *wanted, struct mq_attr *before)
+{
+    return ipcd_mq_setattr(mqdes, wanted, before);
+}
+
+int redirected_mq_notify(mqd_t mqdes, const struct sigevent *event)
+{
+    return ipcd_mq_notify(mqdes, event);
+}
+
+sem_t *redirected_sem_open(const char *name, int oflag, ...)
+{
+    if (!(oflag & O_CREAT))
+        return ipcd_sem_open(name, oflag);
+    va_list rest;
+    va_start(rest, oflag);
+    mode_t mode = va_arg(rest, mode_t);
+    unsigned int value = va_arg(rest, unsigned int);
+    va_end(rest);
+    return ipcd_sem_open(name, oflag, mode, value);
+}
+
+int redirected_sem_close(sem_t *sem)
+{
+    return ipcd_sem_close(sem);
+}
+
+int redirected_sem_unlink(const char *name)
+{
+    return ipcd_sem_unlink(name);
+}
+
+int redirected_sem_wait(sem_t *sem)
+{
+    return is_unnamed(sem) ? own.wait(sem) : ipcd_sem_wait(sem);
+}
+
+int redirected_sem_trywait(sem_t *sem)
+{
+    return is_unnamed(sem) ? own.trywait(sem) : ipcd_sem_trywait(sem);
+}
+
+int redirected_sem_timedwait(sem_t *sem, const struct timespec *deadline)
+{
+    return is_unnamed(sem) ? own.timedwait(sem, deadline) : ipcd_sem_timedwait(sem, deadline);
+}
+
+int redirected_sem_clockwait(sem_t *sem, clockid_t clock, const struct timespec *deadline)
+{
+    return is_unnamed(sem) ? own.clockwait(sem, clock, deadline) : ipcd_sem_clockwait(sem, clock, deadline);
+}
+
+int redirected_sem_post(sem_t *sem)
+{
+    return is_unnamed(sem) ? own.post(sem) : ipcd_sem_post(sem);
+}
+
+int redirected_sem_getvalue(sem_t *sem, int *value)
+{
+    return is_unnamed(sem) ? own.getvalue(sem, value) : ipcd_sem_getvalue(sem, value);
+}

@@ -1,0 +1,197 @@
+// Semaphore sets: semget(2), semop(2), semctl(2).
+#define _GNU_SOURCE
+#include <errno.h>
+#include <limits.h>
+#include <stdarg.h>
+#include <string.h>
+#include <sys/ipc.h>
+#include <sys/sem.h>
+
+#include "client.h"
+#include "memory.h"
+#include "processes.h"
+
+enum { RECORD = 44, OPERATION = 6, OPERATIONS_MOST = 500, VALUES_MOST = BODY_MOST / 2 };
+
+int ipcd_semget(key_t key, int nsems, int semflg)
+{
+    struct link *link = begin(SEMGET);
+    if (link == NULL)
+        return -1;
+    put_u32(link, (uint32_t) key);
+    put_u32(link, (uint32_t) nsems);
+    put_u32(link, (uint32_t) semflg);
+    return end_number(link);
+}
+
+int ipcd_semtimedop(int semid, struct sembuf *sops, size_t nsops, const struct timespec *timeout)
+{
+    uint64_t limit;
+    int refusal = milliseconds(timeout, &limit);
+    if (refusal == 0 && nsops > OPERATIONS_MOST)
+        refusal = E2BIG;
+    if (refusal == 0 && !is_readable(sops, nsops * sizeof *sops))
+        refusal = EFAULT;
+    if (refusal != 0) {
+        errno = refusal;
+        return -1;
+    }
+    struct link *link = begin(SEMOP);
+    if (link == NULL)
+        return -1;
+    put_u32(link, (uint32_t) semid);
+    put_u64(link, limit);
+    for (size_t i = 0; i < nsops; i++) {
+        put_u16(link, sops[i].sem_num);
+        put_u16(link, (uint16_t) sops[i].sem_op);
+        put_u16(link, (uint16_t) sops[i].sem_flg);
+        link->has_undone = link->has_undone || (sops[i].sem_flg & SEM_UNDO);
+    }
+    return end_empty(link, ENDED_BY_HANDLERS);
+}
+
+int ipcd_semop(int semid, struct sembuf *sops, size_t nsops)
+{
+    return ipcd_semtimedop(semid, sops, nsops, NULL);
+}
+
+// A call whose field beside the set is the number of a semaphore, and whose answer is a number.
+static int number_of(enum opcode opcode, int semid, int semnum)
+{
+    struct link *link = begin(opcode);
+    if (link == NULL)
+        return -1;
+    put_u32(link, (uint32_t) semid);
+    put_u32(link, (uint32_t) semnum);
+    return end_number(link);
+}
+
+static int last_process(int semid, int semnum)
+{
+    int pid = number_of(SEM_GETPID, semid, semnum);
+    return pid < 0 ? -1 : system_pid(current_client()->path, (uint32_t) pid);
+}
+
+static int set_value(int semid, int semnum, int value)
+{
+    struct link *link = begin(SEM_SETVAL);
+    if (link == NULL)
+        return -1;
+    put_u32(link, (uint32_t) semid);
+    put_u32(link, (uint32_t) semnum);
+    put_u32(link, (uint32_t) value);
+    return end_empty(link, ANSWERED_AT_ONCE);
+}
+
+static int stat_set(int semid, struct semid_ds *record)
+{
+    struct link *link = begin(SEM_IPC_STAT);
+    if (link == NULL)
+        return -1;
+    put_u32(link, (uint32_t) semid);
+    if (link_exchange(link, ANSWERED_AT_ONCE, RECORD, RECORD) < 0)
+        return (int) end(link, -1);
+    if (!is_writable(record, sizeof *record)) {
+        errno = EFAULT;
+        return (int) end(link, -1);
+    }
+    const unsigned char *body = link->body;
+    memset(record, 0, sizeof *record);
+    record->sem_perm.__key = (key_t) read_u32(body);
+    record->sem_perm.uid = read_u32(body + 4);
+    record->sem_perm.gid = read_u32(body + 8);
+    record->sem_perm.cuid = read_u32(body + 12);
+    record->sem_perm.cgid = read_u32(body + 16);
+    record->sem_perm.mode = (mode_t) read_u32(body + 20);
+    record->sem_otime = (time_t) (read_u64(body + 24) / 1000);
+    record->sem_ctime = (time_t) (read_u64(body + 32) / 1000);
+    record->sem_nsems = read_u32(body + 40);
+    return (int) end(link, 0);
+}
+
+// The caller's array says nowhere how long it is, so the set is asked how many values there are.
+static int get_all(int semid, unsigned short *array)
+{
+    struct semid_ds record;
+    if (stat_set(semid, &record) < 0)
+        return -1;
+    size_t bytes = 2 * record.sem_nsems;
+    struct link *link = begin(SEM_GETALL);
+    if (link == NULL)
+        return -1;
+    put_u32(link, (uint32_t) semid);
+    ssize_t size = link_exchange(link, ANSWERED_AT_ONCE, bytes, bytes);
+    if (size > 0 && !is_writable(array, (size_t) size)) {
+        errno = EFAULT;
+        size = -1;
+    }
+    for (ssize_t i = 0; i < size / 2; i++)
+        array[i] = read_u16(link->body + 2 * i);
+    return (int) end(link, size < 0 ? -1 : 0);
+}
+
+// Here too, and so it needs the permission to read.
+static int set_all(int semid, const unsigned short *array)
+{
+    struct semid_ds record;
+    if (stat_set(semid, &record) < 0)
+        return -1;
+    if (record.sem_nsems > VALUES_MOST || !is_readable(array, 2 * record.sem_nsems)) {
+        errno = record.sem_nsems > VALUES_MOST ? EPROTO : EFAULT;
+        return -1;
+    }
+    struct link *link = begin(SEM_SETALL);
+    if (link == NULL)
+        return -1;
+    put_u32(link, (uint32_t) semid);
+    for (size_t i = 0; i < record.sem_nsems; i++)
+        put_u16(link, array[i]);
+    return end_empty(link, ANSWERED_AT_ONCE);
+}
+
+static int set_set(int semid, const struct semid_ds *record)
+{
+    if (!is_readable(record, sizeof *record)) {
+        errno = EFAULT;
+        return -1;
+    }
+    struct link *link = begin(SEM_IPC_SET);
+    if (link == NULL)
+        return -1;
+    put_u32(link, (uint32_t) semid);
+    put_u32(link, record->sem_perm.uid);
+    put_u32(link, record->sem_perm.gid);
+    put_u32(link, record->sem_perm.mode);
+    return end_empty(link, ANSWERED_AT_ONCE);
+}
+
+static int remove_set(int semid)
+{
+    struct link *link = begin(SEM_IPC_RMID);
+    if (link == NULL)
+        return -1;
+    put_u32(link, (uint32_t) semid);
+    return end_empty(link, ANSWERED_AT_ONCE);
+}
+
+int ipcd_semctl(int semid, int semnum, int cmd, ...)
+{
+    union { int value; void *address; } argument;
+    va_list rest;
+    va_start(rest, cmd);
+    argument.address = va_arg(rest, void *);
+    va_end(rest);
+    switch (cmd) {
+    case GETVAL: return number_of(SEM_GETVAL, semid, semnum);
+    case GETPID: return last_process(semid, semnum);
+    case GETNCNT: return number_of(SEM_GETNCNT, semid, semnum);
+    case GETZCNT: return number_of(SEM_GETZCNT, semid, semnum);
+    case SETVAL: return set_value(semid, semnum, argument.value);
+    case GETALL: return get_all(semid, argument.address);
+    case SETALL: return set_all(semid, argument.address);
+    case IPC_STAT: return stat_set(semid, argument.address);
+    case IPC_SET: return set_set(semid, argument.address);
+    case IPC_RMID: return remove_set(semid);
+    default: errno = EINVAL; return -1;
+    }
+}

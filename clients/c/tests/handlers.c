@@ -1,0 +1,191 @@
+// Signal handlers that run while a call waits: which calls end with EINTR, see signal(7), and that no message is lost.
+#define _GNU_SOURCE
+#include <fcntl.h>
+#include <mqueue.h>
+#include <semaphore.h>
+#include <sys/ipc.h>
+#include <sys/msg.h>
+#include <sys/sem.h>
+#include <sys/time.h>
+
+#include "check.h"
+
+enum { RACES = 1000 };
+
+struct message {
+    long type;
+    int number;
+    char rest[8188];
+};
+
+static struct message message = {.type = 1};
+static volatile sig_atomic_t handled;
+static int queue, set;
+static mqd_t full, empty;
+static sem_t *sem;
+static char buffer[64];
+
+static void handle(int number)
+{
+    (void) number;
+    handled = handled + 1;
+}
+
+static void handle_with(int flags)
+{
+    struct sigaction action = {.sa_handler = handle, .sa_flags = flags};
+    CHECK(sigaction(SIGALRM, &action, NULL) == 0);
+}
+
+static void ring_after(int microseconds)
+{
+    struct itimerval time = {.it_value = {0, microseconds}};
+    CHECK(setitimer(ITIMER_REAL, &time, NULL) == 0);
+}
+
+static void ring(void)
+{
+    handled = 0;
+    ring_after(150000);
+}
+
+// They are never begun again.
+static void system_v(int flags)
+{
+    handle_with(flags);
+    ring();
+    REFUSED(msgrcv(queue, &message, 8, 7, 0), EINTR);
+    CHECK(handled == 1);
+    message.type = 1;
+    CHECK(msgsnd(queue, &message, 8192, 0) == 0 && msgsnd(queue, &message, 8192, 0) == 0);
+    ring();
+    REFUSED(msgsnd(queue, &message, 1, 0), EINTR);
+    CHECK(handled == 1);
+    CHECK(msgrcv(queue, &message, 8192, 0, 0) == 8192 && msgrcv(queue, &message, 8192, 0, 0) == 8192);
+    REFUSED(msgrcv(queue, &message, 8192, 0, IPC_NOWAIT), ENOMSG);
+    struct sembuf down = {0, -1, 0};
+    struct timespec time = {5, 0};
+    ring();
+    REFUSED(semop(set, &down, 1), EINTR);
+    ring();
+    REFUSED(semtimedop(set, &down, 1, &time), EINTR);
+    CHECK(semctl(set, 0, GETVAL) == 0 && semctl(set, 0, GETNCNT) == 0);
+}
+
+static void posix_without_restart(void)
+{
+    struct timespec later = moment(CLOCK_REALTIME, 20);
+    handle_with(0);
+    ring();
+    REFUSED(mq_receive(empty, buffer, sizeof buffer, NULL), EINTR);
+    ring();
+    REFUSED(mq_timedreceive(empty, buffer, sizeof buffer, NULL, &later), EINTR);
+    ring();
+    REFUSED(mq_send(full, "x", 1, 0), EINTR);
+    ring();
+    REFUSED(sem_wait(sem), EINTR);
+    ring();
+    REFUSED(sem_timedwait(sem, &later), EINTR);
+    int value;
+    CHECK(sem_getvalue(sem, &value) == 0 && value == 0);
+}
+
+static void let_go_on(void *unused)
+{
+    (void) unused;
+    pause_for(0.4);
+    CHECK(mq_send(empty, "came", 4, 1) == 0);
+    pause_for(0.4);
+    CHECK(mq_receive(full, buffer, sizeof buffer, NULL) == 1);
+    pause_for(0.4);
+    CHECK(sem_post(sem) == 0);
+}
+
+static void posix_with_restart(void)
+{
+    handle_with(SA_RESTART);
+    pid_t child = start(let_go_on, NULL);
+    ring();
+    CHECK(mq_receive(empty, buffer, sizeof buffer, NULL) == 4 && handled == 1);
+    ring();
+    CHECK(mq_send(full, "x", 1, 0) == 0 && handled == 1);
+    ring();
+    CHECK(sem_wait(sem) == 0 && handled == 1);
+    ends_well(child);
+}
+
+static void call(int number)
+{
+    static struct message other = {.type = 3};
+    handle(number);
+    CHECK(msgsnd(queue, &other, 4, 0) == 0 && sem_post(sem) == 0 && semctl(set, 0, GETVAL) == 0);
+}
+
+// A handler calls while the call that it ends waits still.
+static void calls_in_a_handler(void)
+{
+    struct sigaction action = {.sa_handler = call};
+    CHECK(sigaction(SIGALRM, &action, NULL) == 0);
+    ring();
+    REFUSED(msgrcv(queue, &message, 8, 7, 0), EINTR);
+    CHECK(msgrcv(queue, &message, 8, 3, IPC_NOWAIT) == 4 && sem_trywait(sem) == 0);
+    ring();
+    CHECK(msgrcv(queue, &message, 8, 3, 0) == 4 || (errno == EINTR && msgrcv(queue, &message, 8, 3, 0) == 4));
+    CHECK(sem_trywait(sem) == 0);
+}
+
+static void send_all(void *unused)
+{
+    (void) unused;
+    for (message.number = 0; message.number < RACES; message.number++) {
+        pause_for(rand() % 400 / 1e6);
+        CHECK(msgsnd(queue, &message, sizeof message.number, 0) == 0);
+    }
+}
+
+// Each message comes, in order, though a handler ends some of the calls that wait for them.
+static void drops_no_message(void)
+{
+    int ended = 0;
+    handle_with(0);
+    message.type = 1;
+    pid_t child = start(send_all, NULL);
+    for (int i = 0; i < RACES;) {
+        ring_after(20 + rand() % 400);
+        ssize_t size = msgrcv(queue, &message, sizeof message.number, 0, 0);
+        if (size < 0) {
+            CHECK(errno == EINTR);
+            ended++;
+            continue;
+        }
+        CHECK(size == sizeof message.number && message.number == i);
+        i++;
+    }
+    ring_after(0);
+    ends_well(child);
+    CHECK(ended > 0);
+    REFUSED(msgrcv(queue, &message, 8, 0, IPC_NOWAIT), ENOMSG);
+}
+
+int main(void)
+{
+    struct mq_attr one = {.mq_maxmsg = 1, .mq_msgsize = 8};
+    // What a run before this has left.
+    mq_unlink("/ipcd_full"), mq_unlink("/ipcd_empty"), sem_unlink("/ipcd_h");
+    queue = msgget(IPC_PRIVATE, 0600);
+    set = semget(IPC_PRIVATE, 1, 0600);
+    full = mq_open("/ipcd_full", O_RDWR | O_CREAT, 0600, &one);
+    empty = mq_open("/ipcd_empty", O_RDWR | O_CREAT, 0600, &one);
+    sem = sem_open("/ipcd_h", O_CREAT, 0600, 0);
+    CHECK(queue >= 0 && set >= 0 && full != -1 && empty != -1 && sem != SEM_FAILED);
+    CHECK(mq_send(full, "f", 1, 0) == 0);
+    system_v(0);
+    system_v(SA_RESTART);
+    posix_without_restart();
+    posix_with_restart();
+    calls_in_a_handler();
+    drops_no_message();
+    CHECK(msgctl(queue, IPC_RMID, NULL) == 0 && semctl(set, 0, IPC_RMID) == 0);
+    CHECK(mq_unlink("/ipcd_full") == 0 && mq_unlink("/ipcd_empty") == 0 && sem_unlink("/ipcd_h") == 0);
+    return 0;
+}

@@ -1,0 +1,237 @@
+"""A shell for people over a live server: `python3 -m ipcd --help`. Its words are those of ipcs(1), ipcmk(1) and
+ipcrm(1) where they fit."""
+
+from __future__ import annotations
+
+import argparse
+import errno
+import os
+import subprocess
+import sys
+import time
+from typing import Callable, Optional
+
+from . import listing, session
+from .connection import Connection
+from .top import top
+from .wire import IPC_CREAT, IPC_NOWAIT, MSG_NOERROR, O_CREAT, O_RDONLY, O_WRONLY
+
+KINDS = ("mqueue", "semaphore", "shmem")
+
+
+def number(text: str) -> int:
+    """A number as a key is written: decimal, or hexadecimal after 0x, octal after 0."""
+    return int(text, 8) if text[:1] == "0" and text.isdigit() else int(text, 0)
+
+
+def parser() -> argparse.ArgumentParser:
+    words = argparse.ArgumentParser(prog="python3 -m ipcd", description="Looks at a live server, and uses it.")
+    words.add_argument("--socket", default=os.environ.get("IPCD_SOCKET", session.SOCKET), help="default: %(default)s")
+    commands = words.add_subparsers(dest="command", required=True)
+
+    ls = commands.add_parser("ls", help="lists queues and semaphore sets, and objects by their names")
+    ls.add_argument("-q", "--queues", action="store_true", help="message queues alone")
+    ls.add_argument("-s", "--semaphores", action="store_true", help="semaphore sets alone")
+    named(ls, KINDS, many=True)
+    ls.add_argument("--device", help="the objects of a device that no server has, by `ipcd list`")
+    ls.add_argument("--program", default="ipcd", help="the program for --device, default: %(default)s")
+    watch = commands.add_parser("top", help="lists them again and again, with rates")
+    watch.add_argument("-d", "--delay", type=float, default=1.0, help="seconds between two pages")
+    watch.add_argument("-n", "--iterations", type=int, help="how many pages")
+    for command in (ls, watch):
+        command.add_argument("--upto", type=int, default=1024, help="tries identifiers 1 to N, default: 1024")
+
+    stat = commands.add_parser("stat", help="says all of one object")
+    objects(stat, KINDS, many=False)
+    send = commands.add_parser("send", help="sends a text to a queue")
+    receive = commands.add_parser("receive", help="takes a message off a queue, and prints its text")
+    for command in (send, receive):
+        objects(command, KINDS[:1], many=False, sets=False)
+        command.add_argument("--nowait", action="store_true", help="is refused, and does not wait")
+        command.add_argument("--timeout", type=float, help="waits so many seconds at most")
+        command.add_argument("--type", type=int, default=int(command is send), help="of a System V message")
+    send.add_argument("--create", action="store_true", help="makes the queue, if there is none")
+    send.add_argument("-p", "--mode", type=lambda text: int(text, 8), default=0o644, help="of a new queue, octal")
+    send.add_argument("--priority", type=int, default=0, help="of a POSIX message")
+    send.add_argument("text", nargs="?", help="without it, standard input")
+    objects(commands.add_parser("rm", help="removes objects"), KINDS, many=True)
+    return words
+
+
+def objects(command: argparse.ArgumentParser, kinds: tuple[str, ...], many: bool, sets: bool = True) -> None:
+    """The options that name objects, those of ipcrm(1)."""
+    add = {"action": "append", "default": []} if many else {}
+    ids = [("-q", "--queue-id"), ("-Q", "--queue-key"), ("-s", "--semaphore-id"), ("-S", "--semaphore-key")]
+    for option, long in ids if sets else ids[:2]:
+        command.add_argument(option, long, type=number, **add)  # type: ignore[arg-type]
+    named(command, kinds, many)
+
+
+def named(command: argparse.ArgumentParser, kinds: tuple[str, ...], many: bool) -> None:
+    for kind in kinds:
+        add = {"action": "append", "default": []} if many else {}
+        command.add_argument(f"--posix-{kind}", metavar="NAME", **add)  # type: ignore[arg-type]
+
+
+def ls(connection: Connection, given: argparse.Namespace) -> int:
+    both = given.queues == given.semaphores
+    tables = []
+    if given.queues or both:
+        rows = [listing.queue_row(*found) for found in listing.queues(connection, given.upto).items()]
+        tables.append(listing.table("Message Queues", listing.QUEUES, rows))
+    if given.semaphores or both:
+        rows = [listing.set_row(*found) for found in listing.sets(connection, given.upto).items()]
+        tables.append(listing.table("Semaphore Arrays", listing.SETS, rows))
+    missing = []
+    for kind in KINDS:
+        rows = []
+        for name in getattr(given, f"posix_{kind}"):
+            try:
+                rows.append(listing.named(connection, kind, name))
+            except FileNotFoundError:
+                missing.append(name)
+        if rows:
+            tables.append(listing.table(*listing.NAMED[kind], rows))
+    print("\n".join(tables) + f"\nidentifiers 1 to {given.upto} were tried")
+    for name in missing:
+        print(f"ipcd: ls: {name}: {os.strerror(errno.ENOENT)}", file=sys.stderr)
+    return 1 if missing else 0
+
+
+def watch(connection: Connection, given: argparse.Namespace) -> int:
+    top(connection, given.upto, given.delay, given.iterations)
+    return 0
+
+
+def stat(connection: Connection, given: argparse.Namespace) -> int:
+    for kind in KINDS:
+        name = getattr(given, f"posix_{kind}")
+        if name is not None:
+            columns = listing.NAMED[kind][1]
+            fields = dict(zip(columns, listing.named(connection, kind, name)))
+            break
+    else:
+        record: tuple[int, ...]
+        if given.queue_id is not None or given.queue_key is not None:
+            record = connection.msgctl_stat(queue_of(connection, given))
+        else:
+            record = connection.semctl_stat(set_of(connection, given))
+        fields = {name: shown(name, value) for name, value in record._asdict().items()}  # type: ignore[attr-defined]
+    for name, text in fields.items():
+        print(f"{name}={text}")
+    return 0
+
+
+def shown(name: str, value: int) -> str:
+    if name.endswith("time"):
+        return time.strftime("%Y-%m-%d %H:%M:%S", time.localtime(value / 1000)) if value else "never"
+    return {"key": listing.key(value), "mode": f"{value:o}"}.get(name, str(value))
+
+
+def queue_of(connection: Connection, given: argparse.Namespace, flags: int = 0) -> int:
+    """The identifier of the queue that is named."""
+    if given.queue_key is not None:
+        return connection.msgget(given.queue_key, flags)
+    return need(given.queue_id)
+
+
+def set_of(connection: Connection, given: argparse.Namespace) -> int:
+    if given.semaphore_key is not None:
+        return connection.semget(given.semaphore_key, 0, 0)
+    return need(given.semaphore_id)
+
+
+def need(found: Optional[int]) -> int:
+    if found is None:
+        raise ValueError("no object is named: see --help")
+    return found
+
+
+def send(connection: Connection, given: argparse.Namespace) -> int:
+    text = sys.stdin.buffer.read() if given.text is None else os.fsencode(given.text)
+    if given.posix_mqueue is not None:
+        flags = O_WRONLY | (O_CREAT if given.create else 0)
+        queue = connection.mq_open(given.posix_mqueue, flags, given.mode)
+        connection.mq_send(queue, text, given.priority, limit(given))
+    else:
+        queue = queue_of(connection, given, IPC_CREAT | given.mode if given.create else 0)
+        connection.msgsnd(queue, given.type, text, IPC_NOWAIT if given.nowait else 0, given.timeout)
+    return 0
+
+
+def receive(connection: Connection, given: argparse.Namespace) -> int:
+    if given.posix_mqueue is not None:
+        queue = connection.mq_open(given.posix_mqueue, O_RDONLY)
+        _, text = connection.mq_receive(queue, connection.mq_getattr(queue).msgsize, limit(given))
+    else:
+        flags = (IPC_NOWAIT if given.nowait else 0) & ~MSG_NOERROR
+        _, text = connection.msgrcv(queue_of(connection, given), 2**31 - 1, given.type, flags, given.timeout)
+    sys.stdout.buffer.write(text)
+    if sys.stdout.isatty():
+        print()
+    return 0
+
+
+def limit(given: argparse.Namespace) -> Optional[float]:
+    """How long a call on a POSIX queue waits. A deadline that is over already is no wait."""
+    return -1.0 if given.nowait else given.timeout
+
+
+def rm(connection: Connection, given: argparse.Namespace) -> int:
+    """Removes each, and goes on after one that is refused, as ipcrm(1) does."""
+    removes: list[tuple[list[object], Callable[..., None]]] = [
+        (given.queue_id, connection.msgctl_rmid),
+        (given.queue_key, lambda key: connection.msgctl_rmid(connection.msgget(key, 0))),
+        (given.semaphore_id, connection.semctl_rmid),
+        (given.semaphore_key, lambda key: connection.semctl_rmid(connection.semget(key, 0, 0))),
+        (given.posix_mqueue, connection.mq_unlink),
+        (given.posix_semaphore, connection.sem_unlink),
+        (given.posix_shmem, connection.shm_unlink),
+    ]
+    need(next((0 for named, _ in removes if named), None))
+    status = 0
+    for named_objects, remove in removes:
+        for thing in named_objects:
+            try:
+                remove(thing)
+            except ConnectionError:
+                raise
+            except OSError as refusal:
+                print(f"ipcd: rm: {thing}: {refusal.strerror}", file=sys.stderr)
+                status = 1
+    return status
+
+
+def of_device(given: argparse.Namespace) -> int:
+    """What the program lists of a device, if it has that command."""
+    try:
+        return subprocess.run([given.program, "list", given.device]).returncode
+    except OSError as refusal:
+        print(f"ipcd: {given.program}: {refusal.strerror}", file=sys.stderr)
+        return 1
+
+
+def main(words: Optional[list[str]] = None) -> int:
+    given = parser().parse_args(words)
+    if given.command == "ls" and given.device is not None:
+        return of_device(given)
+    commands = {"ls": ls, "top": watch, "stat": stat, "send": send, "receive": receive, "rm": rm}
+    try:
+        with Connection(given.socket) as connection:
+            connection.hello(os.geteuid(), os.getegid())
+            return commands[given.command](connection, given)
+    except KeyboardInterrupt:
+        return 130
+    except BrokenPipeError as refusal:
+        # Who reads the output has ended, or the server has.
+        sys.stderr.write(f"ipcd: {given.command}: {refusal.strerror}\n")
+    except OSError as refusal:
+        print(f"ipcd: {given.command}: {refusal.strerror}", file=sys.stderr)
+    except ValueError as refusal:
+        print(f"ipcd: {given.command}: {refusal}", file=sys.stderr)
+        return 2
+    return 1
+
+
+if __name__ == "__main__":
+    sys.exit(main())

@@ -1,0 +1,148 @@
+"""What `python3 -m ipcd` shows of a live server: a table of each kind of object, with the columns of ipcs(1).
+
+The server has no call that lists objects. So queues and sets are found by trying identifiers, and what has a name
+is looked for by the names that are given.
+"""
+
+from __future__ import annotations
+
+import errno
+import pwd
+import struct
+from collections.abc import Callable, Iterable
+from typing import Optional, TypeVar
+
+from .connection import Connection
+from .wire import (
+    O_RDONLY,
+    QUEUE_FORM,
+    SET_FORM,
+    QueueStat,
+    SemStat,
+    msgctl_stat_request,
+    semctl_getncnt_request,
+    semctl_getzcnt_request,
+    semctl_stat_request,
+)
+
+QUEUES = ["key", "msqid", "owner", "perms", "used-bytes", "messages"]
+SETS = ["key", "semid", "owner", "perms", "nsems"]
+WIDTHS = {"used-bytes": 12, "messages": 12}
+
+Row = list[str]
+T = TypeVar("T", QueueStat, SemStat)
+
+
+def ask(connection: Connection, requests: Iterable[bytes]) -> list[Optional[bytes]]:
+    """The bodies of the replies to requests of which none waits, which are sent ahead. What is not there, or is not
+    any more, is left out of an answer by `b""`, and what may not be read by None."""
+    serials = [connection.send(request) for request in requests]
+    bodies: list[Optional[bytes]] = []
+    for serial in serials:
+        try:
+            bodies.append(connection.answer(serial, connection.receive()))
+        except OSError as refusal:
+            if refusal.errno not in (errno.EINVAL, errno.EACCES):
+                raise
+            bodies.append(None if refusal.errno == errno.EACCES else b"")
+    return bodies
+
+
+def queues(connection: Connection, upto: int) -> dict[int, Optional[QueueStat]]:
+    """The queues with identifiers from 1 on, and None for one that may not be read."""
+    return _found(connection, upto, msgctl_stat_request, QUEUE_FORM, QueueStat._make)
+
+
+def sets(connection: Connection, upto: int) -> dict[int, Optional[SemStat]]:
+    """The semaphore sets with identifiers from 1 on, and None for one that may not be read."""
+    return _found(connection, upto, semctl_stat_request, SET_FORM, SemStat._make)
+
+
+def _found(
+    connection: Connection,
+    upto: int,
+    request: Callable[[int], bytes],
+    form: str,
+    record: Callable[[Iterable[int]], T],
+) -> dict[int, Optional[T]]:
+    found: dict[int, Optional[T]] = {}
+    bodies = ask(connection, (request(number) for number in range(1, upto + 1)))
+    for number, body in enumerate(bodies, 1):
+        if body is None:
+            found[number] = None
+        elif body:
+            if len(body) != struct.calcsize(form):
+                connection.breaks("a record of another size")
+            found[number] = record(struct.unpack(form, body))
+    return found
+
+
+def waiters(connection: Connection, semid: int, nsems: int) -> tuple[int, int]:
+    """How many calls wait for more, and for 0, at the semaphores of a set."""
+    counts = []
+    for request in (semctl_getncnt_request, semctl_getzcnt_request):
+        bodies = ask(connection, (request(semid, number) for number in range(nsems)))
+        counts.append(sum(int.from_bytes(body or b"", "big") for body in bodies))
+    return counts[0], counts[1]
+
+
+def owner(uid: int) -> str:
+    try:
+        return pwd.getpwuid(uid).pw_name
+    except KeyError:
+        return str(uid)
+
+
+def key(number: int) -> str:
+    return f"0x{number & 0xFFFFFFFF:08x}"
+
+
+def table(title: str, columns: list[str], rows: list[Row]) -> str:
+    """A table as ipcs(1) prints it: columns of ten places at least, parted by one."""
+    widths = [max([WIDTHS.get(name, 10), *(len(row[i]) for row in rows)]) for i, name in enumerate(columns)]
+    lines = [" ".join(word.ljust(width) for word, width in zip(row, widths)) for row in [columns, *rows]]
+    return "\n".join([f"------ {title} --------", *(line.rstrip() for line in lines)]) + "\n"
+
+
+def queue_row(number: int, stat: Optional[QueueStat]) -> Row:
+    if stat is None:
+        return ["-", str(number), "-", "-", "-", "-"]
+    return [key(stat.key), str(number), owner(stat.uid), f"{stat.mode:o}", str(stat.cbytes), str(stat.qnum)]
+
+
+def set_row(number: int, stat: Optional[SemStat]) -> Row:
+    if stat is None:
+        return ["-", str(number), "-", "-", "-"]
+    return [key(stat.key), str(number), owner(stat.uid), f"{stat.mode:o}", str(stat.nsems)]
+
+
+def named(connection: Connection, kind: str, name: str) -> Row:
+    """The row of an object that has a name. It is opened for that, and closed again."""
+    opens: dict[str, Callable[[], int]] = {
+        "mqueue": lambda: connection.mq_open(name, O_RDONLY),
+        "semaphore": lambda: connection.sem_open(name, 0),
+        "shmem": lambda: connection.shm_open(name, O_RDONLY),
+    }
+    try:
+        descriptor = opens[kind]()
+    except PermissionError:
+        return [name, *(len(NAMED[kind][1]) - 1) * ["-"]]
+    try:
+        if kind == "semaphore":
+            return [name, str(connection.sem_getvalue(descriptor))]
+        if kind == "shmem":
+            segment = connection.shm_stat(descriptor)
+            return [name, owner(segment.uid), f"{segment.mode:o}", str(segment.length)]
+        attr = connection.mq_getattr(descriptor)
+        return [name, str(attr.curmsgs), str(attr.maxmsg), str(attr.msgsize)]
+    finally:
+        if not connection.closed:
+            connection.mq_close(descriptor)
+
+
+# Of each kind of what has a name: a title, and the columns.
+NAMED: dict[str, tuple[str, list[str]]] = {
+    "mqueue": ("POSIX Message Queues", ["name", "messages", "maxmsg", "msgsize"]),
+    "semaphore": ("POSIX Semaphores", ["name", "value"]),
+    "shmem": ("POSIX Shared Memory", ["name", "owner", "perms", "bytes"]),
+}

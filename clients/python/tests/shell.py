@@ -1,0 +1,234 @@
+"""`python3 -m ipcd`, on the built program as a server: what each command prints, says and leaves.
+
+    python3 clients/python/tests/shell.py PROGRAM
+"""
+
+from __future__ import annotations
+
+import os
+import re
+import shutil
+import subprocess
+import sys
+import time
+from typing import Optional
+
+import setting
+from ipcd import IPC_CREAT, O_CREAT, O_RDWR, Connection, QueueStat, top
+from ipcd.__main__ import main as main_of_shell
+from server import check, in_a_folder, printed, run_tests, serving, until
+
+ROOT = os.geteuid() == 0
+ME = os.popen("id -un").read().strip()
+
+
+def start(*words: str) -> subprocess.Popen[str]:
+    environment = {**os.environ, "IPCD_SOCKET": "socket", "PYTHONPATH": str(setting.PACKAGE)}
+    pipes = dict.fromkeys(("stdin", "stdout", "stderr"), subprocess.PIPE)
+    command = [sys.executable, "-m", "ipcd", *words]
+    return subprocess.Popen(command, text=True, env=environment, **pipes)  # type: ignore[call-overload]
+
+
+def says(words: str, wanted: str, status: int = 0, said: str = "", given: Optional[str] = None) -> str:
+    """What a command prints is this, if each `*` is any word."""
+    process = start(*words.split())
+    output, errors = process.communicate(given, timeout=20)
+    pattern = re.escape(wanted).replace(r"\*", r"\S+")
+    check(re.fullmatch(pattern, output) is not None, f"{words} prints {output!r}, and not {wanted!r}")
+    check((process.returncode, errors) == (status, said), f"{words}: {process.returncode}, {errors!r}")
+    return output
+
+
+def messages() -> None:
+    printed("format", "device")
+    with serving():
+        says("send -Q 0x4d2 --create -p 0640 --type 5 hi", "")
+        says("send -Q 1234", "", given="from standard input")
+        says("send -Q 0x4d2 --timeout 1 last", "")
+        says("receive -Q 1234 --type 5", "hi")
+        says("receive -q 1", "from standard input")
+        says("receive -q 1 --nowait", "last")
+        says("receive -q 1 --nowait", "", 1, "ipcd: receive: No message of desired type\n")
+        says("receive -q 1 --timeout 0.1", "", 1, "ipcd: receive: Interrupted system call\n")
+        says("receive -q 2", "", 1, "ipcd: receive: Invalid argument\n")
+        says("receive", "", 2, "ipcd: receive: no object is named: see --help\n")
+        says("send --posix-mqueue /jobs --create -p 0600 --priority 3 sweep", "")
+        says("send --posix-mqueue /jobs --priority 7 wash", "")
+        says("receive --posix-mqueue /jobs", "wash")
+        says("receive --posix-mqueue /jobs --timeout 1", "sweep")
+        says("receive --posix-mqueue /jobs --nowait", "", 1, "ipcd: receive: Connection timed out\n")
+        says("send --posix-mqueue /no text", "", 1, "ipcd: send: No such file or directory\n")
+
+
+def lists() -> None:
+    printed("format", "device")
+    with serving(), Connection("socket") as connection:
+        connection.hello(os.geteuid(), os.getegid())
+        queue = connection.msgget(0x4D2, IPC_CREAT | 0o640)
+        connection.msgsnd(queue, 1, b"hello")
+        gates = connection.semget(-5, 3, IPC_CREAT | 0o600)
+        connection.mq_send(connection.mq_open("/jobs", O_CREAT | O_RDWR, 0o600), b"sweep")
+        connection.sem_open("/ready", O_CREAT, 0o600, 4)
+        connection.ftruncate(connection.shm_open("/table", O_CREAT | O_RDWR, 0o640), 100)
+        queues = f"""------ Message Queues --------
+key        msqid      owner      perms      used-bytes   messages
+0x000004d2 1          {ME:10} 640        5            1
+"""
+        sets = f"""------ Semaphore Arrays --------
+key        semid      owner      perms      nsems
+0xfffffffb 1          {ME:10} 600        3
+"""
+        names = f"""
+------ POSIX Message Queues --------
+name       messages     maxmsg     msgsize
+/jobs      1            10         8192
+
+------ POSIX Semaphores --------
+name       value
+/ready     4
+
+------ POSIX Shared Memory --------
+name       owner      perms      bytes
+/table     {ME:10} 640        100
+"""
+        tried = "\nidentifiers 1 to {} were tried\n"
+        says("ls", queues + "\n" + sets + tried.format(1024))
+        says("ls -q --upto 3", queues + tried.format(3))
+        says("ls -s --upto 70", sets + tried.format(70))
+        given = "--posix-mqueue /jobs --posix-semaphore /ready --posix-shmem /table"
+        says(f"ls -s --upto 1 {given}", sets + names + tried.format(1))
+        missing = "ipcd: ls: /no: No such file or directory\n"
+        says("ls -q --upto 1 --posix-shmem /no", queues + tried.format(1), 1, missing)
+        as_ipcs_prints(queues + sets)
+        stats(gates)
+        removals()
+
+
+def as_ipcs_prints(ours: str) -> None:
+    """The titles and the columns are those of ipcs(1)."""
+    if not shutil.which("ipcs"):
+        print("shell: there is no ipcs, so nothing is compared with it")
+        return
+    for option, title in (("-q", "Message Queues"), ("-s", "Semaphore Arrays")):
+        lines = subprocess.run(["ipcs", option], capture_output=True, text=True).stdout.strip().splitlines()
+        wanted = [line.rstrip() for line in lines[:2]]
+        check("\n".join(wanted) in ours, f"{wanted} is what ipcs has of {title}")
+
+
+def stats(gates: int) -> None:
+    found = start("stat", "-q", "1").communicate(timeout=20)[0]
+    fields = dict(line.split("=", 1) for line in found.splitlines())
+    check(list(fields) == list(QueueStat._fields), f"{fields} are the fields")
+    wanted = {"key": "0x000004d2", "mode": "640", "qnum": "1", "cbytes": "5", "rtime": "never", "qbytes": "16384"}
+    check({name: fields[name] for name in wanted} == wanted, f"{fields}")
+    sent = time.mktime(time.strptime(fields["stime"], "%Y-%m-%d %H:%M:%S"))
+    check(abs(sent - time.time()) < 60, f"{fields['stime']} is when a message was sent")
+    output = start("stat", "-S", "-5").communicate(timeout=20)[0]
+    check("nsems=3\n" in output and "otime=never\n" in output, f"{output!r} is said of set {gates}")
+    says("stat --posix-semaphore /ready", "name=/ready\nvalue=4\n")
+
+
+def removals() -> None:
+    refused = "ipcd: rm: 9: Invalid argument\nipcd: rm: /no: No such file or directory\n"
+    says("rm -q 9 -Q 1234 -S -5 --posix-mqueue /jobs --posix-shmem /no", "", 1, refused)
+    says("rm --posix-semaphore /ready --posix-shmem /table", "")
+    check("0x" not in says("ls --upto 5", EMPTY), "something is left")
+    says("rm", "", 2, "ipcd: rm: no object is named: see --help\n")
+
+
+EMPTY = """------ Message Queues --------
+key        msqid      owner      perms      used-bytes   messages
+
+------ Semaphore Arrays --------
+key        semid      owner      perms      nsems
+
+identifiers 1 to 5 were tried
+"""
+
+
+def what_may_not_be_read() -> None:
+    """It is a row, and nobody but its owner sees more."""
+    if not ROOT:
+        print("shell: this user is not root, so no other user is tried")
+        return
+    printed("format", "device")
+    with serving(), Connection("socket") as connection:
+        connection.hello(0, 0)
+        connection.msgget(7, IPC_CREAT | 0o600)
+        connection.semget(7, 1, IPC_CREAT | 0o600)
+        connection.sem_open("/theirs", O_CREAT, 0o600, 1)
+        os.chmod("socket", 0o777)
+        os.chmod(".", 0o755)
+        output = as_another("--socket", "socket", "ls", "--upto", "5", "--posix-semaphore", "/theirs")
+        rows = [line.split() for line in output.splitlines() if "-" in line.split()]
+        check(rows == [["-", "1", *4 * "-"], ["-", "1", *3 * "-"], ["/theirs", "-"]], f"{output!r}")
+
+
+def as_another(*words: str) -> str:
+    """What a command prints for another user, who may not be able to start this Python."""
+    with open("printed", "w+") as output:
+        child = os.fork()
+        if child == 0:
+            os.setgroups([])
+            os.setgid(12345)
+            os.setuid(12345)
+            os.dup2(output.fileno(), 1)
+            status = main_of_shell(list(words))
+            sys.stdout.flush()
+            os._exit(status)
+        check(os.waitpid(child, 0)[1] == 0, f"{words} is refused")
+        output.seek(0)
+        return output.read()
+
+
+def pages_of_top() -> None:
+    """Rates are what must have been at least, and waiters are those of GETNCNT."""
+    printed("format", "device")
+    with serving(), Connection("socket") as connection, Connection("socket") as waiter:
+        connection.hello(1000, 100)
+        waiter.hello(1000, 100)
+        queue = connection.msgget(7, IPC_CREAT | 0o600)
+        gates = connection.semget(7, 2, IPC_CREAT | 0o600)
+        process = start("top", "--upto", "4", "-d", "1", "-n", "2")
+        until(lambda: "identifiers" in process.stdout.readline(), "there is no first page")
+        for number in range(5):
+            connection.msgsnd(queue, 1, b"%d" % number)
+        connection.msgrcv(queue, 64)
+        waiter.send(b"\x15" + gates.to_bytes(4, "big") + 8 * b"\xff" + bytes([0, 1, 255, 255, 0, 0]))
+        until(lambda: connection.semctl_getncnt(gates, 1) == 1, "nobody waits")
+        output, errors = process.communicate(timeout=20)
+        rows = [line.split() for line in output.splitlines() if line.startswith("0x")]
+        check(errors == "" and len(rows) == 2, f"{output!r}, {errors!r}")
+        came, went = map(float, rows[0][5:])
+        check(rows[0][:5] == ["0x00000007", "1", *rows[0][2:3], "4", "4"], f"{rows}")
+        check(4 < came <= 5 and 0.8 < went <= 1, f"{came} and {went} messages a second")
+        check(rows[1][3:] == ["2", "1", "0"], f"{rows[1]} is the set's row")
+    before = QueueStat(*range(6), 10, 20, 0, 0, 0, 100, 3, 0)
+    for changes, wanted in (
+        ({}, (0, 0)),
+        ({"qnum": 5, "stime": 11}, (2, 0)),
+        ({"qnum": 3, "stime": 11}, (1, 1)),
+        ({"qnum": 1, "rtime": 21}, (0, 2)),
+        ({"qnum": 1, "stime": 11, "rtime": 21}, (1, 3)),
+    ):
+        found = top.moved(before, before._replace(**changes))
+        check(found == wanted, f"{changes}: {found}, and not {wanted}")
+
+
+def without_a_server() -> None:
+    says("ls", "", 1, "ipcd: ls: No such file or directory\n")
+    with open("list.sh", "w") as program:
+        program.write("#!/bin/sh\necho $1 of $2\nexit 3\n")
+    os.chmod("list.sh", 0o755)
+    says("ls --device device --program ./list.sh", "list of device\n", 3)
+    says("ls --device device --program ./none", "", 1, "ipcd: ./none: No such file or directory\n")
+
+
+def main() -> None:
+    run_tests("shell", [messages, lists, what_may_not_be_read, pages_of_top, without_a_server])
+
+
+if __name__ == "__main__":
+    os.environ["PYTHONDONTWRITEBYTECODE"] = "1"
+    with in_a_folder(80):
+        main()
