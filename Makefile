@@ -1,9 +1,9 @@
 # ipcd: the commands of this repository. They need the Rattle toolchain's `rt` on the path and Python, `runs`, `edits`
 # and `bench` also awk, `bench-serve` a C compiler, `memory` awk and a C compiler, and `serves` a C compiler to watch and
 # refuse calls of the system: without it these two say so, and refuse nothing. `runs` renders the manual page if there
-# is a man.
+# is a man. `clients` says so without a C compiler, and tests only those in Python; its memcheck needs valgrind.
 
-.PHONY: help run test edits imports runs serves memory trials program install bench bench-serve
+.PHONY: help run test edits imports runs serves clients memory trials program install peers bench bench-serve bench-clients
 
 help:
 	@echo "make run    proves and builds what is needed, which takes an hour or more the first time, and says how"
@@ -11,9 +11,9 @@ help:
 	@echo "            crates that are proved stay proved, and the next run goes on after them"
 	@echo "make install  puts the program, which 'make program' has built, its manual page and its unit for systemd below"
 	@echo "            PREFIX, which is /usr/local if it is not given, in the folder DESTDIR"
-	@echo "make test   what 'make imports' runs; the gate: every proof, the wrong bodies that stand for a promise, the"
-	@echo "            tests, the program; and then what 'make runs', 'make serves' and 'make memory' run, on what the gate has"
-	@echo "            built. It takes some two hours on four cores, the first time"
+	@echo "make test   what 'make imports' runs; whether the record of wrong bodies is of today's sources; the gate: every"
+	@echo "            proof, the wrong bodies that stand for a promise, the programs; and then what 'make trials', 'make runs',"
+	@echo "            'make serves', 'make clients' and 'make memory' run, on what the gate has built. It takes some @@GATE@@"
 	@echo "make edits  the other wrong bodies, of all crates, or of those of 'make edits CRATE=\"ipc_wire ipc_hub\"', and"
 	@echo "            writes their records. Each takes 15 to 60 seconds of a processor, if its crate is proved here"
 	@echo "make imports  that no crate names what is another's own, nor one that carries requests a call"
@@ -26,12 +26,17 @@ help:
 	@echo "            examples/lock.sh, a lock whose holder is killed; examples/notify.sh, one who is told of a message;"
 	@echo "            clients that wait by the dozen; semaphore sets; POSIX queues, named semaphores and segments; and its"
 	@echo "            calls of the system, watched, and each refused in turn. Two minutes, once built"
+	@echo "make clients  builds the library for C and ipcd-run, which runs programs that nobody has changed, and tests them"
+	@echo "            and the Python package on the program: beside the system's own objects, over kills, by a false server."
+	@echo "            'make install' puts those in C below PREFIX, if they are built. Two minutes, once built"
+	@echo "make peers  other people's programs on the kernel's objects and through ipcd-run; as uid 0 it installs them"
 	@echo "make memory the program, with each allocation refused in turn"
 	@echo "make trials scripts that are stopped at each call on their disk, with each choice of what a crash keeps, openings"
 	@echo "            and formats too: what opens is what was answered, or one line more"
 	@echo "make bench  processor time of runs, lines and ticks on both devices, peak memory, what a commit writes, and"
 	@echo "            commits a second on a file beside the same writes and syncs done bare; it ends with an error while"
 	@echo "            calls that wait on other queues add more to a request than they may"
+	@echo "make bench-clients  what a call through the library costs beside frames by hand, and the kernel's queues"
 	@echo "make bench-serve  sends and receives, locks, writes and reads of segments, and hand-overs by named semaphores"
 	@echo "            a second over the socket, beside the same, and their processor time"
 
@@ -54,6 +59,8 @@ install:
 	install -m 0644 docs/ipcd.8 "$(DESTDIR)$(PREFIX)/share/man/man8/ipcd.8"
 	install -m 0644 contrib/ipcd.service "$(DESTDIR)$(UNITS)/ipcd.service"
 	sed -i "s|/usr/local/bin/|$(PREFIX)/bin/|" "$(DESTDIR)$(UNITS)/ipcd.service"
+	@if [ -x clients/c/out/ipcd-run ]; then $(MAKE) -s -C clients/c install; \
+		else echo "the clients in C are not built, so they are not installed: 'make clients' builds them"; fi
 
 REFUSE_EACH = sh tests/refuse_each.sh crates/ipcd/out/ipcd examples/first_queue.script examples/waiting.script \
 	examples/lock.script examples/posix.script
@@ -75,7 +82,8 @@ imports:
 RUNS = sh tests/runs.sh crates/ipcd/out/ipcd && python3 tests/terminal.py crates/ipcd/out/ipcd && \
 	python3 tests/words.py crates/ipcd/out/ipcd && python3 tests/scripts.py crates/ipcd/out/ipcd && \
 	python3 tests/sets.py crates/ipcd/out/ipcd && \
-	python3 tests/install.py crates/ipcd/out/ipcd && python3 tests/device.py crates/ipcd/out/ipcd
+	python3 tests/install.py crates/ipcd/out/ipcd && python3 tests/device.py crates/ipcd/out/ipcd && \
+	python3 tests/files.py crates/ipcd/out/ipcd
 
 runs: program
 	@$(RUNS)
@@ -87,10 +95,22 @@ SERVES = python3 tests/serve.py crates/ipcd/out/ipcd && python3 tests/operations
 	python3 tests/waiting.py crates/ipcd/out/ipcd && python3 tests/waiting_load.py crates/ipcd/out/ipcd && \
 	python3 tests/semaphores.py crates/ipcd/out/ipcd && python3 tests/posix_queues.py crates/ipcd/out/ipcd && \
 	python3 tests/named_objects.py crates/ipcd/out/ipcd && \
-	python3 tests/calls.py crates/ipcd/out/ipcd && python3 tests/costs.py crates/ipcd/out/ipcd
+	python3 tests/calls.py crates/ipcd/out/ipcd && python3 tests/sockets.py crates/ipcd/out/ipcd && \
+	python3 tests/script_calls.py crates/ipcd/out/ipcd && python3 tests/costs.py crates/ipcd/out/ipcd
 
 serves: program
 	@$(SERVES)
+
+CLIENTS = $(MAKE) -s -C clients/c tested PROGRAM=$(abspath $(BUILT)) && sh clients/python/test.sh $(BUILT)
+
+clients: program
+	@$(CLIENTS)
+
+peers: program
+	@$(MAKE) -s -C clients/c peers PROGRAM=$(abspath $(BUILT))
+
+bench-clients: program
+	@$(MAKE) -s -C clients/c bench PROGRAM=$(abspath $(BUILT))
 
 test: imports
 	@python3 tests/edits.py --record
@@ -98,6 +118,7 @@ test: imports
 	@$(TRIALS)
 	@$(RUNS)
 	@$(SERVES)
+	@$(CLIENTS)
 	@$(REFUSE_EACH)
 
 # For each crate that a change touches, and for all before a release. Each that is refused has a line in

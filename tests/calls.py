@@ -27,7 +27,6 @@ from device_layout import (  # noqa: E402
     clock,
     need_of,
     processes,
-    read,
     state,
 )
 from server import (  # noqa: E402
@@ -44,18 +43,11 @@ from server import (  # noqa: E402
     until,
 )
 from client import IPC_CREAT, hello_request, msgrcv_request, msgsnd_request  # noqa: E402
-from watch import OPEN, TURN, Call, build, calls, follows, order, watched  # noqa: E402
+from watch import OPEN, TURN, Call, Disk, build, calls, follows, order, refused_once, watched  # noqa: E402
 
 FAULT = "ipcd: device fault\n"
 LAST = (0, errno.EIO, b"")
 SIZE = SECTOR * need_of(SMALL)
-
-
-def refused_once(them: list[Call]) -> None:
-    """One call was refused, and after it nothing is written or synced."""
-    left = order(them).partition("x")[2]
-    check("x" in order(them), "no call was refused")
-    check(not set(left) & set("x0RHBOSFT"), f"after the refused call come {left}")
 
 
 # ---- a format
@@ -128,15 +120,16 @@ def kept_device(full: bool) -> tuple[bytes, str]:
 
 
 def opens_refused() -> None:
-    """Each call of an open in turn, also of one that saves. What was there is there at the next."""
+    """Each call of an open in turn; of one that saves, some of its reads. What was there is there at the next."""
     for full in (False, True):
         image, wanted = kept_device(full)
         Path("device").write_bytes(image)
         with watched():
             check(printed("dump", "device") == wanted, "the device keeps something else")
         follows("SOSRS[Pc]*" if full else "SBSHS[Pc]*", calls())
-        rows = [("pread", 1), ("pread", 3), ("fdatasync", 1), ("pwrite", 1), ("fdatasync", 2)]
-        rows += [("pwrite", 2), ("fdatasync", 3)]
+        reads = sum(call.name == "pread" for call in calls())
+        rows = [("pread", number) for number in ((1, 3) if full else range(1, 1 + reads))]
+        rows += [("fdatasync", 1), ("pwrite", 1), ("fdatasync", 2), ("pwrite", 2), ("fdatasync", 3)]
         for name, number in rows:
             Path("device").write_bytes(image)
             with watched(f"{name} {number} {errno.EIO}"):
@@ -149,30 +142,6 @@ def opens_refused() -> None:
 
 
 # ---- replies
-
-
-class Disk:
-    """What of the bytes of a device in a file a sync has made last."""
-
-    def __init__(self, image: bytes) -> None:
-        self.lasting = bytearray(image)
-        self.waiting: list[Call] = []
-
-    def does(self, call: Call) -> None:
-        if call.name == "pwrite" and call.result > 0:
-            check(len(call.data) == call.result, "the log has not all bytes")
-            self.waiting.append(call)
-        if call.name == "fdatasync" and call.result == 0:
-            for write in self.waiting:
-                self.lasting[write.place : write.place + write.result] = write.data
-            self.waiting.clear()
-
-    def keeps(self, text: bytes) -> bool:
-        """Whether an open after a failure of power would find it."""
-        content = read(bytes(self.lasting))
-        parts = [data for _, data in content.objects]
-        parts += [record for records in content.batches for record in records]
-        return any(text in part for part in parts)
 
 
 def text_of(serial: int) -> bytes:

@@ -113,6 +113,14 @@ class Server:
         self.process.send_signal(number)
         self.ends(-number)
 
+    @contextmanager
+    def stopped(self) -> Iterator[None]:
+        """It stands still meanwhile. What its clients do, it sees in one turn when it goes on."""
+        self.process.send_signal(signal.SIGSTOP)
+        os.waitid(os.P_PID, self.process.pid, os.WSTOPPED)
+        yield
+        self.process.send_signal(signal.SIGCONT)
+
     def descriptors(self) -> int:
         return len(os.listdir(f"/proc/{self.process.pid}/fd"))
 

@@ -2,7 +2,7 @@
 
     python3 tests/terminal.py PROGRAM
 
-A device is made with standard error on a pseudo terminal, and on a pipe. What is expected was
+Devices are made with standard error on a pseudo terminal, and one on a pipe. What is expected was
 reckoned from docs/DEVICE.md, and never taken from the program. It takes a moment.
 """
 
@@ -12,6 +12,7 @@ import os
 import subprocess
 import sys
 import tempfile
+from pathlib import Path
 
 from pseudo_terminal import all_shown, open_terminal
 
@@ -39,26 +40,49 @@ def progress(sectors: int, *reached: int) -> bytes:
     return "".join([*numbers, "\n"]).encode()
 
 
-def main() -> None:
-    terminal, errors = open_terminal()
+# The length of a file that is there, or none, how many sectors it is to have, and the numbers that are shown. A MiB has
+# 2048 sectors, and 3000000 bytes are 2 MiB and some more. The last three files get no zeros.
+TOLD: list[tuple[int | None, int, tuple[int, ...]]] = [
+    (None, 448, (448,)),
+    (None, 5000, (2048, 4096, 5000)),
+    (0, 4096, (2048, 4096)),
+    (3000000, 10000, (6144, 8192, 10000)),
+    (1048576, 3000, (3000,)),
+    (700, 2049, (2048, 2049)),
+    (229376, 3000, (2048, 3000)),
+    (2097152, 4096, ()),
+    (3000000, 4096, ()),
+    (2560000, 448, ()),
+]
 
-    # A new device, one that is cut, of which nothing is told, and one that grows. A MiB has 2048 sectors.
-    for sectors in (5000, 448, 3000):
-        makes(sectors, errors)
-    wanted = progress(5000, 2048, 4096, 5000) + progress(3000, 2048, 3000)
-    name = os.ttyname(errors)
+
+def tells(length: int | None, sectors: int, told: tuple[int, ...]) -> None:
+    """A format of a file of so many bytes shows these numbers on a terminal."""
+    if length is None:
+        Path("device").unlink(missing_ok=True)
+    else:
+        Path("device").write_bytes(length * b"\1")
+    terminal, errors = open_terminal()
+    makes(sectors, errors)
     os.close(errors)
-    shown = all_shown(terminal)
-    check(shown == wanted, f"{shown!r} is shown, and not {wanted!r}")
+    shown, wanted = all_shown(terminal), progress(sectors, *told) if told else b""
+    os.close(terminal)
+    check(shown == wanted, f"{sectors} sectors of {length} bytes: {shown!r} is shown, and not {wanted!r}")
+
+
+def main() -> None:
+    for row in TOLD:
+        tells(*row)
 
     # A terminal that takes nothing.
-    refusing = os.open(name, os.O_RDONLY | os.O_NOCTTY)
+    terminal, errors = open_terminal()
+    refusing = os.open(os.ttyname(errors), os.O_RDONLY | os.O_NOCTTY)
     makes(9000, refusing)
 
     # No terminal.
     os.unlink("device")
     check(makes(5000, subprocess.PIPE) == b"", "a pipe is told how far a device is")
-    print("terminal: 5 devices")
+    print(f"terminal: {len(TOLD) + 2} devices")
 
 
 if __name__ == "__main__":

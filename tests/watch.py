@@ -3,6 +3,7 @@ working folder."""
 
 from __future__ import annotations
 
+import errno
 import os
 import re
 import shutil
@@ -12,11 +13,20 @@ from contextlib import contextmanager
 from pathlib import Path
 from typing import NamedTuple
 
-from device_layout import BODY, JOURNAL, OBJECTS, ROOT, SECTOR
+from device_layout import BODY, JOURNAL, OBJECTS, ROOT, SECTOR, read
+from server import check
 
 SOURCE = Path(__file__).resolve().parent / "watch_calls.c"
 LIBRARY = "watch_calls.so"
 LOG = "log"
+
+# Answers to calls: one that moves all that it can, one that a signal has cut short, one that would block, and the end
+# of what comes in; and the answers that are of each connection.
+ALL = 65536
+CUT = -errno.EINTR
+BLOCKS = -errno.EAGAIN
+ENDS = 0
+EACH = -1
 
 
 class Call(NamedTuple):
@@ -44,13 +54,17 @@ def build(of: str) -> bool:
 
 
 @contextmanager
-def watched(fail: str = "", text: str = "", place: int = 0, most: int = 65536) -> Iterator[None]:
-    """Programs that are started meanwhile are watched, and meet this failure."""
+def watched(
+    fail: str = "", text: str = "", place: int = 0, most: int = 65536, **answers: tuple[int, ...]
+) -> Iterator[None]:
+    """Programs that are started meanwhile are watched, and meet this failure. Calls of `recv`, `send`, `read` or
+    `write` are answered by these numbers: the first says whose calls, and the others are of one call each."""
     Path(LOG).unlink(missing_ok=True)
     wanted = {"WATCH_LOG": os.path.abspath(LOG), "WATCH_BYTES": str(most)}
     wanted |= {"WATCH_FAIL": fail} if fail else {}
     wanted |= {"WATCH_TEXT": text} if text else {}
     wanted |= {"WATCH_PLACE": str(place)} if place else {}
+    wanted |= {f"WATCH_{name.upper()}": " ".join(map(str, them)) for name, them in answers.items()}
     wanted |= {"LD_PRELOAD": os.path.abspath(LIBRARY)}
     os.environ.update(wanted)
     try:
@@ -78,7 +92,7 @@ def turns_of(them: list[Call]) -> list[list[Call]]:
 
 
 LETTERS = {"fdatasync": "S", "fsync": "F", "ftruncate": "T", "epoll_wait": "E", "recv": "<"}
-LETTERS |= {"send": ">", "accept4": "a", "close": "c", "write": "P", "pread": "r"}
+LETTERS |= {"send": ">", "accept4": "a", "close": "c", "write": "P", "pread": "r", "read": "i"}
 
 
 def letter(call: Call) -> str:
@@ -108,3 +122,34 @@ def follows(pattern: str, them: list[Call]) -> None:
     found = order(them)
     if not re.fullmatch(pattern, found):
         raise AssertionError(f"the calls are {found}, and not {pattern}")
+
+
+def refused_once(them: list[Call]) -> None:
+    """One call was refused, and after it nothing is written or synced."""
+    left = order(them).partition("x")[2]
+    check("x" in order(them), "no call was refused")
+    check(not set(left) & set("x0RHBOSFT"), f"after the refused call come {left}")
+
+
+class Disk:
+    """What of the bytes of a device in a file a sync has made last."""
+
+    def __init__(self, image: bytes) -> None:
+        self.lasting = bytearray(image)
+        self.waiting: list[Call] = []
+
+    def does(self, call: Call) -> None:
+        if call.name == "pwrite" and call.result > 0:
+            check(len(call.data) == call.result, "the log has not all bytes")
+            self.waiting.append(call)
+        if call.name == "fdatasync" and call.result == 0:
+            for write in self.waiting:
+                self.lasting[write.place : write.place + write.result] = write.data
+            self.waiting.clear()
+
+    def keeps(self, text: bytes) -> bool:
+        """Whether an open after a failure of power would find it."""
+        content = read(bytes(self.lasting))
+        parts = [data for _, data in content.objects]
+        parts += [record for records in content.batches for record in records]
+        return any(text in part for part in parts)

@@ -10,6 +10,12 @@
  * WATCH_FAIL names a call, which one of them, and an error number; with the number 0 it is a pwrite that takes half of
  * its bytes. They count from the start; if WATCH_TEXT is given, from the recv on that has it, and if WATCH_PLACE is
  * given, from the first pwrite on at this place of a file or after it. The programs of this repository have one thread.
+ *
+ * WATCH_RECV, WATCH_SEND, WATCH_READ and WATCH_WRITE answer the calls of this name by a list of numbers, such as
+ * "2 5 -11 65536". The first says whose calls they are: of recv and send the connection, counted from 1 by the accept4
+ * that have given one, or -1 for each of them; of read and write the descriptor. Each further number is for one call,
+ * and the last one for all that come after: how many bytes it moves at most, or less the error number if it is refused.
+ * With 0 it moves none, which is the end of what comes in.
  */
 #define _GNU_SOURCE
 #include <dlfcn.h>
@@ -27,6 +33,33 @@ static int log_file = -1, begun, refused_error;
 static unsigned long bytes_most, calls, refused_call;
 static char refused_name[32];
 
+enum { FILES = 1024 };
+
+/* The answers to the calls of one name, and how many of them each file has had. */
+struct answers {
+	long whose, each[64];
+	int count, place[FILES];
+};
+
+static struct answers of_recv, of_send, of_read, of_write;
+static int connections, connection_of[FILES];
+
+static void fill(struct answers *them, const char *variable)
+{
+	char *rest = getenv(variable), *from;
+	if (!rest)
+		return;
+	them->whose = strtol(rest, &rest, 10);
+	for (from = rest; them->count < 64; from = rest) {
+		long answer = strtol(from, &rest, 10);
+		if (rest == from)
+			break;
+		them->each[them->count++] = answer;
+	}
+	if (*rest)
+		abort();
+}
+
 __attribute__((constructor)) static void begin(void)
 {
 	const char *word = getenv("WATCH_LOG");
@@ -38,12 +71,33 @@ __attribute__((constructor)) static void begin(void)
 	    sscanf(word, "%31s %lu %d", refused_name, &refused_call, &refused_error) != 3)
 		abort();
 	begun = !getenv("WATCH_TEXT") && !getenv("WATCH_PLACE");
+	fill(&of_recv, "WATCH_RECV");
+	fill(&of_send, "WATCH_SEND");
+	fill(&of_read, "WATCH_READ");
+	fill(&of_write, "WATCH_WRITE");
 }
 
 /* Counts a call, and tells whether it is the one to refuse. */
 static int is_refused(const char *name)
 {
 	return begun && !strcmp(name, refused_name) && ++calls == refused_call;
+}
+
+static int number_of(int file)
+{
+	return file >= 0 && file < FILES ? connection_of[file] : 0;
+}
+
+/* How many of so many bytes the next call of a file moves at most, or less the error number. */
+static long most_of(struct answers *them, int file, long whose, size_t size)
+{
+	if (!them->count || (them->whose != whose && them->whose != -1) || file < 0 || file >= FILES)
+		return (long)size;
+	int *place = &them->place[file];
+	long answer = them->each[*place];
+	if (*place + 1 < them->count)
+		++*place;
+	return answer < (long)size ? answer : (long)size;
 }
 
 /* Writes a call down, and gives its result back. */
@@ -72,6 +126,8 @@ static long note(const char *name, int file, long size, long place, long result,
 
 #define NEXT(name) static __typeof__(name) *next; if (!next) next = (__typeof__(name) *)dlsym(RTLD_NEXT, #name)
 #define REFUSE (errno = refused_error, -1)
+/* The result of a call that moves so many bytes at most, or is refused, or moves none. */
+#define MOVE(most, call) ((most) < 0 ? (errno = (int)-(most), -1) : (most) == 0 ? 0 : (call))
 
 ssize_t pwrite(int file, const void *data, size_t size, off_t place)
 {
@@ -109,7 +165,12 @@ int ftruncate(int file, off_t length)
 int accept4(int file, struct sockaddr *restrict name, socklen_t *restrict size, int flags)
 {
 	NEXT(accept4);
-	return note("accept4", file, 0, 0, is_refused("accept4") ? REFUSE : next(file, name, size, flags), NULL);
+	int result = is_refused("accept4") ? REFUSE : next(file, name, size, flags);
+	if (result >= 0 && result < FILES) {
+		connection_of[result] = ++connections;
+		of_recv.place[result] = of_send.place[result] = 0;
+	}
+	return note("accept4", file, 0, 0, result, NULL);
 }
 
 int epoll_wait(int file, struct epoll_event *events, int most, int longest)
@@ -122,7 +183,8 @@ int epoll_wait(int file, struct epoll_event *events, int most, int longest)
 ssize_t recv(int file, void *data, size_t size, int flags)
 {
 	NEXT(recv);
-	ssize_t came = is_refused("recv") ? REFUSE : next(file, data, size, flags);
+	long most = most_of(&of_recv, file, number_of(file), size);
+	ssize_t came = is_refused("recv") ? REFUSE : MOVE(most, next(file, data, most, flags));
 	const char *text = getenv("WATCH_TEXT");
 	if (text && came > 0 && memmem(data, came, text, strlen(text)))
 		begun = 1;
@@ -132,11 +194,21 @@ ssize_t recv(int file, void *data, size_t size, int flags)
 ssize_t send(int file, const void *data, size_t size, int flags)
 {
 	NEXT(send);
-	return note("send", file, size, 0, is_refused("send") ? REFUSE : next(file, data, size, flags), data);
+	long most = most_of(&of_send, file, number_of(file), size);
+	ssize_t sent = is_refused("send") ? REFUSE : MOVE(most, next(file, data, most, flags));
+	return note("send", file, size, 0, sent, data);
+}
+
+ssize_t read(int file, void *data, size_t size)
+{
+	NEXT(read);
+	long most = most_of(&of_read, file, file, size);
+	return note("read", file, size, 0, is_refused("read") ? REFUSE : MOVE(most, next(file, data, most)), data);
 }
 
 ssize_t write(int file, const void *data, size_t size)
 {
 	NEXT(write);
-	return note("write", file, size, 0, is_refused("write") ? REFUSE : next(file, data, size), data);
+	long most = most_of(&of_write, file, file, size);
+	return note("write", file, size, 0, is_refused("write") ? REFUSE : MOVE(most, next(file, data, most)), data);
 }

@@ -1,0 +1,344 @@
+"""Scripts whose streams are slow or fail, or whose disk fails, and how many writes and syncs their lines make.
+
+    python3 tests/script_calls.py PROGRAM
+
+The calls of the system are watched and answered by tests/watch_calls.c; without a C compiler it says so, and tests
+nothing. What is expected was reckoned from docs/PROTOCOL.md and docs/DEVICE.md. It takes some seconds.
+"""
+
+from __future__ import annotations
+
+import errno
+import subprocess
+import sys
+from itertools import accumulate
+from pathlib import Path
+from typing import NamedTuple
+
+sys.dont_write_bytecode = True
+
+from device_layout import BODY, SECTOR  # noqa: E402
+from server import PROGRAM, TIMEOUT, check, frame, in_a_folder, printed, run_tests  # noqa: E402
+from client import msgsnd_request  # noqa: E402
+from watch import ALL, ENDS, Disk, build, calls, order, refused_once, watched  # noqa: E402
+
+REPLAY = ("replay", "--small")
+RUN = ("run", "device")
+HELLO = "0000000d0000000101000003e800000064"
+# A user 1000 of group 100 makes the queue of key 1234 with mode 0600, sends `hi` to it and receives it; a second
+# receive finds nothing: ENOMSG is 42.
+SCRIPT = f"""\
+0 open 1
+0 data 1 {HELLO}
+0 data 1 0000000d000000020a000004d200000380
+0 data 1 00000017000000030b000000010000080000000000000000056869
+0 data 1 00000019000000040c0000000100000800000000400000000000000000
+0 data 1 00000019000000050c0000000100000800000000400000000000000000
+"""
+OUTPUT = """\
+1 0000000a00000001000000000001
+1 0000000a00000002000000000001
+1 00000006000000030000
+1 0000001000000004000000000000000000056869
+1 0000000600000005002a
+"""
+LISTING = "msg          1        1234 0600       1000        100          0          0\n"
+INPUT_FAULT = (1, "ipcd: input fault\n")
+OUTPUT_FAULT = (1, "ipcd: output fault\n")
+DEVICE_FAULT = (1, "ipcd: device fault\n")
+WELL = (0, "")
+# The descriptors of standard input and output, of which each call moves one byte.
+SLOW_INPUT, SLOW_OUTPUT = (0, 1), (1, 1)
+
+
+def ends(name: str, wanted: tuple[int, str], output: str, script: str, *words: str) -> None:
+    """Runs a script to its end: its status and what is said, and what it prints."""
+    ended = subprocess.run([PROGRAM, *words], input=script, capture_output=True, text=True, timeout=TIMEOUT)
+    found = (ended.returncode, ended.stderr)
+    check(found == wanted, f"{name}: the end is {found}, and not {wanted}")
+    check(ended.stdout == output, f"{name}: {ended.stdout!r} is printed, and not {output!r}")
+
+
+def count(name: str, file: int) -> int:
+    return sum((call.name, call.file) == (name, file) for call in calls())
+
+
+def places(text: str) -> list[int]:
+    """The first bytes, the last, and those about the end of each line."""
+    lines = list(accumulate(len(line) for line in text.splitlines(keepends=True)))
+    return sorted({0, 1, 2, *(end + add for end in lines for add in (-2, -1, 0)), len(text)})
+
+
+# ---- streams
+
+
+def slow_streams() -> None:
+    """Each call gives or takes one byte, of a script and of a listing."""
+    printed("format", "device", "--small")
+    for words in (REPLAY, RUN):
+        with watched(read=SLOW_INPUT, write=SLOW_OUTPUT):
+            ends("a slow script", WELL, OUTPUT, SCRIPT, *words)
+        found = (count("read", 0), count("write", 1))
+        check(found == (len(SCRIPT) + 1, len(OUTPUT)), f"{found} reads and writes are made")
+    with watched(write=SLOW_OUTPUT):
+        ends("a slow listing", WELL, LISTING, "", "dump", "device")
+    check(count("write", 1) == len(LISTING), "the listing is written in another way")
+
+
+def reads_that_fail() -> None:
+    """Nothing is read after one that fails, and nothing is done. After the last byte a read finds the end."""
+    for error in (errno.EIO, errno.EINTR):
+        for place in places(SCRIPT):
+            name = f"read {place + 1} fails with {error}"
+            with watched(f"read {place + 1} {error}", read=SLOW_INPUT):
+                ends(name, INPUT_FAULT, "", SCRIPT, *REPLAY)
+            found = (count("read", 0), count("write", 1))
+            check(found == (place + 1, 0), f"{name}: {found} reads and writes are made")
+
+
+def writes_that_fail() -> None:
+    """Nothing is written after one that fails. What was written before is the beginning of it all."""
+    for error in (errno.EIO, errno.EINTR):
+        for place in places(OUTPUT)[:-1]:
+            name = f"write {place + 1} fails with {error}"
+            with watched(f"write {place + 1} {error}", write=SLOW_OUTPUT):
+                ends(name, OUTPUT_FAULT, OUTPUT[:place], SCRIPT, *REPLAY)
+            check(count("write", 1) == place + 1, f"{name}: {count('write', 1)} writes are made")
+    with watched(write=(1, ENDS, ALL)):
+        ends("a write that takes nothing", OUTPUT_FAULT, "", SCRIPT, *REPLAY)
+    check(count("write", 1) == 1, "a write that took nothing is made again")
+    printed("format", "device", "--small")
+    with watched():
+        ends("a listing", WELL, OUTPUT, SCRIPT, *RUN)
+    for place in (0, 1, len(LISTING) - 1):
+        with watched(f"write {place + 1} {errno.EIO}", write=SLOW_OUTPUT):
+            ends(f"a listing, cut at {place}", OUTPUT_FAULT, LISTING[:place], "", "dump", "device")
+        check(count("write", 1) == place + 1, f"a listing, cut at {place}: it goes on")
+
+
+# ---- a disk that fails
+
+
+def told(*connections: int, ended: tuple[int, ...] = ()) -> str:
+    """EIO for each of these, and its end, if that was not printed before."""
+    ends_of = {conn: "" if conn in ended else f"{conn} end\n" for conn in connections}
+    return "".join(f"{conn} 00000006000000000005\n{end}" for conn, end in ends_of.items())
+
+
+class Step(NamedTuple):
+    """A line of a script, and what it prints; what is printed if the disk fails in its commit, and nothing if it makes
+    none; and how many processes there were before it."""
+
+    line: str
+    written: str = ""
+    last_words: str = ""
+    processes: int = 0
+
+
+LAST = 4294967295
+# HELLO of the last connection, a length of 0 by 9, half a HELLO of 0, the end of the last, a tick, and the other half:
+# six lines that make events.
+STEPS = [
+    Step(f"0 open {LAST}"),
+    Step("0 open 9"),
+    Step(f"0 data {LAST} {HELLO}", f"{LAST} 0000000a00000001000000000001\n", told(9, LAST)),
+    Step("0 open 0"),
+    Step("0 data 9 00000000", "9 00000006000000000047\n9 end\n", told(0, 9, LAST), 1),
+    Step(f"0 data 0 {HELLO[:16]}", "", told(0, 9, LAST, ended=(9,)), 1),
+    Step(f"0 end {LAST}", "", told(0, 9, ended=(9,)), 1),
+    Step("5 tick", "", told(0, 9, ended=(9,)), 1),
+    Step(f"5 data 0 {HELLO[16:]}", "0 0000000a00000001000000000002\n", told(0, 9, ended=(9,)), 1),
+]
+LINES = "".join(f"{step.line}\n" for step in STEPS)
+COMMITS = [step for step in STEPS if step.last_words]
+
+# The calls of an open and of a commit: how many calls of each name an open makes, and those of a commit in order.
+OPENED = {"pwrite": 2, "fdatasync": 3}
+COMMIT = ("pwrite", "fdatasync", "pwrite", "fdatasync")
+
+
+def refusal(commits: int, at: int) -> str:
+    """The call of a commit that is refused, after so many commits of a script on a new device."""
+    name = COMMIT[at]
+    return f"{name} {OPENED[name] + 2 * commits + at // 2 + 1} {errno.EIO}"
+
+
+def ending_after(commits: int) -> tuple[tuple[int, str], str, int]:
+    """How a run ends in which so many commits pass, and no other: its end, all that it prints, and how many processes
+    there were."""
+    text = ""
+    for step in STEPS:
+        if step.last_words and commits == 0:
+            return DEVICE_FAULT, text + step.last_words, step.processes
+        text += step.written
+        commits -= bool(step.last_words)
+    return WELL, text, 2
+
+
+def is_left(fresh: bytes, processes: int, name: str) -> None:
+    """What a failure of power leaves of the device opens, and the next process is the one after so many."""
+    disk = Disk(fresh)
+    for call in calls():
+        disk.does(call)
+    Path("device").write_bytes(disk.lasting)
+    welcome = f"1 0000000a000000010000{processes + 1:08x}\n"
+    ends(f"{name}, and after it", WELL, welcome, f"0 open 1\n0 data 1 {HELLO}\n", *RUN)
+
+
+def last_words() -> None:
+    """Each call of each commit is refused in turn. Nothing is written or synced after it, and of what was not synced
+    nothing is left: no line lasts in whose commit the disk failed."""
+    printed("format", "device", "--small")
+    fresh = Path("device").read_bytes()
+    rows = [(commits, refusal(commits, at)) for commits in range(len(COMMITS)) for at in range(4)]
+    for commits, refused in [*rows, (len(COMMITS), "")]:
+        Path("device").write_bytes(fresh)
+        end, text, processes = ending_after(commits)
+        with watched(refused):
+            ends(f"with {refused or 'nothing'} refused", end, text, LINES, *RUN)
+        if refused:
+            refused_once(calls())
+        is_left(fresh, processes, f"with {refused} refused")
+
+
+# The longest request: its text is too long, EINVAL, which is 22.
+LONGEST = [frame(serial, msgsnd_request(1, 5, 8427 * b"\7")) for serial in range(2, 6)]
+# What is refused, and how many of the four are answered before. A batch has at most 32768 bytes, so there is room for
+# three records of 8465; the fourth is in a second one. The HELLO is the first commit.
+WITHIN = [(refusal(1, 0), 0), (refusal(1, 3), 0), (refusal(2, 0), 3), (refusal(2, 3), 3), ("", 4)]
+
+
+def a_disk_that_fails_within_a_line() -> None:
+    """Four of the longest requests in a line are two commits."""
+    printed("format", "device", "--small")
+    fresh = Path("device").read_bytes()
+    script = f"0 open 1\n0 data 1 {HELLO}\n0 data 1 {b''.join(LONGEST).hex()}\n"
+    for refused, answers in WITHIN:
+        Path("device").write_bytes(fresh)
+        text = "1 0000000a00000001000000000001\n"
+        text += "".join(f"1 00000006{serial:08x}0016\n" for serial in range(2, 2 + answers))
+        text += told(1) if refused else ""
+        with watched(refused):
+            ends(f"with {refused or 'nothing'} refused", DEVICE_FAULT if refused else WELL, text, script, *RUN)
+        if refused:
+            refused_once(calls())
+
+
+# ---- much in a line
+
+
+def a_thousand_requests_in_a_line() -> None:
+    """A script reads replies as they come, so all of a line is taken, and each is answered."""
+    gets = "".join(f"0000000d{serial:08x}0a000004d200000380" for serial in range(2, 1002))
+    answers = "".join(f"1 0000000a{serial:08x}000000000001\n" for serial in range(2, 1002))
+    text = "1 0000000a00000001000000000001\n" + answers
+    ends("a thousand requests", WELL, text, f"0 open 1\n0 data 1 {HELLO}\n0 data 1 {gets}\n", *REPLAY)
+
+
+# ---- what a crash leaves
+
+# How many calls of the commit of a message pass; and whether the message is there if nothing is left that was not
+# synced, and if all is: the batch is written first, and then the header that counts it.
+LEFT = [(0, False, False), (1, False, False), (2, False, False), (3, False, True), (4, True, True)]
+# A second process comes, finds queue 1, makes another one, and receives.
+NEXT = f"""\
+0 open 1
+0 data 1 {HELLO}
+0 data 1 0000000d000000020a000004d200000380
+0 data 1 0000000d000000030a0000000000000380
+0 data 1 00000019000000040c0000000100000800000000400000000000000000
+"""
+FOUND = "1 0000000a00000001000000000002\n1 0000000a00000002000000000001\n1 0000000a00000003000000000002\n"
+
+
+def a_crash_leaves_the_message_or_not() -> None:
+    """The message is the third commit of a script: it is in the journal once the header is."""
+    lines, answers = (text.splitlines(keepends=True) for text in (SCRIPT, OUTPUT))
+    printed("format", "device", "--small")
+    fresh = Path("device").read_bytes()
+    for passed, lost, kept in LEFT:
+        Path("device").write_bytes(fresh)
+        done = passed == 4
+        text = "".join(answers[:3] if done else [*answers[:2], told(1)])
+        name = f"after {passed} calls"
+        with watched("" if done else refusal(2, passed)):
+            ends(name, WELL if done else DEVICE_FAULT, text, "".join(lines[:4]), *RUN)
+        disk = Disk(fresh)
+        for call in calls():
+            disk.does(call)
+        for there, content in ((kept, Path("device").read_bytes()), (lost, disk.lasting)):
+            Path("device").write_bytes(content)
+            found = FOUND + (answers[3] if there else "1 0000000600000004002a\n")
+            ends(f"{name}, opened again", WELL, found, NEXT, *RUN)
+
+
+# ---- writes and syncs
+
+
+def makes(name: str, script: str, wanted: str) -> None:
+    """A script on a new device makes these writes and syncs, in this order."""
+    printed("format", "device", "--small")
+    with watched():
+        printed_of(name, script)
+    found = "".join(letter for letter in order(calls()) if letter not in "iPc")
+    check(found == wanted, f"{name}: the calls are {found}, and not {wanted}")
+
+
+def printed_of(name: str, script: str) -> None:
+    ended = subprocess.run([PROGRAM, *RUN], input=script, capture_output=True, text=True, timeout=TIMEOUT)
+    check((ended.returncode, ended.stderr) == WELL, f"{name}: {ended}")
+
+
+def writes_and_syncs() -> None:
+    """An open makes two writes and three syncs, a commit two of each, a save two of each, and an `open` none. A journal
+    has 256 sectors: what does not fit is saved, also by the 257th open."""
+    makes("an open", "0 open 1\n", "SBSHS")
+    names = [call.name for call in calls() if call.name in ("pread", "pwrite", "fdatasync")]
+    check(names[0] == "fdatasync" and "pread" in names, f"an open begins with {names[0]}, and not with a sync")
+    makes("four saves of nothing", 4 * "save\n", "SBSHS" + 4 * "OSRS")
+    made = f"0 open 1\n0 data 1 {HELLO}\nsave\n0 end 1\n"
+    makes("a save between commits", made, "SBSHS" + "BSHS" + "OSRS" + "BSHS")
+    makes("256 ticks and two more", 258 * "0 tick\n", "SBSHS" + 255 * "BSHS" + "OSRS" + 2 * "BSHS")
+    makes("300 opens", 299 * "stop\n", 256 * "SBSHS" + "SOSRS" + 43 * "SBSHS")
+
+
+# The lengths of the texts in a line, the bytes of their batch, and its sectors. A batch has 4 bytes of its length, the
+# tick of the line, 13, and 38 and the text for each.
+BATCHES = [((2,), 57, 1), ((457,), 512, 1), ((458,), 513, 2), ((457, 474), 1024, 2), ((457, 475), 1025, 3)]
+BATCHES += [((8427,), 8482, 17), ((8427, 8427, 8427), 25412, 50)]
+
+
+def batches() -> None:
+    """However long one is, a commit puts it out by one write, and the header by another, and syncs twice."""
+    for lengths, size, sectors in BATCHES:
+        sends = b"".join(frame(2, msgsnd_request(1, 5, length * b"\7")) for length in lengths)
+        name = f"texts of {lengths} bytes"
+        makes(name, f"0 open 1\n0 data 1 {HELLO}\n0 data 1 {sends.hex()}\n", "SBSHS" + 2 * "BSHS")
+        written = [call.data for call in calls() if call.name == "pwrite" and call.sector >= BODY]
+        sizes = list(map(len, written))
+        check(sizes == [SECTOR, SECTOR, SECTOR * sectors], f"{name}: {sizes} bytes are written")
+        found = 4 + int.from_bytes(written[2][:4], "big")
+        check(found == size, f"{name}: the batch has {found} bytes, and not {size}")
+
+
+TESTS = [
+    slow_streams,
+    reads_that_fail,
+    writes_that_fail,
+    last_words,
+    a_disk_that_fails_within_a_line,
+    a_thousand_requests_in_a_line,
+    a_crash_leaves_the_message_or_not,
+    writes_and_syncs,
+    batches,
+]
+
+
+def main() -> None:
+    with in_a_folder(300):
+        if build("script_calls"):
+            run_tests("script_calls", TESTS)
+
+
+if __name__ == "__main__":
+    main()
