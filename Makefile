@@ -13,7 +13,7 @@ help:
 	@echo "            PREFIX, which is /usr/local if it is not given, in the folder DESTDIR"
 	@echo "make test   what 'make imports' runs; whether the record of wrong bodies is of today's sources; the gate: every"
 	@echo "            proof, the wrong bodies that stand for a promise, the programs; and then what 'make trials', 'make runs',"
-	@echo "            'make serves', 'make clients' and 'make memory' run, on what the gate has built. It takes some @@GATE@@"
+	@echo "            'make serves', 'make clients' and 'make memory' run, on what the gate has built. An hour on four cores"
 	@echo "make edits  the other wrong bodies, of all crates, or of those of 'make edits CRATE=\"ipc_wire ipc_hub\"', and"
 	@echo "            writes their records. Each takes 15 to 60 seconds of a processor, if its crate is proved here"
 	@echo "make imports  that no crate names what is another's own, nor one that carries requests a call"

@@ -6,8 +6,8 @@ use crate::stages::Trial;
 use crate::stopped::left;
 use ipc_disk::FuseDisk;
 
-/// Stops the opening of what a stop left at each of its calls, with each choice of a crash: what opens then is the same.
-/// How many calls it makes.
+/// Stops the opening of what a stop left at each of its calls, with each choice of a crash: what opens then is the
+/// same. How many calls it makes.
 pub(crate) fn stop_openings(
     trial: &Trial<'_>,
     stop: (u64, u64),
