@@ -35,8 +35,8 @@ LIMIT = 1200
 # A goal for which there is no proof: none was written, or the one that is there proves something else.
 OPEN = re.compile(r"^note: `(\S+)` of proofs/(\S+?)/\w+\.antt must prove: ", re.MULTILINE)
 OTHER = re.compile(r"^(?:\./)?proofs/(\S+?)/\w+\.antt:\d+:\d+: error: `([^`]+)`: (.*)$", re.MULTILINE)
-# The proof that is there speaks of a step that the wrong body has not.
-LOST = re.compile(r"has no field|is not in scope|unknown name|not found|no such")
+# The proof that is there speaks of a step or a goal that the wrong body has not.
+LOST = re.compile(r"has no field|has no `|is not in scope|unknown name|not found|no such")
 
 
 def fail(text: str) -> None:
