@@ -5,7 +5,7 @@ use Rattle.std.specs.Prelude.{All}
 use Rattle.std.specs.FinMap as fin
 use Rattle.std.specs.FinMap.{len-entries}
 use Rattle.std.specs.List.{flat_map}
-use Rattle.std.proofs.lemmas.List.{length-map, length-append}
+use Rattle.std.proofs.lemmas.List.{length-map, length-append, length-take}
 use Rattle.std.proofs.lemmas.List.Concat.{flat_map-cons}
 use Rattle.std.proofs.lemmas.List.Elements.{All-append, All-head, All-map, All-nil, All-tail, All-weaker}
 use Rattle.std.proofs.lemmas.List.Folds.{flat_map-map}
@@ -21,7 +21,7 @@ use Rattle.sem_undo.specs.declared.undo.UndoRow.{UndoRow}
 use Rattle.ipc_state.specs.declared.numbered.Item.{Item}
 use Rattle.ipc_state.specs.Tables.{item_row}
 use Rattle.ipc_image.specs.Saved.{adjustment_bytes, adjustments_of, adjustments_in, FitsAdjustment}
-use Rattle.ipc_image.specs.SavedParts.{of_process}
+use Rattle.ipc_image.specs.SavedParts.{of_process, first_bytes}
 use Rattle.ipc_image.proofs.Marks.{row-at, first-next, first-fit, length-each}
 
 -- what is kept has its place in two bytes
@@ -35,6 +35,10 @@ row_bytes pid row = adjustment_bytes (of_process pid row)
 abbrev pub own_bytes : ℕ × Undo → List ℕ
 own_bytes p = flat_map adjustment_bytes (adjustments_of p)
 
+-- the first of them have 12 bytes each
+pub first-long : (pid : ℕ) (rows : List UndoRow) (n : ℕ) → n ≤ length rows → length (first_bytes (row_bytes pid) n rows) ≡ 12 * n
+first-long pid rows n within = omega (arith, length-each (row_bytes pid) 12 (λ x. refl) (take n rows), length-take n rows)
+
 -- ---- those of one process
 
 module _ (p : ℕ × Undo) (rows : List UndoRow) (are : map entry_of rows ≡ fin.entries p.1) where
@@ -46,9 +50,6 @@ module _ (p : ℕ × Undo) (rows : List UndoRow) (are : map entry_of rows ≡ fi
 
   pub own-rows : flat_map (row_bytes p.0) rows ≡ own_bytes p
   own-rows = sym (flat_map-map adjustment_bytes (of_process p.0) rows) ∙ ap (flat_map adjustment_bytes) own-are
-
-  pub own-long : length (own_bytes p) ≡ 12 * length rows
-  own-long = omega (arith, length-each adjustment_bytes 12 (λ x. refl) (adjustments_of p), own-count)
 
   -- each has its place, if each row has
   pub own-fit : p.0 < 2 ^ 32 → All (λ r. IsKept r.adjustment × (r.set.0 < 2 ^ 32) × (r.num < 2 ^ 16)) rows → All FitsAdjustment (adjustments_of p)

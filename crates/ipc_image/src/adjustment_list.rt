@@ -47,16 +47,17 @@ pub(crate) fn put_adjustments(window: &mut Window, items: &[Item<SemUndo>])
     }
 }
 
-/// The adjustments of one process pass the window; at once, if the window begins after them.
+/// The adjustments of one process pass the window, from the first that does not end before it to the last that is seen.
 fn put_own(window: &mut Window, item: &Item<SemUndo>)
     ensures { window.new ≡ passed (flat_map adjustment_bytes (adjustments_of (item_row item.now))) window.old }
 {
     let rows = item.value.rows();
-    if window.passes_over(ADJUSTMENT_LEN * rows.len() as u64) {
-        return;
-    }
-    for row in rows {
-        put_adjustment(window, item.number, *row);
+    let first = window.passes_over_first(rows.len(), ADJUSTMENT_LEN);
+    for at in first..rows.len() {
+        if window.is_full() {
+            return;
+        }
+        put_adjustment(window, item.number, rows[at]);
     }
 }
 

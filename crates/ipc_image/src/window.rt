@@ -1,6 +1,6 @@
 //! A window of 512 bytes onto a text that is passed piece by piece.
 
-ghost use Rattle.std.specs.Prelude.{◌≡◌, ℕ, List, IsTrue, false, length};
+ghost use Rattle.std.specs.Prelude.{◌≡◌, ◌≤◌, ◌<◌, ◌*◌, ℕ, List, IsTrue, false, length};
 ghost use Rattle.ipc_base.specs.Objects.{window};
 ghost use Rattle.ipc_image.specs.Window.{at_place, showing, passed};
 
@@ -69,6 +69,17 @@ impl Window {
         }
         self.before -= len;
         true
+    }
+
+    /// How many of so many pieces of one length end before the window begins. They have passed, unseen.
+    pub(crate) fn passes_over_first(&mut self, count: usize, len: u64) -> usize
+        requires { 0 < len }
+        ensures within { result ≤ count }
+        ensures passed { (pieces : List ℕ) → length pieces ≡ len * result → self.new ≡ passed pieces self.old }
+    {
+        let first = (self.before / len).min(count as u64);
+        self.before -= first * len;
+        first as usize
     }
 
     /// Whether no piece that is still to pass can be seen.

@@ -5,5 +5,5 @@ use Rattle.ipc_image.proofs.AdjustmentLists.{row_bytes}
 use Rattle.ipc_image.proofs.adjustment_list.put_own.Given as goal
 
 -- those before this one have passed
-abbrev pub invariant-loop-row : goal.invariant-loop-row
-invariant-loop-row l = l.window ≡ passed (first_bytes (row_bytes l.item.number) l.row-index l.rows) l.initial.window
+abbrev pub invariant-loop-at : goal.invariant-loop-at
+invariant-loop-at l = l.window ≡ passed (first_bytes (row_bytes l.item.number) l.at l.rows) l.fn.window
