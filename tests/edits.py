@@ -35,6 +35,11 @@ LIMIT = 1200
 # A goal for which there is no proof: none was written, or the one that is there proves something else.
 OPEN = re.compile(r"^note: `(\S+)` of proofs/(\S+?)/\w+\.antt must prove: ", re.MULTILINE)
 OTHER = re.compile(r"^(?:\./)?proofs/(\S+?)/\w+\.antt:\d+:\d+: error: `([^`]+)`: (.*)$", re.MULTILINE)
+# A goal that has no proof, and values at which it is false.
+FALSE = re.compile(
+    r"^note: src/(\S+?)\.rt:\d+:\d+: it is not proved that .* \(`(\S+)`\); the facts known there allow values at which",
+    re.MULTILINE,
+)
 # The proof that is there speaks of a step or a goal that the wrong body has not.
 LOST = re.compile(r"has no field|has no `|is not in scope|unknown name|not found|no such")
 
@@ -198,9 +203,12 @@ def verdict(said: str) -> tuple[str, str]:
     """What a check says of a wrong body: refused by a goal, or proved, or neither, as for a name or a limit."""
     if "logic=proved" in said:
         return "proved", "-"
+    # A long error goes on in lines of its own, which stand further in.
+    said = re.sub(r"\n  +", " ", said)
     if "logic=not-proved" in said and "error[" not in said:
         goals = [(place, goal) for goal, place in OPEN.findall(said)]
         goals += [(place, goal) for place, goal, text in OTHER.findall(said) if not LOST.search(text)]
+        goals += [(place, goal) for place, goal in FALSE.findall(said)]
         # A lemma of its own may stand before the goals in a proof.
         goals.sort(key=lambda row: not re.search("returns|requires|invariant", row[1]))
         if goals:
