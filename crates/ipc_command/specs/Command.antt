@@ -106,7 +106,7 @@ pub data PlainRequest : Type 0 where
   Format : (device : Text) → (small : Bool) → (sectors : Option ℕ) → PlainRequest
   Run : (device : Text) → PlainRequest
   Dump : (device : Text) → PlainRequest
-  Serve : (device socket : Text) → (turns : ℕ) → PlainRequest
+  Serve : (device socket : Text) → (turns : Option ℕ) → PlainRequest
 
 abbrev pub plain_request : Request → PlainRequest
 plain_request (request.Replay small) = Replay small
@@ -121,10 +121,6 @@ abbrev pub number_of : Text → Option ℕ
 number_of text =
     if is_unsigned_in 0 4294967295 text then Some (digits_value 10 (without_leading_plus text))
     else None
-
--- how many turns a server makes, by how many are asked for
-abbrev pub turns_of : Option ℕ → ℕ
-turns_of number = unwrap_or number 4294967295
 
 -- what was found for `--small`, and by a name, as text and as a number
 abbrev pub asked_small : List Row → Bool
@@ -147,8 +143,7 @@ asked_by name rows =
     else (if bytes_eq name (codes "run") then Run device
     else (if bytes_eq name (codes "dump") then Dump device
     else (if bytes_eq name (codes "serve")
-    then Serve device (asked_text (codes "socket") rows)
-    (turns_of (asked_number (codes "turns") rows))
+    then Serve device (asked_text (codes "socket") rows) (asked_number (codes "turns") rows)
     else Dump []))))
 
 -- the same, by the command that was found; the parser takes no words without one

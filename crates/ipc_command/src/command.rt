@@ -10,7 +10,7 @@ ghost use Rattle.ipc_command.specs.Command.{limits_asked, refusal_status, IsTake
 ghost use Rattle.ipc_command.specs.Command.PlainRequest.{Format, Run, Dump, Serve};
 ghost use Rattle.ipc_command.specs.Command.{plain_request, asked, asked_small, asked_text};
 ghost use Rattle.ipc_command.specs.Command.{asked_number, number_of};
-ghost use Rattle.ipc_command.specs.Command.{is_no_flag, small_words, sectors_words, turns_words, turns_of};
+ghost use Rattle.ipc_command.specs.Command.{is_no_flag, small_words, sectors_words, turns_words};
 ghost use Rattle.ipc_command.specs.Command.{small_rule, sectors_rule, device_rule, socket_rule, turns_rule};
 ghost use Rattle.ipc_command.specs.Command.{replay_command, format_command, run_command, dump_command};
 ghost use Rattle.ipc_command.specs.Command.{serve_command};
@@ -45,11 +45,11 @@ pub enum Request {
     Dump {
         device: String,
     },
-    /// Serve the device in a file to the clients of a socket, for so many turns.
+    /// Serve the device in a file to the clients of a socket, for so many turns if any are given.
     Serve {
         device: String,
         socket: String,
-        turns: u32,
+        turns: Option<u32>,
     },
 }
 
@@ -130,7 +130,7 @@ pub fn parse<S: AsStr>(alloc: Global, words: &[S]) -> Result<Request, Error>
         → IfSome number (λ text. IsSome (number_of text))
         → map S.text words.now
         ≡ name ∷ codes "serve" ∷ device ∷ socket ∷ turns_words number
-        → AsksFor (Serve device socket (turns_of (option_and_then number_of number))) result }
+        → AsksFor (Serve device socket (option_and_then number_of number)) result }
     // What any words ask for, if they are taken, by what the parser finds in them.
     ensures asked { IfOk result (λ request.
         plain_request request ≡ asked (subcommand_of declared (map S.text words.now))) }
@@ -293,7 +293,7 @@ fn request_in(alloc: Global, matches: &ArgMatches<'_>) -> Result<Request, AllocE
         return Ok(Request::Serve {
             device: text_in(alloc, serve, "device")?,
             socket: text_in(alloc, serve, "socket")?,
-            turns: number_in(serve, "turns").unwrap_or(u32::MAX),
+            turns: number_in(serve, "turns"),
         });
     }
     let device = match matches.subcommand_matches("dump") {

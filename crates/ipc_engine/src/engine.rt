@@ -32,6 +32,7 @@ ghost use Rattle.ipc_state.specs.Finish.{finish_of};
 ghost use Rattle.ipc_state.specs.Sound.{FitsBody, HasSoundParts};
 ghost use Rattle.ipc_state.specs.State.{State as PlainState, has_all_processes, is_process, is_waiting, start};
 ghost use Rattle.ipc_state.specs.Spare.{room_of, room_in as room_in_answer};
+ghost use Rattle.ipc_wait.specs.Waits.{next_deadline};
 ghost use Rattle.ipc_engine.specs.Buffer.{room_in, HasBuffer};
 ghost use Rattle.ipc_engine.specs.Bytes.{most_owed, owed};
 ghost use Rattle.ipc_engine.specs.Engine.{IsReadyForHello};
@@ -181,6 +182,14 @@ impl Engine {
         ensures { result ≡ is_process self.now.state pid.0 }
     {
         self.state.has_process(pid)
+    }
+
+    /// The earliest deadline of the calls that wait: until that moment no call ends for want of time. This takes no
+    /// longer with more calls.
+    pub fn next_deadline(&self) -> Option<Moment>
+        ensures { result ≡ next_deadline self.now.state.wait }
+    {
+        self.state.next_deadline()
     }
 
     /// How many bytes of frames a process is still owed for what it asked before: the longest reply if a call of it

@@ -8,6 +8,7 @@ ghost use Rattle.ipc_disk.specs.Medium.{IsHonest};
 ghost use Rattle.ipc_engine.specs.Event.{PlainEvent};
 ghost use Rattle.ipc_store.specs.Histories.{Takes};
 ghost use Rattle.ipc_store.specs.View.{HasTurned, IsReadyFor, Spends};
+ghost use Rattle.ipc_wait.specs.Waits.{next_deadline};
 ghost use Rattle.ipc_hub.specs.Clients.{Clients, no_clients, connect, hangup, tick, consume, shown_at, ended_at};
 ghost use Rattle.ipc_hub.specs.View.{HasNoFrame, HasStopped, is_connected, numbers_of, output_of, ended_of};
 ghost use Rattle.ipc_hub.specs.View.{most_events, of_commit_error};
@@ -267,6 +268,14 @@ impl<D: SectorDisk> Hub<D> {
         ensures { IsTrue result ↔ HasStopped self.now }
     {
         self.store.events_left() < MOST_EVENTS as u64
+    }
+
+    /// The earliest deadline of the calls that wait, in milliseconds since 1970. The first call at that moment or later
+    /// ends what waited until then.
+    pub fn next_deadline(&self) -> Option<Moment>
+        ensures { result ≡ next_deadline self.now.hub.state.wait }
+    {
+        self.store.engine().next_deadline()
     }
 
     // Releases if the events of a call may have no room among those that wait.

@@ -3,6 +3,7 @@ pub mod Acts
 pub mod Fault
 pub mod Goes
 pub mod Parts
+pub mod Rest
 pub mod Rows
 pub mod Served
 pub mod Turns

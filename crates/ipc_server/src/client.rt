@@ -6,6 +6,7 @@ ghost use Rattle.std.specs.Prelude.{IfErr, IfOk, OnOk};
 ghost use Rattle.std.specs.Io.KnownBytes.{Keeps, prepend_known};
 ghost use Rattle.ipc_hub.specs.View.{numbers_of, output_of, ended_of};
 ghost use Rattle.ipc_server.specs.Goes.{Goes, Hears, Sends, Tells, Breaks};
+ghost use Rattle.ipc_server.specs.Rest.{has_work};
 ghost use Rattle.ipc_server.specs.Rows.{view_of};
 ghost use Rattle.ipc_server.specs.View.{WasRead, WasWritten, is_gone, most_reads};
 
@@ -91,13 +92,21 @@ impl<S> Client<S> {
         self.readable = true;
     }
 
-    /// Whether it may have something for the hub already. One that does not read what it is sent has
-    /// to wait.
-    pub fn is_waiting(&self) -> bool
-        ensures { result ≡ (not self.now.over && not self.now.failed && not self.now.full
-            && (self.now.readable || not (length self.now.piece.items == 0))) }
+    /// Whether a turn has something to do with it: to part with it, to read it, to feed what was read,
+    /// or to write more to it. One that does not read what it is sent has to wait.
+    pub fn has_work<D: SectorDisk>(&self, hub: &Hub<D>) -> bool
+        ensures { result ≡ has_work hub.now.hub (view_of self.now) }
     {
-        !self.over && !self.failed && !self.full && (self.readable || !self.piece.is_empty())
+        self.is_gone(hub)
+            || self.failed
+            || !self.full && (self.readable || !self.piece.is_empty() || self.writes == MOST_WRITES)
+    }
+
+    // Whether it is over, or the server has ended its connection and all that it may see was written.
+    fn is_gone<D: SectorDisk>(&self, hub: &Hub<D>) -> bool
+        ensures { result ≡ is_gone hub.now.hub (view_of self.now) }
+    {
+        self.over || hub.ended(self.conn) && hub.output(self.conn).is_empty()
     }
 
     /// Whether its connection is to be hung up.
@@ -114,8 +123,7 @@ impl<S> Client<S> {
           over = is_gone hub.now.hub (view_of self.old) || self.old.failed;
         } }
     {
-        let ended = hub.ended(self.conn) && hub.output(self.conn).is_empty();
-        self.over = self.over || ended || self.failed;
+        self.over = self.is_gone(hub) || self.failed;
     }
 }
 

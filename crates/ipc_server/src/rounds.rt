@@ -5,6 +5,7 @@ ghost use Rattle.ipc_hub.specs.View.{StoredHub, is_connected, numbers_of};
 ghost use Rattle.ipc_server.specs.Goes.{Goes, Sends, Breaks};
 ghost use Rattle.ipc_hub.specs.Relations.Faults.{Halts};
 ghost use Rattle.ipc_server.specs.Parts.{Answers, HangsUp, Parts};
+ghost use Rattle.ipc_server.specs.Rest.{has_work};
 ghost use Rattle.ipc_server.specs.Rows.{clients_of, EachBelow, IsServing, KeepsClients, StandsIn, Stays};
 ghost use Rattle.ipc_server.specs.View.{EachClient, HaveOwnNumbers, WasRead, WasWritten};
 ghost use Rattle.ipc_server.specs.View.{client_of, has_failed, is_gone};
@@ -161,6 +162,22 @@ fn hang_up<D: SectorDisk>(hub: &mut Hub<D>, conn: u32, moment: Moment) -> Result
         Err(ServeError::Device) => Err(CommitError::Device),
         Err(ServeError::Stopped) => Err(CommitError::Stopped),
     }
+}
+
+/// Whether a turn has something to do with one of the clients.
+pub(crate) fn any_has_work<D: SectorDisk, S>(hub: &Hub<D>, clients: &Slab<Client<S>>) -> bool
+    ensures { result ≡ false → EachBelow clients.now.capacity
+        (λ c. has_work hub.now.hub c ≡ false) (clients_of clients.now) }
+{
+    for key in 0..clients.capacity() {
+        let Some(client) = clients.get(key) else {
+            continue;
+        };
+        if client.has_work(hub) {
+            return true;
+        }
+    }
+    false
 }
 
 /// The system says of a client, if one has the key, that a read may give something.

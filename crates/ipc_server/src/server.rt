@@ -1,16 +1,19 @@
 //! The server: a hub, the sockets of its connections, and the socket on which new ones come.
 
-ghost use Rattle.std.specs.Prelude.{◌≡◌, ℕ, [], true, None, IfErr, IfOk, OnOk, Err};
+ghost use Rattle.std.specs.Prelude.{◌≡◌, ◌<◌, ◌≤◌, ℕ, [], true, false, None, IfErr, IfOk, OnOk, Err};
+ghost use Rattle.ipc_wait.specs.Waits.{next_deadline};
 ghost use Rattle.ipc_hub.specs.View.{HasStopped};
 ghost use Rattle.ipc_server.specs.Goes.{Goes, GoesRound, Breaks, BreaksOff};
 ghost use Rattle.ipc_server.specs.Parts.{HasParted};
+ghost use Rattle.ipc_server.specs.Rest.{has_work, until_due};
 ghost use Rattle.ipc_server.specs.Rows.{KeepsClients, KeepsFailed};
 ghost use Rattle.ipc_server.specs.View.{EachClient, HaveConnections, WasRead, WasWritten};
 ghost use Rattle.ipc_server.specs.View.{client_of, has_failed};
 
 use crate::client::Client;
 use crate::fault::{ServeFault, ServerError};
-use crate::rounds::{ask_for_room, put_out_all, serve_all, wake};
+use crate::rest::longest_wait;
+use crate::rounds::{any_has_work, ask_for_room, put_out_all, serve_all, wake};
 use ipc_base::Moment;
 use ipc_disk::SectorDisk;
 use ipc_hub::Hub;
@@ -48,8 +51,11 @@ pub struct Server<D: SectorDisk> {
     /// Connections may wait: the listening socket has told so, and no accept has said since that it
     /// would block.
     told: bool,
-    /// More connections may have come than one turn takes.
+    /// More connections may have come than one turn takes, or a turn after which connections may wait
+    /// has closed others, so that there is room for one again.
     crowded: bool,
+    /// It has waited for something to do already: the next turn waits no more.
+    rested: bool,
 }
 
 impl<D: SectorDisk> Model for Server<D> {
@@ -137,6 +143,7 @@ impl<D: SectorDisk> Server<D> {
                 events,
                 told: false,
                 crowded: false,
+                rested: false,
             }),
             Err(error) => Err(Unserved {
                 hub,
@@ -200,7 +207,11 @@ impl<D: SectorDisk> Server<D> {
     {
         self.hub.tick(moment)?;
         self.crowded = self.admit();
-        serve_all(&mut self.hub, &mut self.clients, moment)
+        let before = self.clients.len();
+        let done = serve_all(&mut self.hub, &mut self.clients, moment);
+        // An accept that has failed for want of a descriptor may find one now.
+        self.crowded = self.crowded || self.told && self.clients.len() < before;
+        done
     }
 
     // Waits until a socket is ready, or not at all if there is something to do already.
@@ -210,8 +221,61 @@ impl<D: SectorDisk> Server<D> {
         ensures connected { HaveConnections self.new.hub.hub self.new.clients }
         ensures err { IfErr result (λ fault. fault ≡ ServeFault.Socket) }
     {
-        ask_for_room(&mut self.clients, self.poll.registry());
+        if self.rested {
+            self.rested = false;
+            return self.listen(0);
+        }
+        self.ask_for_room();
         let longest = if self.is_busy() { 0 } else { LONGEST_WAIT };
+        self.listen(longest)
+    }
+
+    /// Before it waits for something to do: the system is to tell when the sockets that are full have room
+    /// again, and the next turn waits no more.
+    pub(crate) fn begin_rest(&mut self)
+        ensures { self.new.hub ≡ self.old.hub }
+    {
+        self.ask_for_room();
+        self.rested = true;
+    }
+
+    /// How many milliseconds it may wait at a moment for something to do: none if there is something
+    /// already, and not past the earliest deadline of the calls that wait.
+    pub(crate) fn longest_wait(&self, now: Moment) -> u64
+        ensures due { result ≤ until_due now.0 (next_deadline self.now.hub.hub.state.wait) }
+        ensures idle { 0 < result → EachClient (λ c. has_work self.now.hub.hub c ≡ false) self.now.clients }
+    {
+        longest_wait(now, self.hub.next_deadline(), self.told, self.is_busy())
+    }
+
+    /// Waits for something to do, from a moment on and for so many milliseconds at most. Answers whether
+    /// there is something: a socket has told, or connections may wait.
+    pub(crate) fn rest_for(&mut self, now: Moment, longest: u64) -> Result<bool, ServeFault>
+        requires due { longest ≤ until_due now.0 (next_deadline self.old.hub.hub.state.wait) }
+        requires idle { EachClient (λ c. has_work self.old.hub.hub c ≡ false) self.old.clients }
+        ensures same { self.new.hub ≡ self.old.hub }
+        ensures err { IfErr result (λ fault. fault ≡ ServeFault.Socket) }
+    {
+        self.listen(longest)?;
+        Ok(self.told || !self.events.is_empty())
+    }
+
+    // Has the system tell when the sockets that are full have room again.
+    fn ask_for_room(&mut self)
+        ensures same { self.new.hub ≡ self.old.hub }
+        ensures failed { KeepsFailed self.old.clients self.new.clients }
+        ensures connected { HaveConnections self.new.hub.hub self.new.clients }
+    {
+        ask_for_room(&mut self.clients, self.poll.registry());
+    }
+
+    // Waits for the sockets, so many milliseconds at most, and notes what they tell.
+    fn listen(&mut self, longest: u64) -> Result<(), ServeFault>
+        ensures same { self.new.hub ≡ self.old.hub }
+        ensures failed { KeepsFailed self.old.clients self.new.clients }
+        ensures connected { HaveConnections self.new.hub.hub self.new.clients }
+        ensures err { IfErr result (λ fault. fault ≡ ServeFault.Socket) }
+    {
         let longest = Duration::from_millis(longest);
         if self.poll.poll(&mut self.events, Some(longest)).is_err() {
             return Err(ServeFault::Socket);
@@ -220,18 +284,12 @@ impl<D: SectorDisk> Server<D> {
         Ok(())
     }
 
-    // Whether a client may have something already, or a new one has come. The system tells of a new one
-    // once, and not again in the next turn.
-    fn is_busy(&self) -> bool {
-        if self.crowded {
-            return true;
-        }
-        for (_, client) in self.clients.iter() {
-            if client.is_waiting() {
-                return true;
-            }
-        }
-        false
+    // Whether there is something to do already: with a client, or a new one has come. The system tells of
+    // a new one once, and not again in the next turn. A server that goes on no more says so at once.
+    fn is_busy(&self) -> bool
+        ensures { result ≡ false → EachClient (λ c. has_work self.now.hub.hub c ≡ false) self.now.clients }
+    {
+        self.crowded || self.hub.has_stopped() || any_has_work(&self.hub, &self.clients)
     }
 
     // Takes the connections that have come. Answers whether these were as many as a turn takes, so that

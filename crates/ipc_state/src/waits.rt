@@ -6,7 +6,7 @@ ghost use Rattle.ipc_state.specs.Restored.{with_waits};
 ghost use Rattle.ipc_state.specs.State.{at_moment, due_calls, is_waiting, with_waiting, without_due, without_waiting};
 ghost use Rattle.ipc_state.specs.Touching.{object_of, object_on};
 ghost use Rattle.ipc_state.specs.Waiting.{AreSoundWaits, IsSoundWaiting, has_deadline};
-ghost use Rattle.ipc_wait.specs.Waits.{call_of};
+ghost use Rattle.ipc_wait.specs.Waits.{call_of, next_deadline};
 
 use crate::descriptors::Opened;
 use crate::parked::{Awaited, Object, Parked};
@@ -28,6 +28,13 @@ impl State {
         ensures { result ≡ is_waiting self.now.state pid.0 }
     {
         self.wait.is_waiting(pid)
+    }
+
+    /// The earliest deadline of the calls that wait. This takes no longer with more calls.
+    pub fn next_deadline(&self) -> Option<Moment>
+        ensures { result ≡ next_deadline self.now.state.wait }
+    {
+        self.wait.next_deadline()
     }
 
     /// The object that a request of the process names, if it names one: what its descriptor is open on, if the number

@@ -1,2 +1,3 @@
+pub mod Clock
 pub mod Device
 pub mod Ending

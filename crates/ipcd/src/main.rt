@@ -76,7 +76,7 @@ fn answer(
             device,
             socket,
             turns,
-        } => serve(rt, device, socket, *turns),
+        } => serve(rt, errors, device, socket, *turns),
     }
 }
 

@@ -1,12 +1,15 @@
 //! The server on a socket, over the device in a file.
 
+ghost use Rattle.std.specs.Prelude.{◌≡◌};
+ghost use Rattle.ipcd.specs.Clock.{ahead_by};
+
 use crate::device::open_store;
 use crate::ending::Fault;
-use ipc_base::Limits;
+use ipc_base::{Limits, Moment};
 use ipc_disk::{FileDisk, SectorDisk};
 use ipc_hub::Hub;
 use ipc_script::ScriptFault;
-use ipc_server::Server;
+use ipc_server::{Server, now};
 use ipc_store::Store;
 use mio::net::UnixListener;
 use std::fs::File;
@@ -14,17 +17,49 @@ use std::net::Net;
 use std::rt::Files;
 use std::time::Clock;
 
-/// Opens the device in a file, then binds the socket, says so, and serves for so many turns.
+/// How many turns a server makes if none are given.
+const MOST_TURNS: u32 = u32::MAX;
+
+/// How far the clock of a device may be ahead of the system's before that is said, in milliseconds.
+const MOST_AHEAD: u64 = 1_000;
+
+/// Opens the device in a file, then binds the socket, says so, and serves for so many turns, or on
+/// demand if none are given. On `errors` it says if the device's clock is ahead of the system's.
 pub fn serve(
     rt: &(impl Print + AllocGlobal + Files<File = File> + Net + Clock),
+    errors: &impl Eprint,
     device: &str,
     socket: &str,
-    turns: u32,
+    turns: Option<u32>,
 ) -> Result<(), Fault> {
     let disk = FileDisk::open(rt, device)?;
     let sectors = disk.sectors();
     let store = open_store(rt.alloc(), disk)?;
+    say_ahead(errors, store.engine().state().clock(), now(rt));
     serve_store(rt, store, device, sectors, socket, turns)
+}
+
+// Says so if the clock of a device is ahead of the system's. It never falls: until the system's has
+// come up to it, no time passes on the device.
+fn say_ahead(errors: &impl Eprint, device: Moment, system: Moment) {
+    if let Some(ahead) = ahead_by(device, system) {
+        // It is served also if standard error is closed.
+        let _said = eprintln!(errors;
+            "ipcd: the device's clock is {ahead} ms ahead of the system's"
+        );
+    }
+}
+
+// By how many milliseconds the clock of a device is ahead of the system's, if that is to be said.
+fn ahead_by(device: Moment, system: Moment) -> Option<u64>
+    ensures { result ≡ ahead_by device.0 system.0 }
+{
+    let ahead = device.0.saturating_sub(system.0);
+    if ahead > MOST_AHEAD {
+        Some(ahead)
+    } else {
+        None
+    }
 }
 
 // Serves the store of a device of so many sectors. It is over any disk, so that its proof does not
@@ -35,7 +70,7 @@ fn serve_store<D: SectorDisk + Drop>(
     device: &str,
     sectors: u32,
     socket: &str,
-    turns: u32,
+    turns: Option<u32>,
 ) -> Result<(), Fault> {
     let limits = limits_name(store.engine().limits());
     let server = start(rt, store, socket)?;
@@ -65,14 +100,17 @@ fn server_of<D: SectorDisk + Drop>(
     }
 }
 
-// Serves for so many turns.
+// Serves for so many turns, or on demand if none are given.
 fn go_on<D: SectorDisk + Drop>(
     clock: &impl Clock,
     server: Server<D>,
-    turns: u32,
+    turns: Option<u32>,
 ) -> Result<(), Fault> {
     let mut server = server;
-    server.serve(clock, turns)?;
+    match turns {
+        Some(turns) => server.serve(clock, turns)?,
+        None => server.serve_on_demand(clock, MOST_TURNS)?,
+    }
     Ok(())
 }
 

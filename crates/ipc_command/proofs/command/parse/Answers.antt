@@ -23,7 +23,7 @@ use Rattle.clap.specs.declared.parser.matches.ArgMatches.{ArgMatches}
 use Rattle.clap.specs.Simple.{HasMatchesOf}
 use Rattle.clap.proofs.OnLiterals.{clap_on_literals}
 use Rattle.ipc_command.specs.Command.{PlainRequest, plain_request, asked, declared, is_no_flag, number_of}
-use Rattle.ipc_command.specs.Command.{small_words, sectors_words, turns_words, turns_of, AsksFor, IsTakenAs}
+use Rattle.ipc_command.specs.Command.{small_words, sectors_words, turns_words, AsksFor, IsTakenAs}
 use Rattle.ipc_command.specs.Command.PlainRequest.{Replay, Format, Run, Dump, Serve}
 use Rattle.ipc_command.proofs.command.parse.Goals as goal
 
@@ -162,12 +162,12 @@ abbrev serve_line : List ℕ → List ℕ → List ℕ → Option Text → List 
 serve_line name device socket number = name ∷ codes "serve" ∷ device ∷ socket ∷ turns_words number
 
 serve-read : (name device socket : List ℕ) (number : Option Text) → IsValue device → IsValue socket → IfSome number IsNumber
-    → asked (subcommand_of declared (serve_line name device socket number)) ≡ Serve device socket (turns_of (option_and_then number_of number))
+    → asked (subcommand_of declared (serve_line name device socket number)) ≡ Serve device socket (option_and_then number_of number)
 unfolding clap_on_literals
 serve-read name device socket None v w n = rw (v.dashes, v.long, v.short, w.dashes, w.long, w.short) refl
 serve-read name device socket (Some word) v w n =
     rw (v.dashes, v.long, v.short, w.dashes, w.long, w.short, n.value.dashes, n.value.long, n.value.short)
-    (ap (λ (t : Text). Serve device socket (turns_of (number_of t))) n.same)
+    (ap (λ (t : Text). Serve device socket (number_of t)) n.same)
 
 serve-taken : (name device socket : List ℕ) (number : Option Text) → IsValue device → IsValue socket → IfSome number IsNumber
     → takes declared (serve_line name device socket number) ≡ true

@@ -4,7 +4,6 @@ use Rattle.ipc_server.specs.Acts.Act.{Ticks}
 use Rattle.ipc_server.specs.Goes.{Goes}
 use Rattle.ipc_server.proofs.Going.{goes-both, goes-none, goes-one, goes-round, breaks-at, breaks-later}
 use Rattle.ipc_server.proofs.Standing.{keeps-none, serving-kept}
-use Rattle.ipc_server.proofs.server.Server.go_round.Given.{Over}
 use Rattle.ipc_server.proofs.server.Server.go_round.Goals as goal
 
 pub returns-in_err-tick-clause-breaks : goal.returns-in_err-tick-clause-breaks
@@ -15,44 +14,42 @@ returns-in_err-tick-clause-breaks g c =
     (goes-none med g.met.D.SectorDisk.only_now c.args.moment.0 c.args.self.now.hub)
     (rw (ap (λ v. v.hub) c.self.view_is) at c.in_err-tick.ensures.refused))
 
--- new connections were taken
-admitted : (g : Over) (c : goal.After-serve_all g) → Goes g.D.SectorDisk.medium c.args.moment.0 c.tick.new.self c.self-2.inside.hub
-admitted g c = rw (ap (λ v. v.hub) c.self-2.view_is) (c.admit-self-inside.ensures.goes c.args.moment.0)
-
 pub returns-clause-goes : goal.returns-clause-goes
 returns-clause-goes g c =
     let med = g.D.SectorDisk.medium in
     let moment = c.args.moment.0 in
-    on_ok_weaker c.serve_all.result (λ goes. goes-round med moment c.args.self.now.hub c.tick.new.self c.serve_all.new.hub
+    on_ok_weaker c.serve_all-done.result (λ goes. goes-round med moment c.args.self.now.hub c.tick.new.self c.serve_all-done.new.hub
     (rw (ap (λ v. v.hub) c.self.view_is) at c.in_ok-tick.ensures.ok)
-    (goes-both med moment c.tick.new.self c.self-2.inside.hub c.serve_all.new.hub (admitted g c) goes))
-    c.serve_all.ensures.goes
+    (goes-both med moment c.tick.new.self c.self-2.inside.hub c.serve_all-done.new.hub
+    (rw (ap (λ v. v.hub) c.self-2.view_is) (c.admit-self-inside.ensures.goes c.args.moment.0)) goes))
+    c.serve_all-done.ensures.goes
 
 pub returns-clause-parted : goal.returns-clause-parted
 returns-clause-parted g c =
     let med = g.D.SectorDisk.medium in
     let moment = c.args.moment.0 in
-    on_ok_weaker c.serve_all.result (λ parted. record {
+    on_ok_weaker c.serve_all-done.result (λ parted. record {
       written = parted.0;
       goes = goes-round med moment c.args.self.now.hub c.tick.new.self parted.0 (rw (ap (λ v. v.hub) c.self.view_is) at c.in_ok-tick.ensures.ok)
-          (goes-both med moment c.tick.new.self c.self-2.inside.hub parted.0 (admitted g c) parted.1);
+          (goes-both med moment c.tick.new.self c.self-2.inside.hub parted.0
+          (rw (ap (λ v. v.hub) c.self-2.view_is) (c.admit-self-inside.ensures.goes c.args.moment.0)) parted.1);
       none_gone = parted.3;
       parts = parted.2;
     })
-    (c.serve_all.ensures.parted c.self-2.invariant)
+    (c.serve_all-done.ensures.parted c.self-2.invariant)
 
 pub returns-clause-read : goal.returns-clause-read
-returns-clause-read g c = c.serve_all.ensures.read c.self-2.invariant
+returns-clause-read g c = c.serve_all-done.ensures.read c.self-2.invariant
 
 pub returns-clause-written : goal.returns-clause-written
-returns-clause-written g c = c.serve_all.ensures.written c.self-2.invariant
+returns-clause-written g c = c.serve_all-done.ensures.written c.self-2.invariant
 
 pub returns-clause-failed : goal.returns-clause-failed
 returns-clause-failed g c =
-    on_ok_weaker c.serve_all.result
+    on_ok_weaker c.serve_all-done.result
     (λ failed number bad. failed number (rw (sym (ap (λ v. v.clients) c.self-2.view_is)) at c.admit-self-inside.ensures.failed number
     (rw (ap (λ v. v.clients) c.self.view_is) bad)))
-    (c.serve_all.ensures.failed c.self-2.invariant)
+    (c.serve_all-done.ensures.failed c.self-2.invariant)
 
 pub invariant_of-self : goal.invariant_of-self
 invariant_of-self g c =
@@ -70,19 +67,17 @@ returns-in_err-tick-clause-connected g c = (
     c.self.invariant).connected
 
 pub returns-clause-connected : goal.returns-clause-connected
-returns-clause-connected g c = (c.serve_all.ensures.serving c.self-2.invariant).connected
-
--- time has passed, and new connections were taken
-begun : (g : Over) (c : goal.After-serve_all g) → Goes g.D.SectorDisk.medium c.args.moment.0 c.args.self.now.hub c.self-2.inside.hub
-begun g c =
-    let med = g.D.SectorDisk.medium in
-    let moment = c.args.moment.0 in
-    goes-both med moment c.args.self.now.hub c.tick.new.self c.self-2.inside.hub
-    (goes-one med moment c.args.self.now.hub c.tick.new.self (Ticks moment) refl tt (rw (ap (λ v. v.hub) c.self.view_is) at c.in_ok-tick.ensures.ok))
-    (admitted g c)
+returns-clause-connected g c = (c.serve_all-done.ensures.serving c.self-2.invariant).connected
 
 pub returns-clause-breaks : goal.returns-clause-breaks
 returns-clause-breaks g c =
-    IfErr-weaker c.serve_all.result _ _
-    (λ e. breaks-later g.D.SectorDisk.medium g.D.SectorDisk.counts c.args.moment.0 c.args.self.now.hub c.self-2.inside.hub c.serve_all.new.hub e (begun g c))
-    c.serve_all.ensures.breaks
+    let med = g.D.SectorDisk.medium in
+    let moment = c.args.moment.0 in
+    -- time has passed, and new connections were taken
+    let begun : Goes med moment c.args.self.now.hub c.self-2.inside.hub =
+    goes-both med moment c.args.self.now.hub c.tick.new.self c.self-2.inside.hub
+    (goes-one med moment c.args.self.now.hub c.tick.new.self (Ticks moment) refl tt (rw (ap (λ v. v.hub) c.self.view_is) at c.in_ok-tick.ensures.ok))
+    (rw (ap (λ v. v.hub) c.self-2.view_is) (c.admit-self-inside.ensures.goes c.args.moment.0)) in
+    IfErr-weaker c.serve_all-done.result _ _
+    (λ e. breaks-later med g.D.SectorDisk.counts moment c.args.self.now.hub c.self-2.inside.hub c.serve_all-done.new.hub e begun)
+    c.serve_all-done.ensures.breaks

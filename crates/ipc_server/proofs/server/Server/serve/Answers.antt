@@ -8,12 +8,12 @@ loop-turn-init g c = None
 
 pub loop-turn-preserved : goal.loop-turn-preserved
 loop-turn-preserved g c =
-    More c.loop-turn._turn c.loop-turn.moment.0 c.max.result c.loop-turn.self.hub c.turn.new.self.hub c.loop-turn.invariant (omega arith)
+    More c.loop-turn._turn c.loop-turn.moment.0 c.later-moment.result.0 c.loop-turn.self.hub c.turn.new.self.hub c.loop-turn.invariant (omega arith)
     c.in_ok-turn.ensures.ok c.in_ok-turn.ensures.settled
 
 pub returns-in_err-turn-clause-err : goal.returns-in_err-turn-clause-err
 returns-in_err-turn-clause-err g c =
-    let later : c.loop-turn.moment.0 ≤ c.max.result = omega arith in
+    let later : c.loop-turn.moment.0 ≤ c.later-moment.result.0 = omega arith in
     let q = err_from_is_err_and c.from_residual.result c.from_residual.ensures.1 in
     rw (q.1, q.2) (record {
       count = c.loop-turn._turn;
@@ -21,7 +21,7 @@ returns-in_err-turn-clause-err g c =
       before = c.loop-turn.moment.0;
       last = c.loop-turn.self.hub;
       served = c.loop-turn.invariant;
-      moment = c.max.result;
+      moment = c.later-moment.result.0;
       later = later;
       breaks = c.in_err-turn.ensures.err;
     })
