@@ -1,4 +1,4 @@
-// Arguments that several calls have: names, modes, times.
+// Arguments that several calls have: modes, times.
 #define _GNU_SOURCE
 #include "client.h"
 
@@ -11,20 +11,15 @@
 
 #include "memory.h"
 
-// The server says what is wrong with a name, so one that is too long is sent as far as a frame has room.
-ssize_t name_length(const char *name)
-{
-    return text_length(name, TEXT_MOST);
-}
-
 uint32_t masked(mode_t mode)
 {
     char text[4096];
-    int saved = errno;
+    int saved = errno, cancellation = hold_cancellation();
     int file = open("/proc/self/status", O_RDONLY | O_CLOEXEC);
     ssize_t size = file < 0 ? -1 : read(file, text, sizeof text - 1);
     if (file >= 0)
         close(file);
+    allow_cancellation(cancellation);
     errno = saved;
     text[size < 0 ? 0 : size] = 0;
     const char *found = strstr(text, "\nUmask:");

@@ -3,7 +3,8 @@
     python3 clients/c/bench.py PROGRAM
 
 Each number is the processor time of the client for a msgsnd and a msgrcv, the median of some turns that take one after
-another by turns. It is an error if the library takes more than 1.15 times what frames by hand take.
+another by turns. It is an error if the library takes more than 1.15 times what frames by hand take. The server's device
+is in memory, if there is a place: a disk that is slow takes no time of the client.
 """
 
 from __future__ import annotations
@@ -12,6 +13,7 @@ import os
 import statistics
 import subprocess
 import sys
+import tempfile
 from pathlib import Path
 
 HERE = Path(__file__).resolve().parent
@@ -51,5 +53,7 @@ def main() -> None:
 
 
 if __name__ == "__main__":
+    if os.access("/dev/shm", os.W_OK):
+        tempfile.tempdir = "/dev/shm"
     with in_a_folder(580):
         main()

@@ -4,6 +4,8 @@
 
 #include <errno.h>
 #include <fcntl.h>
+#include <limits.h>
+#include <linux/futex.h>
 #include <stdio.h>
 #include <stdlib.h>
 #include <string.h>
@@ -17,6 +19,10 @@
 #include "handles.h"
 #include "memory.h"
 #include "processes.h"
+
+// Milliseconds that a thread waits for a link while no call is answered: if all those calls may wait, and if one is
+// answered at once. Then it gets one more.
+enum { GRACE = 50, LONG_GRACE = 1000 };
 
 struct changes changes;
 
@@ -34,6 +40,7 @@ static void after_fork(void)
     all_lock = (pthread_mutex_t) PTHREAD_MUTEX_INITIALIZER;
     for (struct ipcd *client = all; client != NULL; client = client->next) {
         client->lock = (pthread_mutex_t) PTHREAD_MUTEX_INITIALIZER;
+        client->sleepers = 0;
         for (size_t i = 0; i < PROCESSES_MOST; i++) {
             struct link *link = client->links[i];
             if (link == NULL)
@@ -66,6 +73,18 @@ __attribute__((destructor)) static void leave(void)
     for (size_t i = 0; i < PROCESSES_MOST; i++)
         if (of_process.links[i] != NULL && of_process.links[i]->socket >= 0)
             no_more(of_process.path, of_process.links[i]->pid);
+}
+
+int hold_cancellation(void)
+{
+    int before;
+    pthread_setcancelstate(PTHREAD_CANCEL_DISABLE, &before);
+    return before;
+}
+
+void allow_cancellation(int before)
+{
+    pthread_setcancelstate(before, NULL);
 }
 
 void lock_handles(struct ipcd *client, sigset_t *mask)
@@ -102,15 +121,41 @@ struct ipcd *current_client(void)
     return &of_process;
 }
 
-// A new link, which is busy, in a place that is free, or NULL.
+static bool try_take(struct link *link)
+{
+    if (link == NULL || atomic_exchange(&link->busy, 1) != 0)
+        return false;
+    link->holder = &thread;
+    link->may_wait = false;
+    return true;
+}
+
+void release(struct ipcd *client, struct link *link)
+{
+    client->answers += link->socket >= 0;
+    link->busy = 0;
+    client->releases++;
+    if (client->sleepers > 0)
+        syscall(SYS_futex, &client->releases, FUTEX_WAKE_PRIVATE, 1, NULL, NULL, 0);
+}
+
+// A link that is not connected, and is busy: one that was, or a new one in a place that is free; or NULL.
 static struct link *add_link(struct ipcd *client)
 {
+    for (size_t i = 0; i < PROCESSES_MOST && client->links[i] != NULL; i++) {
+        if (client->links[i]->socket >= 0 || !try_take(client->links[i]))
+            continue;
+        if (client->links[i]->socket < 0)
+            return client->links[i];
+        release(client, client->links[i]);
+    }
     struct link *made = mmap(NULL, sizeof *made, PROT_READ | PROT_WRITE, MAP_PRIVATE | MAP_ANONYMOUS, -1, 0);
     if (made == MAP_FAILED) {
         errno = ENOMEM;
         return NULL;
     }
     made->busy = 1;
+    made->holder = &thread;
     made->socket = -1;
     for (size_t i = 0; i < PROCESSES_MOST; i++) {
         struct link *none = NULL;
@@ -120,11 +165,6 @@ static struct link *add_link(struct ipcd *client)
     munmap(made, sizeof *made);
     errno = ENFILE;
     return NULL;
-}
-
-static bool try_take(struct link *link)
-{
-    return link != NULL && atomic_exchange(&link->busy, 1) == 0;
 }
 
 // The effective user and group. What else is preloaded may tell the program of others.
@@ -140,21 +180,78 @@ static uint64_t current_user(void)
     return known;
 }
 
-// An idle link of this user: the one that this thread used last, else the first, else a new one.
-static struct link *find(struct ipcd *client, bool of_any_user)
+static bool is_of(const struct link *link, uint64_t user)
+{
+    return link->socket >= 0 && ((uint64_t) link->uid << 32 | link->gid) == user;
+}
+
+// An idle link of this user: the one that this thread used last, else the first; or NULL.
+static struct link *find_idle(struct ipcd *client, bool of_any_user)
 {
     uint64_t user = of_any_user ? 0 : current_user();
     for (int others = 0; others < 2; others++) {
         for (size_t i = 0; i < PROCESSES_MOST && client->links[i] != NULL; i++) {
             struct link *link = client->links[i];
-            if ((!others && link->owner != &thread) || !try_take(link))
+            bool fits = of_any_user ? link->socket >= 0 : is_of(link, user);
+            if ((!others && link->owner != &thread) || !fits || !try_take(link))
                 continue;
-            if (of_any_user || link->socket < 0 || ((uint64_t) link->uid << 32 | link->gid) == user)
+            // Meanwhile another thread may have lost it, or connected it again.
+            if (of_any_user ? link->socket >= 0 : is_of(link, user))
                 return link;
-            link->busy = 0;
+            release(client, link);
         }
     }
-    return add_link(client);
+    return NULL;
+}
+
+// What other threads do. If it is nothing, all links are of calls that a handler of this one has interrupted.
+enum use { UNUSED, WAITING, QUICK };
+
+static enum use use_by_others(const struct ipcd *client)
+{
+    enum use use = UNUSED;
+    for (size_t i = 0; i < PROCESSES_MOST && client->links[i] != NULL; i++) {
+        const struct link *link = client->links[i];
+        if (!link->busy || link->holder == &thread)
+            continue;
+        use = link->may_wait ? WAITING : QUICK;
+        if (use == QUICK)
+            break;
+    }
+    return use;
+}
+
+// Sleeps until a link is released, of which there were so many releases before.
+static void wait_for_release(struct ipcd *client, unsigned before, int64_t most)
+{
+    struct timespec time = {most / 1000, most % 1000 * 1000000};
+    client->sleepers++;
+    syscall(SYS_futex, &client->releases, FUTEX_WAIT_PRIVATE, before, &time, NULL, 0);
+    client->sleepers--;
+}
+
+// An idle link of this user, else a new one. Most calls are short, so as long as others' calls are answered one of
+// those links is waited for: a new one is a process more of the server, and it has few.
+static struct link *find(struct ipcd *client, bool of_any_user)
+{
+    int64_t since = 0;
+    unsigned answers = 0;
+    for (;;) {
+        unsigned before = client->releases;
+        struct link *link = find_idle(client, of_any_user);
+        enum use use = link == NULL ? use_by_others(client) : UNUSED;
+        if (link != NULL || use == UNUSED)
+            return link != NULL ? link : add_link(client);
+        int64_t now = clock_now();
+        if (since == 0 || client->answers != answers) {
+            since = now;
+            answers = client->answers;
+        }
+        int64_t left = since + (use == QUICK ? LONG_GRACE : GRACE) - now;
+        if (left <= 0)
+            return add_link(client);
+        wait_for_release(client, before, left);
+    }
 }
 
 static bool is_still_there(struct link *link)
@@ -191,15 +288,25 @@ static int wake(struct ipcd *client, struct link *link)
 
 static struct link *take(struct ipcd *client, bool of_any_user)
 {
-    int saved = errno;
-    struct link *link = find(client, of_any_user);
-    if (link == NULL)
-        return NULL;
-    link->saved_errno = saved;
-    if (wake(client, link) == 0)
-        return link;
-    end(link, -1);
-    return NULL;
+    int saved = errno, cancellation = hold_cancellation();
+    for (;;) {
+        unsigned answers = client->answers;
+        struct link *link = find(client, of_any_user);
+        if (link == NULL) {
+            allow_cancellation(cancellation);
+            return NULL;
+        }
+        link->saved_errno = saved;
+        link->cancellation = cancellation;
+        if (wake(client, link) == 0)
+            return link;
+        // There is no room for a process more, but those that there are may be free soon.
+        bool goes_on = errno == ENFILE && client->answers != answers && use_by_others(client) != UNUSED;
+        end(link, -1);
+        if (!goes_on)
+            return NULL;
+        hold_cancellation();
+    }
 }
 
 struct link *begin(enum opcode opcode)
@@ -215,12 +322,14 @@ static struct link *take_with(struct ipcd *client, size_t number, uint32_t gener
 {
     for (size_t i = 0; i < PROCESSES_MOST && client->links[i] != NULL; i++) {
         struct link *link = client->links[i];
-        if (!try_take(link))
+        if (link->opened[number].generation != generation || !try_take(link))
             continue;
         link->saved_errno = errno;
-        if (link->opened[number].generation == generation && is_still_there(link))
+        if (link->opened[number].generation == generation && is_still_there(link)) {
+            link->cancellation = hold_cancellation();
             return link;
-        link->busy = 0;
+        }
+        release(client, link);
     }
     return NULL;
 }
@@ -258,7 +367,7 @@ static void drop_ended(struct ipcd *client)
             continue;
         if (link->socket >= 0 && recv(link->socket, &byte, 1, MSG_PEEK | MSG_DONTWAIT) == 0)
             link_drop(link);
-        link->busy = 0;
+        release(client, link);
     }
 }
 
@@ -273,7 +382,7 @@ int close_on_idle_links(struct ipcd *client)
             result = -1;
             error = errno;
         }
-        link->busy = 0;
+        release(client, link);
     }
     errno = error;
     return result;
@@ -283,10 +392,12 @@ long end(struct link *link, long result)
 {
     int error = errno;
     bool is_lost = result < 0 && error == ECONNRESET && link->socket < 0;
-    errno = link->saved_errno;
-    atomic_store(&link->busy, 0);
+    int saved = link->saved_errno, cancellation = link->cancellation;
+    release(current_client(), link);
     if (is_lost)
         drop_ended(current_client());
+    allow_cancellation(cancellation);
+    errno = saved;
     if (result < 0)
         errno = error;
     return result;
@@ -342,6 +453,7 @@ void ipcd_disconnect(struct ipcd *connection)
         return;
     if (used == connection)
         used = NULL;
+    int cancellation = hold_cancellation();
     pthread_mutex_lock(&all_lock);
     for (struct ipcd *it = &of_process; it != NULL; it = it->next)
         if (it->next == connection)
@@ -358,6 +470,7 @@ void ipcd_disconnect(struct ipcd *connection)
         munmap(link, sizeof *link);
     }
     free(connection);
+    allow_cancellation(cancellation);
 }
 
 struct ipcd *ipcd_use(struct ipcd *connection)

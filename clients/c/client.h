@@ -37,6 +37,9 @@ struct ipcd {
     struct ipcd *next;
     pthread_mutex_t lock;     // of handles and registrations; whoever has it blocks all signals
     atomic_uint closings;     // how many handles were closed
+    atomic_uint releases;     // how many calls have ended
+    atomic_uint answers;      // and of those whose connection lasts
+    atomic_int sleepers;      // threads that wait for a link
     _Atomic(struct link *) links[PROCESSES_MOST];
     struct handle handles[HANDLES];
     sem_t semaphores[SEMAPHORES];
@@ -45,6 +48,13 @@ struct ipcd {
 };
 
 HIDDEN struct ipcd *current_client(void);
+
+// Whoever waits for a link takes this one, if it wants.
+HIDDEN void release(struct ipcd *client, struct link *link);
+
+// No call is a point of cancellation: what a call does would else leave the link in mid-frame.
+HIDDEN int hold_cancellation(void);
+HIDDEN void allow_cancellation(int before);
 
 HIDDEN void lock_handles(struct ipcd *client, sigset_t *mask);
 HIDDEN void unlock_handles(struct ipcd *client, const sigset_t *mask);
@@ -61,9 +71,6 @@ HIDDEN long end(struct link *link, long result);
 // It ends by a reply without a body, or with a number.
 HIDDEN int end_empty(struct link *link, enum waiting waiting);
 HIDDEN int end_number(struct link *link);
-
-// The name of a new object or of one that is sought: how many bytes it has, or -1 with EFAULT or ENAMETOOLONG.
-HIDDEN ssize_t name_length(const char *name);
 
 // What is left of a mode with the umask of the process.
 HIDDEN uint32_t masked(mode_t mode);

@@ -6,6 +6,8 @@
 #include <fcntl.h>
 #include <string.h>
 
+#include "memory.h"
+
 // Writes the request of an open and answers the server's descriptor, or -1.
 static long open_on_link(struct link *link, const char *name, size_t length, const struct wanted *wanted)
 {
@@ -140,9 +142,26 @@ static int note(struct ipcd *client, struct link *link, int number, struct handl
     return 0;
 }
 
-int open_handle(struct ipcd *client, const char *name, const struct wanted *wanted)
+// Copies a name, as far as a frame has room: how many bytes it has, or -1 with EFAULT. The C library takes names of
+// semaphores and segments with any number of slashes before them, also none, as with one.
+static ssize_t read_name(const char *name, enum kind kind, char *copy)
 {
-    ssize_t length = name_length(name);
+    ssize_t length = text_length(name, TEXT_MOST), slashes = 0;
+    if (length < 0)
+        return -1;
+    if (kind != POSIX_QUEUE) {
+        *copy++ = '/';
+        while (slashes < length && name[slashes] == '/')
+            slashes++;
+    }
+    memcpy(copy, name + slashes, (size_t) (length - slashes));
+    return length - slashes + (kind != POSIX_QUEUE);
+}
+
+int open_handle(struct ipcd *client, const char *given, const struct wanted *wanted)
+{
+    char name[TEXT_MOST + 1];
+    ssize_t length = read_name(given, wanted->kind, name);
     if (length < 0)
         return -1;
     struct link *link = begin(CLOSE);
@@ -187,13 +206,17 @@ int close_handle(struct ipcd *client, size_t number, enum kind kind, int wrong)
     }
     if (!is_last)
         return 0;
+    int cancellation = hold_cancellation();
     end_registration_of(client, number);
-    return close_on_idle_links(client);
+    int result = close_on_idle_links(client);
+    allow_cancellation(cancellation);
+    return result;
 }
 
-int unlink_name(struct ipcd *client, const char *name, enum kind kind, enum opcode opcode)
+int unlink_name(struct ipcd *client, const char *given, enum kind kind, enum opcode opcode)
 {
-    ssize_t length = name_length(name);
+    char name[TEXT_MOST + 1];
+    ssize_t length = read_name(given, kind, name);
     if (length < 0)
         return -1;
     struct link *link = begin(opcode);

@@ -11,8 +11,8 @@
 //
 // Calls are made over the connection of the process to the socket that IPCD_SOCKET names, else /run/ipcd/socket,
 // unless ipcd_use chooses another. A connection is made by the first call, and again after its end and in a process
-// that was forked. Threads may call at once: one that calls while the connection is busy gets a process of the server
-// of its own. No call raises SIGPIPE, or is a point of cancellation.
+// that was forked. Threads may call at once: one that calls while the others wait gets a process of the server of its
+// own. No call raises SIGPIPE, or is a point of cancellation.
 #ifndef IPCD_H
 #define IPCD_H
 
@@ -48,7 +48,7 @@ IPCD_PUBLIC ssize_t ipcd_msgrcv(int msqid, void *msgp, size_t msgsz, long msgtyp
 IPCD_PUBLIC int ipcd_msgctl(int msqid, int cmd, struct msqid_ds *buf);
 
 // Semaphore sets, see semget(2), semop(2), semctl(2). A set has at most 64 semaphores, a list at most 32 operations;
-// values are from 0 to 32767. The timeout is a length of time, kept to a tenth of a second. Commands are those of
+// values are from 0 to 32767. The timeout is a length of time, kept to some milliseconds. Commands are those of
 // semctl(2) but IPC_INFO, SEM_INFO and SEM_STAT. SETALL needs the permission to read, too.
 IPCD_PUBLIC int ipcd_semget(key_t key, int nsems, int semflg);
 IPCD_PUBLIC int ipcd_semop(int semid, struct sembuf *sops, size_t nsops);
@@ -56,7 +56,7 @@ IPCD_PUBLIC int ipcd_semtimedop(int semid, struct sembuf *sops, size_t nsops, co
 IPCD_PUBLIC int ipcd_semctl(int semid, int semnum, int cmd, ...);
 
 // POSIX queues, see mq_overview(7). Descriptors are numbers that no file has, from 0x7fffffc0 on. Priorities are from 0
-// to 32767. Deadlines are moments of CLOCK_REALTIME, kept to a tenth of a second.
+// to 32767. Deadlines are moments of CLOCK_REALTIME, kept to some milliseconds.
 IPCD_PUBLIC mqd_t ipcd_mq_open(const char *name, int oflag, ...);
 IPCD_PUBLIC int ipcd_mq_close(mqd_t mqdes);
 IPCD_PUBLIC int ipcd_mq_unlink(const char *name);
@@ -71,7 +71,8 @@ IPCD_PUBLIC int ipcd_mq_setattr(mqd_t mqdes, const struct mq_attr *newattr, stru
 // A registration takes a thread, and a process of the server of its own. A signal has a si_pid and si_uid of 0.
 IPCD_PUBLIC int ipcd_mq_notify(mqd_t mqdes, const struct sigevent *sevp);
 
-// Named semaphores, see sem_overview(7). An address is of this library: no call of the C library takes it.
+// Named semaphores, see sem_overview(7). An address is of this library: no call of the C library takes it. A name may
+// lack its slash, as the C library has it.
 IPCD_PUBLIC sem_t *ipcd_sem_open(const char *name, int oflag, ...);
 IPCD_PUBLIC int ipcd_sem_close(sem_t *sem);
 IPCD_PUBLIC int ipcd_sem_unlink(const char *name);
@@ -82,8 +83,9 @@ IPCD_PUBLIC int ipcd_sem_clockwait(sem_t *sem, clockid_t clock, const struct tim
 IPCD_PUBLIC int ipcd_sem_post(sem_t *sem);
 IPCD_PUBLIC int ipcd_sem_getvalue(sem_t *sem, int *sval);
 
-// Segments, see shm_overview(7); there is no mapping. Descriptors are like those of queues. One call reads or writes at
-// most 8192 bytes, and fewer are read at the end. A write that would pass the end is EINVAL and writes nothing.
+// Segments, see shm_overview(7); there is no mapping. Names are as those of semaphores, descriptors like those of
+// queues. One call reads or writes at most 8192 bytes, and fewer are read at the end. A write that would pass the end is
+// EINVAL and writes nothing.
 IPCD_PUBLIC int ipcd_shm_open(const char *name, int oflag, mode_t mode);
 IPCD_PUBLIC int ipcd_shm_unlink(const char *name);
 IPCD_PUBLIC int ipcd_ftruncate(int fd, off_t length);

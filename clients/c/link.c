@@ -6,6 +6,7 @@
 
 #include <errno.h>
 #include <fcntl.h>
+#include <poll.h>
 #include <string.h>
 #include <sys/socket.h>
 #include <sys/syscall.h>
@@ -167,9 +168,32 @@ static ssize_t read_more(struct link *link)
     return came;
 }
 
+int64_t clock_now(void)
+{
+    struct timespec time;
+    clock_gettime(CLOCK_MONOTONIC, &time);
+    return (int64_t) time.tv_sec * 1000 + time.tv_nsec / 1000000;
+}
+
+// Waits until there is something to read, until a moment, which is made of PATIENCE if it is 0.
+static bool comes_in_time(const struct link *link, int64_t *end)
+{
+    struct pollfd entry = {link->socket, POLLIN, 0};
+    if (*end == 0)
+        *end = clock_now() + PATIENCE;
+    for (;;) {
+        int64_t left = *end - clock_now();
+        int ready = poll(&entry, 1, left < 0 ? 0 : (int) left);
+        if (ready >= 0 || errno != EINTR)
+            return ready != 0;
+    }
+}
+
 // Reads until a whole frame stands in the input from an offset on: 0, or an error; EINTR only if handlers stop it.
+// A frame that has begun, or is the second of two, comes in time.
 static int fill(struct link *link, size_t offset, bool stops)
 {
+    int64_t end = 0;
     for (;;) {
         size_t have = link->filled - offset;
         if (have >= 4) {
@@ -179,6 +203,8 @@ static int fill(struct link *link, size_t offset, bool stops)
             if (have >= 4 + length)
                 return 0;
         }
+        if (link->filled > 0 && !comes_in_time(link, &end))
+            return EPROTO;
         ssize_t came = read_more(link);
         if (came > 0)
             link->filled += (size_t) came;
@@ -262,6 +288,7 @@ ssize_t link_exchange(struct link *link, enum waiting waiting, size_t least, siz
 {
     seal(link);
     choose_ending(link, waiting);
+    link->may_wait = waiting != ANSWERED_AT_ONCE;
     if (write_request(link) == EFAULT) {
         errno = EFAULT;
         return -1;

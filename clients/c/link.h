@@ -10,6 +10,11 @@
 
 #include "wire.h"
 
+// Milliseconds in which the rest of a frame comes that has begun, and the second of two that come together.
+#ifndef PATIENCE
+#define PATIENCE 30000
+#endif
+
 enum { HANDLES = 128 };
 
 // How a signal handler ends the call: not at all; always; or as SA_RESTART has it, see signal(7).
@@ -27,6 +32,9 @@ struct link {
     int socket;               // -1 if there is none
     uint64_t cookie;          // the system's number of the socket, which no other has
     const void *owner;        // the thread that used it last, if it is not the first link
+    _Atomic(const void *) holder; // the thread whose call it has, if it is busy
+    int cancellation;         // of that thread, as it was before the call
+    atomic_bool may_wait;     // whether its call may wait for others
     uid_t uid;
     gid_t gid;
     char *into;               // where a body is to go
@@ -49,6 +57,9 @@ struct link {
     unsigned char request[FRAME_BYTES];
     unsigned char input[2 * FRAME_BYTES];
 };
+
+// Milliseconds of a clock that is never set.
+int64_t clock_now(void);
 
 // Connects and says HELLO, as the effective user and group. 0, or -1: ECONNREFUSED without a server, ENFILE if it has
 // no room for a process, or another error of connect(2). A HELLO that is ENFILE is said again for a while.

@@ -22,6 +22,11 @@ int ipcd_msgget(key_t key, int msgflg)
     return end_number(link);
 }
 
+static enum waiting kind_of_wait(int msgflg)
+{
+    return msgflg & IPC_NOWAIT ? ANSWERED_AT_ONCE : ENDED_BY_HANDLERS;
+}
+
 int ipcd_msgsnd(int msqid, const void *msgp, size_t msgsz, int msgflg)
 {
     long type;
@@ -45,13 +50,13 @@ int ipcd_msgsnd(int msqid, const void *msgp, size_t msgsz, int msgflg)
         put_bytes(link, (const char *) msgp + sizeof type, msgsz);
     else
         put_text(link, (const char *) msgp + sizeof type, msgsz);
-    return end_empty(link, ENDED_BY_HANDLERS);
+    return end_empty(link, kind_of_wait(msgflg));
 }
 
 static int refusal_of_receive(size_t msgsz, int msgflg)
 {
     if (msgflg & MSG_COPY)
-        return msgflg & IPC_NOWAIT ? ENOSYS : EINVAL;
+        return (msgflg & IPC_NOWAIT) && !(msgflg & MSG_EXCEPT) ? ENOSYS : EINVAL;
     return msgsz > INT_MAX ? EINVAL : 0;
 }
 
@@ -71,7 +76,7 @@ ssize_t ipcd_msgrcv(int msqid, void *msgp, size_t msgsz, long msgtyp, int msgflg
     put_u64(link, (uint64_t) msgtyp);
     size_t most = msgsz < TEXT_MOST ? msgsz : TEXT_MOST;
     read_into(link, msgp, sizeof(long) + most);
-    ssize_t size = link_exchange(link, ENDED_BY_HANDLERS, 8, 8 + most);
+    ssize_t size = link_exchange(link, kind_of_wait(msgflg), 8, 8 + most);
     if (size < 0)
         return end(link, -1);
     // The message is taken, as the kernel's is when its buffer turns out to be bad.

@@ -2,6 +2,7 @@
 #define _GNU_SOURCE
 #include <errno.h>
 #include <mqueue.h>
+#include <sched.h>
 #include <stdlib.h>
 #include <string.h>
 #include <sys/mman.h>
@@ -23,8 +24,7 @@ struct registration {
     pthread_t thread;
     struct link *link;
     struct sigevent event;
-    pthread_attr_t attributes;
-    bool has_attributes;
+    pthread_attr_t attributes; // of the thread of a function
 };
 
 static void free_registration(struct registration *it)
@@ -32,10 +32,11 @@ static void free_registration(struct registration *it)
     no_more(it->client->path, it->link->pid);
     link_drop(it->link);
     munmap(it->link, sizeof *it->link);
+    pthread_attr_destroy(&it->attributes);
     free(it);
 }
 
-// A function that is told has a copy of its own of what it is told.
+// A function that is told has a copy of its own of what it is told. Nobody joins its thread.
 static void *run_function(void *argument)
 {
     struct sigevent event = *(struct sigevent *) argument;
@@ -51,10 +52,35 @@ static void start_function(struct registration *it)
         return;
     *event = it->event;
     pthread_t thread;
-    if (pthread_create(&thread, it->has_attributes ? &it->attributes : NULL, run_function, event) != 0)
+    if (pthread_create(&thread, &it->attributes, run_function, event) != 0)
         free(event);
-    else if (!it->has_attributes)
-        pthread_detach(thread);
+}
+
+// Copies what a thread's attributes ask: the program may destroy its own at once. A thread is always detached.
+static void copy_attributes(pthread_attr_t *to, const pthread_attr_t *from)
+{
+    int number;
+    size_t size;
+    void *stack;
+    struct sched_param priority;
+    cpu_set_t processors;
+    if (pthread_attr_getguardsize(from, &size) == 0)
+        pthread_attr_setguardsize(to, size);
+    // Without a stack its address is as if it ended at 0.
+    if (pthread_attr_getstack(from, &stack, &size) == 0 && (uintptr_t) stack + size != 0)
+        pthread_attr_setstack(to, stack, size);
+    else if (pthread_attr_getstacksize(from, &size) == 0)
+        pthread_attr_setstacksize(to, size);
+    if (pthread_attr_getinheritsched(from, &number) == 0)
+        pthread_attr_setinheritsched(to, number);
+    if (pthread_attr_getschedpolicy(from, &number) == 0)
+        pthread_attr_setschedpolicy(to, number);
+    if (pthread_attr_getschedparam(from, &priority) == 0)
+        pthread_attr_setschedparam(to, &priority);
+    // Without a choice it is of all that a set has, which is more than the process may be allowed.
+    if (pthread_attr_getaffinity_np(from, sizeof processors, &processors) == 0 &&
+        CPU_COUNT(&processors) < CPU_SETSIZE)
+        pthread_attr_setaffinity_np(to, sizeof processors, &processors);
 }
 
 static void deliver(struct registration *it)
@@ -186,12 +212,14 @@ static struct registration *make_registration(struct ipcd *client, size_t number
     made->client = client;
     made->number = number;
     made->event = *event;
-    made->has_attributes = event->sigev_notify == SIGEV_THREAD && event->sigev_notify_attributes != NULL;
-    if (made->has_attributes)
-        made->attributes = *event->sigev_notify_attributes;
+    pthread_attr_init(&made->attributes);
+    pthread_attr_setdetachstate(&made->attributes, PTHREAD_CREATE_DETACHED);
+    if (event->sigev_notify == SIGEV_THREAD && event->sigev_notify_attributes != NULL)
+        copy_attributes(&made->attributes, event->sigev_notify_attributes);
     made->link = mmap(NULL, sizeof *made->link, PROT_READ | PROT_WRITE, MAP_PRIVATE | MAP_ANONYMOUS, -1, 0);
     if (made->link != MAP_FAILED)
         return made;
+    pthread_attr_destroy(&made->attributes);
     free(made);
     errno = ENOMEM;
     return NULL;
@@ -205,10 +233,13 @@ static int refusal_of(const struct sigevent *event)
         return EFAULT;
     if (event->sigev_notify == SIGEV_SIGNAL)
         return event->sigev_signo < 0 || event->sigev_signo > SIGRTMAX ? EINVAL : 0;
-    return event->sigev_notify == SIGEV_NONE || event->sigev_notify == SIGEV_THREAD ? 0 : EINVAL;
+    const pthread_attr_t *attributes = event->sigev_notify_attributes;
+    if (event->sigev_notify == SIGEV_THREAD)
+        return attributes != NULL && !is_readable(attributes, sizeof *attributes) ? EFAULT : 0;
+    return event->sigev_notify == SIGEV_NONE ? 0 : EINVAL;
 }
 
-int ipcd_mq_notify(mqd_t mqdes, const struct sigevent *sevp)
+static int make_or_end(mqd_t mqdes, const struct sigevent *sevp)
 {
     struct ipcd *client = current_client();
     size_t number = mqdes < FIRST_DESCRIPTOR ? HANDLES : (size_t) (mqdes - FIRST_DESCRIPTOR);
@@ -223,6 +254,9 @@ int ipcd_mq_notify(mqd_t mqdes, const struct sigevent *sevp)
         end_each(client, number, handle->name);
         return 0;
     }
+    // The connection that is there may have ended: then that is said first, as of each call.
+    if (ipcd_mq_getattr(mqdes, &(struct mq_attr){0}) < 0)
+        return -1;
     int saved = errno;
     struct registration *made = make_registration(client, number, sevp);
     if (made == NULL)
@@ -235,4 +269,12 @@ int ipcd_mq_notify(mqd_t mqdes, const struct sigevent *sevp)
     }
     errno = saved;
     return 0;
+}
+
+int ipcd_mq_notify(mqd_t mqdes, const struct sigevent *sevp)
+{
+    int cancellation = hold_cancellation();
+    int result = make_or_end(mqdes, sevp);
+    allow_cancellation(cancellation);
+    return result;
 }

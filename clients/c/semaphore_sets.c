@@ -36,18 +36,24 @@ int ipcd_semtimedop(int semid, struct sembuf *sops, size_t nsops, const struct t
         errno = refusal;
         return -1;
     }
+    // The server counts from the begin of the millisecond in which it reads the request: of that a part is over.
+    if (limit > 0 && limit < NO_TIME - 1)
+        limit++;
     struct link *link = begin(SEMOP);
     if (link == NULL)
         return -1;
     put_u32(link, (uint32_t) semid);
     put_u64(link, limit);
+    enum waiting waiting = ANSWERED_AT_ONCE;
     for (size_t i = 0; i < nsops; i++) {
         put_u16(link, sops[i].sem_num);
         put_u16(link, (uint16_t) sops[i].sem_op);
         put_u16(link, (uint16_t) sops[i].sem_flg);
         link->has_undone = link->has_undone || (sops[i].sem_flg & SEM_UNDO);
+        if (sops[i].sem_op <= 0 && !(sops[i].sem_flg & IPC_NOWAIT))
+            waiting = ENDED_BY_HANDLERS;
     }
-    return end_empty(link, ENDED_BY_HANDLERS);
+    return end_empty(link, waiting);
 }
 
 int ipcd_semop(int semid, struct sembuf *sops, size_t nsops)
@@ -68,8 +74,12 @@ static int number_of(enum opcode opcode, int semid, int semnum)
 
 static int last_process(int semid, int semnum)
 {
+    int cancellation = hold_cancellation();
     int pid = number_of(SEM_GETPID, semid, semnum);
-    return pid < 0 ? -1 : system_pid(current_client()->path, (uint32_t) pid);
+    if (pid >= 0)
+        pid = system_pid(current_client()->path, (uint32_t) pid);
+    allow_cancellation(cancellation);
+    return pid;
 }
 
 static int set_value(int semid, int semnum, int value)

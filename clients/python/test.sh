@@ -1,5 +1,6 @@
 # The tests of the Python package on a built program, which is the one argument: that it compiles, its types where
-# mypy is installed, and then each script of `tests`. Nothing is installed, and nothing is left.
+# mypy is installed, and then the scripts of `tests`, side by side, since most of their time they wait. Nothing is
+# installed, and nothing is left.
 set -eu
 program=$(realpath "$1")
 cd "$(dirname "$0")"
@@ -14,7 +15,15 @@ if command -v mypy > "$folder/mypy"; then
 else
 	echo "clients: there is no mypy, so types are not checked"
 fi
-python3 tests/false_server.py
-for test in modules shell work_trial; do
-	python3 "tests/$test.py" "$program"
+
+tests="false_server modules shell work_trial"
+for test in $tests; do
+	(python3 "tests/$test.py" "$program" > "$folder/$test.said" 2>&1 && touch "$folder/$test.passed") &
 done
+wait
+failed=
+for test in $tests; do
+	cat "$folder/$test.said"
+	[ -e "$folder/$test.passed" ] || failed="$failed $test"
+done
+[ -z "$failed" ] || { echo "clients in Python: failed:$failed" >&2; exit 1; }

@@ -8,12 +8,20 @@ The programs stand in clients/c/out, where `make` puts them. It needs no network
 from __future__ import annotations
 
 import os
+import random
+import re
 import shutil
 import signal
+import socket
 import stat
 import subprocess
 import sys
+import textwrap
+import threading
 import time
+from collections.abc import Iterator
+from concurrent.futures import ThreadPoolExecutor
+from contextlib import contextmanager, suppress
 from pathlib import Path
 
 HERE = Path(__file__).resolve().parent
@@ -23,22 +31,27 @@ del sys.argv[2:]
 sys.path.insert(0, str(HERE.parents[2] / "tests"))
 sys.path.insert(0, str(HERE))
 
-from false_server import FAULTS, FalseServer  # noqa: E402
-from server import Server, check, in_a_folder, printed, run_tests, serving  # noqa: E402
+from false_server import FAULTS, HALF_AFTER_INTERRUPT, INTERRUPTED, TORN, Fault, FalseServer  # noqa: E402
+from server import Connection, Server, check, in_a_folder, printed, run_tests, serving, until  # noqa: E402
 
 SECONDS = 100
 RUN = str(OUT / "ipcd-run")
 CALLS = ["messages", "semaphore_sets", "posix_queues", "named_semaphores", "handlers"]
-PROCESSES = ["forks", "outlives", "threads", "crowd", "many_files", "users", "are_killed", "closes", "differs",
-             "one_too_many"]  # fmt: skip
-NOT_ON_KERNEL = {"closes", "differs", "one_too_many"}
-EACH_CALL = """
-    msgget msgsnd msgrcv msgctl_stat msgctl_set msgctl_rmid semget semop semtimedop getval
-    getpid getncnt getzcnt setval getall setall semctl_stat semctl_set semctl_rmid mq_open
-    mq_unlink mq_send mq_receive mq_getattr mq_setattr mq_notify mq_close sem_open sem_unlink
-    sem_wait sem_timedwait sem_trywait sem_post sem_getvalue sem_close shm_open shm_unlink
-    ftruncate pread pwrite fstat close
+PROCESSES = """
+    forks outlives threads many_threads crowd many_files users are_killed closes differs
+    one_too_many not_cancelled
 """.split()
+NOT_ON_KERNEL = {"closes", "differs", "one_too_many", "not_cancelled"}
+EACH_THAT_WAITS = """
+    msgsnd msgrcv semop semtimedop mq_send mq_receive mq_timedsend mq_timedreceive sem_wait
+    sem_timedwait sem_clockwait
+""".split()
+EACH_CALL = """
+    msgget msgctl_stat msgctl_set msgctl_rmid semget getval getpid getncnt getzcnt setval getall
+    setall semctl_stat semctl_set semctl_rmid mq_open mq_unlink mq_getattr mq_setattr mq_notify
+    mq_close sem_open sem_unlink sem_trywait sem_post sem_getvalue sem_close shm_open shm_unlink
+    ftruncate pread pwrite fstat close
+""".split() + EACH_THAT_WAITS
 
 
 def ends_well(*words: str, **environment: str) -> None:
@@ -66,20 +79,28 @@ def device() -> None:
     printed("format", "device")
 
 
+def all_end_well(lines: list[list[str]], **environment: str) -> None:
+    """Runs programs side by side. They have objects of their own, and most of their time they wait."""
+    with ThreadPoolExecutor(4) as pool:
+        for done in [pool.submit(ends_well, *words, **environment) for words in lines]:
+            done.result()
+
+
 def kernel_agrees() -> None:
     """What the tests want is what the kernel and the C library do."""
-    for name in CALLS:
-        ends_well(str(OUT / "tests" / name), ON_KERNEL="1")
+    lines = [[str(OUT / "tests" / name)] for name in reversed(CALLS)]
     for name in PROCESSES:
         if name not in NOT_ON_KERNEL and (name != "users" or os.geteuid() == 0):
-            ends_well(str(OUT / "tests" / "processes"), name, ON_KERNEL="1")
+            lines.append([str(OUT / "tests" / "processes"), name])
+    all_end_well(lines[: len(CALLS)], ON_KERNEL="1")
+    for words in lines[len(CALLS) :]:
+        ends_well(*words, ON_KERNEL="1")
 
 
 def library_calls() -> None:
     device()
     with serving(prepare=by_anybody):
-        for name in [*CALLS, "segments"]:
-            ends_well(str(OUT / "tests" / f"library_{name}"))
+        all_end_well([[str(OUT / "tests" / f"library_{name}")] for name in ["handlers", *CALLS[:-1], "segments"]])
 
 
 def memcheck() -> None:
@@ -88,18 +109,19 @@ def memcheck() -> None:
         print("clients: valgrind is not here, so its memcheck was not run")
         return
     device()
-    words = ["valgrind", "-q", "--error-exitcode=9", "--leak-check=full", "--show-leak-kinds=definite", "--log-fd=1",
-             f"--suppressions={HERE / 'memcheck.supp'}"]  # fmt: skip
+    words = ["valgrind", "-q", "--error-exitcode=9", "--leak-check=full", "--show-leak-kinds=definite",
+             "--log-file=memcheck.%p", f"--suppressions={HERE / 'memcheck.supp'}"]  # fmt: skip
+    programs = [[*words, str(OUT / "tests" / f"library_{name}")] for name in ["handlers", *CALLS[:-1], "segments"]]
     with serving(prepare=by_anybody):
-        for name in [*CALLS[:-1], "segments"]:
-            ends_well(*words, str(OUT / "tests" / f"library_{name}"), NO_BAD_ADDRESSES="1")
+        all_end_well([*programs, [*words, str(OUT / "tests" / "library_restart"), "killed"]], NO_BAD_ADDRESSES="1")
+    program = [*words, str(OUT / "tests" / "each_call")]
+    all_are_errors([(program, EACH_CALL[i % len(EACH_CALL)], "answered", it) for i, it in enumerate(FAULTS[::2])])
 
 
 def redirected_calls() -> None:
     device()
     with serving(prepare=by_anybody):
-        for name in CALLS:
-            ends_well(RUN, str(OUT / "tests" / name))
+        all_end_well([[RUN, str(OUT / "tests" / name)] for name in reversed(CALLS)])
 
 
 def processes() -> None:
@@ -123,10 +145,21 @@ def without_a_server() -> None:
 
 
 def restarts() -> None:
+    """The server is killed before each call and in each that waits: it is told once, and then the call is done."""
+    program = str(OUT / "tests" / "restart")
+    library = str(OUT / "tests" / "library_restart")
+    for words, count in (([RUN, program], 50), ([library, "segments"], 7)):
+        asked = around_restarts(words)
+        check(asked == count, f"{words}: {asked} restarts were asked, and not {count}")
+
+
+def around_restarts(words: list[str]) -> int:
+    """Runs a program that asks for restarts: how many it has asked for."""
     device()
     server = Server()
     program = subprocess.Popen(
-        [RUN, "--socket", "socket", str(OUT / "tests" / "restart")],
+        words,
+        env={**os.environ, "IPCD_SOCKET": os.path.abspath("socket")},
         stdin=subprocess.PIPE,
         stdout=subprocess.PIPE,
         stderr=subprocess.PIPE,
@@ -145,10 +178,33 @@ def restarts() -> None:
             program.stdin.flush()
         said = program.stderr.read()
         check((program.wait(SECONDS), said) == (0, ""), f"after {asked} restarts: {said}")
-        check(asked == 24, f"{asked} restarts were asked")
+        return asked
     finally:
         program.kill()
         server.process.kill()
+
+
+def killed_in_each_call() -> None:
+    """No process of a client is left at the server: 64 others find room."""
+    device()
+    with serving(prepare=by_anybody):
+        ends_well(RUN, str(OUT / "tests" / "restart"), "killed")
+        connections = [Connection("socket") for _ in range(64)]
+        silent = list(connections)
+        until(lambda: all_say_hello(silent), "processes are left")
+        for connection in connections:
+            connection.close()
+
+
+def all_say_hello(silent: list[Connection]) -> bool:
+    """Whether there is room for the processes of all these connections. Those that have had it are taken off."""
+    try:
+        while silent:
+            silent[-1].hello(0, 0)
+            silent.pop()
+    except OSError:
+        return False
+    return True
 
 
 def until_one_waits(program: subprocess.Popen[str]) -> None:
@@ -160,22 +216,36 @@ def until_one_waits(program: subprocess.Popen[str]) -> None:
     time.sleep(0.1)
 
 
+def is_answered_an_error(program: list[str], call: str, at: str, fault: Fault) -> None:
+    with FalseServer(fault, call, at) as false:
+        ended = subprocess.run(
+            [*program, call, at],
+            env={**os.environ, "IPCD_SOCKET": false.path},
+            capture_output=True,
+            text=True,
+            timeout=SECONDS,
+        )
+        what = f"{call}, {at}, of {fault.name}: {ended}"
+        check((ended.returncode, ended.stderr) == (0, ""), what)
+        check(int(ended.stdout) == fault.errno, what)
+        check(false.was_said and false.is_closed(), f"{what}: the connection is not closed")
+
+
+def all_are_errors(each: list[tuple[list[str], str, str, Fault]]) -> None:
+    with ThreadPoolExecutor(8) as pool:
+        for done in [pool.submit(is_answered_an_error, *one) for one in each]:
+            done.result()
+
+
 def false_servers() -> None:
     """Whatever comes ends in an error and a closed connection, never in a crash, a hang or an answer."""
-    for name in EACH_CALL:
-        for fault in FAULTS:
-            with FalseServer(fault, name in ("getall", "setall")) as false:
-                ended = subprocess.run(
-                    [OUT / "tests" / "each_call", name],
-                    env={**os.environ, "IPCD_SOCKET": false.path},
-                    capture_output=True,
-                    text=True,
-                    timeout=20,
-                )
-                what = f"{name} of {fault.name}: {ended}"
-                check((ended.returncode, ended.stderr) == (0, ""), what)
-                check(int(ended.stdout) == fault.errno, what)
-                check(false.was_said and false.is_closed(), f"{what}: the connection is not closed")
+    plain, hasty = [str(OUT / "tests" / "each_call")], [str(OUT / "tests" / "hasty_each_call")]
+    each = [(plain, name, "answered", fault) for name in ["hello", *EACH_CALL] for fault in FAULTS]
+    each += [(hasty, name, "answered", fault) for name in ["hello", *EACH_CALL] for fault in TORN]
+    each += [(plain, name, "interrupted", fault) for name in EACH_THAT_WAITS for fault in INTERRUPTED]
+    each += [(hasty, name, "interrupted", fault) for name in EACH_THAT_WAITS for fault in HALF_AFTER_INTERRUPT]
+    all_are_errors(each)
+    print(f"clients: {len(each)} answers of a false server, each an error of its call")
 
 
 def refuses_programs() -> None:
@@ -210,29 +280,228 @@ def refuses_programs() -> None:
     check(ended.stdout == f"{os.getcwd()}/here\n", f"sh: {ended}")
 
 
-def names_of(library: str) -> set[str]:
-    listed = subprocess.run(["nm", "-D", "--defined-only", OUT / library], capture_output=True, text=True)
+def names_of(library: Path) -> set[str]:
+    listed = subprocess.run(["nm", "-D", "--defined-only", library], capture_output=True, text=True)
     return {line.split()[2].partition("@")[0] for line in listed.stdout.splitlines()}
 
 
+# What the C library has of these calls, and the library that is preloaded leaves to it.
+LEFT = {"sem_init", "sem_destroy", "shm_open", "shm_unlink", "__shm_get_name"}
+
+
 def exports() -> None:
-    """The library that is preloaded has names of the C library's calls, the other the prefix, and both no more."""
-    names = names_of("libipcd-preload.so")
-    wanted = """
-        msgget msgsnd msgrcv msgctl semget semop semtimedop semctl mq_open __mq_open_2 mq_close
-        mq_unlink mq_send mq_timedsend mq_receive mq_timedreceive mq_getattr mq_setattr
-        mq_notify sem_open sem_close sem_unlink sem_wait sem_trywait sem_timedwait sem_clockwait
-        sem_post sem_getvalue close closefrom close_range dup2 dup3 setuid seteuid setreuid
-        setresuid setgid setegid setregid setresgid sigaction siginterrupt signal bsd_signal
-        ssignal sigset
+    """The library that is preloaded has each name by which the C library has these calls, the other each with the
+    prefix, and both no more. They need the C library alone."""
+    preload, library = OUT / "libipcd-preload.so", OUT / "libipcd.so.0"
+    heard = """
+        close closefrom close_range dup2 dup3 setuid seteuid setreuid setresuid setgid setegid
+        setregid setresgid sigaction siginterrupt signal bsd_signal ssignal sigset
     """.split()
-    check(names == set(wanted), f"{names ^ set(wanted)}")
-    names = names_of("libipcd.so")
-    check(all(name.startswith("ipcd_") for name in names) and len(names) > 35, f"{names}")
+    calls = names_of(preload) - set(heard)
+    check(len(calls) == 28 and names_of(preload) >= set(heard), f"{names_of(preload)}")
+    own = {name for it in c_library(preload) for name in names_of(it)}
+    wanted = {name for name in own if re.match(r"_*(msg(get|snd|rcv|ctl)|sem(get|op|timedop|ctl)|mq_|sem_|shm_)", name)}
+    check(calls == wanted - LEFT, f"{calls ^ wanted ^ LEFT}")
+    names = names_of(library)
+    prefixed = {name for name in calls if name != "__mq_open_2"}
+    others = "connect disconnect use shm_open shm_unlink ftruncate pread pwrite fstat close".split()
+    check(names == {f"ipcd_{name}" for name in [*prefixed, *others]}, f"{names}")
+    words = ["nm", "-D", "--undefined-only", OUT / "tests" / "posix_queues"]
+    asked = subprocess.run(words, capture_output=True, text=True).stdout
+    check("__mq_open_2" in asked, f"the test of POSIX queues is not fortified: {asked}")
+    table = (HERE.parents[2] / "docs/COMPATIBILITY.md").read_text()
+    page = (HERE.parent / "libipcd.3").read_text()
+    for name in [*prefixed, *heard, *(LEFT - {"__shm_get_name"})]:
+        check(re.search(rf"\b{name}\b", table) is not None, f"COMPATIBILITY.md has no {name}")
+    check(all(name in page for name in names), "libipcd(3) does not have each name")
+    for file, soname in ((preload, "libipcd-preload.so"), (library, "libipcd.so.0")):
+        said = subprocess.run(["readelf", "-d", file], capture_output=True, text=True).stdout
+        check(f"soname: [{soname}]" in said, f"{file}: {said}")
+        needed = re.findall(r"NEEDED.*\[(.*)\]", said)
+        check(all(re.match(r"(libc|libpthread|libdl|librt|ld-linux.*)\.so", name) for name in needed), f"{needed}")
 
 
-TESTS = [exports, refuses_programs, kernel_agrees, library_calls, memcheck, redirected_calls, processes,
-         without_a_server, restarts, false_servers]  # fmt: skip
+def c_library(file: Path) -> list[Path]:
+    """The files of the C library with which a library is loaded."""
+    said = subprocess.run(["ldd", file], capture_output=True, text=True).stdout
+    found = re.findall(r"(?:libc|libpthread|librt)\.so\S* => (\S+)", said)
+    check(found != [], f"{file}: {said}")
+    return [Path(name) for name in found]
+
+
+def installs() -> None:
+    """What is installed runs and compiles from there, and its pages are rendered without a warning."""
+    top = Path("top").resolve()
+    apart = {name: text for name, text in os.environ.items() if not name.startswith(("MAKE", "MFLAGS"))}
+    words = ["make", "-s", "-C", str(HERE.parent), "install", f"DESTDIR={top}", "PREFIX=/usr"]
+    ended = subprocess.run(words, capture_output=True, text=True, env=apart)
+    check((ended.returncode, ended.stderr) == (0, ""), f"{ended}")
+    device()
+    with serving(prepare=by_anybody):
+        ends_well(str(top / "usr/bin/ipcd-run"), str(OUT / "tests" / "messages"))
+        compiles_there(top)
+    renders(top)
+
+
+def compiles_there(top: Path) -> None:
+    """A program finds header and library by pkg-config, if that is here."""
+    Path("asks.c").write_text("""
+        #include <ipcd.h>
+        #include <errno.h>
+        int main(void) { return ipcd_msgget(1, 0) == -1 && errno == ENOENT ? 0 : 1; }
+    """)
+    flags = [f"-I{top}/usr/include", f"-L{top}/usr/lib", "-lipcd"]
+    if shutil.which("pkg-config") is None:
+        print("clients: pkg-config is not here, so its file was not read")
+    else:
+        where = {**os.environ, "PKG_CONFIG_PATH": f"{top}/usr/lib/pkgconfig", "PKG_CONFIG_SYSROOT_DIR": str(top)}
+        said = subprocess.run(["pkg-config", "--cflags", "--libs", "ipcd"], capture_output=True, text=True, env=where)
+        check(said.returncode == 0 and "-lipcd" in said.stdout, f"{said}")
+        flags = said.stdout.split()
+        # The folders of the system are left out, as they are for any package that is in them.
+        flags += [f"-I{top}/usr/include", f"-L{top}/usr/lib"]
+    subprocess.run([os.environ.get("CC", "cc"), "-Wall", "-Werror", "asks.c", "-o", "asks", *flags], check=True)
+    ends_well("./asks", LD_LIBRARY_PATH=f"{top}/usr/lib")
+
+
+def renders(top: Path) -> None:
+    if shutil.which("man") is None or not subprocess.run(["man", "--version"], capture_output=True, text=True).stdout:
+        print("clients: man is not here, so its pages were not rendered")
+        return
+    here = {**os.environ, "LC_ALL": "C.UTF-8", "MANWIDTH": "100", "PAGER": "cat", "MANPAGER": "cat"}
+    for name, words in (("man1/ipcd-run.1", "SOCKET.pids"), ("man3/libipcd.3", "ECONNRESET")):
+        line = ["man", "--warnings", "-l", str(top / "usr/share/man" / name)]
+        ended = subprocess.run(line, capture_output=True, text=True, env=here)
+        check((ended.returncode, ended.stderr) == (0, "") and words in ended.stdout, f"{name}: {ended}")
+
+
+def shown_in_readme() -> None:
+    """The lines of README.md, with the server killed between them."""
+    text = (HERE.parents[2] / "README.md").read_text()
+    lines = re.findall(r"^    \$ (ipcd-run .*)\n(?!    \$)((?:    .*\n)*)|^    \$ (ipcd-run .*)\n", text, re.M)
+    check(len(lines) == 2, f"{lines}")
+    if shutil.which("perl") is None or subprocess.run(["perl", "-MIPC::Msg", "-e", "1"], stderr=-3).returncode:
+        print("clients: perl is not here with IPC::Msg, so README's lines were not run")
+        return
+    device()
+    here = {**os.environ, "IPCD_SOCKET": os.path.abspath("socket"), "PATH": f"{OUT}:{os.environ['PATH']}"}
+    for first, printed_there, second in lines:
+        server = Server()
+        ended = subprocess.run(["sh", "-c", first or second], capture_output=True, text=True, env=here)
+        check((ended.returncode, ended.stderr) == (0, ""), f"{ended}")
+        check(ended.stdout == textwrap.dedent(printed_there), f"{ended}")
+        server.stop(signal.SIGKILL)
+
+
+def pids() -> None:
+    """Whom GETPID and msg_lspid name: living processes whose entries their own users have made, and else nobody."""
+    device()
+    program = [RUN, str(OUT / "tests" / "pids")]
+    with serving(prepare=by_anybody):
+        with named(program) as (process, said):
+            check(said == process.pid, f"{said} is the process, and not {process.pid}")
+            entry, text = only_entry()
+            check(stat.S_IMODE(os.stat("socket.pids").st_mode) == 0o1777, "the folder's mode")
+            for other in (f"{process.pid} 1", f"{process.pid}", "x", f"999999999 {text.split()[1]}", "0 0", "-1 5"):
+                replaces(entry, other)
+                check(asks(process) == int(entry.name), f"{other} counts")
+            replaces(entry, text)
+            check(asks(process) == process.pid, "the entry does not count any more")
+            if os.geteuid() == 0:
+                # Somebody else says so, who is not the process.
+                os.lchown(entry, 65534, 65534)
+                check(asks(process) == int(entry.name), "the entry of another counts")
+                os.lchown(entry, 0, 0)
+        check(os.listdir("socket.pids") == [], "an entry is left")
+        # Of one that has ended the server's number is said, also if its entry is left.
+        with named(program) as (process, _):
+            process.kill()
+            process.wait()
+            check(only_entry()[1].startswith(f"{process.pid} "), "the entry is of another")
+        with named(program, "last") as (process, said):
+            check(said not in (process.pid, 0) and said < 100, f"{said} is said of one that was killed")
+        # Without the folder there are no names.
+        shutil.rmtree("socket.pids")
+        Path("socket.pids").write_text("")
+        with named(program) as (process, said):
+            check(said < 100, f"{said} is said without a folder")
+        os.remove("socket.pids")
+
+
+@contextmanager
+def named(words: list[str], *more: str) -> Iterator[tuple[subprocess.Popen[str], int]]:
+    """A program that has sent a message, and the number that it says of who has sent last."""
+    here = {**os.environ, "IPCD_SOCKET": os.path.abspath("socket")}
+    pipes = dict.fromkeys(("stdin", "stdout"), subprocess.PIPE)
+    process = subprocess.Popen([*words, *more], text=True, env=here, **pipes)
+    try:
+        yield process, int(process.stdout.readline())
+        if process.poll() is None:
+            process.stdin.close()
+            check(process.wait(SECONDS) == 0, f"{words} ends with {process.returncode}")
+    finally:
+        process.kill()
+        process.wait()
+
+
+def asks(process: subprocess.Popen[str]) -> int:
+    process.stdin.write("again\n")
+    process.stdin.flush()
+    return int(process.stdout.readline())
+
+
+def only_entry() -> tuple[Path, str]:
+    entries = list(Path("socket.pids").iterdir())
+    check(len(entries) == 1, f"{entries}")
+    return entries[0], os.readlink(entries[0])
+
+
+def replaces(entry: Path, text: str) -> None:
+    entry.unlink()
+    entry.symlink_to(text)
+
+
+class Dribble:
+    """A socket that hands on what comes in small pieces, in each direction, to the server's."""
+
+    def __init__(self) -> None:
+        self._listening = socket.socket(socket.AF_UNIX, socket.SOCK_STREAM)
+        self._listening.bind("dribble")
+        self._listening.listen(64)
+        os.chmod("dribble", 0o777)
+        threading.Thread(target=self._accept, daemon=True).start()
+
+    def _accept(self) -> None:
+        while True:
+            client, _ = self._listening.accept()
+            server = socket.socket(socket.AF_UNIX, socket.SOCK_STREAM)
+            server.connect("socket")
+            for ends in ((client, server), (server, client)):
+                threading.Thread(target=self._hand_on, args=ends, daemon=True).start()
+
+    def _hand_on(self, source: socket.socket, sink: socket.socket) -> None:
+        sizes = random.Random(1)
+        with suppress(OSError):
+            while data := source.recv(sizes.choice((1, 2, 5, 11, 20, 27, 2000))):
+                sink.sendall(data)
+                # Else the next ones come before this one is read.
+                time.sleep(0.0005)
+        for end in (source, sink):
+            with suppress(OSError):
+                end.shutdown(socket.SHUT_RDWR)
+
+
+def pieces() -> None:
+    """Frames come in pieces, of some bytes or parts of a body, and answers are the same."""
+    device()
+    with serving(prepare=by_anybody):
+        Dribble()
+        for name in ("messages", "semaphore_sets", "named_semaphores", "segments"):
+            ends_well(str(OUT / "tests" / f"library_{name}"), IPCD_SOCKET=os.path.abspath("dribble"))
+
+
+TESTS = [exports, refuses_programs, installs, kernel_agrees, library_calls, pieces, memcheck, redirected_calls,
+         processes, pids, shown_in_readme, without_a_server, restarts, killed_in_each_call, false_servers]  # fmt: skip
 
 if __name__ == "__main__":
     with in_a_folder(300):

@@ -1,11 +1,13 @@
 // One call of the library, named by the first word, over a server that says anything: whether it answered an error,
-// and that another call after it is made over another connection. It prints the error's number, or 0.
+// and that another call after it is made over another connection. It prints the error's number, or 0. If the second
+// word is `interrupted`, a handler runs while the call waits.
 #define _GNU_SOURCE
 #include <fcntl.h>
 #include <sys/ipc.h>
 #include <sys/msg.h>
 #include <sys/sem.h>
 #include <sys/stat.h>
+#include <sys/time.h>
 
 #include "../ipcd.h"
 #include "check.h"
@@ -33,6 +35,24 @@ static long timed_wait(void)
     return ipcd_sem_timedwait(sem, &soon);
 }
 
+static long clock_wait(void)
+{
+    struct timespec soon = moment(CLOCK_MONOTONIC, 1);
+    return ipcd_sem_clockwait(sem, CLOCK_MONOTONIC, &soon);
+}
+
+static long timed_send(void)
+{
+    struct timespec soon = moment(CLOCK_REALTIME, 1);
+    return ipcd_mq_timedsend(letters, "text", 4, 1, &soon);
+}
+
+static long timed_receive(void)
+{
+    struct timespec soon = moment(CLOCK_REALTIME, 1);
+    return ipcd_mq_timedreceive(letters, message.text, 8192, NULL, &soon);
+}
+
 static const char *wanted;
 
 #define CALL(name, expression) \
@@ -40,6 +60,7 @@ static const char *wanted;
 
 static long system_v(void)
 {
+    CALL("hello", ipcd_msgget(1, 0))
     CALL("msgget", ipcd_msgget(1, 0))
     CALL("msgsnd", ipcd_msgsnd(1, &message, 5, 0))
     CALL("msgrcv", ipcd_msgrcv(1, &message, 8192, 0, 0))
@@ -68,6 +89,8 @@ static long posix(void)
     CALL("mq_unlink", ipcd_mq_unlink("/q"))
     CALL("mq_send", ipcd_mq_send(letters, "text", 4, 1))
     CALL("mq_receive", ipcd_mq_receive(letters, message.text, 8192, NULL))
+    CALL("mq_timedsend", timed_send())
+    CALL("mq_timedreceive", timed_receive())
     CALL("mq_getattr", ipcd_mq_getattr(letters, &attributes))
     CALL("mq_setattr", ipcd_mq_setattr(letters, &attributes, NULL))
     CALL("mq_notify", ipcd_mq_notify(letters, &silent))
@@ -76,6 +99,7 @@ static long posix(void)
     CALL("sem_unlink", ipcd_sem_unlink("/s"))
     CALL("sem_wait", ipcd_sem_wait(sem))
     CALL("sem_timedwait", timed_wait())
+    CALL("sem_clockwait", clock_wait())
     CALL("sem_trywait", ipcd_sem_trywait(sem))
     CALL("sem_post", ipcd_sem_post(sem))
     CALL("sem_getvalue", get_value())
@@ -90,15 +114,36 @@ static long posix(void)
     return -2;
 }
 
-int main(int count, char **words)
+static void open_all(void)
 {
-    alarm(20);
-    CHECK(count == 2);
-    wanted = words[1];
     letters = ipcd_mq_open("/q", O_RDWR);
     sem = ipcd_sem_open("/s", 0);
     segment = ipcd_shm_open("/m", O_RDWR, 0);
     CHECK(letters != -1 && sem != SEM_FAILED && segment != -1);
+}
+
+static void handle(int number)
+{
+    (void) number;
+}
+
+static void ring_in_the_call(void)
+{
+    struct sigaction action = {.sa_handler = handle};
+    struct itimerval again = {{0, 50000}, {0, 50000}};
+    CHECK(sigaction(SIGALRM, &action, NULL) == 0 && setitimer(ITIMER_REAL, &again, NULL) == 0);
+}
+
+int main(int count, char **words)
+{
+    CHECK(count == 3);
+    wanted = words[1];
+    if (strcmp(wanted, "hello") != 0)
+        open_all();
+    if (strcmp(words[2], "interrupted") == 0)
+        ring_in_the_call();
+    else
+        alarm(20);
     long result = system_v();
     if (result == -2)
         result = posix();

@@ -1,4 +1,4 @@
-"""A server that answers each request as a server would, but for the first that is no open: to that it says anything."""
+"""A server that answers each request as a server would, but for one: to that it says anything."""
 
 from __future__ import annotations
 
@@ -10,13 +10,14 @@ import threading
 from collections.abc import Callable
 from typing import NamedTuple
 
-HELLO, MSGGET, SEM_STAT, OPENS = 0x01, 0x0A, 0x1D, (0x28, 0x32, 0x3C)
+HELLO, INTERRUPT, MSGGET, SEM_STAT, OPENS = 0x01, 0x02, 0x0A, 0x1D, (0x28, 0x32, 0x3C)
 KNOWN = b"/q", b"/s", b"/m"
 AFTER = 0x69706341
 
 
 class Fault(NamedTuple):
-    """What is said of a request with a serial, whether the stream ends then, and the error of the call."""
+    """What is said of a request with a serial, whether the stream ends then, and the error of the call. Of one that
+    is interrupted the serial is that of the call, and the next one that of the INTERRUPT."""
 
     name: str
     says: Callable[[int], bytes]
@@ -26,6 +27,10 @@ class Fault(NamedTuple):
 
 def reply(serial: int, error: int = 0, body: bytes = b"") -> bytes:
     return struct.pack(">IIH", 6 + len(body), serial, error) + body
+
+
+def eintr(serial: int) -> bytes:
+    return reply(serial, errno.EINTR)
 
 
 FAULTS = [
@@ -49,14 +54,46 @@ FAULTS = [
     Fault("a notification unasked", lambda serial: reply(0, 0, bytes(8)), False, errno.EPROTO),
 ]
 
+# A part of a frame, and then nothing: the library waits for the rest, but not for ever.
+TORN = [
+    Fault("a torn length", lambda serial: b"\0\0", False, errno.EPROTO),
+    Fault("a torn head", lambda serial: reply(serial)[:9], False, errno.EPROTO),
+    Fault("a torn body", lambda serial: reply(serial, 0, bytes(20))[:-1], False, errno.EPROTO),
+]
+
+# What comes after an INTERRUPT in place of the two replies.
+INTERRUPTED = [
+    Fault("the end", lambda serial: b"", True, errno.ECONNRESET),
+    Fault("the end in mid-frame", lambda serial: eintr(serial)[:7], True, errno.ECONNRESET),
+    Fault("the end after EINTR", lambda serial: eintr(serial), True, errno.ECONNRESET),
+    Fault("the end in the second", lambda serial: eintr(serial) + reply(serial + 1)[:5], True, errno.ECONNRESET),
+    Fault("another serial", lambda serial: eintr(serial + 7), False, errno.EPROTO),
+    Fault("the second first", lambda serial: reply(serial + 1) + eintr(serial), False, errno.EPROTO),
+    Fault("another second", lambda serial: eintr(serial) + reply(serial + 2), False, errno.EPROTO),
+    Fault("EINTR twice", lambda serial: eintr(serial) + eintr(serial), False, errno.EPROTO),
+    Fault("a second refused", lambda serial: eintr(serial) + eintr(serial + 1), False, errno.EPROTO),
+    Fault("a second with a body", lambda serial: eintr(serial) + reply(serial + 1, 0, b"a"), False, errno.EPROTO),
+    Fault("EINTR with a body", lambda serial: reply(serial, 4, b"a") + reply(serial + 1), False, errno.EPROTO),
+    Fault("EPROTO", lambda serial: reply(serial + 1, errno.EPROTO), True, errno.EPROTO),
+    Fault("EIO", lambda serial: reply(0, errno.EIO), True, errno.EIO),
+]
+HALF_AFTER_INTERRUPT = [
+    Fault("no second", lambda serial: eintr(serial), False, errno.EPROTO),
+    Fault("a torn second", lambda serial: eintr(serial) + reply(serial + 1)[:9], False, errno.EPROTO),
+]
+
 
 class FalseServer:
-    def __init__(self, fault: Fault, has_a_set: bool) -> None:
-        """With a set it says how many semaphores that has, three."""
-        self.path = os.path.abspath("false")
+    def __init__(self, fault: Fault, call: str, at: str) -> None:
+        """The fault comes in answer to the first request that is no open; to a HELLO, if the call is `hello`; or to
+        the INTERRUPT of a call that is `at` it."""
+        self.path = os.path.abspath(f"false.{threading.get_ident()}")
         self.was_said = False
         self._fault = fault
-        self._has_a_set = has_a_set
+        # It says how many semaphores a set has, three.
+        self._has_a_set = call in ("getall", "setall")
+        self._refuses_hello = call == "hello"
+        self._waits = at == "interrupted"
         self._pid = 0
         self._closed = threading.Event()
         self._listening = socket.socket(socket.AF_UNIX, socket.SOCK_STREAM)
@@ -86,15 +123,19 @@ class FalseServer:
             threading.Thread(target=self._serve, args=(connection,), daemon=True).start()
 
     def _serve(self, connection: socket.socket) -> None:
+        waiting = 0
         with connection, connection.makefile("rb") as stream:
             while len(head := stream.read(9)) == 9:
                 length, serial, opcode = struct.unpack(">IIB", head)
                 fields = stream.read(length - 5)
                 answer = self._answer(serial, opcode, fields)
-                if answer is None:
-                    self._say_fault(connection, stream, serial)
+                if answer is not None:
+                    connection.sendall(answer)
+                elif self._waits and opcode != INTERRUPT:
+                    waiting = serial
+                else:
+                    self._say_fault(connection, stream, waiting or serial)
                     return
-                connection.sendall(answer)
 
     def _say_fault(self, connection: socket.socket, stream: object, serial: int) -> None:
         self.was_said = True
@@ -110,7 +151,7 @@ class FalseServer:
 
     def _answer(self, serial: int, opcode: int, fields: bytes) -> bytes | None:
         """What a server answers, or None if this is the request for the fault."""
-        if opcode == HELLO:
+        if opcode == HELLO and not (self._refuses_hello and not self.was_said):
             self._pid += 1
             return reply(serial, 0, struct.pack(">I", self._pid))
         if opcode in OPENS and fields[-2:] in KNOWN:

@@ -10,7 +10,7 @@
 
 #include "check.h"
 
-enum { RACES = 1000 };
+enum { RACES = 1000, FEW_RACES = 100 };
 
 struct message {
     long type;
@@ -19,6 +19,7 @@ struct message {
 };
 
 static struct message message = {.type = 1};
+static int races = RACES;
 static volatile sig_atomic_t handled;
 static int queue, set;
 static mqd_t full, empty;
@@ -97,8 +98,14 @@ static void let_go_on(void *unused)
     CHECK(mq_send(empty, "came", 4, 1) == 0);
     pause_for(0.4);
     CHECK(mq_receive(full, buffer, sizeof buffer, NULL) == 1);
+    for (int i = 0; i < 3; i++) {
+        pause_for(0.4);
+        CHECK(sem_post(sem) == 0);
+    }
     pause_for(0.4);
-    CHECK(sem_post(sem) == 0);
+    CHECK(mq_send(empty, "in time", 7, 1) == 0);
+    pause_for(0.4);
+    CHECK(mq_receive(full, buffer, sizeof buffer, NULL) == 1);
 }
 
 static void posix_with_restart(void)
@@ -111,6 +118,19 @@ static void posix_with_restart(void)
     CHECK(mq_send(full, "x", 1, 0) == 0 && handled == 1);
     ring();
     CHECK(sem_wait(sem) == 0 && handled == 1);
+    struct timespec later = moment(CLOCK_REALTIME, 20), much_later = moment(CLOCK_MONOTONIC, 20);
+    // The C library ends these two, other than signal(7) has it.
+    int ended = is_on_kernel() ? EINTR : 0;
+    ring();
+    CHECK((sem_timedwait(sem, &later) == 0 ? 0 : errno) == ended && handled == 1);
+    CHECK(ended == 0 || sem_wait(sem) == 0);
+    ring();
+    CHECK((sem_clockwait(sem, CLOCK_MONOTONIC, &much_later) == 0 ? 0 : errno) == ended && handled == 1);
+    CHECK(ended == 0 || sem_wait(sem) == 0);
+    ring();
+    CHECK(mq_timedreceive(empty, buffer, sizeof buffer, NULL, &later) == 7 && handled == 1);
+    ring();
+    CHECK(mq_timedsend(full, "y", 1, 0, &later) == 0 && handled == 1);
     ends_well(child);
 }
 
@@ -137,7 +157,7 @@ static void calls_in_a_handler(void)
 static void send_all(void *unused)
 {
     (void) unused;
-    for (message.number = 0; message.number < RACES; message.number++) {
+    for (message.number = 0; message.number < races; message.number++) {
         pause_for(rand() % 400 / 1e6);
         CHECK(msgsnd(queue, &message, sizeof message.number, 0) == 0);
     }
@@ -150,7 +170,7 @@ static void drops_no_message(void)
     handle_with(0);
     message.type = 1;
     pid_t child = start(send_all, NULL);
-    for (int i = 0; i < RACES;) {
+    for (int i = 0; i < races;) {
         ring_after(20 + rand() % 400);
         ssize_t size = msgrcv(queue, &message, sizeof message.number, 0, 0);
         if (size < 0) {
@@ -170,6 +190,9 @@ static void drops_no_message(void)
 int main(void)
 {
     struct mq_attr one = {.mq_maxmsg = 1, .mq_msgsize = 8};
+    // Memcheck is slow.
+    if (!tries_bad_addresses())
+        races = FEW_RACES;
     // What a run before this has left.
     mq_unlink("/ipcd_full"), mq_unlink("/ipcd_empty"), sem_unlink("/ipcd_h");
     queue = msgget(IPC_PRIVATE, 0600);

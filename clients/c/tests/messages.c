@@ -80,6 +80,7 @@ static void refuses_what_is_wrong(int queue)
     REFUSED(msgget(-1, 0600), ENOENT);
     REFUSED(msgctl(queue, 99, NULL), EINVAL);
     REFUSED(msgrcv(queue, &buffer, 8, 0, MSG_COPY), EINVAL);
+    REFUSED(msgrcv(queue, &buffer, 8, 0, MSG_COPY | MSG_EXCEPT | IPC_NOWAIT), EINVAL);
     if (!is_on_kernel()) {
         CHECK(send_text(queue, 4, "stays", 0) == 0);
         REFUSED(msgrcv(queue, &buffer, 8, 0, MSG_COPY | IPC_NOWAIT), ENOSYS);
@@ -178,9 +179,18 @@ static void waits(int queue)
     ends_well(child);
 }
 
+// Removes what a run before this has left.
+static void clear(key_t key)
+{
+    int queue = msgget(key, 0);
+    if (queue >= 0)
+        msgctl(queue, IPC_RMID, NULL);
+}
+
 int main(void)
 {
     alarm(60);
+    clear(0x69706301), clear(0x69706303);
     makes_and_finds();
     int queue = msgget(0x69706303, IPC_CREAT | IPC_EXCL | 0640);
     CHECK(queue >= 0);

@@ -37,8 +37,15 @@ static void opens(void)
     sem_t *second = sem_open("/ipcd_s", O_CREAT, 0600, 9);
     CHECK(second == first && value_of(second) == 2);
     CHECK(sem_close(second) == 0);
+    // The C library takes it with any number of slashes.
+    second = sem_open("ipcd_s", 0);
+    CHECK(second != SEM_FAILED && value_of(second) == 2 && sem_close(second) == 0);
+    second = sem_open("///ipcd_s", O_CREAT, 0600, 9);
+    CHECK(second != SEM_FAILED && value_of(second) == 2 && sem_close(second) == 0);
+    REFUSED(opened(sem_open("", 0)), EINVAL);
     CHECK(sem_post(first) == 0 && value_of(first) == 3);
-    CHECK(sem_unlink("/ipcd_s") == 0);
+    CHECK(sem_unlink("ipcd_s") == 0);
+    REFUSED(sem_unlink("/ipcd_s"), ENOENT);
     CHECK(value_of(first) == 3);
     sem_t *other = sem_open("/ipcd_s", O_CREAT | O_EXCL, 0600, 7);
     CHECK(other != SEM_FAILED && other != first && value_of(other) == 7 && value_of(first) == 3);
@@ -112,6 +119,8 @@ static void leaves_unnamed_ones(void)
 int main(void)
 {
     alarm(60);
+    // What a run before this has left.
+    sem_unlink("/ipcd_s"), sem_unlink("/ipcd_t");
     opens();
     counts();
     leaves_unnamed_ones();

@@ -3,6 +3,8 @@
 #include <fcntl.h>
 #include <mqueue.h>
 #include <poll.h>
+#include <pthread.h>
+#include <sched.h>
 #include <sys/stat.h>
 
 #include "check.h"
@@ -85,7 +87,9 @@ static void has_flags(void)
     double began = now();
     REFUSED(mq_timedsend(queue, "c", 1, 0, &soon), ETIMEDOUT);
     CHECK(now() - began > 0.25 && now() - began < 2);
-    mqd_t reader = mq_open("/ipcd_b", O_RDONLY);
+    // What the C library's headers cannot see is a call of another name, if they are fortified.
+    volatile int access = O_RDONLY;
+    mqd_t reader = mq_open("/ipcd_b", access);
     mqd_t writer = mq_open("/ipcd_b", O_WRONLY | O_NONBLOCK);
     CHECK(reader != -1 && writer != -1 && reader != writer && reader != queue);
     REFUSED(mq_send(reader, "x", 1, 0), EBADF);
@@ -126,6 +130,38 @@ static void is_told(volatile int *place)
     CHECK(*place == 1);
 }
 
+static volatile int stack_is_small;
+
+static void look_at_stack(union sigval value)
+{
+    pthread_attr_t own;
+    size_t size = 0;
+    int state = 0;
+    (void) value;
+    CHECK(pthread_getattr_np(pthread_self(), &own) == 0 && pthread_attr_getstacksize(&own, &size) == 0);
+    CHECK(pthread_attr_getdetachstate(&own, &state) == 0 && state == PTHREAD_CREATE_DETACHED);
+    pthread_attr_destroy(&own);
+    stack_is_small = size <= 300000 ? 1 : 2;
+}
+
+// A function's thread has the attributes that are given, though they are gone when it begins. Nobody has to join it.
+static void has_attributes(mqd_t queue)
+{
+    pthread_attr_t attributes;
+    cpu_set_t processors;
+    CHECK(pthread_attr_init(&attributes) == 0 && pthread_attr_setstacksize(&attributes, 262144) == 0);
+    CHECK(sched_getaffinity(0, sizeof processors, &processors) == 0);
+    CHECK(pthread_attr_setaffinity_np(&attributes, sizeof processors, &processors) == 0);
+    struct sigevent event = {.sigev_notify = SIGEV_THREAD, .sigev_notify_function = look_at_stack};
+    event.sigev_notify_attributes = &attributes;
+    CHECK(mq_notify(queue, &event) == 0);
+    CHECK(pthread_attr_destroy(&attributes) == 0);
+    memset(&attributes, 0x55, sizeof attributes);
+    is_sent(queue, "d", 0);
+    is_told(&stack_is_small);
+    comes(queue, "d", 0);
+}
+
 static void notifies(void)
 {
     mqd_t queue = mq_open("/ipcd_c", O_RDWR | O_CREAT | O_NONBLOCK, 0600, NULL);
@@ -153,6 +189,7 @@ static void notifies(void)
     is_sent(queue, "c", 0);
     is_told(&has_run);
     comes(queue, "c", 0);
+    has_attributes(queue);
     event = (struct sigevent){.sigev_notify = SIGEV_NONE};
     CHECK(mq_notify(queue, &event) == 0);
     REFUSED(mq_notify(queue, &event), EBUSY);
@@ -178,6 +215,12 @@ static void refuses_bad_addresses(void)
     REFUSED(mq_timedsend(queue, "a", 1, 0, (struct timespec *) 8), EFAULT);
     REFUSED(mq_getattr(queue, (struct mq_attr *) 8), EFAULT);
     REFUSED(mq_setattr(queue, (struct mq_attr *) 8, NULL), EFAULT);
+    if (!is_on_kernel()) {
+        struct sigevent event = {.sigev_notify = SIGEV_THREAD, .sigev_notify_function = run};
+        event.sigev_notify_attributes = (void *) 8;
+        REFUSED(mq_notify(queue, &event), EFAULT);
+        REFUSED(mq_notify(queue, (struct sigevent *) 8), EFAULT);
+    }
     is_sent(queue, "a", 0);
     REFUSED(mq_receive(queue, (char *) 8, 8192, NULL), EFAULT);
     CHECK(mq_close(queue) == 0 && mq_unlink("/ipcd_d") == 0);
@@ -201,6 +244,8 @@ static void is_no_file(void)
 int main(void)
 {
     alarm(60);
+    // What a run before this has left.
+    mq_unlink("/ipcd_a"), mq_unlink("/ipcd_b"), mq_unlink("/ipcd_c"), mq_unlink("/ipcd_d"), mq_unlink("/ipcd_e");
     opens();
     keeps_order();
     has_flags();

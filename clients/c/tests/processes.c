@@ -10,12 +10,14 @@
 #include <sys/resource.h>
 #include <sys/sem.h>
 #include <sys/stat.h>
+#include <sys/syscall.h>
+#include <dirent.h>
 
 #include "check.h"
 
 extern char **environ;
 
-enum { CROWD = 60, LIMIT = 64 };
+enum { CROWD = 60, LIMIT = 64, THREADS = 100 };
 
 struct message {
     long type;
@@ -69,9 +71,53 @@ static void run_true(void)
     CHECK(system("exit 0") == 0);
 }
 
+static int sockets_open(void)
+{
+    int count = 0;
+    char path[300], text[16] = "";
+    DIR *folder = opendir("/proc/self/fd");
+    CHECK(folder != NULL);
+    for (struct dirent *entry; (entry = readdir(folder)) != NULL;) {
+        snprintf(path, sizeof path, "/proc/self/fd/%s", entry->d_name);
+        count += readlink(path, text, sizeof text) > 7 && memcmp(text, "socket:", 7) == 0;
+    }
+    closedir(folder);
+    return count;
+}
+
+// A child by a call of the system alone is another process all the same, and has left its parent's socket.
+static void is_another(pid_t (*fork_by)(void))
+{
+    struct message message = {1, 1};
+    struct msqid_ds record;
+    CHECK(msgsnd(queue, &message, 4, 0) == 0);
+    int before = sockets_open();
+    pid_t child = fork_by();
+    CHECK(child >= 0);
+    if (child == 0) {
+        CHECK(msgsnd(queue, &message, 4, 0) == 0);
+        CHECK(msgctl(queue, IPC_STAT, &record) == 0 && record.msg_lspid == getpid());
+        CHECK(sockets_open() == before);
+        _exit(0);
+    }
+    ends_well(child);
+    CHECK(msgsnd(queue, &message, 4, 0) == 0 && sockets_open() == before);
+    CHECK(msgctl(queue, IPC_STAT, &record) == 0 && record.msg_lspid == getpid() && record.msg_qnum == 3);
+    for (int i = 0; i < 3; i++)
+        CHECK(msgrcv(queue, &message, 4, 0, IPC_NOWAIT) == 4);
+}
+
+static pid_t fork_by_clone(void)
+{
+    return (pid_t) syscall(SYS_clone, SIGCHLD, NULL, NULL, NULL, 0);
+}
+
 // A child has what is open, and what it has to undo is its own.
 static void forks(void)
 {
+    is_another(fork);
+    is_another(_Fork);
+    is_another(fork_by_clone);
     struct mq_attr attributes = {.mq_maxmsg = 3, .mq_msgsize = 8};
     mq_unlink("/ipcd_letters"), sem_unlink("/ipcd_turn");
     letters = mq_open("/ipcd_letters", O_RDWR | O_CREAT, 0600, &attributes);
@@ -170,6 +216,37 @@ static void threads(void)
     CHECK(mq_unlink("/ipcd_letters") == 0 && sem_unlink("/ipcd_turn") == 0);
 }
 
+static pthread_barrier_t begun;
+
+static void *call_shortly(void *number)
+{
+    struct message message = {1 + *(int *) number, 0};
+    pthread_barrier_wait(&begun);
+    for (int i = 0; i < 3; i++) {
+        CHECK(change(0, 1, SEM_UNDO) == 0);
+        message.number = i;
+        CHECK(msgsnd(queue, &message, sizeof message.number, 0) == 0);
+        CHECK(msgrcv(queue, &message, sizeof message.number, message.type, 0) == 4 && message.number == i);
+        CHECK(change(0, -1, SEM_UNDO) == 0);
+    }
+    return NULL;
+}
+
+// More threads call at once than a server has processes. None has to wait, so they share a few.
+static void many_threads(void)
+{
+    pthread_t them[THREADS];
+    int numbers[THREADS];
+    CHECK(pthread_barrier_init(&begun, NULL, THREADS) == 0);
+    for (int i = 0; i < THREADS; i++) {
+        numbers[i] = i;
+        CHECK(pthread_create(&them[i], NULL, call_shortly, &numbers[i]) == 0);
+    }
+    for (int i = 0; i < THREADS; i++)
+        CHECK(pthread_join(them[i], NULL) == 0);
+    CHECK(semctl(set, 0, GETVAL) == 0);
+}
+
 static void talk(void *number)
 {
     struct message message = {1000 + *(int *) number, *(int *) number};
@@ -193,6 +270,101 @@ static void crowd(void)
         ends_well(children[i]);
 }
 
+// What each call does if there is no connection for it. The last ones are of what is open.
+static struct msqid_ds queue_record;
+static struct semid_ds set_record;
+static unsigned short values[3];
+static struct sembuf up = {0, 1, 0};
+static struct timespec second = {1, 0}, over = {1, 0};
+static struct mq_attr attributes;
+static struct message letter = {1, 1};
+static char place[8192];
+
+union argument {
+    int value;
+    unsigned short *values;
+    struct semid_ds *record;
+};
+
+static long call_msgget(void) { return msgget(1, 0); }
+static long call_msgsnd(void) { return msgsnd(1, &letter, 4, 0); }
+static long call_msgrcv(void) { return msgrcv(1, &letter, 4, 0, 0); }
+static long call_msg_stat(void) { return msgctl(1, IPC_STAT, &queue_record); }
+static long call_msg_set(void) { return msgctl(1, IPC_SET, &queue_record); }
+static long call_msg_remove(void) { return msgctl(1, IPC_RMID, NULL); }
+static long call_semget(void) { return semget(1, 1, 0); }
+static long call_semop(void) { return semop(1, &up, 1); }
+static long call_semtimedop(void) { return semtimedop(1, &up, 1, &second); }
+static long call_getval(void) { return semctl(1, 0, GETVAL); }
+static long call_getpid(void) { return semctl(1, 0, GETPID); }
+static long call_getncnt(void) { return semctl(1, 0, GETNCNT); }
+static long call_getzcnt(void) { return semctl(1, 0, GETZCNT); }
+static long call_setval(void) { return semctl(1, 0, SETVAL, (union argument){.value = 1}); }
+static long call_getall(void) { return semctl(1, 0, GETALL, (union argument){.values = values}); }
+static long call_setall(void) { return semctl(1, 0, SETALL, (union argument){.values = values}); }
+static long call_sem_stat(void) { return semctl(1, 0, IPC_STAT, (union argument){.record = &set_record}); }
+static long call_sem_set(void) { return semctl(1, 0, IPC_SET, (union argument){.record = &set_record}); }
+static long call_sem_remove(void) { return semctl(1, 0, IPC_RMID); }
+static long call_mq_open(void) { return mq_open("/ipcd", O_RDONLY); }
+static long call_mq_unlink(void) { return mq_unlink("/ipcd"); }
+static long call_sem_open(void) { return sem_open("/ipcd", 0) == SEM_FAILED ? -1 : 0; }
+static long call_sem_unlink(void) { return sem_unlink("/ipcd"); }
+static long call_mq_send(void) { return mq_send(letters, "a", 1, 0); }
+static long call_mq_timedsend(void) { return mq_timedsend(letters, "a", 1, 0, &over); }
+static long call_mq_receive(void) { return mq_receive(letters, place, sizeof place, NULL); }
+static long call_mq_timedreceive(void) { return mq_timedreceive(letters, place, sizeof place, NULL, &over); }
+static long call_mq_getattr(void) { return mq_getattr(letters, &attributes); }
+static long call_mq_setattr(void) { return mq_setattr(letters, &attributes, NULL); }
+static long call_mq_notify(void) { return mq_notify(letters, &(struct sigevent){.sigev_notify = SIGEV_NONE}); }
+static long call_sem_wait(void) { return sem_wait(turn); }
+static long call_sem_trywait(void) { return sem_trywait(turn); }
+static long call_sem_timedwait(void) { return sem_timedwait(turn, &over); }
+static long call_sem_clockwait(void) { return sem_clockwait(turn, CLOCK_MONOTONIC, &over); }
+static long call_sem_post(void) { return sem_post(turn); }
+static long call_sem_getvalue(void) { int value; return sem_getvalue(turn, &value); }
+
+typedef long call(void);
+enum { OF_WHAT_IS_OPEN = 23 };
+
+static call *const calls[] = {
+    call_msgget, call_msgsnd, call_msgrcv, call_msg_stat, call_msg_set, call_msg_remove, call_semget, call_semop,
+    call_semtimedop, call_getval, call_getpid, call_getncnt, call_getzcnt, call_setval, call_getall, call_setall,
+    call_sem_stat, call_sem_set, call_sem_remove, call_mq_open, call_mq_unlink, call_sem_open, call_sem_unlink,
+    call_mq_send, call_mq_timedsend, call_mq_receive, call_mq_timedreceive, call_mq_getattr, call_mq_setattr,
+    call_mq_notify, call_sem_wait, call_sem_trywait, call_sem_timedwait, call_sem_clockwait, call_sem_post,
+    call_sem_getvalue,
+};
+enum { CALLS = sizeof calls / sizeof *calls };
+
+struct refused {
+    size_t number;
+    int error;
+};
+
+static void is_refused(void *argument)
+{
+    struct refused *it = argument;
+    errno = 0;
+    long result = calls[it->number]();
+    if (result == -1 && errno == it->error)
+        return;
+    fprintf(stderr, "call %zu is %ld, %s, and not %s\n", it->number, result, strerror(errno), strerror(it->error));
+    exit(1);
+}
+
+// The first calls, each in a process of its own, are all refused so.
+static void are_refused(size_t count, int error)
+{
+    pid_t children[CALLS];
+    struct refused each;
+    for (size_t i = 0; i < count; i++) {
+        each = (struct refused){i, error};
+        children[i] = start(is_refused, &each);
+    }
+    for (size_t i = 0; i < count; i++)
+        ends_well(children[i]);
+}
+
 static void stay(void *place)
 {
     char byte = msgget(0x69706399, 0) == -1 && errno == ENOENT ? 'y' : 'n';
@@ -200,34 +372,26 @@ static void stay(void *place)
     pause();
 }
 
-// No call has room for a process more. Another ends, and then there is.
+// No call has room for a process more, also none of what a child has open. Another ends, and then there is.
 static void one_too_many(void)
 {
     int ends[2];
-    pid_t children[LIMIT];
+    pid_t children[LIMIT - 1];
     char byte = 0;
-    struct message message = {1, 1};
-    struct sembuf operation = {0, 1, 0};
-    CHECK(pipe(ends) == 0);
-    for (int i = 0; i < LIMIT; i++) {
+    letters = mq_open("/ipcd_letters", O_RDWR | O_CREAT, 0600, NULL);
+    turn = sem_open("/ipcd_turn", O_CREAT, 0600, 0);
+    CHECK(letters != -1 && turn != SEM_FAILED && pipe(ends) == 0);
+    for (int i = 0; i < LIMIT - 1; i++) {
         children[i] = start(stay, ends);
         CHECK(read(ends[0], &byte, 1) == 1 && byte == 'y');
     }
-    REFUSED(msgget(1, 0), ENFILE);
-    REFUSED(msgsnd(1, &message, 4, 0), ENFILE);
-    REFUSED(msgrcv(1, &message, 4, 0, 0), ENFILE);
-    REFUSED(msgctl(1, IPC_RMID, NULL), ENFILE);
-    REFUSED(semget(1, 1, 0), ENFILE);
-    REFUSED(semop(1, &operation, 1), ENFILE);
-    REFUSED(semctl(1, 0, GETVAL), ENFILE);
-    REFUSED(mq_open("/ipcd", O_RDONLY), ENFILE);
-    REFUSED(mq_unlink("/ipcd"), ENFILE);
-    CHECK(sem_open("/ipcd", 0) == SEM_FAILED && errno == ENFILE);
-    REFUSED(sem_unlink("/ipcd"), ENFILE);
+    are_refused(CALLS, ENFILE);
     CHECK(kill(children[0], SIGKILL) == 0 && waitpid(children[0], NULL, 0) == children[0]);
-    REFUSED(msgget(0x69706399, 0), ENOENT);
-    for (int i = 1; i < LIMIT; i++)
+    children[0] = start(stay, ends);
+    CHECK(read(ends[0], &byte, 1) == 1 && byte == 'y');
+    for (int i = 0; i < LIMIT - 1; i++)
         CHECK(kill(children[i], SIGKILL) == 0 && waitpid(children[i], NULL, 0) == children[i]);
+    CHECK(mq_unlink("/ipcd_letters") == 0 && sem_unlink("/ipcd_turn") == 0);
 }
 
 // A program that closes what it has not opened, and opens files of its own there.
@@ -277,6 +441,7 @@ static void be_another(void *unused)
     struct msqid_ds record;
     CHECK(own >= 0 && msgctl(own, IPC_STAT, &record) == 0);
     CHECK(record.msg_perm.uid == 65534 && record.msg_perm.cgid == 65534);
+    CHECK(msgsnd(own, &message, 4, 0) == 0 && msgctl(own, IPC_STAT, &record) == 0 && record.msg_lspid == getpid());
     CHECK(msgctl(own, IPC_RMID, NULL) == 0);
 }
 
@@ -285,6 +450,9 @@ static void users(void)
 {
     umask(027);
     mq_unlink("/ipcd_masked"), sem_unlink("/ipcd_masked");
+    queue = msgget(0x69706321, 0);
+    if (queue >= 0)
+        msgctl(queue, IPC_RMID, NULL);
     queue = msgget(0x69706321, IPC_CREAT | IPC_EXCL | 0600);
     mqd_t letter = mq_open("/ipcd_masked", O_RDWR | O_CREAT, 0777, NULL);
     sem_t *sem = sem_open("/ipcd_masked", O_CREAT, 0666, 1);
@@ -302,19 +470,7 @@ static void users(void)
 
 static void absent(void)
 {
-    struct message message = {1, 1};
-    struct sembuf operation = {0, 1, 0};
-    REFUSED(msgget(1, 0), ECONNREFUSED);
-    REFUSED(msgsnd(1, &message, 4, 0), ECONNREFUSED);
-    REFUSED(msgrcv(1, &message, 4, 0, 0), ECONNREFUSED);
-    REFUSED(msgctl(1, IPC_RMID, NULL), ECONNREFUSED);
-    REFUSED(semget(1, 1, 0), ECONNREFUSED);
-    REFUSED(semop(1, &operation, 1), ECONNREFUSED);
-    REFUSED(semctl(1, 0, GETVAL), ECONNREFUSED);
-    REFUSED(mq_open("/ipcd", O_RDONLY), ECONNREFUSED);
-    REFUSED(mq_unlink("/ipcd"), ECONNREFUSED);
-    CHECK(sem_open("/ipcd", 0) == SEM_FAILED && errno == ECONNREFUSED);
-    REFUSED(sem_unlink("/ipcd"), ECONNREFUSED);
+    are_refused(OF_WHAT_IS_OPEN, ECONNREFUSED);
 }
 
 static mqd_t full, empty;
@@ -352,6 +508,30 @@ static void are_killed(void)
     CHECK(mq_receive(full, text, 8, NULL) == 5 && mq_getattr(full, &attributes) == 0 && attributes.mq_curmsgs == 0);
     CHECK(sem_post(none) == 0 && sem_trywait(none) == 0);
     CHECK(mq_unlink("/ipcd_full") == 0 && mq_unlink("/ipcd_empty") == 0 && sem_unlink("/ipcd_none") == 0);
+}
+
+static void *receive_and_end(void *place)
+{
+    struct message message;
+    CHECK(msgrcv(queue, &message, sizeof message.number, 7, 0) == 4);
+    *(int *) place = message.number;
+    pthread_testcancel();
+    return NULL;
+}
+
+// Else the call would wait on without its thread, and take a message that nobody gets.
+static void is_not_cancelled(void)
+{
+    pthread_t waits;
+    struct message message = {7, 77};
+    int number = 0;
+    void *result;
+    CHECK(pthread_create(&waits, NULL, receive_and_end, &number) == 0);
+    pause_for(0.2);
+    CHECK(pthread_cancel(waits) == 0);
+    pause_for(0.1);
+    CHECK(msgsnd(queue, &message, sizeof message.number, 0) == 0);
+    CHECK(pthread_join(waits, &result) == 0 && result == PTHREAD_CANCELED && number == 77);
 }
 
 static void find_none(void *unused)
@@ -393,9 +573,10 @@ static const struct {
     bool wants_objects;
 } tests[] = {
     {"forks", forks, true}, {"outlives", leaves_though_a_child_lives, true}, {"threads", threads, true},
-    {"crowd", crowd, true}, {"one_too_many", one_too_many, false}, {"closes", closes, true},
+    {"many_threads", many_threads, true}, {"crowd", crowd, true}, {"one_too_many", one_too_many, false},
+    {"closes", closes, true},
     {"many_files", has_many_files, false}, {"users", users, false}, {"absent", absent, false},
-    {"are_killed", are_killed, true}, {"differs", differs, true},
+    {"are_killed", are_killed, true}, {"differs", differs, true}, {"not_cancelled", is_not_cancelled, true},
 };
 
 int main(int count, char **words)

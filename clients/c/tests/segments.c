@@ -36,7 +36,7 @@ static void keeps_bytes(void)
     REFUSED(ipcd_pread(segment, buffer, 1, -1), EINVAL);
     REFUSED(ipcd_ftruncate(segment, -1), EINVAL);
     REFUSED(ipcd_ftruncate(segment, (off_t) 1 << 40), ENOSPC);
-    int reader = ipcd_shm_open("/ipcd_m", O_RDONLY, 0);
+    int reader = ipcd_shm_open("ipcd_m", O_RDONLY, 0);
     CHECK(reader >= 0 && reader != segment);
     REFUSED(ipcd_pwrite(reader, "a", 1, 0), EBADF);
     REFUSED(ipcd_ftruncate(reader, 1), EBADF);

@@ -33,7 +33,7 @@ def parser() -> argparse.ArgumentParser:
     ls.add_argument("-q", "--queues", action="store_true", help="message queues alone")
     ls.add_argument("-s", "--semaphores", action="store_true", help="semaphore sets alone")
     named(ls, KINDS, many=True)
-    ls.add_argument("--device", help="the objects of a device that no server has, by `ipcd list`")
+    ls.add_argument("--device", help="the objects of a device that no server has, by the program")
     ls.add_argument("--program", default="ipcd", help="the program for --device, default: %(default)s")
     watch = commands.add_parser("top", help="lists them again and again, with rates")
     watch.add_argument("-d", "--delay", type=float, default=1.0, help="seconds between two pages")
@@ -203,9 +203,12 @@ def rm(connection: Connection, given: argparse.Namespace) -> int:
 
 
 def of_device(given: argparse.Namespace) -> int:
-    """What the program lists of a device, if it has that command."""
+    """What the program lists of a device, by its command `list`, or `dump` if it has no such."""
     try:
-        return subprocess.run([given.program, "list", given.device]).returncode
+        helped = subprocess.run([given.program, "--help"], capture_output=True, text=True)
+        words = [line.split()[0] for line in helped.stdout.splitlines() if line.strip()]
+        command = "dump" if "dump" in words and "list" not in words else "list"
+        return subprocess.run([given.program, command, given.device]).returncode
     except OSError as refusal:
         print(f"ipcd: {given.program}: {refusal.strerror}", file=sys.stderr)
         return 1

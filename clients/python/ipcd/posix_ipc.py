@@ -16,7 +16,7 @@ import struct
 import time
 from collections.abc import Callable, Iterator
 from contextlib import contextmanager
-from typing import Any, Optional, Union
+from typing import Any, ContextManager, Optional, Union
 
 from . import session
 from .connection import Connection
@@ -197,6 +197,9 @@ class _Object:
         """Opens it by its name on a further connection."""
         return self._open(connection, 0)
 
+    def _use(self, waits: bool = False, keep: Optional[session.Keep] = None) -> ContextManager[session.Lane]:
+        return session.use(waits, keep, self._token)
+
     def _descriptor(self, lane: session.Lane) -> int:
         if self._closed:
             raise OSError(errno.EBADF, "the object is closed")
@@ -242,19 +245,19 @@ class Semaphore(_Object):
         def take_back(connection: Connection, body: bytes) -> None:
             connection.sem_post(fd)
 
-        with _refusals(_USE), session.use(end != 0, take_back) as lane:
+        with _refusals(_USE), self._use(end != 0, take_back) as lane:
             fd = self._descriptor(lane)
             lane.wait_until_done(sem_trywait_request(fd) if end == 0 else sem_wait_request(fd, end))
 
     def release(self) -> None:
         """Adds 1 to the value."""
-        with _refusals(_USE), session.use() as lane:
+        with _refusals(_USE), self._use() as lane:
             lane.connection.sem_post(self._descriptor(lane))
 
     @property
     def value(self) -> int:
         """The value. Read only."""
-        with _refusals(_USE), session.use() as lane:
+        with _refusals(_USE), self._use() as lane:
             return lane.connection.sem_getvalue(self._descriptor(lane))
 
     def close(self) -> None:
@@ -328,7 +331,7 @@ class MessageQueue(_Object):
             raise ValueError(f"The priority must be between 0 and {QUEUE_PRIORITY_MAX}")
         text = message.encode() if isinstance(message, str) else bytes(memoryview(message))
         end = self._until(timeout)
-        with _refusals(_USE), session.use(waits=end != 0) as lane:
+        with _refusals(_USE), self._use(waits=end != 0) as lane:
             lane.wait_until_done(mq_send_request(self._descriptor(lane), text, priority, end))
 
     def receive(self, timeout: Optional[float] = None) -> tuple[bytes, int]:
@@ -336,7 +339,7 @@ class MessageQueue(_Object):
         if self._kept:
             return self._kept.pop(0)
         end = self._until(timeout)
-        with _refusals(_USE), session.use(end != 0, self._keep) as lane:
+        with _refusals(_USE), self._use(end != 0, self._keep) as lane:
             body = lane.wait(mq_receive_request(self._descriptor(lane), _ANY_SIZE, end))
             priority, text = lane.connection.number_and_text(">I", body, _ANY_SIZE)
         return text, priority
@@ -371,7 +374,7 @@ class MessageQueue(_Object):
             _notifier.register(self._token, self._again, told)
 
     def _attributes(self) -> MqAttr:
-        with _refusals(_USE), session.use() as lane:
+        with _refusals(_USE), self._use() as lane:
             return lane.connection.mq_getattr(self._descriptor(lane))
 
     @property
@@ -418,7 +421,7 @@ class SharedMemory(_Object):
         with _refusals(_OPEN):
             super().__init__(name, flags)
         if size and not read_only:
-            with _refusals(_SEGMENT), session.use() as lane:
+            with _refusals(_SEGMENT), self._use() as lane:
                 lane.connection.ftruncate(self._descriptor(lane), size)
 
     def _open(self, connection: Connection, flags: int) -> int:
@@ -436,14 +439,14 @@ class SharedMemory(_Object):
     @property
     def size(self) -> int:
         """How many bytes it has. Read only."""
-        with _refusals(_SEGMENT), session.use() as lane:
+        with _refusals(_SEGMENT), self._use() as lane:
             return lane.connection.shm_stat(self._descriptor(lane)).length
 
     def pread(self, n: int, offset: int) -> bytes:
         """So many bytes from an offset on, fewer at the end, as os.pread of a file. Of more than 8192 each 8192 are
         as they were at one moment."""
         pieces = []
-        with _refusals(_SEGMENT), session.use() as lane:
+        with _refusals(_SEGMENT), self._use() as lane:
             fd = self._descriptor(lane)
             end = min(offset + n, lane.connection.shm_stat(fd).length)
             for at in range(offset, end, _PIECE):
@@ -452,7 +455,7 @@ class SharedMemory(_Object):
 
     def pwrite(self, data: bytes, offset: int) -> int:
         """Writes bytes at an offset, all within the segment, and answers how many. Each 8192 are written at once."""
-        with _refusals(_SEGMENT), session.use() as lane:
+        with _refusals(_SEGMENT), self._use() as lane:
             fd = self._descriptor(lane)
             if offset + len(data) > lane.connection.shm_stat(fd).length:
                 raise ValueError("The bytes do not all stand within the segment")

@@ -3,7 +3,8 @@
 A connection is one process of the server, and a process of the server has one call at a time. So there is
 one connection at first, and one more when a thread calls while each of the others waits. All are kept to the
 end of the process, and a child after a fork makes its own. The socket is that of IPCD_SOCKET, or else
-/run/ipcd/socket; user and group are the effective ones when a connection is made.
+/run/ipcd/socket. User and group are the effective ones of the moment: after they have changed, calls go by another
+connection, but for those on an object that is open.
 """
 
 from __future__ import annotations
@@ -39,6 +40,7 @@ class Lane:
     """A connection, and the descriptors of its process, by the tokens of the objects that have opened them."""
 
     def __init__(self, waits: bool) -> None:
+        self.user = (os.geteuid(), os.getegid())
         self.connection = connect()
         self.thread = threading.get_ident()
         self.busy, self.waits = True, waits
@@ -93,9 +95,9 @@ _pipe_file: Optional[tuple[int, int]] = None
 
 
 @contextmanager
-def use(waits: bool = False, keep: Optional[Keep] = None) -> Iterator[Lane]:
-    """A connection for one call, which may wait or not."""
-    lane = _take(waits)
+def use(waits: bool = False, keep: Optional[Keep] = None, token: Optional[int] = None) -> Iterator[Lane]:
+    """A connection for one call, which may wait or not, on an object with a token or without one."""
+    lane = _take(waits, token)
     try:
         lane.close_what_is_closed()
         yield lane
@@ -129,17 +131,19 @@ def forget(token: int) -> None:
         _give_back(lane)
 
 
-def _take(waits: bool) -> Lane:
-    """A connection that nobody uses. While one is used for a call that does not wait, that is waited for; if
-    there is none, one more is made."""
-    me = threading.get_ident()
+def _take(waits: bool, token: Optional[int]) -> Lane:
+    """A connection of this user that nobody uses, or one on which the object is open. While one is used for a call
+    that does not wait, that is waited for; if there is none, one more is made."""
+    me, user = threading.get_ident(), (os.geteuid(), os.getegid())
     with _change:
         while True:
-            for lane in _lanes:
+            fit = [lane for lane in _lanes if token in lane.descriptors]
+            fit += [lane for lane in _lanes if lane.user == user and lane not in fit]
+            for lane in fit:
                 if not lane.busy:
                     lane.busy, lane.waits, lane.thread = True, waits, me
                     return lane
-            if all(lane.waits or lane.thread == me for lane in _lanes):
+            if all(lane.waits or lane.thread == me for lane in fit):
                 break
             _change.wait()
         lane = Lane(waits)

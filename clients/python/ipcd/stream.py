@@ -231,14 +231,14 @@ class Stream:
             self._unanswered.remove(serial)
         elif serial:
             self._strange.add(serial)
-        if error:
-            return serial, error, body
-        if serial == 0:
-            self._notifications.append(self._cookie(body))
-        elif serial in self._interrupts:
+        if serial in self._interrupts and error != errno.EPROTO:
             self._interrupts.remove(serial)
-        else:
+            if error or body:
+                self.breaks("an answer to an interrupt that is none")
+            return None
+        if error or serial:
             return serial, error, body
+        self._notifications.append(self._cookie(body))
         return None
 
     def _cookie(self, body: bytes) -> tuple[int, int]:

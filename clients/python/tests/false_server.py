@@ -51,6 +51,23 @@ FAULTS: dict[str, tuple[Fault, type[BaseException], Optional[int]]] = {
     "EIO": ((lambda serial: reply(0, errno.EIO), True), ServerFault, errno.EIO),
 }
 
+# What comes after an INTERRUPT, by the serials of the call and of the INTERRUPT, and whether the stream ends then.
+INTERRUPTED: dict[str, tuple[Callable[[int, int], bytes], bool]] = {
+    "the end": (lambda call, own: b"", True),
+    "the end after EINTR": (lambda call, own: reply(call, errno.EINTR), True),
+    "the end in the second": (lambda call, own: reply(call, errno.EINTR) + reply(own, 0)[:7], True),
+    "a torn EINTR": (lambda call, own: reply(call, errno.EINTR)[:7], False),
+    "a torn second": (lambda call, own: reply(call, errno.EINTR) + reply(own, 0)[:9], False),
+    "EINTR of another": (lambda call, own: reply(call + 7, errno.EINTR), False),
+    "EINTR twice": (lambda call, own: 2 * reply(call, errno.EINTR), False),
+    "EINTR with a body": (lambda call, own: reply(call, errno.EINTR, b"a") + reply(own, 0), False),
+    "a second refused": (lambda call, own: reply(call, errno.EINTR) + reply(own, errno.EACCES), False),
+    "a second refused, first": (lambda call, own: reply(own, errno.EACCES) + reply(call, errno.EINTR), False),
+    "a second with a body": (lambda call, own: reply(call, errno.EINTR) + reply(own, 0, b"a"), False),
+    "EPROTO": (lambda call, own: reply(own, errno.EPROTO), True),
+    "EIO": (lambda call, own: reply(0, errno.EIO), True),
+}
+
 CALLS: dict[str, Callable[[Connection], object]] = {
     "msgget": lambda c: c.msgget(1, 0),
     "msgsnd": lambda c: c.msgsnd(1, 1, b"a"),
@@ -224,6 +241,48 @@ def no_server() -> None:
             check(raised.errno == error, f"{path}: {raised!r}")  # type: ignore[attr-defined]
 
 
+def says_after_an_interrupt(listener: socket.socket, says: Callable[[int, int], bytes], ends: bool) -> None:
+    client, _ = listener.accept()
+    waits = 0
+    with client, client.makefile("rb") as requests:
+        while head := requests.read(9):
+            size, serial, opcode = struct.unpack(">IIB", head)
+            requests.read(size - 5)
+            if opcode == 0x0C:
+                waits = serial
+            elif opcode == 0x02:
+                client.sendall(says(waits, serial))
+                if ends:
+                    return
+            elif opcode == 0x01:
+                client.sendall(reply(serial, 0, struct.pack(">I", 1)))
+
+
+def on_interrupts() -> int:
+    """The call that was interrupted says what is wrong, or was answered and the next one says it."""
+    for number, (fault, (says, ends)) in enumerate(INTERRUPTED.items()):
+        with socket.socket(socket.AF_UNIX) as listener:
+            listener.bind(f"after.{number}")
+            listener.listen()
+            words = (listener, says, ends)
+            threading.Thread(target=says_after_an_interrupt, args=words, daemon=True).start()
+            with Connection(f"after.{number}", patience=10 * PATIENCE) as connection:
+                connection.hello(1000, 100)
+                try:
+                    connection.msgrcv(1, 64, timeout=0.02)
+                    raise AssertionError(f"{fault} is an answer")
+                except (InterruptedError, ConnectionError):
+                    pass
+                if not connection.closed:
+                    try:
+                        connection.msgget(1, 0)
+                        raise AssertionError(f"the call after {fault} is answered")
+                    except ConnectionError:
+                        pass
+                check(connection.closed, f"the connection is open after {fault}")
+    return len(INTERRUPTED)
+
+
 def holds_back(listener: socket.socket) -> None:
     """A server that sends the reply to an INTERRUPT together with that to the request after it."""
     client, _ = listener.accept()
@@ -264,7 +323,7 @@ def main() -> None:
         os.chdir(folder)
         server = FalseServer("socket")
         begun = time.monotonic()
-        count = on_connections(server) + on_modules(server)
+        count = on_connections(server) + on_interrupts() + on_modules(server)
         replies_that_come_together()
         no_server()
         print(f"false_server: {count} wrong answers, each a named exception, {time.monotonic() - begun:.1f} s")

@@ -11,6 +11,7 @@ from __future__ import annotations
 import inspect
 import os
 import random
+import re
 import resource
 import signal
 import stat
@@ -31,6 +32,8 @@ from server import Server, check, in_a_folder, printed, run_tests, until
 TRANSCRIPT = str(Path(__file__).resolve().parent / "sysv_transcript.py")
 # Of the kernel's module these are its author's.
 NOT_OURS = {"__author__", "__copyright__", "__license__"}
+# What depends on the machine, of which nothing was written down.
+OF_MACHINE = re.compile("ftok ->|PAGE_SIZE ->")
 RACES = 200
 
 
@@ -86,11 +89,33 @@ def kernels() -> list[str]:
 
 
 def the_kernels_sysv_ipc() -> None:
-    """Names and behaviour are those of the kernel's module."""
+    """Names and behaviour are those of the kernel's module, or else behaviour is what was written down of it."""
     found = kernels()
-    if not found:
-        print("modules: sysv_ipc is not installed, so nothing is compared with the kernel's")
+    if found:
+        names_are_there(found)
+        kernel = transcript([*found, TRANSCRIPT, "kernel"])
+        check(len(kernel) > 150, f"{len(kernel)} lines are few")
+    elif os.geteuid() == 0:
+        print("modules: sysv_ipc is not installed: ours is compared with what it answered when that was written down")
+        kernel = Path(TRANSCRIPT).with_suffix(".txt").read_text().splitlines()[1:]
+    else:
+        print("modules: sysv_ipc is not installed, and uid 0's answers were written down, so nothing is compared")
         return
+    with served():
+        ours = transcript([sys.executable, TRANSCRIPT, "ipcd"])
+    if not found:
+        ours = [written_down(line) for line in ours if not OF_MACHINE.match(line)]
+    for theirs, line in zip(kernel, ours):
+        check(theirs == line, f"{line!r}, and the kernel's is {theirs!r}")
+    equals(len(ours), len(kernel))
+
+
+def written_down(line: str) -> str:
+    """A line as the file has it, in which texts that are long are short."""
+    return re.sub(r"x{20,}", lambda found: f"<{len(found[0])} x>", line)
+
+
+def names_are_there(found: list[str]) -> None:
     code = "import sysv_ipc as m; print(*dir(m), *(f'{c}.{n}' for c in dir(m) if c[0].isupper()"
     code += " and isinstance(getattr(m, c), type) for n in dir(getattr(m, c)) if n[0] != '_'))"
     names = subprocess.run([*found, "-c", code], capture_output=True, text=True, check=True).stdout.split()
@@ -103,12 +128,6 @@ def the_kernels_sysv_ipc() -> None:
         for part in name.split("."):
             check(part in dir(thing), f"there is no {name}")
             thing = inspect.getattr_static(thing, part)
-    with served():
-        runs = [transcript([*found, TRANSCRIPT, "kernel"]), transcript([sys.executable, TRANSCRIPT, "ipcd"])]
-    check(len(runs[0]) > 150, f"{len(runs[0])} lines are few")
-    for kernel, ours in zip(*runs):
-        check(kernel == ours, f"{ours!r}, and the kernel's is {kernel!r}")
-    equals(len(runs[1]), len(runs[0]))
 
 
 def transcript(words: list[str]) -> list[str]:
@@ -430,6 +449,25 @@ def interrupted_again_and_again() -> None:
     signal.signal(signal.SIGUSR1, before)
 
 
+def a_handler_with_and_without_restart() -> None:
+    """It ends a wait in both cases, as the kernel's msgrcv is ended."""
+    with served():
+        queue = sysv_ipc.MessageQueue(None, sysv_ipc.IPC_CREX)
+        named = posix_ipc.Semaphore("/handled", posix_ipc.O_CREX)
+        told: list[int] = []
+        before = signal.signal(signal.SIGUSR1, lambda number, _: told.append(number))
+        for ends in (True, False):
+            signal.siginterrupt(signal.SIGUSR1, ends)
+            for call, kind in ((queue.receive, sysv_ipc.Error), (named.acquire, posix_ipc.SignalError)):
+                threading.Timer(0.1, os.kill, (os.getpid(), signal.SIGUSR1)).start()
+                raises(call, kind)
+        equals(told, 4 * [signal.SIGUSR1])
+        queue.send("x")
+        named.release()
+        equals((queue.receive(), named.acquire()), ((b"x", 1), None))
+        signal.signal(signal.SIGUSR1, before)
+
+
 class Broken(Exception):
     pass
 
@@ -461,10 +499,15 @@ def broken_off() -> None:
 
 
 def feeds(feed: Callable[[Connection, int], object], other: Connection, number: int, pause: float) -> None:
-    """The thread of the other client takes no signal."""
-    signal.pthread_sigmask(signal.SIG_BLOCK, signal.valid_signals())
     time.sleep(pause)
     feed(other, number)
+
+
+def start_without_signals(thread: threading.Thread) -> None:
+    """A thread has the mask of who starts it. One that took a signal would break off what is masked in another."""
+    before = signal.pthread_sigmask(signal.SIG_BLOCK, signal.valid_signals())
+    thread.start()
+    signal.pthread_sigmask(signal.SIG_SETMASK, before)
 
 
 def breaks(
@@ -476,23 +519,25 @@ def breaks(
     rng = random.Random(1)
     answers: list[object] = []
     before = signal.signal(signal.SIGALRM, handler)
-    begun = time.monotonic()
+    waited = 0.0
     with Connection("socket") as other:
         other.hello(0, 0)
         for number in range(RACES):
             thread = threading.Thread(target=feeds, args=(feed, other, number, rng.uniform(0.0, 0.004)))
-            thread.start()
+            start_without_signals(thread)
+            begun = time.monotonic()
             try:
                 signal.setitimer(signal.ITIMER_REAL, rng.uniform(0.0005, 0.005))
                 answers.append(call())
                 signal.setitimer(signal.ITIMER_REAL, 0)
             except Broken:
                 pass
+            waited = max(waited, time.monotonic() - begun)
             thread.join()
     signal.signal(signal.SIGALRM, before)
     # The timer was that of the whole test.
     signal.alarm(100)
-    check(time.monotonic() - begun < 29, "a call that is broken off waits for a reply that does not come")
+    check(waited < 29, "a call that is broken off waits for a reply that does not come")
     check(0 < len(answers) < RACES, f"{len(answers)} of {RACES} calls are done, so there is no race")
     return answers
 
@@ -509,6 +554,93 @@ def a_mode_and_a_umask() -> None:
     os.umask(before)
 
 
+def users() -> None:
+    """Another user is refused what the mode does not give, from the moment in which the program is that user. What is
+    open stays open."""
+    if os.geteuid() != 0:
+        print("modules: this user is not root, so no other user is tried")
+        return
+
+    def as_another() -> None:
+        os.setegid(12345)
+        os.seteuid(12345)
+        try:
+            raises(lambda: queue.send("x"), sysv_ipc.PermissionsError)
+            raises(lambda: sysv_ipc.MessageQueue(88), sysv_ipc.PermissionsError)
+            raises(queue.remove, sysv_ipc.PermissionsError)
+            raises(lambda: posix_ipc.Semaphore("/roots"), posix_ipc.PermissionsError)
+            raises(lambda: posix_ipc.MessageQueue("/roots"), posix_ipc.PermissionsError)
+            raises(lambda: posix_ipc.SharedMemory("/roots"), posix_ipc.PermissionsError)
+            raises(named.unlink, posix_ipc.PermissionsError)
+            named.release()
+            jobs.send("open")
+            equals(memory.pread(2, 0), bytes(2))
+            own = sysv_ipc.MessageQueue(None, sysv_ipc.IPC_CREX)
+            equals((own.uid, own.gid), (12345, 12345))
+            own.remove()
+        finally:
+            os.seteuid(0)
+            os.setegid(0)
+
+    with served():
+        queue = sysv_ipc.MessageQueue(88, sysv_ipc.IPC_CREX, 0o600)
+        named = posix_ipc.Semaphore("/roots", posix_ipc.O_CREX)
+        jobs = posix_ipc.MessageQueue("/roots", posix_ipc.O_CREX)
+        memory = posix_ipc.SharedMemory("/roots", posix_ipc.O_CREX, size=10)
+        as_another()
+        queue.send("root's")
+        equals((queue.receive()[0], named.value, jobs.receive()[0]), (b"root's", 1, b"open"))
+        for thing in (queue.remove, named.unlink, jobs.unlink, memory.unlink):
+            thing()
+
+
+def killed_in_each_call() -> None:
+    """A process is killed in the midst of each call: what it had taken by undo is back, and no process is left."""
+    with served():
+        queue = sysv_ipc.MessageQueue(None, sysv_ipc.IPC_CREX)
+        sem = sysv_ipc.Semaphore(None, sysv_ipc.IPC_CREX, initial_value=1)
+        gate = sysv_ipc.Semaphore(None, sysv_ipc.IPC_CREX)
+        named = posix_ipc.Semaphore("/killed in", posix_ipc.O_CREX)
+        jobs = posix_ipc.MessageQueue("/killed in", posix_ipc.O_CREX, max_messages=1)
+        memory = posix_ipc.SharedMemory("/killed in", posix_ipc.O_CREX, size=10000)
+        sem.undo = True
+        calls: list[Callable[[], object]] = [
+            *(lambda: (queue.send("x"), queue.receive()), lambda: queue.mode, queue.receive, lambda: queue.send("x")),
+            *(lambda: (sem.acquire(), sem.release()), sem.acquire, gate.acquire, lambda: gate.value, gate.Z),
+            *(named.acquire, lambda: (named.release(), named.acquire()), lambda: named.value),
+            *(jobs.receive, lambda: jobs.send("x"), lambda: jobs.current_messages),
+            *(lambda: memory.pwrite(9000 * b"x", 0), lambda: memory.pread(9000, 0), lambda: memory.size),
+            *(lambda: posix_ipc.Semaphore("/killed in").close(), lambda: sysv_ipc.MessageQueue(None, 0o3000).remove()),
+        ]
+        rng = random.Random(2)
+        for call in calls:
+            child = os.fork()
+            if child == 0:
+                while True:
+                    call()
+            time.sleep(rng.uniform(0.005, 0.03))
+            os.kill(child, signal.SIGKILL)
+            equals(os.waitpid(child, 0)[1], signal.SIGKILL)
+        until(lambda: sem.value == 1, "what was taken does not come back")
+        equals((gate.waiting_for_nonzero, gate.waiting_for_zero), (0, 0))
+        held: list[Connection] = []
+        until(lambda: has_room(held, 63), "a process is left")
+        for connection in held:
+            connection.close()
+
+
+def has_room(held: list[Connection], count: int) -> bool:
+    """Whether so many connections are processes at once."""
+    try:
+        while len(held) < count:
+            connection = Connection("socket")
+            connection.hello(0, 0)
+            held.append(connection)
+    except OSError:
+        connection.close()
+    return len(held) == count
+
+
 def main() -> None:
     os.environ["IPCD_SOCKET"] = os.path.join(os.getcwd(), "socket")
     os.chmod(".", 0o755)
@@ -516,9 +648,10 @@ def main() -> None:
     tests += [notifications, two_threads_of_which_one_waits, a_fork, a_restart, more_than_the_limit]
     tests += [interrupted_again_and_again, sixty_processes, descriptors_that_the_program_closes]
     tests += [with_a_thousand_descriptors]
+    tests += [users, killed_in_each_call, a_handler_with_and_without_restart]
     run_tests("modules", [*tests, the_server_is_killed_in_each_wait, broken_off, a_mode_and_a_umask])
 
 
 if __name__ == "__main__":
-    with in_a_folder(150):
+    with in_a_folder(170):
         main()

@@ -16,7 +16,7 @@ from typing import Optional
 import setting
 from ipcd import IPC_CREAT, O_CREAT, O_RDWR, Connection, QueueStat, top
 from ipcd.__main__ import main as main_of_shell
-from server import check, in_a_folder, printed, run_tests, serving, until
+from server import PROGRAM, check, in_a_folder, printed, run_tests, serving, until
 
 ROOT = os.geteuid() == 0
 ME = os.popen("id -un").read().strip()
@@ -222,6 +222,13 @@ def without_a_server() -> None:
     os.chmod("list.sh", 0o755)
     says("ls --device device --program ./list.sh", "list of device\n", 3)
     says("ls --device device --program ./none", "", 1, "ipcd: ./none: No such file or directory\n")
+    wanted = "msg          1        1234 0600          0          0          2          1\n"
+    printed("format", "device")
+    with serving(), Connection("socket") as connection:
+        connection.hello(0, 0)
+        connection.msgsnd(connection.msgget(1234, IPC_CREAT | 0o600), 1, b"hi")
+    says(f"ls --device device --program {PROGRAM}", wanted)
+    check(says(f"ls --device none --program {PROGRAM}", "", 1, "ipcd: device fault\n") == "", "a device that is none")
 
 
 def main() -> None:
@@ -230,5 +237,5 @@ def main() -> None:
 
 if __name__ == "__main__":
     os.environ["PYTHONDONTWRITEBYTECODE"] = "1"
-    with in_a_folder(80):
+    with in_a_folder(170):
         main()

@@ -1,10 +1,10 @@
 """No job of ipcd.work is lost with a worker that is killed, nor with the server, on the built program as a server.
 
-    python3 clients/python/tests/work_trial.py PROGRAM [SEED [full]]
+    python3 clients/python/tests/work_trial.py PROGRAM [SEED [short]]
 
 Workers do jobs, each by a line in a file of its own; meanwhile workers and the server are killed at random, and
-started again. In the end each job whose put returned was done. `full` is 1500 jobs, 15 kills of the server and 30
-of workers; without it a fifth of that. Before it, a lock whose maker ends between its making and its first value.
+started again. In the end each job whose put returned was done: 1500 jobs, over 15 kills of the server and 30 of
+workers. `short` is a fifth of that. Before it, a lock whose maker ends between its making and its first value.
 """
 
 from __future__ import annotations
@@ -23,7 +23,7 @@ import setting
 from ipcd import IPC_CREAT, IPC_NOWAIT, Connection, work
 from server import SEED, Server, check, in_a_folder, is_refused, printed, run_tests, serving, until
 
-SHARE = 1 if sys.argv[3:4] == ["full"] else 5
+SHARE = 5 if sys.argv[3:4] == ["short"] else 1
 JOBS, SERVER_KILLS, WORKER_KILLS = 1500 // SHARE, 15 // SHARE, 30 // SHARE
 WORKERS = 4
 
@@ -107,6 +107,14 @@ class Trial:
         return [line for path in Path().glob("done.*") for line in path.read_bytes().splitlines()]
 
 
+def until_there(condition: Callable[[], bool], text: str) -> None:
+    """Waits until the condition holds, longer than `until`: a disk may be slow, and many jobs are to be done."""
+    end = time.monotonic() + 90
+    while not condition():
+        check(time.monotonic() < end, text)
+        time.sleep(0.01)
+
+
 def no_job_is_lost() -> None:
     printed("format", "device")
     wanted = [b"job %d" % number for number in range(JOBS)]
@@ -119,11 +127,11 @@ def no_job_is_lost() -> None:
         for number, kill in enumerate(kills):
             # The kills are spread over the jobs, so that each is in the midst of the work.
             share = JOBS * number // (len(kills) + 1)
-            until(lambda share=share: len(trial.done()) >= share, f"fewer than {share} jobs are done")  # type: ignore
+            until_there(lambda share=share: len(trial.done()) >= share, f"fewer than {share} jobs")  # type: ignore
             time.sleep(trial.rng.uniform(0, 0.02))
             kill()
-        until(lambda: not putter.is_alive(), "puts hang")
-        until(lambda: set(trial.done()) >= set(wanted), f"jobs are lost: {set(wanted) - set(trial.done())}")
+        until_there(lambda: not putter.is_alive(), "puts hang")
+        until_there(lambda: set(trial.done()) >= set(wanted), f"jobs are lost: {set(wanted) - set(trial.done())}")
         is_empty(trial)
         again = len(trial.done()) - JOBS
         print(f"work_trial: {JOBS} jobs, {len(kills)} kills, {again} jobs done once more, seed {SEED}")
@@ -224,5 +232,5 @@ def main() -> None:
 
 if __name__ == "__main__":
     os.environ["PYTHONDONTWRITEBYTECODE"] = "1"
-    with in_a_folder(120 if SHARE > 1 else 600):
+    with in_a_folder(170 if SHARE > 1 else 600):
         main()
