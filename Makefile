@@ -3,9 +3,10 @@
 # refuse calls of the system: without it these two say so, and refuse nothing. `runs` renders the manual page if there
 # is a man. `clients` says so without a C compiler, and tests only those in Python; its memcheck needs valgrind.
 
-.PHONY: help run test edits imports runs serves clients memory trials program install peers bench bench-serve bench-clients
+.PHONY: help try run test edits imports runs serves clients memory trials program install peers bench bench-serve bench-clients
 
 help:
+	@echo "make try    a first look, in two minutes at most: runs the sources on a script, with nothing proved"
 	@echo "make run    proves and builds what is needed, which takes an hour or more the first time, and says how"
 	@echo "            far it is; then it runs examples/device.sh: a message outlives the program. It may be stopped:"
 	@echo "            crates that are proved stay proved, and the next run goes on after them"
@@ -24,8 +25,9 @@ help:
 	@echo "            docs/OPERATIONS.md says; the first sessions; examples/serve.sh, in which a message outlives a"
 	@echo "            crash; examples/users.sh, two users of a queue; examples/worker.sh, two who wait for jobs;"
 	@echo "            examples/lock.sh, a lock whose holder is killed; examples/notify.sh, one who is told of a message;"
-	@echo "            clients that wait by the dozen; semaphore sets; POSIX queues, named semaphores and segments; and its"
-	@echo "            calls of the system, watched, and each refused in turn. Two minutes, once built"
+	@echo "            clients that wait by the dozen; how late deadlines are, and what an idle server does; semaphore sets;"
+	@echo "            POSIX queues, named semaphores and segments; and its calls of the system, watched, and each refused in"
+	@echo "            turn. Three minutes, once built"
 	@echo "make clients  builds the library for C and ipcd-run, which runs programs that nobody has changed, and tests them"
 	@echo "            and the Python package on the program: beside the system's own objects, over kills, by a false server."
 	@echo "            'make install' puts those in C below PREFIX, if they are built. Two minutes, once built"
@@ -39,6 +41,9 @@ help:
 	@echo "make bench-clients  what a call through the library costs beside frames by hand, and the kernel's queues"
 	@echo "make bench-serve  sends and receives, locks, writes and reads of segments, and hand-overs by named semaphores"
 	@echo "            a second over the socket, beside the same, and their processor time"
+
+try:
+	@sh examples/try.sh
 
 run: program
 	@sh examples/device.sh crates/ipcd/out/ipcd
@@ -89,6 +94,7 @@ runs: program
 	@$(RUNS)
 
 SERVES = python3 tests/serve.py crates/ipcd/out/ipcd && python3 tests/operations.py crates/ipcd/out/ipcd && \
+	python3 tests/on_time.py crates/ipcd/out/ipcd && \
 	python3 tests/session.py crates/ipcd/out/ipcd && sh examples/serve.sh crates/ipcd/out/ipcd && \
 	sh examples/users.sh crates/ipcd/out/ipcd && sh examples/worker.sh crates/ipcd/out/ipcd && \
 	sh examples/lock.sh crates/ipcd/out/ipcd && sh examples/notify.sh crates/ipcd/out/ipcd && \

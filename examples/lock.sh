@@ -1,6 +1,10 @@
 # Two job runners share a lock, a semaphore of value 1, and the one that holds it is killed: SEM_UNDO gives it back, and
 # the other goes on. Then the server is killed too, and the lock is free when it is there again. The one argument is the
 # program. The client is examples/client.py, which needs Python.
+#
+# Making a set and giving it a value are two requests. If its maker, or the server, ended between them, a lock whose value
+# its maker alone sets would be shut for ever. So semaphore 1 says whether semaphore 0, the lock, was given its value, and
+# each client gives it by one list: the first list that is done sets both, and each one after it is refused (EAGAIN).
 set -eu
 . "$(dirname "$0")/server.sh"
 "$ipcd" format device --small > formatted
@@ -12,7 +16,11 @@ does() {
 from client import *
 with Connection('socket') as server:
     server.hello(uid=1000, gid=100)
-    lock = server.semget(7, 1, IPC_CREAT | 0o600)
+    lock = server.semget(7, 2, IPC_CREAT | 0o600)
+    try:
+        server.semop(lock, [(1, 0, IPC_NOWAIT), (1, 1, IPC_NOWAIT), (0, 1, IPC_NOWAIT)])
+    except BlockingIOError:
+        pass
 $1"
 }
 
@@ -42,7 +50,6 @@ shows() {
 	fi
 }
 
-client "    server.semctl_setval(lock, 0, 1)"
 run anna
 anna=$runner
 trap 'kill "$anna" "$runner" 2> ended || :; [ -z "$server" ] || crash; rm -r "$folder"' EXIT

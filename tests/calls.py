@@ -43,7 +43,7 @@ from server import (  # noqa: E402
     until,
 )
 from client import IPC_CREAT, hello_request, msgrcv_request, msgsnd_request  # noqa: E402
-from watch import OPEN, TURN, Call, Disk, build, calls, follows, order, refused_once, watched  # noqa: E402
+from watch import OPEN, TURN, Call, Disk, build, calls, follows, order, refused_once, watched, whole_turns  # noqa: E402
 
 FAULT = "ipcd: device fault\n"
 LAST = (0, errno.EIO, b"")
@@ -177,13 +177,12 @@ def replies_wait_for_both_syncs() -> None:
             for _ in range(ahead):
                 client.send(msgrcv_request(queue, 64))
             check(all(client.receive()[1] == 0 for _ in range(ahead)), "a receive is refused")
-    them = calls()
     # The last turn may be broken off.
-    ends = max(at for at, call in enumerate(them) if call.name == "epoll_wait")
-    follows(f"{OPEN}(?:{TURN})*", them[:ends])
+    them = whole_turns(calls())
+    follows(f"{OPEN}(?:{TURN})*", them)
     check("R" in order(them), "no save was made")
     disk, answered = Disk(image), 0
-    for call in them[:ends]:
+    for call in them:
         disk.does(call)
         if call.name == "send":
             for serial in serials(call.data[: call.result]):

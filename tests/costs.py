@@ -9,6 +9,7 @@ expected is in docs/OPERATIONS.md and docs/DEVICE.md. It takes ten seconds, and 
 from __future__ import annotations
 
 import errno
+import math
 import os
 import resource
 import signal
@@ -24,6 +25,7 @@ from device_layout import (  # noqa: E402
     OBJECTS,
     QUEUE_KIND,
     RESTART,
+    ROOT,
     SECTOR,
     STANDARD,
     Device,
@@ -55,10 +57,28 @@ from server import (  # noqa: E402
     until,
     until_it_waits,
 )
-from client import IPC_CREAT, IPC_NOWAIT, hello_request, msgrcv_request, msgsnd_request  # noqa: E402
-from watch import OPEN, TURN, Call, build, calls, follows, order, turns_of, watched  # noqa: E402
+from client import (  # noqa: E402
+    IPC_CREAT,
+    IPC_NOWAIT,
+    O_CREAT,
+    O_RDWR,
+    SEM_UNDO,
+    close_request,
+    ftruncate_request,
+    hello_request,
+    mq_open_request,
+    mq_send_request,
+    msgget_request,
+    msgrcv_request,
+    msgsnd_request,
+    sem_open_request,
+    semget_request,
+    semop_request,
+    shm_open_request,
+)
+from watch import OPEN, TURN, Call, build, calls, follows, order, turns_of, watched, whole_turns  # noqa: E402
 
-LONGEST = 100  # milliseconds
+LONGEST, REST = 100, 60000  # milliseconds: a wait of a turn, and the longest wait before one
 PIECE = 64  # sectors
 
 
@@ -66,9 +86,7 @@ PIECE = 64  # sectors
 
 
 def turns_that_are_idle() -> None:
-    """Each waits for 100 ms, and makes two writes and two syncs: ten turns and twenty syncs a second. So do those
-    of a server whose clients are silent, be they processes or not, also in the midst of a request, and while a call
-    of them waits."""
+    """Of a server that is to make so many turns each waits for 100 ms, and makes two writes and two syncs."""
     printed("format", "device", "--small")
     with watched():
         Server("--turns", "5", limits="small").ends(0)
@@ -76,27 +94,16 @@ def turns_that_are_idle() -> None:
         follows("EBSHS", turn)
         check((turn[0].size, turn[0].result) == (LONGEST, 0), f"{turn[0]} is the wait")
         check(turn[1].size + turn[3].size == 1024, "a tick takes more than two sectors")
-    with watched(), serving(limits="small"):
-        clients = [Client(), process(), process(), Client()]
-        clients[2].send_bytes(frame(9, hello_request(1, 1))[:-1])
-        clients[3].send_bytes(b"\0")
-        # The server takes what came before a reply, or in the next turn.
-        queue = clients[1].msgget(1, IPC_CREAT | 0o600)
-        until_it_waits(clients[1], msgrcv_request(queue, 64))
-        seen = len(turns_of(calls()))
-        until(lambda: len(turns_of(calls())) >= seen + 12, "the server makes no turns")
-        idle = turns_of(calls())[seen + 4 :]
-    for turn in idle:
-        check(order(turn) in ("EBSHS", "EOSRS"), f"a turn with silent clients is {order(turn)}")
-        check((turn[0].size, turn[0].result) == (LONGEST, 0), f"{turn[0]} is the wait")
 
 
 def waits_if_nothing_is_left(them: list[Call]) -> None:
-    """Each wait may take 100 ms if the last read of each client has said that nothing is there, or the client does
-    not read; else it may take none."""
+    """Before a turn a server waits if the last read of each client has said that nothing is there, or the client does
+    not read; else it does not. A wait that a signal cuts short is followed by another. The turn itself waits for
+    nothing."""
     more: dict[int, bool] = {}
     full: set[int] = set()
     accepted = 0
+    has_waited = False
     for call in them:
         if call.name == "accept4" and call.result >= 0:
             more[call.result] = True
@@ -110,9 +117,11 @@ def waits_if_nothing_is_left(them: list[Call]) -> None:
             full.discard(call.file)
         elif call.name == "epoll_wait":
             busy = accepted == 64 or any(it and file not in full for file, it in more.items())
-            wanted = 0 if busy else LONGEST
-            check(call.size == wanted, f"a wait may take {call.size} ms, and not {wanted}")
+            wanted = 0 if busy or has_waited else REST
+            check(max(0, wanted - TIMEOUT * 1000) <= call.size <= wanted, f"a wait of {call.size} ms, and not {wanted}")
             accepted = 0
+        if call.name != "epoll_enter":
+            has_waited = call.name == "epoll_wait" and call.result > 0
 
 
 def waits() -> None:
@@ -129,20 +138,19 @@ def waits() -> None:
         server.process.send_signal(signal.SIGCONT)
         client.is_answered(2 * reply(7, 0) + 8 * reply(7, errno.EAGAIN))
         many[-1].hello(1, 1)
-        seen = len(turns_of(calls()))
-        until(lambda: len(turns_of(calls())) > seen + 2, "the server makes no turns")
         pair = frame(7, msgrcv_request(queue, 8192)) + send
         client._socket.setblocking(False)
-        sent = 0
+        sent = seen = 0
 
         def takes_no_more() -> bool:
-            nonlocal sent
+            """In a hundredth of a second the server has done nothing."""
+            nonlocal sent, seen
+            before, seen = seen, len(calls())
             try:
                 while True:
                     sent += client._socket.send((100 * pair)[sent % len(pair) :])
             except BlockingIOError:
-                last = [turn[0] for turn in turns_of(calls())[-3:]]
-                return all((wait.size, wait.result) == (LONGEST, 0) for wait in last)
+                return before == seen
 
         until(takes_no_more, "the server spins for one that does not read")
     them = calls()
@@ -186,8 +194,7 @@ def commits() -> None:
             client.call(asked)
             frames.append(frame(client._serial, asked)[4:])
     them = calls()
-    ends = max(at for at, call in enumerate(them) if call.name == "epoll_wait")
-    follows(f"{OPEN}(?:{TURN})*", them[:ends])
+    follows(f"{OPEN}(?:{TURN})*", whole_turns(them))
     served = them[[call.name for call in them].index("write") :]
     check(all(call.name != "pread" for call in served), "a server reads its device")
     batches = [call.data for call in served if call.name == "pwrite" and call.sector >= BODY]
@@ -296,6 +303,188 @@ def saves_grow_with_the_messages() -> None:
     check(many < 24 * few + 0.1, f"2048 messages a queue take {few:.3f} s, and 16384 take {many:.3f} s")
 
 
+# ---- saves and opens by what there is
+
+# So many times the processor's time of a byte of full queues may one of another kind take, and so many times its own
+# time what has eight times the rows. The second is more where eight times the messages take more than eight times as
+# long, and is not asked of what takes no more a byte than they: what fits into a processor's cache is faster.
+A_BYTE, EIGHT_TIMES = 4, 10
+# Two runs of one script differ by so many seconds of the processor beside other work, however small what they save is.
+SPREAD = 0.02
+# Seconds of a save of the most adjustments that there may be.
+ADJUSTMENTS = 0.005
+ROUNDS = 4
+
+
+def asks(connection: int, *requests: bytes) -> str:
+    return f"0 data {connection} " + b"".join(frame(1, asked) for asked in requests).hex()
+
+
+def connected(count: int) -> list[str]:
+    """Processes, each by the connection of its pid."""
+    return [
+        line for number in range(1, count + 1) for line in (f"0 open {number}", asks(number, hello_request(1000, 100)))
+    ]
+
+
+def messages(parts: int) -> list[str]:
+    """Two queues that are full of messages of a byte, if all parts are there."""
+    make = asks(1, *2 * [msgget_request(0, IPC_CREAT | 0o600)])
+    return [*connected(1), make, *(asks(1, *2048 * parts * [msgsnd_request(number, 1, b"x")]) for number in (1, 2))]
+
+
+def sets(count: int, semaphores: int) -> str:
+    return asks(1, *count * [semget_request(0, semaphores, IPC_CREAT | 0o600)])
+
+
+def undone(number: int, first: int) -> bytes:
+    return semop_request(number, [(semaphore, 1, SEM_UNDO) for semaphore in range(first, first + 32)])
+
+
+def adjustments(processes: int, of: int) -> list[str]:
+    """Each process has one at each of 64 semaphores of so many sets."""
+    lists = [undone(number, first) for number in range(1, of + 1) for first in (0, 32)]
+    return [*connected(processes), sets(of, 64), *(asks(number, *lists) for number in range(1, processes + 1))]
+
+
+def adjustments_of_processes(parts: int) -> list[str]:
+    return adjustments(8 * parts, 8)
+
+
+def adjustments_at_semaphores(parts: int) -> list[str]:
+    return adjustments(64, parts)
+
+
+def descriptors(parts: int) -> list[str]:
+    """Processes that have as many as they may."""
+    opens = 32 * [sem_open_request("/gate", O_CREAT, 0o600)]
+    return [*connected(8 * parts), *(asks(number, *opens) for number in range(1, 8 * parts + 1))]
+
+
+def calls_that_wait(parts: int) -> list[str]:
+    """Each to send 8192 bytes to a queue that is full."""
+    send = msgsnd_request(1, 1, 8192 * b"x")
+    fill = asks(1, msgget_request(0, IPC_CREAT | 0o600), send, send)
+    return [*connected(8 * parts), fill, *(asks(number, send) for number in range(1, 8 * parts + 1))]
+
+
+def semaphore_sets(parts: int) -> list[str]:
+    return [*connected(1), sets(4 * parts, 16)]
+
+
+def posix_queues(parts: int) -> list[str]:
+    """Ten messages of 8192 bytes in each."""
+    makes = [mq_open_request(f"/{number}", O_CREAT | O_RDWR, 0o600) for number in range(4 * parts)]
+    sends = 10 * [mq_send_request(0, 8192 * b"x")]
+    return [*connected(1), *(asks(1, make, *sends, close_request(0)) for make in makes)]
+
+
+def named_semaphores(parts: int) -> list[str]:
+    makes = [sem_open_request(f"/{number:0249}", O_CREAT, 0o600) for number in range(8 * parts)]
+    return [*connected(1), *(asks(1, make, close_request(0)) for make in makes)]
+
+
+def segments(parts: int) -> list[str]:
+    makes = [shm_open_request(f"/{number}", O_CREAT | O_RDWR, 0o600) for number in range(4 * parts)]
+    return [*connected(1), *(asks(1, make, ftruncate_request(0, 32768), close_request(0)) for make in makes)]
+
+
+# Each with how many saves, or opens, of all of it are timed.
+KINDS = {
+    messages: 16,
+    adjustments_of_processes: 16,
+    adjustments_at_semaphores: 16,
+    descriptors: 100,
+    calls_that_wait: 50,
+    semaphore_sets: 200,
+    posix_queues: 16,
+    named_semaphores: 200,
+    segments: 40,
+}
+
+
+def run_script(lines: list[str], *words: str) -> tuple[float, str]:
+    """Runs the program on a script. Answers the seconds of the processor, and what it prints."""
+    script = "".join(line + "\n" for line in lines)
+    before = resource.getrusage(resource.RUSAGE_CHILDREN)
+    ended = subprocess.run([PROGRAM, *words], input=script, capture_output=True, text=True, timeout=TIMEOUT)
+    after = resource.getrusage(resource.RUSAGE_CHILDREN)
+    check((ended.returncode, ended.stderr) == (0, ""), ended.stderr)
+    return after.ru_utime + after.ru_stime - before.ru_utime - before.ru_stime, ended.stdout
+
+
+def length_of(lines: list[str]) -> int:
+    """How many bytes a save has of what a script makes. No request of it is refused."""
+    printed("format", "device")
+    _, output = run_script(lines, "run", "device")
+    answers = [line.split()[1] for line in output.splitlines()]
+    check(all(answer[16:20] == "0000" for answer in answers), f"a script is answered {answers[:3]}..")
+    with open("device", "rb") as device:
+        device.seek(SECTOR * ROOT)
+        return int.from_bytes(device.read(16)[12:], "big")
+
+
+class Times:
+    """The least seconds of the processor for a script that ends with a save, and for it and so many saves or opens."""
+
+    def __init__(self, lines: list[str], many: int) -> None:
+        self.lines = [*lines, "save"]
+        self.bytes = length_of(self.lines)
+        # Each open takes a sector of the journal, which has 256.
+        self.many = {"": 0, "save": many, "stop": min(many, 200)}
+        self.least = dict.fromkeys(self.many, math.inf)
+
+    def measure(self) -> None:
+        for what, many in self.many.items():
+            taken, _ = run_script([*self.lines, *many * [what]], "replay")
+            self.least[what] = min(self.least[what], taken)
+
+    def of(self, what: str) -> float:
+        return (self.least[what] - self.least[""]) / self.many[what]
+
+
+def too_dear(nothing: Times, each: dict[str, tuple[Times, Times]]) -> list[str]:
+    """What takes more than it may, of kinds with an eighth of what they may have, and with all of it."""
+    found = []
+    for what in "save", "stop":
+        word = "save" if what == "save" else "open"
+
+        def a_byte(times: Times) -> float:
+            return (times.of(what) - nothing.of(what)) / (times.bytes - nothing.bytes)
+
+        def at_least(times: Times) -> float:
+            return times.of(what) - SPREAD / times.many[what]
+
+        an_eighth, full = each["messages"]
+        full_queues = a_byte(full)
+        growth = EIGHT_TIMES * max(1, full.of(what) / an_eighth.of(what) / 8)
+        for kind, (few, most) in each.items():
+            is_dear = at_least(most) - nothing.of(what) > A_BYTE * full_queues * (most.bytes - nothing.bytes)
+            grows = at_least(most) > growth * max(few.of(what), 0)
+            if is_dear or (grows and a_byte(most) > full_queues):
+                both = f"{1000 * most.of(what):.3f} ms, and of an eighth {1000 * few.of(what):.3f} ms"
+                bytes_of_both = f"{1e9 * a_byte(most):.2f} ns a byte, and of full queues {1e9 * full_queues:.2f}"
+                found.append(f"{kind}: {word} takes {both}; {bytes_of_both}")
+    taken = each["adjustments_of_processes"][1].of("save")
+    if taken > ADJUSTMENTS:
+        found.append(f"a save of 32768 adjustments takes {1000 * taken:.1f} ms")
+    return found
+
+
+def saves_and_opens_by_what_there_is() -> None:
+    """What one takes grows as its bytes do, whatever kind is at its bounds. Seconds are the least of some rounds: no
+    more than it takes until nothing is too dear."""
+    nothing = Times([], 400)
+    each = {kind.__name__: (Times(kind(1), 8 * many), Times(kind(8), many)) for kind, many in KINDS.items()}
+    for _ in range(ROUNDS):
+        for times in (nothing, *(one for both in each.values() for one in both)):
+            times.measure()
+        found = too_dear(nothing, each)
+        if not found:
+            return
+    check(False, "; ".join(found))
+
+
 # ---- moments
 
 
@@ -334,6 +523,7 @@ def moments() -> None:
 TESTS = [
     moments,
     clients_beyond_the_hundredth,
+    saves_and_opens_by_what_there_is,
 ]
 WATCHED = [
     turns_that_are_idle,

@@ -146,12 +146,13 @@ def cut() -> None:
 
 
 def a_limit_of_files() -> None:
-    """A write behind it ends the program by a signal."""
+    """A write behind it ends the program by a signal. The first one comes with the first client."""
     limit = (5 * 512, 5 * 512)
     printed("format", "device", "--small")
     server = Server(limits="small", prepare=lambda: resource.setrlimit(resource.RLIMIT_FSIZE, limit))
     try:
-        server.ends(-signal.SIGXFSZ)
+        with Client():
+            server.ends(-signal.SIGXFSZ)
     finally:
         server.process.kill()
     os.remove("device")

@@ -12,10 +12,12 @@ import errno
 import os
 import random
 import signal
+import subprocess
 import sys
 import threading
 import time
 from collections.abc import Callable
+from pathlib import Path
 
 sys.dont_write_bytecode = True
 
@@ -49,6 +51,34 @@ from client import (  # noqa: E402
 )
 
 MODE = 0o600
+
+EXAMPLES = Path(__file__).resolve().parent.parent / "examples"
+# What each client of examples/lock.sh does first, on a connection that it has as `server`.
+MAKES_THE_LOCK = (EXAMPLES / "lock.sh").read_text().partition("from client import *\n")[2].partition('$1"\n')[0]
+TAKES_IT = """\
+    server.semop(lock, [(0, -1, SEM_UNDO | IPC_NOWAIT)])
+    assert server.semctl_getall(lock) == [0, 1]
+"""
+# Such a client kills itself before its request of this number, or after it was sent.
+IS_KILLED = """
+import os, signal, sys
+import client
+from client import *
+
+sent, number = client.Connection.send, 0
+
+def send(self, request):
+    global number
+    number += 1
+    if sys.argv[1:] == [str(number), "before"]:
+        os.kill(os.getpid(), signal.SIGKILL)
+    serial = sent(self, request)
+    if sys.argv[1:] == [str(number), "after"]:
+        os.kill(os.getpid(), signal.SIGKILL)
+    return serial
+
+client.Connection.send = send
+"""
 
 
 def has(client: Client, semid: int, values: list[int], pids: list[int]) -> None:
@@ -411,6 +441,36 @@ def moved_whole() -> None:
         check(0 <= found[1] - moved <= 20, f"seed {SEED}, turn {turn}: {found[1]} are moved, and {moved} were answered")
 
 
+# ---- a lock that nobody leaves shut
+
+
+def lines_end(lines: str, status: int, *words: str) -> None:
+    """A client of these lines ends so, killed at that moment if there is one."""
+    environment = {**os.environ, "PYTHONPATH": str(EXAMPLES), "PYTHONDONTWRITEBYTECODE": "1"}
+    ended = subprocess.run(
+        [sys.executable, "-c", IS_KILLED + lines, *words], env=environment, capture_output=True, text=True, timeout=20
+    )
+    check(ended.returncode == status, f"{words}: a client that ends with {status}: {ended}")
+
+
+def never_left_shut() -> None:
+    """Who makes the lock of examples/lock.sh is killed before and after each of its requests, and then the server is
+    stopped or killed. The next client takes the lock, which had the value 1, and with its end it is free again."""
+    moments = [(str(number), when) for number in (1, 2, 3) for when in ("before", "after")] + [("4", "before")]
+    for words in moments:
+        for number in (signal.SIGTERM, signal.SIGKILL):
+            printed("format", "device", "--small")
+            server = Server(limits="small")
+            try:
+                lines_end(MAKES_THE_LOCK + TAKES_IT, -signal.SIGKILL, *words)
+                server.stop(number)
+            finally:
+                server.process.kill()
+            with serving(limits="small"):
+                lines_end(MAKES_THE_LOCK + TAKES_IT, 0)
+                lines_end(MAKES_THE_LOCK + TAKES_IT, 0)
+
+
 TESTS = [
     each_call,
     refusals,
@@ -425,6 +485,7 @@ TESTS = [
     taken_back_after_a_kill,
     whole_or_not_at_all,
     moved_whole,
+    never_left_shut,
 ]
 
 

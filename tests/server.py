@@ -129,10 +129,10 @@ class Server:
         return int(counts.partition("syscw:")[2].split()[0])
 
     def is_idle(self) -> bool:
-        """In half a second it commits no more than its five ticks, each by two writes."""
+        """In half a second it writes nothing."""
         before = self.file_writes()
         time.sleep(0.5)
-        return self.file_writes() - before < 20
+        return self.file_writes() == before
 
     def memory(self) -> int:
         """What it has in memory, in kB."""

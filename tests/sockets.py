@@ -60,6 +60,7 @@ from watch import (  # noqa: E402
 )
 
 LONGEST = 100  # milliseconds of a wait
+MANY = ("--turns", str(2**32 - 1))
 RESET, PIPE = -errno.ECONNRESET, -errno.EPIPE
 HELLO = frame(1, hello_request(1000, 100))
 GET = frame(2, msgget_request(1234, IPC_CREAT | 0o600))
@@ -78,9 +79,10 @@ def welcome(pid: int) -> bytes:
 
 @contextmanager
 def fresh(**answers: tuple[int, ...]) -> Iterator[Server]:
-    """A server of a new device with small limits, whose calls are watched, and answered so."""
+    """A server of a new device with small limits, whose calls are watched, and answered so. It makes turns also while
+    there is nothing to do."""
     printed("format", "device", "--small")
-    with watched(**answers), serving(limits="small") as server:
+    with watched(**answers), serving(*MANY, limits="small") as server:
         yield server
 
 
@@ -102,7 +104,7 @@ def failing(fail: str, **answers: tuple[int, ...]) -> Iterator[Server]:
     it reads, writes and syncs nothing."""
     printed("format", "device", "--small")
     with watched(fail, text="fault", **answers):
-        server = Server(limits="small")
+        server = Server(*MANY, limits="small")
     try:
         yield server
         server.ends(1, "ipcd: device fault\n")
@@ -373,10 +375,10 @@ ROWS = [
         "a read that would block is the last of its turn",
         HELLO, (5, BLOCKS, ALL), (ALL,), welcome(2), [(0, IDLE), (14, IDLE)],
     ),
-    Row("one byte a write", HELLO + GET + GET, (ALL,), (1,), welcome(2) + GOT + GOT, [(32, IDLE), (42, IDLE)]),
+    Row("one byte a write", HELLO + GET + GET, (ALL,), (1,), welcome(2) + GOT + GOT, [(32, BUSY), (42, IDLE)]),
     Row(
         "a write that is interrupted is one of the 16",
-        HELLO + GET + GET, (ALL,), (1, CUT, 1), welcome(2) + GOT + GOT, [(31, IDLE), (42, IDLE)],
+        HELLO + GET + GET, (ALL,), (1, CUT, 1), welcome(2) + GOT + GOT, [(31, BUSY), (42, IDLE)],
     ),
     Row(
         "a write that would block goes on with the next byte",

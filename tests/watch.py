@@ -86,13 +86,31 @@ def calls() -> list[Call]:
 
 
 def turns_of(them: list[Call]) -> list[list[Call]]:
-    """The calls of each turn that has ended, from its wait on."""
-    starts = [at for at, call in enumerate(them) if call.name == "epoll_wait"]
-    return [them[here:there] for here, there in zip(starts, starts[1:])]
+    """The calls of each turn that has ended, from its own wait on. Before it the server may have waited for something
+    to do."""
+    turns: list[list[Call]] = []
+    turn: list[Call] = []
+    for call in them:
+        if call.name == "epoll_enter":
+            turns += [turn] if len(turn) > 1 else []
+            turn = []
+        elif call.name == "epoll_wait":
+            turn = [call]
+        elif turn:
+            turn.append(call)
+    return turns
+
+
+def whole_turns(them: list[Call]) -> list[Call]:
+    """The calls up to the end of the last turn that has ended."""
+    ends = max(at for at, call in enumerate(them) if call.name == "epoll_enter")
+    while them[ends - 1].name in ("epoll_enter", "epoll_wait"):
+        ends -= 1
+    return them[:ends]
 
 
 LETTERS = {"fdatasync": "S", "fsync": "F", "ftruncate": "T", "epoll_wait": "E", "recv": "<"}
-LETTERS |= {"send": ">", "accept4": "a", "close": "c", "write": "P", "pread": "r", "read": "i"}
+LETTERS |= {"epoll_enter": "", "send": ">", "accept4": "a", "close": "c", "write": "P", "pread": "r", "read": "i"}
 
 
 def letter(call: Call) -> str:
@@ -113,7 +131,7 @@ def order(them: list[Call]) -> str:
 
 
 COMMIT = "(?:BSHS|O+SRS)"
-TURN = f"E[a<]*(?:{COMMIT}<*)*{COMMIT}>*(?:c+(?:{COMMIT}>*)?)?"
+TURN = f"E+[a<]*(?:{COMMIT}<*)*{COMMIT}>*(?:c+(?:{COMMIT}>*)?)?"
 OPEN = f"S{COMMIT}P"
 
 

@@ -5,7 +5,7 @@
  *
  * Each line of the log is a call that has ended: its name, its descriptor, how many bytes it was given (of epoll_wait,
  * how long it may take), its place in the file or 0, its result or less the error number, and in hexadecimal as many of
- * the bytes that it moved as WATCH_BYTES says, or `-`.
+ * the bytes that it moved as WATCH_BYTES says, or `-`. Before an epoll_wait, which may take long, is an epoll_enter.
  *
  * WATCH_FAIL names a call, which one of them, and an error number; with the number 0 it is a pwrite that takes half of
  * its bytes. They count from the start; if WATCH_TEXT is given, from the recv on that has it, and if WATCH_PLACE is
@@ -176,6 +176,7 @@ int accept4(int file, struct sockaddr *restrict name, socklen_t *restrict size, 
 int epoll_wait(int file, struct epoll_event *events, int most, int longest)
 {
 	NEXT(epoll_wait);
+	note("epoll_enter", file, longest, 0, 0, NULL);
 	int result = is_refused("epoll_wait") ? REFUSE : next(file, events, most, longest);
 	return note("epoll_wait", file, longest, 0, result, NULL);
 }
