@@ -3,10 +3,11 @@
 -- never more than a minute. While a call has a deadline it looks once a second whether the system's clock was stepped
 -- forward. While an accept (accept(2)) has failed, the system does not tell of those who wait for it, so it is tried
 -- again soon.
-use Rattle.std.specs.Prelude.{ℕ, ◌-◌, ◌==◌, ◌&&◌, ◌||◌, min, not, Bool, if◌then◌else◌, length, Option, Some, None}
+use Rattle.std.specs.Prelude.{◌≡◌, ◌⊎◌, ℕ, ◌-◌, ◌==◌, ◌&&◌, ◌||◌, min, not, Bool, true, if◌then◌else◌, length}
+use Rattle.std.specs.Prelude.{Option, Some, None}
 use Rattle.ipc_base.specs.declared.identity.Moment.{Moment}
-use Rattle.ipc_hub.specs.View.{HubView}
-use Rattle.ipc_server.specs.View.{ClientView, is_gone, most_writes}
+use Rattle.ipc_hub.specs.View.{HubView, HasStopped}
+use Rattle.ipc_server.specs.View.{ClientView, ServerView, SomeClient, is_gone, most_writes}
 
 -- all in milliseconds
 abbrev pub longest_rest : ℕ
@@ -35,3 +36,10 @@ has_work hub client =
     is_gone hub client || client.writing.failed
     || (not client.writing.full
     && (client.readable || not (length client.piece == 0) || (client.writing.writes == most_writes)))
+
+-- There is work already: a turn has left connections that may wait, has something to do with a client, or is the one
+-- that says that the server goes on no more.
+abbrev pub IsBusy : {D : Type 0} → ServerView D → Type 0
+IsBusy server =
+    (server.crowded ≡ true) ⊎ HasStopped server.hub
+    ⊎ SomeClient (λ c. has_work server.hub.hub c ≡ true) server.clients

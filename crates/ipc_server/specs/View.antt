@@ -29,6 +29,10 @@ pub record ServerView (D : Type 0) : Type 0 where
   pub hub : StoredHub D
   -- the client of each number from 0 on, or none
   pub clients : List (Option ClientView)
+  -- connections may wait: the listening socket has told so, and no accept has said since that it would block
+  pub may_accept : Bool
+  -- more connections may have come than one turn takes, or may find room now that the last turn has closed others
+  pub crowded : Bool
 
 -- the most reads of a client in one turn
 abbrev pub most_reads : ℕ
@@ -45,6 +49,11 @@ client_of clients number = slice_index_or clients number None
 -- each client is such a one
 abbrev pub EachClient : (ClientView → Type 0) → List (Option ClientView) → Type 0
 EachClient P clients = (number : ℕ) (client : ClientView) → client_of clients number ≡ Some client → P client
+
+-- some client is such a one
+abbrev pub SomeClient : (ClientView → Type 0) → List (Option ClientView) → Type 0
+SomeClient P clients =
+    (number : ℕ) × (client : ClientView) × (client_of clients number ≡ Some client) × P client
 
 -- there is a client with the number whose socket has failed
 abbrev pub has_failed : List (Option ClientView) → ℕ → Bool

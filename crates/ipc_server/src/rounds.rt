@@ -7,7 +7,7 @@ ghost use Rattle.ipc_hub.specs.Relations.Faults.{Halts};
 ghost use Rattle.ipc_server.specs.Parts.{Answers, HangsUp, Parts};
 ghost use Rattle.ipc_server.specs.Rest.{has_work};
 ghost use Rattle.ipc_server.specs.Rows.{clients_of, EachBelow, IsServing, KeepsClients, StandsIn, Stays};
-ghost use Rattle.ipc_server.specs.View.{EachClient, HaveOwnNumbers, WasRead, WasWritten};
+ghost use Rattle.ipc_server.specs.View.{EachClient, HaveOwnNumbers, SomeClient, WasRead, WasWritten};
 ghost use Rattle.ipc_server.specs.View.{client_of, has_failed, is_gone};
 
 use crate::client::Client;
@@ -166,7 +166,9 @@ fn hang_up<D: SectorDisk>(hub: &mut Hub<D>, conn: u32, moment: Moment) -> Result
 
 /// Whether a turn has something to do with one of the clients.
 pub(crate) fn any_has_work<D: SectorDisk, S>(hub: &Hub<D>, clients: &Slab<Client<S>>) -> bool
-    ensures { result ≡ false → EachBelow clients.now.capacity
+    ensures some { result ≡ true
+        → SomeClient (λ c. has_work hub.now.hub c ≡ true) (clients_of clients.now) }
+    ensures none { result ≡ false → EachBelow clients.now.capacity
         (λ c. has_work hub.now.hub c ≡ false) (clients_of clients.now) }
 {
     for key in 0..clients.capacity() {

@@ -1,11 +1,12 @@
 //! The server: a hub, the sockets of its connections, and the socket on which new ones come.
 
-ghost use Rattle.std.specs.Prelude.{◌≡◌, ◌<◌, ◌≤◌, ℕ, [], true, false, None, IfErr, IfOk, OnOk, Err};
+ghost use Rattle.std.specs.Prelude.{◌≡◌, ◌≤◌, ◌↔◌, ℕ, Bool, [], true, None, Err};
+ghost use Rattle.std.specs.Prelude.{IfErr, IfOk, IsTrue, OnOk};
 ghost use Rattle.ipc_wait.specs.Waits.{next_deadline};
 ghost use Rattle.ipc_hub.specs.View.{HasStopped};
 ghost use Rattle.ipc_server.specs.Goes.{Goes, GoesRound, Breaks, BreaksOff};
 ghost use Rattle.ipc_server.specs.Parts.{HasParted};
-ghost use Rattle.ipc_server.specs.Rest.{has_work, until_due};
+ghost use Rattle.ipc_server.specs.Rest.{IsBusy, longest_wait, until_due};
 ghost use Rattle.ipc_server.specs.Rows.{KeepsClients, KeepsFailed};
 ghost use Rattle.ipc_server.specs.View.{EachClient, HaveConnections, WasRead, WasWritten};
 ghost use Rattle.ipc_server.specs.View.{client_of, has_failed};
@@ -50,7 +51,7 @@ pub struct Server<D: SectorDisk> {
     events: Events,
     /// Connections may wait: the listening socket has told so, and no accept has said since that it
     /// would block.
-    told: bool,
+    may_accept: bool,
     /// More connections may have come than one turn takes, or a turn after which connections may wait
     /// has closed others, so that there is room for one again.
     crowded: bool,
@@ -69,7 +70,12 @@ impl<D: SectorDisk> Model for Server<D> {
 
     ghost use Rattle.ipc_server.specs.Rows.{clients_of, IsServing};
 
-    ghost view = { λ s. record { hub = s.hub; clients = clients_of s.clients } };
+    ghost view = { λ s. record {
+      hub = s.hub;
+      clients = clients_of s.clients;
+      may_accept = s.may_accept;
+      crowded = s.crowded;
+    } };
 
     ghost invariant = { λ s. IsServing s.hub.hub s.clients };
 }
@@ -106,14 +112,14 @@ fn watch<R: Net + AllocGlobal>(
 
 // Notes what the system has told: that a read of a client may give something, or that connections may
 // wait.
-fn hear<S>(events: &Events, clients: &mut Slab<Client<S>>, told: &mut bool)
+fn hear<S>(events: &Events, clients: &mut Slab<Client<S>>, may_accept: &mut bool)
     ensures { KeepsClients clients.old clients.new }
 {
     for event in events {
         let Token(key) = event.token();
         if event.is_readable() || event.is_read_closed() || event.is_error() {
             if event.token() == LISTENER {
-                *told = true;
+                *may_accept = true;
             } else {
                 wake(clients, key);
             }
@@ -141,7 +147,7 @@ impl<D: SectorDisk> Server<D> {
                 listener,
                 poll,
                 events,
-                told: false,
+                may_accept: false,
                 crowded: false,
                 rested: false,
             }),
@@ -210,7 +216,7 @@ impl<D: SectorDisk> Server<D> {
         let before = self.clients.len();
         let done = serve_all(&mut self.hub, &mut self.clients, moment);
         // An accept that has failed for want of a descriptor may find one now.
-        self.crowded = self.crowded || self.told && self.clients.len() < before;
+        self.crowded = self.crowded || self.may_accept && self.clients.len() < before;
         done
     }
 
@@ -242,22 +248,27 @@ impl<D: SectorDisk> Server<D> {
     /// How many milliseconds it may wait at a moment for something to do: none if there is something
     /// already, and not past the earliest deadline of the calls that wait.
     pub(crate) fn longest_wait(&self, now: Moment) -> u64
-        ensures due { result ≤ until_due now.0 (next_deadline self.now.hub.hub.state.wait) }
-        ensures idle { 0 < result → EachClient (λ c. has_work self.now.hub.hub c ≡ false) self.now.clients }
+        ensures { (busy : Bool) × (IsTrue busy ↔ IsBusy self.now) × (result ≡ longest_wait now.0
+            (next_deadline self.now.hub.hub.state.wait) self.now.may_accept busy) }
     {
-        longest_wait(now, self.hub.next_deadline(), self.told, self.is_busy())
+        longest_wait(
+            now,
+            self.hub.next_deadline(),
+            self.may_accept,
+            self.is_busy(),
+        )
     }
 
     /// Waits for something to do, from a moment on and for so many milliseconds at most. Answers whether
     /// there is something: a socket has told, or connections may wait.
     pub(crate) fn rest_for(&mut self, now: Moment, longest: u64) -> Result<bool, ServeFault>
         requires due { longest ≤ until_due now.0 (next_deadline self.old.hub.hub.state.wait) }
-        requires idle { EachClient (λ c. has_work self.old.hub.hub c ≡ false) self.old.clients }
+        requires idle { ¬ IsBusy self.old }
         ensures same { self.new.hub ≡ self.old.hub }
         ensures err { IfErr result (λ fault. fault ≡ ServeFault.Socket) }
     {
         self.listen(longest)?;
-        Ok(self.told || !self.events.is_empty())
+        Ok(self.may_accept || !self.events.is_empty())
     }
 
     // Has the system tell when the sockets that are full have room again.
@@ -280,16 +291,19 @@ impl<D: SectorDisk> Server<D> {
         if self.poll.poll(&mut self.events, Some(longest)).is_err() {
             return Err(ServeFault::Socket);
         }
-        hear(&self.events, &mut self.clients, &mut self.told);
+        hear(&self.events, &mut self.clients, &mut self.may_accept);
         Ok(())
     }
 
     // Whether there is something to do already: with a client, or a new one has come. The system tells of
     // a new one once, and not again in the next turn. A server that goes on no more says so at once.
     fn is_busy(&self) -> bool
-        ensures { result ≡ false → EachClient (λ c. has_work self.now.hub.hub c ≡ false) self.now.clients }
+        ensures { IsTrue result ↔ IsBusy self.now }
     {
-        self.crowded || self.hub.has_stopped() || any_has_work(&self.hub, &self.clients)
+        if self.crowded {
+            return true;
+        }
+        self.hub.has_stopped() || any_has_work(&self.hub, &self.clients)
     }
 
     // Takes the connections that have come. Answers whether these were as many as a turn takes, so that
@@ -299,14 +313,14 @@ impl<D: SectorDisk> Server<D> {
         ensures goes { (moment : ℕ) → Goes D.medium moment self.old.hub self.new.hub }
         ensures failed { KeepsFailed self.old.clients self.new.clients }
     {
-        if !self.told {
+        if !self.may_accept {
             return false;
         }
         for _ in 0..MOST_ACCEPTS {
             match self.listener.accept() {
                 Ok((socket, _)) => self.take_client(socket),
                 Err(error) => {
-                    self.told = error.kind() != ErrorKind::WouldBlock;
+                    self.may_accept = error.kind() != ErrorKind::WouldBlock;
                     return false;
                 }
             }

@@ -4,7 +4,7 @@ use Rattle.slab.specs.Slab.{get}
 use Rattle.ipc_server.specs.Rest.{has_work}
 use Rattle.ipc_server.specs.Rows.{view_of}
 use Rattle.ipc_server.specs.View.{ClientView}
-use Rattle.ipc_server.proofs.Standing.{below-same}
+use Rattle.ipc_server.proofs.Standing.{below-same, stands-at}
 use Rattle.ipc_server.proofs.rounds.any_has_work.Goals as goal
 
 -- no client has the key
@@ -19,6 +19,15 @@ loop-key-preserved g c =
     below-same (λ (v : ClientView). has_work c.args.hub.now.hub v ≡ false) c.args.clients.now c.loop-key.key
     (λ client is. cc (c.in-Some.ensures, is, idle)) c.loop-key.invariant
 
-pub returns : goal.returns
-returns g c is number client below there =
+-- this one has
+pub returns-then-has_work-clause-some : goal.returns-then-has_work-clause-some
+returns-then-has_work-clause-some g c it = (
+  c.loop-key.key,
+  view_of c.in-Some.client.now,
+  stands-at c.args.clients.now c.loop-key.key c.in-Some.client.now (sym c.in-Some.ensures),
+  sym c.if-has_work.ensures,
+)
+
+pub returns-clause-none : goal.returns-clause-none
+returns-clause-none g c is number client below there =
     c.loop-key.invariant number client (omega (arith, c.capacity-key-end.ensures.value)) there
