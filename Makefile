@@ -16,7 +16,7 @@ help:
 	@echo "            proof, the wrong bodies that stand for a promise, the programs; and then what 'make trials', 'make runs',"
 	@echo "            'make serves', 'make clients' and 'make memory' run, on what the gate has built. An hour on four cores"
 	@echo "make edits  the other wrong bodies, of all crates, or of those of 'make edits CRATE=\"ipc_wire ipc_hub\"', and"
-	@echo "            writes their records. Each takes 15 to 60 seconds of a processor, if its crate is proved here"
+	@echo "            writes their records. Up to six take 15 to 90 seconds of a processor, if their crate is proved here"
 	@echo "make imports  that no crate names what is another's own, nor one that carries requests a call"
 	@echo "make runs   the program on scripts, also random ones beside a model of semaphore sets, command lines, a terminal"
 	@echo "            and devices, also with each byte of one wrong: what it prints and says, its exit status, and what it"

@@ -4,8 +4,9 @@ crates/NAME/must-fail/, which have the same format (`rt help` says it); of these
     python3 tests/edits.py --record        looks whether each can be applied, and whether its record is of today's sources
     python3 tests/edits.py [NAME ..]       tries these, each CRATE or CRATE/EDIT, or all, and writes their records
 
-It tries each in a copy of the crate and of those below it, with what was proved of them in this folder: crates are best
-proved first, as by `make program`. A record is a line of tests/edits.record, which only this program writes: the crate,
+It tries them in a copy of the crate and of those below it, with what was proved of them in this folder: crates are best
+proved first, as by `make program`. Up to six are tried by one check, each of a function of its own, and what that says
+nothing of is tried alone. A record is a line of tests/edits.record, which only this program writes: the crate,
 the edit, two sums, the verdict, and the goal that could not be proved. The first sum is of the edit, of the crate's
 sources and line of crates.txt, and of the toolchain's logic; the second of the definitions and code of the crates below.
 Comments count in neither. If the first differs today, the record is stale and this fails. If only the second does, it
@@ -21,6 +22,7 @@ import shutil
 import subprocess
 import sys
 import tempfile
+import threading
 import time
 from collections.abc import Iterator
 from concurrent.futures import ThreadPoolExecutor
@@ -30,14 +32,18 @@ ROOT = Path(__file__).resolve().parent.parent
 RECORD = ROOT / "tests" / "edits.record"
 # Tries at a time, each with a copy of the crates.
 LANES = int(os.environ.get("LANES", "2"))
+# The most wrong bodies that one check tries, each of a function of its own.
+MOST = 6
 # Seconds after which a check has no verdict.
 LIMIT = 1200
+# Held while the records are read and written.
+WRITING = threading.Lock()
 # A goal for which there is no proof: none was written, or the one that is there proves something else.
 OPEN = re.compile(r"^note: `(\S+)` of proofs/(\S+?)/\w+\.antt must prove: ", re.MULTILINE)
 OTHER = re.compile(r"^(?:\./)?proofs/(\S+?)/\w+\.antt:\d+:\d+: error: `([^`]+)`: (.*)$", re.MULTILINE)
 # A goal that has no proof, and values at which it is false.
 FALSE = re.compile(
-    r"^note: src/(\S+?)\.rt:\d+:\d+: it is not proved that .* \(`(\S+)`\); the facts known there allow values at which",
+    r"^note: src/(\S+?)\.rt:(\d+):\d+: it is not proved that .* \(`(\S+)`\); the facts known there allow values at which",
     re.MULTILINE,
 )
 # The proof that is there speaks of a step or a goal that the wrong body has not.
@@ -76,18 +82,18 @@ def pairs(edit: Path) -> Iterator[tuple[str, str, str]]:
             yield name, old, line[5:]
 
 
-def edited(crate: Path, edit: Path) -> dict[Path, str]:
+def edited(crate: Path, edit: Path, texts: dict[Path, str]) -> None:
     """The files of a crate that an edit changes, as it leaves them."""
-    texts: dict[Path, str] = {}
+    changed = False
     for name, old, new in pairs(edit):
         file = crate / name
         text = texts.get(file) or file.read_text()
         if text.count(old) != 1:
             fail(f"{edit.relative_to(ROOT)}: not once in {name}: {old}")
         texts[file] = text.replace(old, new)
-    if not texts:
+        changed = True
+    if not changed:
         fail(f"{edit.relative_to(ROOT)}: it changes nothing")
-    return texts
 
 
 def bare(file: Path) -> str:
@@ -156,7 +162,7 @@ def look() -> None:
     found, stale, older, missing = 0, [], 0, 0
     for crate in sums.all_of:
         for edit in (*edits_of(crate), *sorted((ROOT / "crates" / crate / "must-fail").glob("*.edit"))):
-            edited(ROOT / "crates" / crate, edit)
+            edited(ROOT / "crates" / crate, edit, {})
             found += 1
             if edit.parent.name != "edits":
                 continue
@@ -199,43 +205,122 @@ def check(crate: Path) -> str:
     return done.stdout
 
 
-def verdict(said: str) -> tuple[str, str]:
+BEGIN = re.compile(r"\s*(?:pub(?:\(crate\))? )?(?:const )?(fn|impl|struct|enum|trait)\b(?: (\w+))?")
+
+
+def function_at(crate: Path, file: str, number: int) -> str:
+    """The name of the function in which a line of a file stands, counted from 1; empty if that is in none."""
+    begins = [BEGIN.match(line) for line in (crate / "src" / f"{file}.rt").read_text().splitlines()[:number]]
+    last = next((begin for begin in reversed(begins) if begin), None)
+    return last[2] if last and last[1] == "fn" else ""
+
+
+def goals_of(said: str, crate: Path) -> list[tuple[str, str]]:
+    """The goals that could not be proved, each with its place: a function's file, types and name."""
+    # A long error goes on in lines of its own, which stand further in.
+    said = re.sub(r"\n  +", " ", said)
+    if "logic=not-proved" not in said or "error[" in said:
+        return []
+    goals = [(place, goal) for goal, place in OPEN.findall(said)]
+    goals += [(place, goal) for place, goal, text in OTHER.findall(said) if not LOST.search(text)]
+    goals += [(f"{file}/{function_at(crate, file, int(line))}", goal) for file, line, goal in FALSE.findall(said)]
+    # A lemma of its own may stand before the goals in a proof.
+    return sorted(goals, key=lambda row: not re.search("returns|requires|invariant", row[1]))
+
+
+def verdict(said: str, crate: Path) -> tuple[str, str]:
     """What a check says of a wrong body: refused by a goal, or proved, or neither, as for a name or a limit."""
     if "logic=proved" in said:
         return "proved", "-"
-    # A long error goes on in lines of its own, which stand further in.
-    said = re.sub(r"\n  +", " ", said)
-    if "logic=not-proved" in said and "error[" not in said:
-        goals = [(place, goal) for goal, place in OPEN.findall(said)]
-        goals += [(place, goal) for place, goal, text in OTHER.findall(said) if not LOST.search(text)]
-        goals += [(place, goal) for place, goal in FALSE.findall(said)]
-        # A lemma of its own may stand before the goals in a proof.
-        goals.sort(key=lambda row: not re.search("returns|requires|invariant", row[1]))
-        if goals:
-            return "refused", " ".join(goals[0])
+    for place, goal in goals_of(said, crate):
+        return "refused", f"{place} {goal}"
     wrong = re.search(r"^.*\berror\b.*$", said, re.MULTILINE)
     return "unread", wrong[0] if wrong else "no end"
 
 
-def tried(all_of: dict[str, list[str]], crate: str, edits: list[Path]) -> dict[Path, tuple[str, str]]:
-    """Tries wrong bodies of a crate, one after the other."""
+def function_of(crate: Path, edit: Path) -> tuple[str, str] | None:
+    """The file and name of the function that an edit changes; none if it changes something else, or more than one."""
+    found = set()
+    for name, old, _ in pairs(edit):
+        if not name.startswith("src/"):
+            return None
+        before = (crate / name).read_text().partition(old)[0]
+        found.add((name[4:-3], function_at(crate, name[4:-3], before.count("\n") + 1)))
+    return found.pop() if len(found) == 1 and all(function for _, function in found) else None
+
+
+def batches(crate: Path, edits: list[Path]) -> list[list[Path]]:
+    """Wrong bodies that are tried by one check, since each is of another function: what a function's contract asks of
+    its body does not depend on the bodies of others."""
+    found: list[dict[tuple[str, str], Path]] = []
+    alone = []
+    for edit in edits:
+        function = function_of(crate, edit)
+        if function is None:
+            alone.append([edit])
+            continue
+        fits = next((batch for batch in found if len(batch) < MOST and function not in batch), None)
+        if fits is None:
+            fits = {}
+            found.append(fits)
+        fits[function] = edit
+    return [list(batch.values()) for batch in found] + alone
+
+
+def check_with(copy: Path, edits: list[Path]) -> str:
+    """Checks a crate with these wrong bodies in it."""
+    texts: dict[Path, str] = {}
+    for edit in edits:
+        edited(copy, edit, texts)
+    before = {file: file.read_text() for file in texts}
+    for file, text in texts.items():
+        file.write_text(text)
+    said = check(copy)
+    for file, text in before.items():
+        file.write_text(text)
+    return said
+
+
+def tried(sums: Sums, crate: str, edits: list[Path]) -> dict[Path, tuple[str, str]]:
+    """Tries wrong bodies of a crate, and writes their records."""
+    all_of = sums.all_of
     found: dict[Path, tuple[str, str]] = {}
+
+    def says(edit: Path, word: str, reason: str, began: float) -> None:
+        print(f"edits: {crate} {edit.stem}: {word}, {time.monotonic() - began:.0f} s: {reason}", flush=True)
+        note(sums, edit, word, reason)
+        found[edit] = word, reason
+
     with tempfile.TemporaryDirectory(prefix="ipcd-edits.") as folder:
         copy = copied(all_of, crate, Path(folder))
         if "logic=proved" not in check(copy):
             fail(f"{crate} is not proved as it stands")
-        for edit in edits:
-            began = time.monotonic()
-            texts = edited(copy, edit)
-            before = {file: file.read_text() for file in texts}
-            for file, text in texts.items():
-                file.write_text(text)
-            word, reason = verdict(check(copy))
-            for file, text in before.items():
-                file.write_text(text)
-            print(f"edits: {crate} {edit.stem}: {word}, {time.monotonic() - began:.0f} s: {reason}", flush=True)
-            found[edit] = word, reason
+        for batch in batches(copy, edits):
+            if len(batch) > 1:
+                began = time.monotonic()
+                goals = goals_of(check_with(copy, batch), copy)
+                for edit in batch:
+                    file, function = function_of(copy, edit) or ("", "")
+                    of_it = [row for row in goals if row[0].startswith(f"{file}/") and row[0].endswith(f"/{function}")]
+                    if of_it:
+                        says(edit, "refused", " ".join(of_it[0]), began)
+            # What a check of several says nothing of, as of a function that waits for another's proof.
+            for edit in batch:
+                if edit not in found:
+                    began = time.monotonic()
+                    says(edit, *verdict(check_with(copy, [edit]), copy), began)
     return found
+
+
+def note(sums: Sums, edit: Path, word: str, reason: str) -> None:
+    """Writes the record of a wrong body that was tried, which has none if it was not refused."""
+    with WRITING:
+        rows = records()
+        key = edit.parent.parent.name, edit.stem
+        rows.pop(key, None)
+        if word == "refused":
+            rows[key] = [*sums.of(edit), word, reason]
+        write(rows)
 
 
 def chosen(all_of: dict[str, list[str]], names: list[str]) -> dict[str, list[Path]]:
@@ -259,16 +344,10 @@ def try_all(names: list[str]) -> None:
         fail(f"none of these crates has wrong bodies in edits/: {' '.join(names)}")
     accepted = []
     with ThreadPoolExecutor(LANES) as lanes:
-        for found in lanes.map(lambda crate: tried(sums.all_of, crate, edits[crate]), edits):
-            rows = records()
+        for found in lanes.map(lambda crate: tried(sums, crate, edits[crate]), edits):
             for edit, (word, reason) in found.items():
-                key = edit.parent.parent.name, edit.stem
-                rows.pop(key, None)
-                if word == "refused":
-                    rows[key] = [*sums.of(edit), word, reason]
-                else:
-                    accepted.append(f"{key[0]} {key[1]}: {word}, {reason}")
-            write(rows)
+                if word != "refused":
+                    accepted.append(f"{edit.parent.parent.name} {edit.stem}: {word}, {reason}")
             refused = sum(word == "refused" for word, _ in found.values())
             print(f"edits: {next(iter(found)).parent.parent.name}: {refused} of {len(found)} refused", flush=True)
     if accepted:

@@ -23,6 +23,7 @@ import subprocess
 import sys
 import tempfile
 import termios
+import threading
 import time
 from collections.abc import Callable, Iterator
 from contextlib import contextmanager, suppress
@@ -77,13 +78,43 @@ def milliseconds(seconds: float) -> float:
     return 1000 * seconds
 
 
-def told(name: str, late: list[float], more: float = 0) -> str:
-    """Says how late these are. If that is too late, so many milliseconds more given, the answer says so."""
-    late = sorted(late)
-    most = late[len(late) * 95 // 100]
-    found = f"late by {statistics.median(late):.2f} ms at the median, {most:.2f} at 95 of 100, {late[-1]:.2f} at most"
+@contextmanager
+def sleeps() -> Iterator[list[float]]:
+    """By how many milliseconds short sleeps of this process end too late meanwhile: so late may other work make all."""
+    late: list[float] = []
+    over = threading.Event()
+
+    def sleep() -> None:
+        while not over.is_set():
+            begun = time.monotonic()
+            time.sleep(0.002)
+            late.append(milliseconds(time.monotonic() - begun) - 2)
+
+    thread = threading.Thread(target=sleep, daemon=True)
+    thread.start()
+    try:
+        yield late
+    finally:
+        over.set()
+        thread.join()
+
+
+def spread(late: list[float]) -> tuple[float, float]:
+    """Of 95 of 100, and of all."""
+    late = sorted(late) or [0]
+    return late[len(late) * 95 // 100], late[-1]
+
+
+def told(name: str, late: list[float], others: list[float], more: float = 0) -> str:
+    """Says how late these are. If that is too late the answer says so: later than sleeps were meanwhile, and so many
+    milliseconds more given."""
+    many, most = spread(late)
+    of_sleeps = spread(others)
+    found = f"late by {statistics.median(late):.2f} ms at the median, {many:.2f} at 95 of 100, {most:.2f} at most"
+    found += f" (sleeps: {of_sleeps[0]:.2f} and {of_sleeps[1]:.2f})"
     print(f"on_time: {name}: {len(late)} deadlines, {found}", flush=True)
-    return f"they are {found}" if most > SLACK + more or late[-1] > MOST + more else ""
+    is_late = many > SLACK + more + of_sleeps[0] or most > MOST + more + of_sleeps[1]
+    return f"they are {found}" if is_late else ""
 
 
 def tried(test: Callable[[], str]) -> None:
@@ -140,9 +171,10 @@ def on_an_idle_server() -> None:
         fresh()
         with serving(limits="small"):
             waits = Waits()
-            late = [waits.late(number % 4, 0.005 + number % 7 * 0.004) for number in range(200)]
+            with sleeps() as others:
+                late = [waits.late(number % 4, 0.005 + number % 7 * 0.004) for number in range(200)]
             waits.client.close()
-        return told("idle", late, syncs())
+        return told("idle", late, others, syncs())
 
     tried(once)
 
@@ -164,10 +196,11 @@ def over_at_once() -> None:
         fresh()
         with serving(limits="small"):
             waits = Waits()
-            took = [waits.late(number % 4, 0) for number in range(100)]
-            took += [waits.late(number % 3 + 1, -1) - 1000 for number in range(100)]
+            with sleeps() as others:
+                took = [waits.late(number % 4, 0) for number in range(100)]
+                took += [waits.late(number % 3 + 1, -1) - 1000 for number in range(100)]
             waits.client.close()
-        return told("over when they are read", took, syncs())
+        return told("over when they are read", took, others, syncs())
 
     tried(once)
 
@@ -200,12 +233,13 @@ def beside_clients_at_full_rate() -> None:
             for worker in workers:
                 worker.start()
             check(all(one.wait(TIMEOUT) for one in begun), "a client does not begin")
-            late = [waits.late(number % 4, 0.005 + number % 7 * 0.004) for number in range(200)]
+            with sleeps() as others:
+                late = [waits.late(number % 4, 0.005 + number % 7 * 0.004) for number in range(200)]
             over.set()
             for worker in workers:
                 worker.join(TIMEOUT)
             waits.client.close()
-        return told("beside four clients", late, 20 + 2 * syncs())
+        return told("beside four clients", late, others, 20 + 2 * syncs())
 
     tried(once)
 
@@ -260,7 +294,7 @@ def quiet() -> None:
     check(not found, f"in ten seconds {len(found)} calls of the system are made: {found[:6]}")
     found = quiet_of["deadline"]
     check({call.name for call in found} <= {"epoll_wait"}, f"a server that waits for a deadline does more: {found[:6]}")
-    check(8 <= len(found) <= 11, f"in ten seconds it looks at the clock {len(found)} times")
+    check(6 <= len(found) <= 11, f"in ten seconds it looks at the clock {len(found)} times")
     print(f"on_time: in ten seconds no call of the system, and {len(found)} looks for a deadline", flush=True)
 
 
@@ -315,16 +349,18 @@ def without_descriptors() -> None:
             for client in clients[:taken]:
                 client.receive()
             took = []
-            for gone in range(8):
-                time.sleep(0.03)
-                begun = time.monotonic()
-                clients[gone].close()
-                clients[taken + gone].receive()
-                took.append(milliseconds(time.monotonic() - begun))
+            with sleeps() as others:
+                for gone in range(8):
+                    time.sleep(0.03)
+                    begun = time.monotonic()
+                    clients[gone].close()
+                    clients[taken + gone].receive()
+                    took.append(milliseconds(time.monotonic() - begun))
             for client in clients[8:]:
                 client.close()
         print(f"on_time: the next of 70 clients is taken after {max(took):.2f} ms at most", flush=True)
-        return f"the next client is taken after {max(took):.2f} ms" if max(took) > MOST + syncs() else ""
+        too_late = max(took) > MOST + syncs() + max(others)
+        return f"the next client is taken after {max(took):.2f} ms" if too_late else ""
 
     tried(once)
 
@@ -451,7 +487,7 @@ def stepped_forward() -> None:
             call = waiting(waits, kind, HOUR, time.time() + kind * 2 * HOUR)
             check(not ready(waits.client, 0.2), "it does not wait")
             step((kind + 1) * 2 * HOUR)
-            ends_within(waits.client, call, 1.3)
+            ends_within(waits.client, call, 2)
             waits.client.close()
 
 
@@ -469,14 +505,14 @@ def stepped_back() -> None:
         shut = other.sem_open("/shut", 0)
         for seconds in (0.1, HOUR / 2):
             serial = other.send(sem_wait_request(shut, time.time() - HOUR + seconds))
-            ends_within(other, (serial, errno.ETIMEDOUT), 0.2)
+            ends_within(other, (serial, errno.ETIMEDOUT), 1)
         before = wakes(server)
         check(not ready(waits.client, 2), "a relative timeout has ended")
         found = wakes(server) - before
         check(found <= 6, f"a server whose clock stands waits {found} times in two seconds")
         # Once the system's clock has come up to it the rest is as it was.
         step(0)
-        ends_within(waits.client, late, 1.3)
+        ends_within(waits.client, late, 2)
         other.close()
         waits.client.close()
 
@@ -495,11 +531,11 @@ def ahead_at_the_start() -> None:
         waits = Waits()
         shut = waits.client.sem_open("/shut", 0)
         serial = waits.client.send(sem_wait_request(shut, time.time() + HOUR / 2))
-        ends_within(waits.client, (serial, errno.ETIMEDOUT), 0.2)
+        ends_within(waits.client, (serial, errno.ETIMEDOUT), 1)
         late = waiting(waits, 0, 0.1, 0)
         check(not ready(waits.client, 0.5), "a relative timeout has ended")
         step(HOUR)
-        ends_within(waits.client, late, 1.3)
+        ends_within(waits.client, late, 2)
         waits.client.close()
 
 

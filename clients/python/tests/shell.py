@@ -201,7 +201,8 @@ def pages_of_top() -> None:
         check(errors == "" and len(rows) == 2, f"{output!r}, {errors!r}")
         came, went = map(float, rows[0][5:])
         check(rows[0][:5] == ["0x00000007", "1", *rows[0][2:3], "4", "4"], f"{rows}")
-        check(4 < came <= 5 and 0.8 < went <= 1, f"{came} and {went} messages a second")
+        # A second, or more beside other work.
+        check(0 < came <= 5 and abs(came - 5 * went) < 0.5, f"{came} and {went} messages a second")
         check(rows[1][3:] == ["2", "1", "0"], f"{rows[1]} is the set's row")
     before = QueueStat(*range(6), 10, 20, 0, 0, 0, 100, 3, 0)
     for changes, wanted in (
